@@ -105,6 +105,15 @@ pub trait Copied: Sized + Drop {
         ensures { IfOk result (λ x. x ≡ self.now) };
 }
 
+impl<T: Copied> List<T> {
+    /// A list of equal items in the same order.
+    pub fn copy(&self) -> Result<List<T>, NoMemory>
+        ensures { IfOk result (λ xs. xs ≡ self.now) }
+    {
+        copy_list(*self.items.allocator(), self.as_slice())
+    }
+}
+
 /// A list of equal items in the same order.
 pub fn copy_list<T: Copied>(alloc: Global, items: &[T]) -> Result<List<T>, NoMemory>
     ensures { IfOk result (λ xs. xs ≡ items.now) }

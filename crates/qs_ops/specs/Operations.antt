@@ -1,6 +1,10 @@
--- Which server an operation is for.
+-- Which server an operation is for, and which answer a reply makes.
 use Rattle.std.specs.Prelude.{ℕ, ◌+◌, List, Option, Some, None, if◌then◌else◌, nat_lt}
 use Rattle.qs_base.specs.declared.identifiers.ServerNo.{ServerNo}
+use Rattle.qs_ops.specs.declared.answer.Answer.{Answer}
+use Rattle.qs_ops.specs.declared.answer.Answer.TheVariants as answers
+use Rattle.qs_ops.specs.declared.reply.Reply.{Reply}
+use Rattle.qs_ops.specs.declared.reply.Reply.TheVariants as replies
 use Rattle.qs_ops.specs.declared.operation.Op.{Op}
 use Rattle.qs_ops.specs.declared.operation.Op.TheVariants.{Put, Append, Del, Get, Listing, Note, Notes, Bind, Find, Timer, Left, Window, Title, Keep, Fetch, Lend, Extra}
 
@@ -27,3 +31,15 @@ server_of (Keep name text) = Some (record { 0 = 5 })
 server_of (Fetch name) = Some (record { 0 = 5 })
 server_of (Extra code text) = Some (record { 0 = 6 })
 server_of (Lend client) = borrower client.0
+
+-- the answer to a request that was served with this reply
+abbrev pub answer_of : Reply → Answer
+answer_of replies.Done = answers.Done
+answer_of (replies.Value text) = answers.Value text
+answer_of (replies.Left ticks) = answers.Left ticks
+answer_of (replies.Names list) = answers.Names list
+answer_of (replies.Notes list) = answers.Notes list
+answer_of (replies.Busy holder) = answers.Busy holder
+answer_of replies.Absent = answers.Absent
+answer_of replies.TooMany = answers.TooMany
+answer_of replies.TooLong = answers.TooLong

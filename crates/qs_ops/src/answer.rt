@@ -1,7 +1,12 @@
 //! What a client is answered, and why a transaction is aborted.
 
+ghost use Rattle.std.specs.Prelude.{◌≡◌};
+ghost use Rattle.qs_ops.specs.Alike.{same_cause};
+ghost use Rattle.qs_ops.specs.Operations.{answer_of};
+
+use crate::reply::Reply;
 use crate::vote::Reason;
-use qs_base::{Bytes, List, Member, NodeNo, Tid};
+use qs_base::{Bytes, Copied, List, Member, NoMemory, NodeNo, Tid};
 
 /// Why a transaction was aborted.
 #[derive(Debug, Drop, PartialEq, Eq)]
@@ -42,4 +47,70 @@ pub enum Answer {
     NotBegun,
     /// The log has no room for another transaction.
     LogFull { need: u64, room: u64 },
+}
+
+impl Cause {
+    /// Whether it is that cause.
+    pub fn is(&self, other: &Cause) -> bool
+        ensures { result ≡ same_cause self.now other.now }
+    {
+        match (self, other) {
+            (Cause::Asked, Cause::Asked) => true,
+            (
+                Cause::Voted { member, reason },
+                Cause::Voted {
+                    member: m,
+                    reason: r,
+                },
+            ) => { *member == *m && reason.is(r) }
+            (Cause::Gone { node, inc }, Cause::Gone { node: n, inc: i }) => {
+                *node == *n && *inc == *i
+            }
+            (Cause::Home { inc }, Cause::Home { inc: i }) => *inc == *i,
+            (Cause::Room { need, room }, Cause::Room { need: n, room: r }) => {
+                *need == *n && *room == *r
+            }
+            (Cause::Old { age }, Cause::Old { age: a }) => *age == *a,
+            _ => false,
+        }
+    }
+}
+
+impl Copied for Cause {
+    fn copy(&self) -> Result<Self, NoMemory> {
+        Ok(match self {
+            Cause::Asked => Cause::Asked,
+            Cause::Voted { member, reason } => Cause::Voted {
+                member: *member,
+                reason: reason.copy()?,
+            },
+            Cause::Gone { node, inc } => Cause::Gone {
+                node: *node,
+                inc: *inc,
+            },
+            Cause::Home { inc } => Cause::Home { inc: *inc },
+            Cause::Room { need, room } => Cause::Room {
+                need: *need,
+                room: *room,
+            },
+            Cause::Old { age } => Cause::Old { age: *age },
+        })
+    }
+}
+
+/// The answer to a request that was served with this reply.
+pub fn answer_of(reply: Reply) -> Answer
+    ensures { result ≡ answer_of reply }
+{
+    match reply {
+        Reply::Done => Answer::Done,
+        Reply::Value { text } => Answer::Value { text },
+        Reply::Left { ticks } => Answer::Left { ticks },
+        Reply::Names { list } => Answer::Names { list },
+        Reply::Notes { list } => Answer::Notes { list },
+        Reply::Busy { holder } => Answer::Busy { holder },
+        Reply::Absent => Answer::Absent,
+        Reply::TooMany => Answer::TooMany,
+        Reply::TooLong => Answer::TooLong,
+    }
 }

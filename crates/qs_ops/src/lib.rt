@@ -8,7 +8,7 @@ mod reply;
 mod table;
 mod vote;
 
-pub use answer::{Answer, Cause};
+pub use answer::{Answer, Cause, answer_of};
 pub use file::{File, Share};
 pub use operation::{Changes, Op, server_of};
 pub use reply::Reply;

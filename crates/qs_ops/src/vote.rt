@@ -1,6 +1,9 @@
 //! Votes of two-phase members, and what members are told.
 
-use qs_base::Bytes;
+ghost use Rattle.std.specs.Prelude.{◌≡◌};
+ghost use Rattle.qs_ops.specs.Alike.{same_reason};
+
+use qs_base::{Bytes, Copied, NoMemory};
 
 /// Why a member votes abort.
 #[derive(Debug, Drop, PartialEq, Eq)]
@@ -34,4 +37,40 @@ pub enum Notice {
     Abort,
     /// The transaction is about to end (timers alone).
     Ending,
+}
+
+impl Reason {
+    /// Whether it is that reason.
+    pub fn is(&self, other: &Reason) -> bool
+        ensures { result ≡ same_reason self.now other.now }
+    {
+        match (self, other) {
+            (Reason::Quota { bytes, limit }, Reason::Quota { bytes: b, limit: l }) => {
+                *bytes == *b && *limit == *l
+            }
+            (Reason::LogRoom { need, room }, Reason::LogRoom { need: n, room: r }) => {
+                *need == *n && *room == *r
+            }
+            (Reason::Taken { name }, Reason::Taken { name: n }) => name.as_slice() == n.as_slice(),
+            (Reason::Code { code }, Reason::Code { code: c }) => *code == *c,
+            _ => false,
+        }
+    }
+}
+
+impl Copied for Reason {
+    fn copy(&self) -> Result<Self, NoMemory> {
+        Ok(match self {
+            Reason::Quota { bytes, limit } => Reason::Quota {
+                bytes: *bytes,
+                limit: *limit,
+            },
+            Reason::LogRoom { need, room } => Reason::LogRoom {
+                need: *need,
+                room: *room,
+            },
+            Reason::Taken { name } => Reason::Taken { name: name.copy()? },
+            Reason::Code { code } => Reason::Code { code: *code },
+        })
+    }
 }

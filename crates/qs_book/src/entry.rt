@@ -1,0 +1,110 @@
+//! Entries of the journal: what happened, at which node, at which logical time.
+
+use qs_base::{Bytes, ClientNo, List, Member, NodeNo, Outcome, ServerNo, Stamp, Tid};
+use qs_ops::{Answer, Cause, Op, Reply, Vote};
+
+/// One entry of the journal. All entries of a step have its stamp.
+#[derive(Debug, Drop, PartialEq, Eq)]
+pub struct Entry {
+    pub stamp: Stamp,
+    pub node: NodeNo,
+    pub act: Act,
+}
+
+/// What happened.
+#[derive(Debug, Drop, PartialEq, Eq)]
+pub enum Act {
+    /// The client began a transaction and owns it.
+    Begin {
+        tid: Tid,
+        label: Bytes,
+        client: ClientNo,
+    },
+    /// A request went to a member. The number counts, from 1, the requests of that transaction
+    /// from the issuing node to the member's node.
+    Issue {
+        tid: Tid,
+        issuer: Member,
+        member: Member,
+        number: u32,
+        op: Op,
+    },
+    /// The member served that request of that node.
+    Serve {
+        tid: Tid,
+        member: Member,
+        from: NodeNo,
+        number: u32,
+        reply: Reply,
+    },
+    /// The owner asked for commit.
+    Ask { tid: Tid },
+    /// The member voted, for so many requests.
+    Vote {
+        tid: Tid,
+        member: Member,
+        vote: Vote,
+        covers: u32,
+    },
+    /// The node counted an answer of the peer for all requests up to this number.
+    Counted {
+        tid: Tid,
+        peer: NodeNo,
+        up_to: u32,
+    },
+    /// The home decided. The cause is `None` exactly on commit.
+    Decide {
+        tid: Tid,
+        outcome: Outcome,
+        cause: Option<Cause>,
+    },
+    /// An immediate member was told that the transaction ends.
+    Ending { tid: Tid, member: Member },
+    /// The member learnt the outcome.
+    Learn {
+        tid: Tid,
+        member: Member,
+        outcome: Outcome,
+    },
+    /// The client's command at this line was answered.
+    Answer {
+        client: ClientNo,
+        line: u32,
+        answer: Answer,
+    },
+    /// The transaction was lent to the client.
+    Loan { tid: Tid, client: ClientNo },
+    /// The client gave the loan back.
+    Yield { tid: Tid, client: ClientNo },
+    /// One tick of the node's timers.
+    Tick,
+    /// The node stopped.
+    Crash { cause: CrashCause },
+    /// The node started in this incarnation and found these Prepares and Commits in its log.
+    Restart {
+        inc: u64,
+        pend: List<Found>,
+        done: List<Tid>,
+    },
+}
+
+/// Why a node stopped.
+#[derive(Clone, Copy, Debug, PartialEq, Eq)]
+pub enum CrashCause {
+    /// A line of the script, or a disk call that the script made fail.
+    Plan,
+    /// The disk's own count of faults rose from one number to the other.
+    Disk { from: u64, to: u64 },
+    /// A counter stood at its last value.
+    Last { value: u64 },
+    /// Memory was refused in a step.
+    Memory,
+}
+
+/// A Prepare that a restart found not ended.
+#[derive(Clone, Copy, Debug, PartialEq, Eq)]
+pub struct Found {
+    pub tid: Tid,
+    pub server: ServerNo,
+    pub covers: u32,
+}

@@ -1,0 +1,50 @@
+//! Commands of clients, as scripts, clients and nodes share them.
+
+use qs_base::{Bytes, ClientNo, Member};
+use qs_ops::{Answer, Op};
+
+/// A client's command, with the line of the script at which it stands, from 1.
+#[derive(Debug, Drop, PartialEq, Eq)]
+pub struct ScriptLine {
+    pub client: ClientNo,
+    pub line: u32,
+    pub label: Bytes,
+    pub command: Command,
+}
+
+/// What a client commands for the transaction of its label.
+#[derive(Debug, Drop, PartialEq, Eq)]
+pub enum Command {
+    Begin,
+    Commit,
+    Abort,
+    Take,
+    Yield,
+    /// An operation at a server of a node.
+    Request { member: Member, op: Op },
+}
+
+/// The answer to the command at a line.
+#[derive(Debug, Drop, PartialEq, Eq)]
+pub struct LineAnswer {
+    pub line: u32,
+    pub answer: Answer,
+}
+
+/// The place in a run that a fault line of the script names: before or after the step that makes
+/// the first entry of this kind for the transaction of this label.
+#[derive(Debug, Drop, PartialEq, Eq)]
+pub struct Point {
+    pub after: bool,
+    pub kind: Kind,
+    pub label: Bytes,
+}
+
+/// The kinds of entries that a point may name.
+#[derive(Clone, Copy, Debug, PartialEq, Eq)]
+pub enum Kind {
+    Serve,
+    Vote,
+    Decide,
+    Learn,
+}
