@@ -38,7 +38,9 @@ pub enum Act {
         reply: Reply,
     },
     /// The owner asked for commit.
-    Ask { tid: Tid },
+    Ask {
+        tid: Tid,
+    },
     /// The member voted, for so many requests.
     Vote {
         tid: Tid,
@@ -59,7 +61,10 @@ pub enum Act {
         cause: Option<Cause>,
     },
     /// An immediate member was told that the transaction ends.
-    Ending { tid: Tid, member: Member },
+    Ending {
+        tid: Tid,
+        member: Member,
+    },
     /// The member learnt the outcome.
     Learn {
         tid: Tid,
@@ -73,13 +78,21 @@ pub enum Act {
         answer: Answer,
     },
     /// The transaction was lent to the client.
-    Loan { tid: Tid, client: ClientNo },
+    Loan {
+        tid: Tid,
+        client: ClientNo,
+    },
     /// The client gave the loan back.
-    Yield { tid: Tid, client: ClientNo },
+    Yield {
+        tid: Tid,
+        client: ClientNo,
+    },
     /// One tick of the node's timers.
     Tick,
     /// The node stopped.
-    Crash { cause: CrashCause },
+    Crash {
+        cause: CrashCause,
+    },
     /// The node started in this incarnation and found these Prepares and Commits in its log.
     Restart {
         inc: u64,

@@ -49,6 +49,10 @@ nothing_held = record { changes = []; reads = []; operations = 0 }
 abbrev pub share_of : FilesValue → Tid → Share
 share_of files tid = unwrap_or (lookup (is_at (tid_cmp tid)) files.shares) nothing_held
 
+-- something is pending
+abbrev pub has_changes : Share → Bool
+has_changes share = elim share.changes [ [] ↦ false | op ∷ ops ↦ true ]
+
 -- a change to that name
 abbrev pub is_change_of : List ℕ → Op → Bool
 is_change_of name (Put n text) = same_bytes n name

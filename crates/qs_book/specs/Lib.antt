@@ -1,0 +1,4 @@
+pub mod Book
+pub mod Clauses
+pub mod Maps
+pub mod Transaction
