@@ -1,0 +1,5 @@
+pub mod Labels
+pub mod Lines
+pub mod Reads
+pub mod Script
+pub mod Status

@@ -1,0 +1,22 @@
+//! The forms of the words after the program's name.
+
+/// What the words ask for.
+#[derive(Clone, Copy, Debug, PartialEq, Eq)]
+pub enum Form {
+    /// A script is run on nodes 0 to `nodes` - 1; in one thread, in an order drawn from the seed,
+    /// where there is one.
+    Run {
+        nodes: u8,
+        serial: Option<u64>,
+        journal: bool,
+    },
+}
+
+/// Why words are refused.
+#[derive(Clone, Copy, Debug, PartialEq, Eq)]
+pub enum WordsFault {
+    /// They are of no form.
+    Usage,
+    /// Memory was asked for and refused.
+    NoMemory,
+}

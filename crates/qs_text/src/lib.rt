@@ -1,0 +1,17 @@
+//! The texts of a run: its words, its script, its status line and its output.
+#![tactic(auto)]
+
+mod command;
+mod form;
+mod label_set;
+mod line;
+mod open;
+mod reader;
+mod reading;
+mod script;
+mod status;
+
+pub use form::{Form, WordsFault};
+pub use reading::{ScriptFailed, read_script};
+pub use script::{FaultLine, Planned, Quota, Script, Seat};
+pub use status::{ScriptFault, Status, Waiting};
