@@ -3,3 +3,4 @@ pub mod Lines
 pub mod Reads
 pub mod Script
 pub mod Status
+pub mod Words

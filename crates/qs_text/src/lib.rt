@@ -10,8 +10,10 @@ mod reader;
 mod reading;
 mod script;
 mod status;
+mod words;
 
 pub use form::{Form, WordsFault};
 pub use reading::{ScriptFailed, read_script};
 pub use script::{FaultLine, Planned, Quota, Script, Seat};
 pub use status::{ScriptFault, Status, Waiting};
+pub use words::read_words;
