@@ -3,4 +3,5 @@ pub mod Lines
 pub mod Reads
 pub mod Script
 pub mod Status
+pub mod StatusLine
 pub mod Words

@@ -2,6 +2,7 @@
 #![tactic(auto)]
 
 mod command;
+mod ending;
 mod form;
 mod label_set;
 mod line;
@@ -12,6 +13,7 @@ mod script;
 mod status;
 mod words;
 
+pub use ending::status_line;
 pub use form::{Form, WordsFault};
 pub use reading::{ScriptFailed, read_script};
 pub use script::{FaultLine, Planned, Quota, Script, Seat};
