@@ -1,3 +1,4 @@
+pub mod Answers
 pub mod Labels
 pub mod Lines
 pub mod Reads

@@ -1,6 +1,7 @@
 //! The texts of a run: its words, its script, its status line and its output.
 #![tactic(auto)]
 
+mod answers;
 mod command;
 mod ending;
 mod form;
