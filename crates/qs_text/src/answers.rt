@@ -107,12 +107,7 @@ fn put_cause(alloc: Global, out: &mut Bytes, cause: &Cause) -> Result<(), NoMemo
 }
 
 /// Adds the member that voted abort, and its reason.
-fn put_vote(
-    alloc: Global,
-    out: &mut Bytes,
-    member: Member,
-    reason: &Reason,
-) -> Result<(), NoMemory>
+fn put_vote(alloc: Global, out: &mut Bytes, member: Member, reason: &Reason) -> Result<(), NoMemory>
     ensures { OnOk result (out.new ≡ out.old ++ vote_text member reason.now) }
 {
     put(out, server_text(alloc, member.server)?)?;

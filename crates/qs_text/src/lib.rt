@@ -12,6 +12,8 @@ mod reader;
 mod reading;
 mod script;
 mod status;
+#[cfg(test)]
+mod tests;
 mod words;
 
 pub use ending::status_line;
