@@ -1,2 +1,6 @@
 pub mod Files
+pub mod Held
+pub mod Index
 pub mod Operations
+pub mod Places
+pub mod Refusals
