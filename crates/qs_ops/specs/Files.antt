@@ -1,5 +1,5 @@
 -- What the files server of a node keeps, and what it does: committed files, pending changes, locks.
-use Rattle.std.specs.Prelude.{ℕ, ◌+◌, Bool, true, false, not, ◌&&◌, List, [], ◌∷◌, ◌++◌, length, fold, Option, Some, None, unwrap_or, nat_lt, nat_le, if◌then◌else◌}
+use Rattle.std.specs.Prelude.{ℕ, ◌+◌, Bool, false, not, ◌&&◌, ◌==◌, List, [], ◌∷◌, ◌++◌, length, fold, Option, Some, None, unwrap_or, nat_lt, nat_le, if◌then◌else◌}
 use Rattle.std.specs.Ordering.{match_ordering}
 use Rattle.std.specs.List.{list_any}
 use Rattle.std.specs.Map.{lookup, remove_entry}
@@ -49,9 +49,9 @@ nothing_held = record { changes = []; reads = []; operations = 0 }
 abbrev pub share_of : FilesValue → Tid → Share
 share_of files tid = unwrap_or (lookup (is_at (tid_cmp tid)) files.shares) nothing_held
 
--- something is pending
+-- a share with a pending change
 abbrev pub has_changes : Share → Bool
-has_changes share = elim share.changes [ [] ↦ false | op ∷ ops ↦ true ]
+has_changes share = not (length share.changes == 0)
 
 -- a change to that name
 abbrev pub is_change_of : List ℕ → Op → Bool

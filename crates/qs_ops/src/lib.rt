@@ -2,9 +2,15 @@
 #![tactic(auto)]
 
 mod answer;
+mod contents;
 mod file;
+mod holders;
+mod locks;
 mod operation;
+mod refusal;
 mod reply;
+mod serving;
+mod shares;
 mod table;
 mod vote;
 

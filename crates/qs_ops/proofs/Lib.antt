@@ -1,0 +1,4 @@
+pub mod FileOrder
+pub mod Following
+pub mod IndexSteps
+pub mod ShareSteps
