@@ -1,4 +1,6 @@
 pub mod Answers
+pub mod Fits
+pub mod Kept
 pub mod Labels
 pub mod Lines
 pub mod Reads
