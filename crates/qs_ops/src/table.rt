@@ -271,30 +271,62 @@ mod tests {
         Ok(reply)
     }
 
+    fn put(alloc: Global, name: &[u8], text: &[u8]) -> Result<Op, NoMemory> {
+        Ok(Op::Put {
+            name: Bytes::from_slice(alloc, name)?,
+            text: Bytes::from_slice(alloc, text)?,
+        })
+    }
+
+    fn get(alloc: Global, name: &[u8]) -> Result<Op, NoMemory> {
+        Ok(Op::Get {
+            name: Bytes::from_slice(alloc, name)?,
+        })
+    }
+
     #[test]
     fn commits_under_locks(rt: HostRuntime) -> Result<(), Fail> {
         let mut table = FileTable::new(rt.alloc());
-        let name = Bytes::from_slice(rt.alloc(), b"a")?;
-        let put = Op::Put {
-            name: name.copy()?,
-            text: Bytes::from_slice(rt.alloc(), b"x")?,
-        };
-        let get = Op::Get { name };
+        let (put, get) = (put(rt.alloc(), b"a", b"x")?, get(rt.alloc(), b"a")?);
         assert_eq!(rt; serve_one(&mut table, tid(1), &get)?, Reply::Absent);
         assert_eq!(rt;
             serve_one(&mut table, tid(2), &put)?,
             Reply::Busy { holder: tid(1) }
         );
+        assert!(rt; !table.has_changes(tid(2)));
         table.release(tid(1));
+        assert!(rt; table.share(tid(1)).is_none());
         assert_eq!(rt; serve_one(&mut table, tid(2), &put)?, Reply::Done);
+        assert!(rt; table.has_changes(tid(2)));
         assert_eq!(rt;
             serve_one(&mut table, tid(1), &get)?,
             Reply::Busy { holder: tid(2) }
         );
         table.commit(tid(2))?;
         assert_eq!(rt; table.contents().len(), 1);
-        let text = Bytes::from_slice(rt.alloc(), b"x")?;
-        assert_eq!(rt; serve_one(&mut table, tid(1), &get)?, Reply::Value { text });
+        let value = Reply::Value {
+            text: Bytes::from_slice(rt.alloc(), b"x")?,
+        };
+        assert!(rt; table.is_reply(tid(1), &get, &value));
+        assert_eq!(rt; serve_one(&mut table, tid(1), &get)?, value);
+        Ok(())
+    }
+
+    #[test]
+    fn commits_the_last_text_in_byte_order(rt: HostRuntime) -> Result<(), Fail> {
+        let mut table = FileTable::new(rt.alloc());
+        for (name, text) in [(b"b", b"1"), (b"a", b"2"), (b"b", b"3")] {
+            let put = put(rt.alloc(), name, text)?;
+            assert_eq!(rt; serve_one(&mut table, tid(1), &put)?, Reply::Done);
+        }
+        table.commit(tid(1))?;
+        let text_at = |at: usize| match table.contents().get(at) {
+            Some(file) => file.content.as_slice(),
+            None => b"".as_slice(),
+        };
+        assert_eq!(rt; text_at(0), b"2".as_slice());
+        assert_eq!(rt; text_at(1), b"3".as_slice());
+        assert_eq!(rt; table.contents().len(), 2);
         Ok(())
     }
 }
