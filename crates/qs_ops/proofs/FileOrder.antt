@@ -112,9 +112,6 @@ file_text-place (f ∷ fs) name sorted =
 
 -- ---- what a binary search finds
 
-further-eq : (at : Result ℕ ℕ) (r : Result ℕ ℕ) → at ≡ r → one_further at ≡ one_further r
-further-eq at r e = ap one_further e
-
 place_from_found : (fs : List File) (name : List ℕ) (i : ℕ) → IsInOrder fs → i < length fs → HoldsAt (λ f. bytes_cmp f.name name ≡ Equal) fs i → place_of fs name ≡ Ok i
 place_from_found [] name i sorted lt here = absurd (omega arith)
 place_from_found (f ∷ fs) name zero sorted lt here = rw (tied_back bytes_total f.name name (here f)) refl

@@ -1,5 +1,5 @@
 -- Tests for equal replies, reasons and causes.
-use Rattle.std.specs.Prelude.{ℕ, Bool, true, false, ◌&&◌, ◌==◌, List}
+use Rattle.std.specs.Prelude.{Bool, true, false, ◌&&◌, ◌==◌}
 use Rattle.std.specs.Cmp.Lexicographic.{pointwise}
 use Rattle.qs_base.specs.Order.{same_bytes, same_tid, same_member}
 use Rattle.qs_ops.specs.declared.reply.Reply.{Reply}

@@ -1,5 +1,5 @@
 -- Why an operation of files is refused.
-use Rattle.std.specs.Prelude.{◌<◌, ⊤, List, ℕ, Option, Some, None, if◌then◌else◌, nat_lt, nat_le, length}
+use Rattle.std.specs.Prelude.{◌<◌, ⊤, List, ℕ, Option, Some, if◌then◌else◌, nat_lt, nat_le, length}
 use Rattle.std.specs.Option.{option_map}
 use Rattle.qs_base.specs.declared.identifiers.Tid.{Tid}
 use Rattle.qs_ops.specs.declared.operation.Op.{Op}
@@ -18,11 +18,6 @@ refusal_of files tid op = if nat_le 1024 (share_of files tid).operations then So
 abbrev pub refusal_reply : Refusal → Reply
 refusal_reply Full = TooMany
 refusal_reply (Held other) = Busy other
-
--- the reply of a refusal, else this one
-abbrev pub reply_unless : Option Refusal → Reply → Reply
-reply_unless (Some refusal) free = refusal_reply refusal
-reply_unless None free = free
 
 -- the reply to a put that nothing refuses
 abbrev pub put_reply : List ℕ → Reply

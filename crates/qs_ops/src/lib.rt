@@ -4,6 +4,7 @@
 mod answer;
 mod contents;
 mod file;
+mod free_reply;
 mod holders;
 mod locks;
 mod operation;

@@ -1,5 +1,5 @@
 //! What the transactions hold.
-ghost use Rattle.std.specs.Prelude.{◌≡◌, ◌<◌, None, OnOk, OnErr};
+ghost use Rattle.std.specs.Prelude.{◌≡◌, ◌<◌, None, OnOk, OnErr, length};
 ghost use Rattle.std.specs.List.{fold};
 ghost use Rattle.std.specs.Option.{option_copied};
 ghost use Rattle.std.specs.BTreeMap.{insert_entry, IsOrdered};
@@ -95,5 +95,15 @@ pub fn serve(
             shares.insert(tid, share)?;
             Ok(())
         }
+    }
+}
+
+/// How many pending changes a transaction has.
+pub fn change_count(shares: &BTreeMap<Tid, Share>, tid: Tid) -> usize
+    ensures { result ≡ length (share_in shares.now.entries tid).changes }
+{
+    match shares.get(&tid) {
+        Some(share) => share.changes.len(),
+        None => 0,
     }
 }

@@ -1,22 +1,21 @@
 //! The files of a node: what is committed, what each transaction holds, and who holds a name.
-ghost use Rattle.std.specs.Prelude.{◌≡◌, ◌↔◌, Some, IsTrue, IfOk, OnOk, OnErr, length};
+ghost use Rattle.std.specs.Prelude.{◌≡◌, ◌↔◌, Some, IsTrue, IfOk, OnOk, OnErr};
 ghost use Rattle.std.specs.Option.{option_copied};
 ghost use Rattle.std.specs.Map.{lookup};
 ghost use Rattle.std.specs.BTreeMap.{is_at};
 ghost use Rattle.qs_base.specs.Order.{tid_cmp};
-ghost use Rattle.qs_ops.specs.Held.{share_in};
-ghost use Rattle.qs_ops.specs.Refusals.{refusal_of, put_reply};
-ghost use Rattle.qs_ops.specs.Files.{text_reply};
+ghost use Rattle.qs_ops.specs.Refusals.{refusal_of};
 
 use crate::contents::{apply_share, file_text, take_with_room};
 use crate::file::{File, Share};
+use crate::free_reply::{is_put_reply, is_text_reply, put_reply, text_reply};
 use crate::locks::Locks;
 use crate::operation::Op;
 use crate::refusal::Refusal;
 use crate::reply::Reply;
 use crate::serving::{release_share, serve_locked};
-use crate::shares::text_after;
-use qs_base::{Bytes, Copied, List, NoMemory, Tid};
+use crate::shares::{change_count, text_after};
+use qs_base::{Bytes, List, NoMemory, Tid};
 use std::alloc::Global;
 use std::collections::BTreeMap;
 use std::marker::Model;
@@ -93,8 +92,8 @@ impl FileTable {
     }
 
     /// Who keeps the transaction from the operation: another with a pending change to the name,
-    /// else, for a change, another that read it; of several the least. It takes no memory, and
-    /// logarithmic time in the names that are held.
+    /// else, for a change, another that read it; of several the least. It takes no memory, and a
+    /// time that is logarithmic in the names that are held.
     pub fn holder(&self, tid: Tid, op: &Op) -> Option<Tid>
         ensures { result ≡ holder self.now tid op.now }
     {
@@ -159,8 +158,8 @@ impl FileTable {
         }
     }
 
-    /// Serves an operation with its reply: what it changes is pending, and what it locks is held.
-    /// After a refusal all is as it was.
+    /// Serves an operation with its reply, the one that `reply` makes: what it changes is pending,
+    /// and what it locks is held. The only error is a refusal of memory, and all is then as it was.
     pub fn served(&mut self, tid: Tid, op: &Op, reply: &Reply) -> Result<(), NoMemory>
         requires { reply_to self.old tid op.now ≡ Some reply.now }
         ensures ok { OnOk result (self.new ≡ served self.old tid op.now reply.now) }
@@ -183,8 +182,9 @@ impl FileTable {
         release_share(&mut self.locks, &mut self.shares, tid);
     }
 
-    /// Commits the pending changes of the transaction, which holds nothing here any more. After a
-    /// refusal all is as it was.
+    /// Commits the pending changes of the transaction, which holds nothing here any more. It asks
+    /// for the room of as many new files as there are pending changes; the only error is a refusal
+    /// of that memory, and all is then as it was.
     pub fn commit(&mut self, tid: Tid) -> Result<(), NoMemory>
         ensures ok { OnOk result (self.new ≡ committed self.old tid) }
         ensures err { OnErr result (self.new ≡ self.old) }
@@ -195,59 +195,6 @@ impl FileTable {
         apply_share(&mut files, share);
         self.contents = List::from_vec(files);
         Ok(())
-    }
-}
-
-/// How many pending changes a transaction has.
-fn change_count(shares: &BTreeMap<Tid, Share>, tid: Tid) -> usize
-    ensures { result ≡ length (share_in shares.now.entries tid).changes }
-{
-    match shares.get(&tid) {
-        Some(share) => share.changes.len(),
-        None => 0,
-    }
-}
-
-/// The reply to a put that nothing refuses.
-fn put_reply(text: &Bytes) -> Reply
-    ensures { result ≡ put_reply text.now }
-{
-    if text.len() > 65536 {
-        Reply::TooLong
-    } else {
-        Reply::Done
-    }
-}
-
-/// Whether this is the reply to a put that nothing refuses.
-fn is_put_reply(text: &Bytes, reply: &Reply) -> bool
-    ensures { IsTrue result ↔ (put_reply text.now ≡ reply.now) }
-{
-    match reply {
-        Reply::TooLong => text.len() > 65536,
-        Reply::Done => text.len() <= 65536,
-        _ => false,
-    }
-}
-
-/// The reply to a get of this text that nothing refuses.
-fn text_reply(text: Option<&Bytes>) -> Result<Reply, NoMemory>
-    ensures { IfOk result (λ reply. reply ≡ text_reply (option_copied text.entry)) }
-{
-    match text {
-        Some(text) => Ok(Reply::Value { text: text.copy()? }),
-        None => Ok(Reply::Absent),
-    }
-}
-
-/// Whether this is the reply to a get of this text that nothing refuses.
-fn is_text_reply(text: Option<&Bytes>, reply: &Reply) -> bool
-    ensures { IsTrue result ↔ (text_reply (option_copied text.entry) ≡ reply.now) }
-{
-    match (text, reply) {
-        (Some(text), Reply::Value { text: said }) => text.as_slice() == said.as_slice(),
-        (None, Reply::Absent) => true,
-        _ => false,
     }
 }
 
@@ -271,30 +218,62 @@ mod tests {
         Ok(reply)
     }
 
+    fn put(alloc: Global, name: &[u8], text: &[u8]) -> Result<Op, NoMemory> {
+        Ok(Op::Put {
+            name: Bytes::from_slice(alloc, name)?,
+            text: Bytes::from_slice(alloc, text)?,
+        })
+    }
+
+    fn get(alloc: Global, name: &[u8]) -> Result<Op, NoMemory> {
+        Ok(Op::Get {
+            name: Bytes::from_slice(alloc, name)?,
+        })
+    }
+
     #[test]
     fn commits_under_locks(rt: HostRuntime) -> Result<(), Fail> {
         let mut table = FileTable::new(rt.alloc());
-        let name = Bytes::from_slice(rt.alloc(), b"a")?;
-        let put = Op::Put {
-            name: name.copy()?,
-            text: Bytes::from_slice(rt.alloc(), b"x")?,
-        };
-        let get = Op::Get { name };
+        let (put, get) = (put(rt.alloc(), b"a", b"x")?, get(rt.alloc(), b"a")?);
         assert_eq!(rt; serve_one(&mut table, tid(1), &get)?, Reply::Absent);
         assert_eq!(rt;
             serve_one(&mut table, tid(2), &put)?,
             Reply::Busy { holder: tid(1) }
         );
+        assert!(rt; !table.has_changes(tid(2)));
         table.release(tid(1));
+        assert!(rt; table.share(tid(1)).is_none());
         assert_eq!(rt; serve_one(&mut table, tid(2), &put)?, Reply::Done);
+        assert!(rt; table.has_changes(tid(2)));
         assert_eq!(rt;
             serve_one(&mut table, tid(1), &get)?,
             Reply::Busy { holder: tid(2) }
         );
         table.commit(tid(2))?;
         assert_eq!(rt; table.contents().len(), 1);
-        let text = Bytes::from_slice(rt.alloc(), b"x")?;
-        assert_eq!(rt; serve_one(&mut table, tid(1), &get)?, Reply::Value { text });
+        let value = Reply::Value {
+            text: Bytes::from_slice(rt.alloc(), b"x")?,
+        };
+        assert!(rt; table.is_reply(tid(1), &get, &value));
+        assert_eq!(rt; serve_one(&mut table, tid(1), &get)?, value);
+        Ok(())
+    }
+
+    #[test]
+    fn commits_the_last_text_in_byte_order(rt: HostRuntime) -> Result<(), Fail> {
+        let mut table = FileTable::new(rt.alloc());
+        for (name, text) in [(b"b", b"1"), (b"a", b"2"), (b"b", b"3")] {
+            let put = put(rt.alloc(), name, text)?;
+            assert_eq!(rt; serve_one(&mut table, tid(1), &put)?, Reply::Done);
+        }
+        table.commit(tid(1))?;
+        let text_at = |at: usize| match table.contents().get(at) {
+            Some(file) => file.content.as_slice(),
+            None => b"".as_slice(),
+        };
+        assert_eq!(rt; text_at(0), b"2".as_slice());
+        assert_eq!(rt; text_at(1), b"3".as_slice());
+        assert_eq!(rt; table.contents().len(), 2);
         Ok(())
     }
 }
