@@ -1,3 +1,4 @@
+pub mod FitsLemmas
 pub mod LabelLemmas
 pub mod LineLemmas
 pub mod ReadingLemmas

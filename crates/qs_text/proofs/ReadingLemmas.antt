@@ -34,7 +34,7 @@ or_nothing true false = refl
 or_nothing false true = refl
 or_nothing false false = refl
 
-any_more : (test : Said → Bool) (before : List Said) (line : Said) (old new : Bool) → old ≡ list_any test before → new ≡ (old || test line) → new ≡ list_any test (before ++ line ∷ [])
+pub any_more : (test : Said → Bool) (before : List Said) (line : Said) (old new : Bool) → old ≡ list_any test before → new ≡ (old || test line) → new ≡ list_any test (before ++ line ∷ [])
 any_more test before line old new was is = is ∙ (or_nothing old (test line) ∙ rw (list_any-append test before (line ∷ []), ← was) refl)
 
 pub reads_more : (old new : Reader) (before : List Said) (line : Said) → Reads old before
@@ -50,7 +50,7 @@ reads_more old new before line r seated begun orders count = record {
   count = rw (length-append before (line ∷ [])) (omega (arith, r.count, count));
 }
 
-may_name_same : (p q : List ℕ → Bool) (label : List ℕ) → ((l : List ℕ) → p l ≡ q l) → (command : _) → may_name p label command ≡ may_name q label command
+pub may_name_same : (p q : List ℕ → Bool) (label : List ℕ) → ((l : List ℕ) → p l ≡ q l) → (command : _) → may_name p label command ≡ may_name q label command
 may_name_same p q label same command = rw (same label) refl
 
 pub may_stand_same : (reader : Reader) (before : List Said) (line : Said) → Reads reader before

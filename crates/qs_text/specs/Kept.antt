@@ -28,7 +28,7 @@ pub data Made : Type 0 where
   began : Made
   asked : Made
   aborted : Made
-  issued : Tid → Member → ℕ → Option Reply → Made     -- the request, and its reply once it was served
+  issued : Tid → Member → ℕ → Option Reply → Made  -- the request, and its reply once it was served
 
 -- how many commands of a client were answered, and what the next one has made
 pub record Progress : Type 0 where

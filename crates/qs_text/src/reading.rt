@@ -1,6 +1,7 @@
 //! Reads a script.
-ghost use Rattle.std.specs.Prelude.{◌≡◌, ◌≤◌, [], List, ℕ, Some, None, Ok, Err, IfOk, IsErrOf, OnOk, OnErr, length};
+ghost use Rattle.std.specs.Prelude.{◌≡◌, ◌≤◌, [], false, List, ℕ, Some, None, Ok, Err, IfOk, IsErrOf, OnOk, OnErr, length};
 ghost use Rattle.qs_text.specs.Script.{script_of, bad_line, line_past_limit, text_says, script_read};
+ghost use Rattle.qs_text.specs.Fits.{Fits, IsSeated};
 ghost use Rattle.qs_text.specs.Reads.{Reads};
 
 use crate::line::{line_says, next_line};
@@ -38,6 +39,9 @@ pub fn read_script(alloc: Global, text: &[u8], _nodes: u8) -> Result<Script, Scr
     // A fault is the first one of the text, and a text with a fault is not read.
     ensures fault { (line : ℕ) (fault : ScriptFault) → IsErrOf result (ScriptFailed.Fault line fault) → script_of text.now ≡ Err (ScriptFailed.Fault line fault) }
     ensures value { IfOk result (λ script. script_of text.now ≡ Ok script) }
+    // Its commands keep to the rules of scripts, and their client has a seat.
+    ensures fits { IfOk result (λ script. Fits (λ label. false) 0 script.lines) }
+    ensures seated { IfOk result (λ script. IsSeated script) }
 {
     if LIMIT < text.len() {
         return Err(ScriptFailed::Fault {

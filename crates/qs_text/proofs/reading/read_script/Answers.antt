@@ -1,7 +1,9 @@
-use Rattle.std.proofs.Common.{◌≡◌, Err, sym, ◌∙◌, ap}
+use Rattle.std.proofs.Common.{◌≡◌, Err, sym, ◌∙◌, ap, arith}
+use Rattle.std.proofs.lemmas.Grind.{common_steps}
 use Rattle.std.proofs.lemmas.Result.{err_from_is_err_and}
 use Rattle.qs_text.specs.declared.reading.ScriptFailed.TheVariants.{Fault}
 use Rattle.qs_text.specs.Script.{open_line}
+use Rattle.qs_text.proofs.FitsLemmas.{all_fits, all_seated}
 use Rattle.qs_text.proofs.ReadingLemmas.{too_large, bad_word, left_open}
 use Rattle.qs_text.proofs.reading.read_script.Goals as goal
 
@@ -18,3 +20,9 @@ pub returns-in-Some-clause-fault : goal.returns-in-Some-clause-fault
 returns-in-Some-clause-fault c = λ line fault e.
     left_open c.args.text.now c.in_ok-reader.reader.commands c.in-Some.line line fault c.if-text-gt-LIMIT.false c.in_ok-reader.ensures.fits
     c.in_ok-reader.ensures.reads.commands (ap open_line (sym c.as_slice.ensures) ∙ (sym c.in_ok-line.ensures ∙ c.in-Some.is)) e
+
+pub returns-clause-fits : goal.returns-clause-fits
+returns-clause-fits c = all_fits c.args.text.now c.script_of.result (grind (arith, common_steps))
+
+pub returns-clause-seated : goal.returns-clause-seated
+returns-clause-seated c = all_seated c.args.text.now c.script_of.result (grind (arith, common_steps))
