@@ -1,26 +1,31 @@
 -- The reference machine: its state, the lawful step, what a step does, and lawful histories.
-use Rattle.std.specs.Prelude.{◌≡◌, ℕ, ◌+◌, ◌==◌, ◌^◌, Bool, true, false, not, ◌&&◌, ◌||◌, List, [], ◌∷◌, ◌++◌, length, Option, Some, None, nat_lt, slice_get, if◌then◌else◌, ⊤}
+use Rattle.std.specs.Prelude.{◌≡◌, ℕ, ◌+◌, ◌==◌, ◌^◌, Bool, true, false, not, ◌&&◌, ◌||◌, List, [], ◌∷◌, ◌++◌, length, Option, Some, None, nat_lt, slice_get, map, replicate, if◌then◌else◌, ⊤}
 use Rattle.std.specs.Map.{lookup}
 use Rattle.std.specs.BTreeMap.{insert_entry, is_at}
 use Rattle.qs_base.specs.Order.{bytes_cmp, tid_cmp}
+use Rattle.qs_base.specs.declared.identifiers.ClientNo.{ClientNo}
 use Rattle.qs_base.specs.declared.identifiers.Member.{Member}
 use Rattle.qs_base.specs.declared.identifiers.Outcome.{Outcome}
 use Rattle.qs_base.specs.declared.identifiers.Outcome.TheVariants as outcomes
 use Rattle.qs_base.specs.declared.identifiers.Tid.{Tid}
-use Rattle.qs_ops.specs.Files.{FilesValue, served, released, committed}
+use Rattle.qs_ops.specs.Files.{FilesValue, no_files, reply_to, served, released, committed}
 use Rattle.qs_ops.specs.declared.answer.Cause.{Cause}
+use Rattle.qs_ops.specs.declared.file.File.{File}
+use Rattle.qs_book.specs.declared.transaction.Cell.{Cell}
 use Rattle.qs_ops.specs.declared.reply.Reply.{Reply}
 use Rattle.qs_ops.specs.declared.vote.Vote.{Vote}
 use Rattle.qs_ops.specs.declared.vote.Vote.TheVariants as votes
-use Rattle.qs_book.specs.Clauses.{broken_begin, broken_issue, broken_serve, broken_vote, broken_ask, broken_decide, broken_answer, broken_learn, standing_request}
+use Rattle.qs_book.specs.Clauses.{broken_begin, broken_issue, broken_serve, broken_vote, broken_ask, broken_decide, broken_answer, broken_learn}
 use Rattle.qs_book.specs.Maps.{changed_at, changed_value}
-use Rattle.qs_book.specs.Transaction.{TransactionValue, begun, issued, served_in, voted, asked, decided, learnt}
+use Rattle.qs_book.specs.Transaction.{TransactionValue, request_at, begun, issued, served_in, voted, asked, decided, learnt}
 use Rattle.qs_book.specs.declared.entry.Act.{Act}
 use Rattle.qs_book.specs.declared.entry.Act.TheVariants.{Begin, Issue, Serve, Ask, Decide, Learn, Answer}
 use Rattle.qs_book.specs.declared.entry.Act.TheVariants as acts
 use Rattle.qs_book.specs.declared.entry.Entry.{Entry}
 use Rattle.qs_book.specs.declared.state.NodeState.{NodeState}
 use Rattle.qs_book.specs.declared.state.Owner.{Owner}
+use Rattle.qs_book.specs.declared.transaction.Link.{Link}
+use Rattle.qs_book.specs.declared.transaction.Request.{Request}
 
 pub record BookValue : Type 0 where
   pub stamp : ℕ  -- of the last entry
@@ -30,11 +35,44 @@ pub record BookValue : Type 0 where
   pub transactions : List (Tid × TransactionValue)
   pub owners : List Owner  -- what each client was answered, by number
 
+-- ---- the opening over logs that hold nothing
+
+abbrev pub fresh_node : ℕ → NodeState
+fresh_node inc = record { up = true; inc = inc; begun = 0; files = no_files }
+
+abbrev pub no_owner : Owner
+no_owner = record { line = 0; committed = false; causes = [] }
+
+-- each node is up in its incarnation, and nothing happened yet
+abbrev pub first_book : List ℕ → BookValue
+first_book incs = record {
+  stamp = 0;
+  node = 0;
+  nodes = map fresh_node incs;
+  labels = [];
+  transactions = [];
+  owners = replicate 256 no_owner;
+}
+
+-- ---- look-ups
+
 abbrev pub find_transaction : BookValue → Tid → Option TransactionValue
 find_transaction book tid = lookup (is_at (tid_cmp tid)) book.transactions
 
 abbrev pub find_label : BookValue → List ℕ → Option Tid
 find_label book label = lookup (is_at (bytes_cmp label)) book.labels
+
+abbrev pub inc_of : Option NodeState → Option ℕ
+inc_of None = None
+inc_of (Some node) = Some node.inc
+
+abbrev pub files_of : Option NodeState → Option (List File)
+files_of None = None
+files_of (Some node) = Some node.files.contents
+
+abbrev pub cell_of_transaction : Option TransactionValue → Option Cell
+cell_of_transaction None = None
+cell_of_transaction (Some tx) = Some tx.cell
 
 -- ---- the lawful step
 
@@ -80,18 +118,35 @@ with_files f node = record node { files = f node.files }
 abbrev pub with_transaction : Tid → (TransactionValue → TransactionValue) → BookValue → BookValue
 with_transaction tid f book = record book { transactions = changed_value (is_at (tid_cmp tid)) f book.transactions }
 
--- the member serves the request with this reply
-abbrev pub after_serve : BookValue → ℕ → Tid → Member → ℕ → ℕ → Reply → Option TransactionValue → BookValue
-after_serve book here tid member from number reply None = book
-after_serve book here tid member from number reply (Some tx) =
-    elim (standing_request here tx member from number) [
-      | None ↦ book
-      | Some request ↦ record book {
-        nodes = changed_at here (with_files (λ files. served files tid request.op reply)) book.nodes;
-        transactions = changed_value (is_at (tid_cmp tid))
-            (served_in member (record { from = record { 0 = from }; to = member.node }) number) book.transactions;
-      }
-    ]
+-- what serving a request with this reply makes of the files
+abbrev pub served_request : FilesValue → Tid → Option Request → Reply → FilesValue
+served_request files tid None reply = files
+served_request files tid (Some request) reply = served files tid request.op reply
+
+abbrev pub link_from : ℕ → Member → Link
+link_from from member = record { from = record { 0 = from }; to = member.node }
+
+-- the request of that number on that link
+abbrev pub request_of : Option TransactionValue → Link → ℕ → Option Request
+request_of None link number = None
+request_of (Some tx) link number = request_at tx link number
+
+-- the member serves the request of that number on that link with this reply
+abbrev pub after_serve : BookValue → ℕ → Tid → Member → Link → ℕ → Reply → BookValue
+after_serve book here tid member link number reply = record book {
+  nodes = changed_at here
+      (with_files (λ files. served_request files tid (request_of (find_transaction book tid) link number) reply)) book.nodes;
+  transactions = changed_value (is_at (tid_cmp tid)) (served_in member link number) book.transactions;
+}
+
+-- the reply is the one due to the request
+abbrev pub IsReplied : FilesValue → Tid → Option Request → Reply → Type 0
+IsReplied files tid None reply = ⊥
+IsReplied files tid (Some request) reply = reply_to files tid request.op ≡ Some reply
+
+abbrev pub IsRepliedAt : Option NodeState → Tid → Option Request → Reply → Type 0
+IsRepliedAt None tid request reply = ⊥
+IsRepliedAt (Some node) tid request reply = IsReplied node.files tid request reply
 
 -- a read-only vote ends the reads of its member
 abbrev pub after_vote : Vote → Tid → FilesValue → FilesValue
@@ -109,10 +164,13 @@ with_outcome outcomes.Commit cause owner = record owner { committed = true }
 with_outcome outcomes.Abort None owner = owner
 with_outcome outcomes.Abort (Some cause) owner = record owner { causes = owner.causes ++ cause ∷ [] }
 
-abbrev pub after_decide : Outcome → Option Cause → Option TransactionValue → List Owner → List Owner
-after_decide outcome cause None owners = owners
-after_decide outcome cause (Some tx) owners =
-    elim tx.owner [ None ↦ owners | Some owner ↦ changed_at owner.0 (with_outcome outcome cause) owners ]
+abbrev pub owner_client : Option TransactionValue → Option ClientNo
+owner_client None = None
+owner_client (Some tx) = tx.owner
+
+abbrev pub owner_after : Outcome → Option Cause → Option ClientNo → List Owner → List Owner
+owner_after outcome cause None owners = owners
+owner_after outcome cause (Some client) owners = changed_at client.0 (with_outcome outcome cause) owners
 
 abbrev pub with_line : ℕ → Owner → Owner
 with_line line owner = record owner { line = line }
@@ -128,14 +186,14 @@ effect_act book here (Issue tid issuer member number op) =
     (issued (record { from = record { 0 = here }; to = member.node }) (record { issuer = issuer; member = member; op = op; served = false }))
     book
 effect_act book here (Serve tid member from number reply) =
-    after_serve book here tid member from.0 number reply (find_transaction book tid)
+    after_serve book here tid member (link_from from.0 member) number reply
 effect_act book here (Ask tid) = with_transaction tid asked book
 effect_act book here (acts.Vote tid member vote covers) = record book {
   nodes = changed_at here (with_files (after_vote vote tid)) book.nodes;
   transactions = changed_value (is_at (tid_cmp tid)) (voted member vote) book.transactions;
 }
 effect_act book here (Decide tid outcome cause) = record book {
-  owners = after_decide outcome cause (find_transaction book tid) book.owners;
+  owners = owner_after outcome cause (owner_client (find_transaction book tid)) book.owners;
   transactions = changed_value (is_at (tid_cmp tid)) (decided outcome cause) book.transactions;
 }
 effect_act book here (Learn tid member outcome) = record book {
@@ -146,7 +204,7 @@ effect_act book here (Answer client line answer) = record book { owners = change
 effect_act book here _ = book
 
 abbrev pub effect : BookValue → Entry → BookValue
-effect book entry = effect_act (record book { stamp = entry.stamp; node = entry.node.0 }) entry.node.0 entry.act
+effect book entry = record (effect_act book entry.node.0 entry.act) { stamp = entry.stamp; node = entry.node.0 }
 
 -- ---- histories
 

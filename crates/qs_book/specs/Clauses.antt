@@ -23,7 +23,7 @@ use Rattle.qs_ops.specs.declared.reply.Reply.{Reply}
 use Rattle.qs_ops.specs.declared.vote.Reason.{Reason}
 use Rattle.qs_ops.specs.declared.vote.Vote.{Vote}
 use Rattle.qs_ops.specs.declared.vote.Vote.TheVariants as votes
-use Rattle.qs_book.specs.Transaction.{TransactionValue, class_of, is_two_phase, learns_outcome, is_open, is_commit, is_outcome, next_number, request_at, part_of, all_served, learnt_abort}
+use Rattle.qs_book.specs.Transaction.{TransactionValue, class_of, is_two_phase, learns_outcome, has_loan, is_open, is_commit, is_outcome, next_number, request_at, part_of, all_served, learnt_abort}
 use Rattle.qs_book.specs.declared.state.NodeState.{NodeState}
 use Rattle.qs_book.specs.declared.state.Owner.{Owner}
 use Rattle.qs_book.specs.declared.transaction.Link.{Link}
@@ -65,26 +65,23 @@ is_numbered here nodes tx member number op =
 abbrev pub is_client_here : ℕ → Member → Bool
 is_client_here here issuer = (issuer.node.0 == here) && nat_lt 31 issuer.server.0
 
-abbrev pub is_owner : Option ClientNo → ℕ → Bool
-is_owner None client = false
-is_owner (Some owner) client = owner.0 == client
+-- the client of that server number
+abbrev pub is_owner_of : ℕ → Option ClientNo → Bool
+is_owner_of server None = false
+is_owner_of server (Some owner) = owner.0 + 32 == server
 
--- the loan was made to the client of that server number, here in this incarnation, and is not yielded
-abbrev pub is_standing : ℕ → NodeState → ℕ → Loan → Bool
-is_standing here node server loan =
-    (loan.client.0 + 32 == server) && ((loan.node.0 == here) && ((loan.inc == node.inc) && not loan.yielded))
+-- 21 client may issue: the owner at the home before it asks and before the decision, ..
+abbrev pub may_issue_as_owner : ℕ → Tid → TransactionValue → Member → Bool
+may_issue_as_owner here tid tx issuer =
+    (is_owner_of issuer.server.0 tx.owner && (tid.home.0 == here)) && (is_open tx.cell && not tx.asked)
 
--- 21 client may issue: the owner at the home before it asks and decides, or a borrower with a standing
--- loan where no member learnt abort
+-- .. or a borrower with a standing loan where no member learnt abort
+abbrev pub may_issue_as_borrower : ℕ → NodeState → TransactionValue → Member → Bool
+may_issue_as_borrower here node tx issuer = has_loan here node.inc issuer.server.0 tx && not (learnt_abort here tx)
+
 abbrev pub may_issue : ℕ → NodeState → Tid → TransactionValue → Member → Bool
 may_issue here node tid tx issuer =
-    is_client_here here issuer
-    && (((is_owner_of issuer.server.0 tx.owner && (tid.home.0 == here)) && (is_open tx.cell && not tx.asked))
-    || (list_any (is_standing here node issuer.server.0) tx.loans && not (learnt_abort here tx)))
-  where
-    is_owner_of : ℕ → Option ClientNo → Bool
-    is_owner_of server None = false
-    is_owner_of server (Some owner) = owner.0 + 32 == server
+    is_client_here here issuer && (may_issue_as_owner here tid tx issuer || may_issue_as_borrower here node tx issuer)
 
 -- files here, as the one who issues (22 audit note due: none is due before audit notes are built)
 abbrev pub is_files_here : ℕ → Member → Bool
@@ -100,12 +97,16 @@ broken_issue here node nodes tid (Some tx) issuer member number op =
 
 -- ---- serve
 
+-- the request is one to that member, which is here, and was not served
+abbrev pub is_standing_at : ℕ → Member → Request → Bool
+is_standing_at here member request = (member.node.0 == here) && (same_member request.member member && not request.served)
+
 -- the standing request of that number, from that node to that member, which is here
 abbrev pub standing_request : ℕ → TransactionValue → Member → ℕ → ℕ → Option Request
 standing_request here tx member from number =
     elim (request_at tx (record { from = record { 0 = from }; to = member.node }) number) [
       | None ↦ None
-      | Some request ↦ if (member.node.0 == here) && (same_member request.member member && not request.served) then Some request else None
+      | Some request ↦ if is_standing_at here member request then Some request else None
     ]
 
 -- 31 reply by the rules

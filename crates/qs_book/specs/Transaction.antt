@@ -105,11 +105,15 @@ link_cmp l m = ordering_then (nat_cmp l.from.0 m.from.0) (nat_cmp l.to.0 m.to.0)
 abbrev pub requests_on : TransactionValue → Link → List Request
 requests_on tx link = unwrap_or (lookup (is_at (link_cmp link)) tx.requests) []
 
+abbrev pub request_in : List (Link × List Request) → Link → ℕ → Option Request
+request_in requests link number =
+    if number == 0 then None else slice_get (unwrap_or (lookup (is_at (link_cmp link)) requests) []) (number - 1)
+
 abbrev pub next_number : TransactionValue → Link → ℕ
 next_number tx link = length (requests_on tx link) + 1
 
 abbrev pub request_at : TransactionValue → Link → ℕ → Option Request
-request_at tx link number = if number == 0 then None else slice_get (requests_on tx link) (number - 1)
+request_at tx link number = request_in tx.requests link number
 
 -- the request joins those of its link, at their end
 abbrev pub with_request : Link → Request → List (Link × List Request) → List (Link × List Request)
@@ -152,6 +156,14 @@ served_in member link number tx = record tx {
 -- a member at that node learnt abort
 abbrev pub learnt_abort : ℕ → TransactionValue → Bool
 learnt_abort node tx = list_any (λ (entry : Member × Part). (entry.0.node.0 == node) && entry.1.aborted) tx.parts
+
+-- the loan was made to the client of that server number, at that node in that incarnation, and stands
+abbrev pub is_standing : ℕ → ℕ → ℕ → Loan → Bool
+is_standing node inc server loan =
+    (loan.client.0 + 32 == server) && ((loan.node.0 == node) && ((loan.inc == inc) && not loan.yielded))
+
+abbrev pub has_loan : ℕ → ℕ → ℕ → TransactionValue → Bool
+has_loan node inc server tx = list_any (is_standing node inc server) tx.loans
 
 -- ---- votes
 

@@ -1,12 +1,19 @@
 //! The reference machine: one outcome cell for each transaction, against which every run is judged.
 #![tactic(auto)]
 
+mod book;
+mod class;
+mod clauses;
+mod effects;
 mod entry;
+mod member_clauses;
 mod requests;
 mod script_line;
 mod state;
 mod transaction;
 
+pub use book::{Book, BookFault};
+pub use class::class_of;
 pub use entry::{Act, CrashCause, Entry, Found};
 pub use requests::Requests;
 pub use script_line::{Command, Kind, LineAnswer, Point, ScriptLine};

@@ -1,7 +1,10 @@
 //! What the machine keeps of each node and of each owner.
 
-use qs_base::{Bytes, List};
-use qs_ops::{Cause, FileTable};
+ghost use Rattle.std.specs.Prelude.{◌≡◌, OnOk, OnErr};
+ghost use Rattle.std.specs.Option.{option_copied};
+
+use qs_base::{Copied, List, NoMemory, Outcome, Tid};
+use qs_ops::{Cause, FileTable, Vote};
 
 /// A node of the run.
 #[derive(Debug, Drop)]
@@ -23,4 +26,46 @@ pub struct Owner {
     pub committed: bool,
     /// Why its transactions were aborted.
     pub causes: List<Cause>,
+}
+
+impl Owner {
+    ghost use Rattle.qs_book.specs.Book.{with_outcome};
+
+    /// A transaction of its has this outcome, and this cause. After a refusal all is as it was.
+    pub fn learn(&mut self, outcome: Outcome, cause: Option<&Cause>) -> Result<(), NoMemory>
+        ensures ok { OnOk result (self.new ≡ with_outcome outcome (option_copied cause.entry) self.old) }
+        ensures err { OnErr result (self.new ≡ self.old) }
+    {
+        match (outcome, cause) {
+            (Outcome::Commit, _) => self.committed = true,
+            (Outcome::Abort, Some(cause)) => self.causes.push(cause.copy()?)?,
+            (Outcome::Abort, None) => {}
+        }
+        Ok(())
+    }
+}
+
+impl NodeState {
+    ghost use Rattle.qs_book.specs.Book.{with_files, after_vote, after_learn};
+
+    /// A read-only vote ends the transaction's reads.
+    pub fn vote(&mut self, vote: &Vote, tid: Tid)
+        ensures { self.new ≡ with_files (after_vote vote.now tid) self.old }
+    {
+        if let Vote::ReadOnly = vote {
+            self.files.release(tid);
+        }
+    }
+
+    /// Commit applies what is pending, abort drops it. After a refusal all is as it was.
+    pub fn learn(&mut self, outcome: Outcome, tid: Tid) -> Result<(), NoMemory>
+        ensures ok { OnOk result (self.new ≡ with_files (after_learn outcome tid) self.old) }
+        ensures err { OnErr result (self.new ≡ self.old) }
+    {
+        match outcome {
+            Outcome::Commit => self.files.commit(tid)?,
+            Outcome::Abort => self.files.release(tid),
+        }
+        Ok(())
+    }
 }

@@ -1,13 +1,16 @@
 //! What the machine keeps of one transaction.
-ghost use Rattle.std.specs.Prelude.{◌≡◌, OnOk, OnErr, IfOk};
+ghost use Rattle.std.specs.Prelude.{◌≡◌, ◌-◌, OnOk, OnErr, IfOk};
 ghost use Rattle.std.specs.Option.{option_copied};
-ghost use Rattle.qs_book.specs.Transaction.{served_once, voted_part, learnt_part, cell_of};
+ghost use Rattle.qs_book.specs.Clauses.{counts_from, is_covered, is_refusal};
+ghost use Rattle.qs_book.specs.Transaction.{served_once, voted_part, learnt_part, cell_of, is_standing, request_in};
 
+use crate::class::{class_of, is_two_phase};
 use crate::requests::Requests;
-use qs_base::{Bytes, ClientNo, Copied, List, Member, NoMemory, NodeNo, Outcome};
-use qs_ops::{Cause, Op, Reason, Vote};
+use qs_base::{Bytes, ClientNo, Copied, List, Member, NoMemory, NodeNo, Outcome, ServerNo, Tid};
+use qs_ops::{Cause, FileTable, Op, Reason, Reply, Vote};
 use std::alloc::Global;
 use std::collections::BTreeMap;
+use std::collections::btree_map::Entry;
 use std::marker::Model;
 
 /// The state of a transaction's only outcome.
@@ -114,6 +117,42 @@ impl Part {
     }
 }
 
+fn request_in(requests: &BTreeMap<Link, Requests>, link: Link, number: u32) -> Option<&Request>
+    ensures { option_copied result ≡ request_in requests.now.entries link number }
+{
+    if number == 0 {
+        return None;
+    }
+    requests.get(&link)?.get(number as usize - 1)
+}
+
+fn counts_from(member: Member, served: u32, covers: u32, start: &Start) -> bool
+    ensures { result ≡ counts_from member served covers start.now }
+{
+    start.member == member && u64::from(covers) + u64::from(start.served) == u64::from(served)
+}
+
+fn is_covered(member: Member, part: &Part) -> bool
+    ensures { result ≡ is_covered (member, part.now) }
+{
+    !is_two_phase(class_of(member.server)) || part.covered == part.served
+}
+
+fn is_refusal(member: Member, reason: &Reason, refusal: &Refusal) -> bool
+    ensures { result ≡ is_refusal member reason.now refusal.now }
+{
+    refusal.member == member && refusal.reason.is(reason)
+}
+
+fn is_standing(node: NodeNo, inc: u64, server: ServerNo, loan: &Loan) -> bool
+    ensures { result ≡ is_standing node.0 inc server.0 loan.now }
+{
+    u32::from(loan.client.0) + 32 == u32::from(server.0)
+        && loan.node == node
+        && loan.inc == inc
+        && !loan.yielded
+}
+
 /// The cell of an outcome.
 pub fn cell_of(outcome: Outcome) -> Cell
     ensures { result ≡ cell_of outcome }
@@ -184,9 +223,12 @@ impl Model for Transaction {
 }
 
 impl Transaction {
-    ghost use Rattle.qs_book.specs.Transaction.{begun, next_number, requests_on, request_at, part_of, all_served, learnt_abort, issued, served_in, voted, asked, decided, learnt};
-    ghost use Rattle.qs_book.specs.Clauses.{is_unanimous, is_cause, is_covering, counts_from, is_standing, is_refusal};
-    ghost use Rattle.qs_ops.specs.Files.{reply_to, served};
+    ghost use Rattle.std.specs.List.{list_all, list_any};
+    ghost use Rattle.qs_book.specs.Clauses.{is_covering, is_unanimous, is_cause, is_covered, is_refusal, is_yielded};
+    ghost use Rattle.std.specs.BTreeMap.{is_at};
+    ghost use Rattle.qs_book.specs.Book.{IsReplied, served_request};
+    ghost use Rattle.qs_book.specs.Maps.{changed_at, changed_value};
+    ghost use Rattle.qs_book.specs.Transaction.{link_cmp, marked, begun, next_number, requests_on, request_at, part_of, all_served, learnt_abort, has_loan, issued, served_in, voted, asked, decided, learnt};
 
     /// A transaction that its owner begins under this label. It takes no memory.
     pub fn begun(alloc: Global, label: Bytes, owner: ClientNo) -> Transaction
@@ -256,10 +298,7 @@ impl Transaction {
     pub fn request_at(&self, link: Link, number: u32) -> Option<&Request>
         ensures { option_copied result ≡ request_at self.now link number }
     {
-        if number == 0 {
-            return None;
-        }
-        self.requests.get(&link)?.get(number as usize - 1)
+        request_in(&self.requests, link, number)
     }
 
     /// Whether every request was served.
@@ -285,6 +324,83 @@ impl Transaction {
         self.parts
             .iter()
             .any(|(member, part)| member.node == node && part.aborted)
+    }
+
+    /// Whether so many covers count what the member served since the restart, or since one of its
+    /// read-only votes.
+    pub fn is_covering(&self, member: Member, covers: u32) -> bool
+        ensures { result ≡ is_covering self.now member (part_of self.now member) covers }
+    {
+        let served = self.part(member).served;
+        covers == served || self.has_start(member, served, covers)
+    }
+
+    fn has_start(&self, member: Member, served: u32, covers: u32) -> bool
+        ensures { result ≡ list_any (counts_from member served covers) self.now.starts }
+    {
+        self.starts
+            .as_slice()
+            .iter()
+            .any(|start| counts_from(member, served, covers, start))
+    }
+
+    /// Whether all that has to agree to a commit did: it was asked for, every request was served
+    /// and stands before a vote for it, no vote was ever against it, every loan was given back, and
+    /// no member is crossed.
+    pub fn is_unanimous(&self) -> bool
+        ensures { result ≡ is_unanimous self.now }
+    {
+        self.asked
+            && self.all_served()
+            && self.all_covered()
+            && self.refusals.is_empty()
+            && self.all_yielded()
+            && self.crossed.is_empty()
+    }
+
+    fn all_yielded(&self) -> bool
+        ensures { result ≡ list_all is_yielded self.now.loans }
+    {
+        self.loans.as_slice().iter().all(|loan| loan.yielded)
+    }
+
+    fn all_covered(&self) -> bool
+        ensures { result ≡ list_all is_covered self.now.parts }
+    {
+        self.parts
+            .iter()
+            .all(|(member, part)| is_covered(*member, part))
+    }
+
+    /// Whether it may be aborted for that cause.
+    pub fn is_cause(&self, cause: &Cause) -> bool
+        ensures { result ≡ is_cause self.now cause.now }
+    {
+        match cause {
+            Cause::Asked => !self.asked,
+            Cause::Voted { member, reason } => self.has_refusal(*member, reason),
+            _ => false,
+        }
+    }
+
+    fn has_refusal(&self, member: Member, reason: &Reason) -> bool
+        ensures { result ≡ list_any (is_refusal member reason.now) self.now.refusals }
+    {
+        self.refusals
+            .as_slice()
+            .iter()
+            .any(|refusal| is_refusal(member, reason, refusal))
+    }
+
+    /// Whether it was lent at that node, in that incarnation, to the client of that server number,
+    /// and the loan stands.
+    pub fn has_loan(&self, node: NodeNo, inc: u64, server: ServerNo) -> bool
+        ensures { result ≡ has_loan node.0 inc server.0 self.now }
+    {
+        self.loans
+            .as_slice()
+            .iter()
+            .any(|loan| is_standing(node, inc, server, loan))
     }
 
     /// The issue of a request on that link. After a refusal all is as it was.
@@ -345,5 +461,48 @@ impl Transaction {
             *part = part.voted(vote);
         }
         Ok(())
+    }
+
+    /// The member serves the request of that number on that link with this reply, at the files of its
+    /// node. After a refusal all is as it was.
+    pub fn serve(
+        &mut self,
+        files: &mut FileTable,
+        tid: Tid,
+        member: Member,
+        link: Link,
+        number: u32,
+        reply: &Reply,
+    ) -> Result<(), NoMemory>
+        requires { IsReplied files.old tid (request_at self.old link number) reply.now }
+        ensures ok { OnOk result (self.new ≡ served_in member link number self.old) }
+        ensures files { OnOk result (files.new ≡ served_request files.old tid (request_at self.old link number) reply.now) }
+        ensures err { OnErr result (self.new ≡ self.old) }
+        ensures files_err { OnErr result (files.new ≡ files.old) }
+    {
+        let next = self.part(member).served_once()?;
+        let Some(request) = request_in(&self.requests, link, number) else {
+            return Ok(());
+        };
+        match self.parts.entry(member)? {
+            Entry::Vacant(place) => {
+                files.served(tid, &request.op, reply)?;
+                place.insert(next);
+            }
+            Entry::Occupied(mut place) => {
+                files.served(tid, &request.op, reply)?;
+                place.insert(next);
+            }
+        }
+        self.mark(link, number);
+        Ok(())
+    }
+
+    fn mark(&mut self, link: Link, number: u32)
+        ensures { self.new ≡ record self.old { requests = changed_value (is_at (link_cmp link)) (changed_at (number - 1) marked) self.old.requests } }
+    {
+        if let Some(requests) = self.requests.get_mut(&link) {
+            requests.mark((number as usize).saturating_sub(1));
+        }
     }
 }
