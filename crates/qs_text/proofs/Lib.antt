@@ -1,4 +1,5 @@
 pub mod LabelLemmas
 pub mod LineLemmas
+pub mod OutputLemmas
 pub mod ReadingLemmas
 pub mod WordLemmas

@@ -1,6 +1,7 @@
 pub mod Answers
 pub mod Labels
 pub mod Lines
+pub mod Output
 pub mod Reads
 pub mod Script
 pub mod Status
