@@ -24,4 +24,4 @@ pub use output::out_text;
 pub use reading::{ScriptFailed, read_script};
 pub use script::{FaultLine, Planned, Quota, Script, Seat};
 pub use status::{ScriptFault, Status, Waiting};
-pub use words::read_words;
+pub use words::{numbers_have_one_spelling, read_words};
