@@ -1,5 +1,6 @@
 pub mod FitsLemmas
 pub mod LabelLemmas
 pub mod LineLemmas
+pub mod OutputLemmas
 pub mod ReadingLemmas
 pub mod WordLemmas

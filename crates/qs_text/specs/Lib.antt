@@ -3,6 +3,7 @@ pub mod Fits
 pub mod Kept
 pub mod Labels
 pub mod Lines
+pub mod Output
 pub mod Reads
 pub mod Script
 pub mod Status

@@ -8,17 +8,20 @@ mod form;
 mod label_set;
 mod line;
 mod open;
+mod output;
 mod reader;
 mod reading;
 mod script;
 mod status;
 #[cfg(test)]
 mod tests;
+mod totals;
 mod words;
 
 pub use ending::status_line;
 pub use form::{Form, WordsFault};
+pub use output::out_text;
 pub use reading::{ScriptFailed, read_script};
 pub use script::{FaultLine, Planned, Quota, Script, Seat};
 pub use status::{ScriptFault, Status, Waiting};
-pub use words::read_words;
+pub use words::{numbers_have_one_spelling, read_words};

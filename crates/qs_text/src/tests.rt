@@ -1,12 +1,14 @@
-//! The worked scripts, bad scripts, words, and the lines of statuses.
+//! The worked scripts, bad scripts, words, the lines of statuses, and an output.
 use crate::ending::status_line;
 use crate::form::{Form, WordsFault};
+use crate::output::out_text;
 use crate::reading::{ScriptFailed, read_script};
 use crate::script::Script;
 use crate::status::{ScriptFault, Status, Waiting};
 use crate::words::read_words;
-use qs_base::{ClientNo, List};
-use qs_book::Command;
+use qs_base::{Bytes, ClientNo, List, Member, NoMemory, NodeNo, Outcome, ServerNo, Tid};
+use qs_book::{Act, Book, Command, Entry};
+use qs_ops::{Answer, Op, Reply, Vote};
 use std::alloc::{AllocError, Global};
 use std::test::Fail;
 
@@ -33,6 +35,111 @@ fn words(alloc: Global, text: &str) -> Result<Vec<String>, AllocError> {
         words.push(String::from_str(alloc, word)?)?;
     }
     Ok(words)
+}
+
+const TID: Tid = Tid {
+    home: NodeNo(0),
+    inc: 1,
+    seq: 1,
+};
+
+const FILES: Member = Member {
+    node: NodeNo(0),
+    server: ServerNo(0),
+};
+
+const CLIENT: Member = Member {
+    node: NodeNo(0),
+    server: ServerNo(32),
+};
+
+fn answer(line: u32, answer: Answer) -> Act {
+    Act::Answer {
+        client: ClientNo(0),
+        line,
+        answer,
+    }
+}
+
+fn put_hello(alloc: Global) -> Result<Op, NoMemory> {
+    Ok(Op::Put {
+        name: Bytes::from_slice(alloc, b"f")?,
+        text: Bytes::from_slice(alloc, b"hello")?,
+    })
+}
+
+fn step(history: &mut List<Entry>, stamp: u64, act: Act) -> Result<(), NoMemory> {
+    history.push(Entry {
+        stamp,
+        node: NodeNo(0),
+        act,
+    })
+}
+
+fn committed_history(alloc: Global) -> Result<List<Entry>, NoMemory> {
+    let mut history = List::new(alloc);
+    let begin = Act::Begin {
+        tid: TID,
+        label: Bytes::from_slice(alloc, b"a")?,
+        client: ClientNo(0),
+    };
+    step(&mut history, 1, begin)?;
+    step(&mut history, 1, answer(2, Answer::Done))?;
+    let issue = Act::Issue {
+        tid: TID,
+        issuer: CLIENT,
+        member: FILES,
+        number: 1,
+        op: put_hello(alloc)?,
+    };
+    step(&mut history, 2, issue)?;
+    let serve = Act::Serve {
+        tid: TID,
+        member: FILES,
+        from: NodeNo(0),
+        number: 1,
+        reply: Reply::Done,
+    };
+    step(&mut history, 3, serve)?;
+    step(&mut history, 3, answer(3, Answer::Done))?;
+    step(&mut history, 4, Act::Ask { tid: TID })?;
+    let vote = Act::Vote {
+        tid: TID,
+        member: FILES,
+        vote: Vote::Recoverable,
+        covers: 1,
+    };
+    step(&mut history, 5, vote)?;
+    let decide = Act::Decide {
+        tid: TID,
+        outcome: Outcome::Commit,
+        cause: None,
+    };
+    step(&mut history, 6, decide)?;
+    let learn = Act::Learn {
+        tid: TID,
+        member: FILES,
+        outcome: Outcome::Commit,
+    };
+    step(&mut history, 6, learn)?;
+    step(&mut history, 6, answer(4, Answer::Committed))?;
+    Ok(history)
+}
+
+#[test]
+fn a_committed_put_is_printed(rt: HostRuntime) -> Result<(), Fail> {
+    let alloc = rt.alloc();
+    let script = read(alloc, COMMITS)?;
+    let history = committed_history(alloc)?;
+    let mut book = Book::over_empty_logs(alloc, &[1])?;
+    for entry in history.as_slice() {
+        book.apply(entry)?;
+    }
+    let out = out_text(alloc, &script, &history, &book)?;
+    let text =
+        "client 0\n2 ok\n3 ok\n4 committed\nnode 0 inc 1\nfile f hello\ntotals begun 1 committed 1 aborted 0 restarts 0\n";
+    assert_eq!(rt; out.as_slice(), text.as_bytes());
+    Ok(())
 }
 
 #[test]

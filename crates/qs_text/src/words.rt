@@ -1,5 +1,5 @@
 //! Reads the words after the program's name.
-ghost use Rattle.std.specs.Prelude.{◌≡◌, string_bytes};
+ghost use Rattle.std.specs.Prelude.{◌≡◌, ◌<◌, ◌^◌, ◌↔◌, List, ℕ, Some, string_bytes, decimal};
 ghost use Rattle.std.specs.Option.{ok_or};
 ghost use Rattle.std.specs.Char.{is_ascii_digit};
 ghost use Rattle.std.specs.List.{list_all};
@@ -67,3 +67,8 @@ fn are_digits(word: &[u8]) -> bool
 {
     word.iter().all(|byte| byte.is_ascii_digit())
 }
+
+/// A word is a number exactly where it is the decimal spelling of one of 64 bits.
+pub fn numbers_have_one_spelling()
+    ensures { (word : List ℕ) (n : ℕ) → (number_of word ≡ Some n) ↔ ((n < 2 ^ 64) × (word ≡ decimal n)) }
+{}

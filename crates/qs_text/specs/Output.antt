@@ -1,0 +1,117 @@
+-- The output of a run, as a function of its script, its history and the book after it.
+use Rattle.std.specs.Prelude.{ℕ, ◌+◌, ◌==◌, Bool, true, false, ◌&&◌, List, [], ◌∷◌, ◌++◌, Option, Some, None, is_some, map, nat_lt, codes, decimal, if◌then◌else◌}
+use Rattle.std.specs.List.{flat_map, count_by}
+use Rattle.qs_base.specs.declared.identifiers.ClientNo.{ClientNo}
+use Rattle.qs_base.specs.declared.identifiers.Tid.{Tid}
+use Rattle.qs_ops.specs.declared.answer.Answer.{Answer}
+use Rattle.qs_ops.specs.declared.answer.Answer.TheVariants.{Busy}
+use Rattle.qs_ops.specs.declared.file.File.{File}
+use Rattle.qs_book.specs.Book.{BookValue, find_transaction}
+use Rattle.qs_book.specs.Transaction.{TransactionValue}
+use Rattle.qs_book.specs.declared.entry.Act.{Act}
+use Rattle.qs_book.specs.declared.entry.Act.TheVariants as acts
+use Rattle.qs_book.specs.declared.entry.Entry.{Entry}
+use Rattle.qs_book.specs.declared.state.NodeState.{NodeState}
+use Rattle.qs_book.specs.declared.transaction.Cell.{Cell}
+use Rattle.qs_book.specs.declared.transaction.Cell.TheVariants as cells
+use Rattle.qs_text.specs.Answers.{answer_text}
+use Rattle.qs_text.specs.declared.script.Script.{Script}
+use Rattle.qs_text.specs.declared.script.Seat.{Seat}
+
+-- ---- clients
+
+abbrev pub label_in : Option TransactionValue → Option (List ℕ)
+label_in None = None
+label_in (Some tx) = tx.label
+
+-- the label under which a transaction was begun in this run
+abbrev pub label_of : BookValue → Tid → Option (List ℕ)
+label_of book tid = label_in (find_transaction book tid)
+
+-- the label of the transaction that a busy answer names
+abbrev pub holder_label : BookValue → Answer → Option (List ℕ)
+holder_label book (Busy holder) = label_of book holder
+holder_label book _ = None
+
+-- LINE ANSWER
+abbrev pub line_text : BookValue → ℕ → Answer → List ℕ
+line_text book line answer = (decimal line ++ codes " ") ++ (answer_text (holder_label book answer) answer ++ codes "\n")
+
+abbrev pub act_text : BookValue → ClientNo → Act → List ℕ
+act_text book client (acts.Answer other line answer) = if other.0 == client.0 then line_text book line answer else []
+act_text book client _ = []
+
+-- the answer that an entry gives to the client, if it gives one
+abbrev pub entry_text : BookValue → ClientNo → Entry → List ℕ
+entry_text book client entry = act_text book client entry.act
+
+-- client K, and the answers to it in the order of the history
+abbrev pub client_text : List Entry → BookValue → Seat → List ℕ
+client_text history book seat =
+    (codes "client " ++ (decimal seat.client.0 ++ codes "\n")) ++ flat_map (entry_text book seat.client) history
+
+-- ---- nodes
+
+-- file NAME CONTENT
+abbrev pub file_text : File → List ℕ
+file_text file = codes "file " ++ (file.name ++ (codes " " ++ (file.content ++ codes "\n")))
+
+-- node N inc I, and its files in byte order of their names
+abbrev pub node_text : ℕ → NodeState → List ℕ
+node_text number node =
+    (codes "node " ++ (decimal number ++ (codes " inc " ++ (decimal node.inc ++ codes "\n")))) ++ flat_map file_text node.files.contents
+
+-- the nodes from a number on; the last number is 255
+abbrev pub nodes_text : ℕ → List NodeState → List ℕ
+nodes_text number [] = []
+nodes_text number (node ∷ nodes) = node_text number node ++ (if nat_lt number 255 then nodes_text (number + 1) nodes else [])
+
+-- ---- totals
+
+abbrev pub transactions_of : BookValue → List TransactionValue
+transactions_of book = map (λ (entry : Tid × TransactionValue). entry.1) book.transactions
+
+-- a transaction has a label where it was begun in this run
+abbrev pub is_begun : TransactionValue → Bool
+is_begun tx = is_some tx.label
+
+abbrev pub is_commit : Cell → Bool
+is_commit cells.Commit = true
+is_commit _ = false
+
+abbrev pub is_abort : Cell → Bool
+is_abort cells.Abort = true
+is_abort _ = false
+
+abbrev pub is_committed : TransactionValue → Bool
+is_committed tx = is_begun tx && is_commit tx.cell
+
+abbrev pub is_aborted : TransactionValue → Bool
+is_aborted tx = is_begun tx && is_abort tx.cell
+
+abbrev pub restarts : Act → Bool
+restarts (acts.Restart inc pend done) = true
+restarts _ = false
+
+abbrev pub is_restart : Entry → Bool
+is_restart entry = restarts entry.act
+
+-- totals begun B committed C aborted A restarts R
+abbrev pub totals_line : ℕ → ℕ → ℕ → ℕ → List ℕ
+totals_line begun committed aborted restarted =
+    codes "totals begun " ++ (decimal begun ++ (codes " committed " ++ (decimal committed
+    ++ (codes " aborted " ++ (decimal aborted ++ (codes " restarts " ++ (decimal restarted ++ codes "\n")))))))
+
+-- the transactions that were begun, committed and aborted in this run, and the restarts of nodes
+abbrev pub totals_text : List Entry → BookValue → List ℕ
+totals_text history book = totals_line
+    (count_by is_begun (transactions_of book))
+    (count_by is_committed (transactions_of book))
+    (count_by is_aborted (transactions_of book))
+    (count_by is_restart history)
+
+-- ---- the whole
+
+abbrev pub out_of : Script → List Entry → BookValue → List ℕ
+out_of script history book =
+    flat_map (client_text history book) script.seats ++ (nodes_text 0 book.nodes ++ totals_text history book)

@@ -1,0 +1,202 @@
+//! The output of a run.
+ghost use Rattle.std.specs.Prelude.{◌≡◌, ◌++◌, List, ℕ, IfOk, OnOk, string_bytes};
+ghost use Rattle.std.specs.List.{flat_map};
+ghost use Rattle.std.specs.Option.{option_copied};
+ghost use Rattle.qs_text.specs.Output.{out_of, client_text, entry_text, line_text, holder_label, label_of, nodes_text, node_text, file_text, totals_text, totals_line};
+
+use crate::answers::{put, put_answer};
+use crate::script::{Script, Seat};
+use crate::totals::{aborted, begun, committed, restarts};
+use qs_base::{Bytes, ClientNo, List, NoMemory, NodeNo, Tid};
+use qs_book::{Act, Book, Entry, NodeState};
+use qs_ops::{Answer, File};
+use std::alloc::{AllocError, Global};
+
+/// The output of a run: the answers to each client in the order of the history, the files of each
+/// node, and the totals.
+pub fn out_text(
+    alloc: Global,
+    script: &Script,
+    history: &List<Entry>,
+    book: &Book,
+) -> Result<Bytes, NoMemory>
+    ensures { IfOk result (λ out. out ≡ out_of script.now history.now book.now) }
+{
+    let mut out = Bytes::new(alloc);
+    put_clients(
+        alloc,
+        &mut out,
+        script.seats.as_slice(),
+        history.as_slice(),
+        book,
+    )?;
+    put_nodes(alloc, &mut out, book)?;
+    put_totals(alloc, &mut out, history.as_slice(), book)?;
+    Ok(out)
+}
+
+/// Adds the clients, each with its answers.
+fn put_clients(
+    alloc: Global,
+    out: &mut Bytes,
+    seats: &[Seat],
+    history: &[Entry],
+    book: &Book,
+) -> Result<(), NoMemory>
+    ensures { OnOk result (out.new ≡ out.old ++ flat_map (client_text history.now book.now) seats.now) }
+{
+    for seat in seats {
+        put(out, format!(in alloc; "client {}\n", seat.client.0)?)?;
+        put_lines(alloc, out, seat.client, history, book)?;
+    }
+    Ok(())
+}
+
+/// Adds the answers to a client.
+fn put_lines(
+    alloc: Global,
+    out: &mut Bytes,
+    client: ClientNo,
+    history: &[Entry],
+    book: &Book,
+) -> Result<(), NoMemory>
+    ensures { OnOk result (out.new ≡ out.old ++ flat_map (entry_text book.now client) history.now) }
+{
+    for entry in history {
+        put_entry(alloc, out, client, entry, book)?;
+    }
+    Ok(())
+}
+
+/// Adds the answer that an entry gives to the client, if it gives one.
+fn put_entry(
+    alloc: Global,
+    out: &mut Bytes,
+    client: ClientNo,
+    entry: &Entry,
+    book: &Book,
+) -> Result<(), NoMemory>
+    ensures { OnOk result (out.new ≡ out.old ++ entry_text book.now client entry.now) }
+{
+    match &entry.act {
+        Act::Answer {
+            client: other,
+            line,
+            answer,
+        } if other.0 == client.0 => put_line(alloc, out, *line, answer, book),
+        _ => Ok(()),
+    }
+}
+
+/// Adds a line and the answer to its command.
+fn put_line(
+    alloc: Global,
+    out: &mut Bytes,
+    line: u32,
+    answer: &Answer,
+    book: &Book,
+) -> Result<(), NoMemory>
+    ensures { OnOk result (out.new ≡ out.old ++ line_text book.now line answer.now) }
+{
+    put(out, format!(in alloc; "{line} ")?)?;
+    put_answer(alloc, out, answer, holder_label(answer, book))?;
+    out.append("\n".as_bytes())
+}
+
+/// The label of the transaction that a busy answer names.
+fn holder_label<'a>(answer: &Answer, book: &'a Book) -> Option<&'a Bytes>
+    ensures { option_copied result ≡ holder_label book.now answer.now }
+{
+    match answer {
+        Answer::Busy { holder } => label_of(*holder, book),
+        _ => None,
+    }
+}
+
+/// The label under which a transaction was begun in this run.
+fn label_of(tid: Tid, book: &Book) -> Option<&Bytes>
+    ensures { option_copied result ≡ label_of book.now tid }
+{
+    book.transaction(tid)?.label()
+}
+
+/// Adds the nodes, each with its files.
+fn put_nodes(alloc: Global, out: &mut Bytes, book: &Book) -> Result<(), NoMemory>
+    ensures { OnOk result (out.new ≡ out.old ++ nodes_text 0 book.now.nodes) }
+{
+    let mut number: u8 = 0;
+    while let Some(node) = book.state(NodeNo(number)) {
+        put_node(alloc, out, number, node)?;
+        let Some(next) = number.checked_add(1) else {
+            return Ok(());
+        };
+        number = next;
+    }
+    Ok(())
+}
+
+/// Adds a node and its files.
+fn put_node(alloc: Global, out: &mut Bytes, number: u8, node: &NodeState) -> Result<(), NoMemory>
+    ensures { OnOk result (out.new ≡ out.old ++ node_text number node.now) }
+{
+    put(
+        out,
+        format!(in alloc; "node {} inc {}\n", number, node.inc)?,
+    )?;
+    put_files(out, node.files.contents().as_slice())
+}
+
+/// Adds files.
+fn put_files(out: &mut Bytes, files: &[File]) -> Result<(), NoMemory>
+    ensures { OnOk result (out.new ≡ out.old ++ flat_map file_text files.now) }
+{
+    for file in files {
+        put_file(out, file)?;
+    }
+    Ok(())
+}
+
+/// Adds a file.
+fn put_file(out: &mut Bytes, file: &File) -> Result<(), NoMemory>
+    ensures { OnOk result (out.new ≡ out.old ++ file_text file.now) }
+{
+    out.append("file ".as_bytes())?;
+    out.append(file.name.as_slice())?;
+    out.append(" ".as_bytes())?;
+    out.append(file.content.as_slice())?;
+    out.append("\n".as_bytes())
+}
+
+/// Adds the totals.
+fn put_totals(
+    alloc: Global,
+    out: &mut Bytes,
+    history: &[Entry],
+    book: &Book,
+) -> Result<(), NoMemory>
+    ensures { OnOk result (out.new ≡ out.old ++ totals_text history.now book.now) }
+{
+    let text = totals_line(
+        alloc,
+        begun(book),
+        committed(book),
+        aborted(book),
+        restarts(history),
+    )?;
+    put(out, text)
+}
+
+/// The line of the totals.
+fn totals_line(
+    alloc: Global,
+    begun: usize,
+    committed: usize,
+    aborted: usize,
+    restarts: usize,
+) -> Result<String, AllocError>
+    ensures { IfOk result (λ line. string_bytes line ≡ totals_line begun committed aborted restarts) }
+{
+    format!(in alloc;
+        "totals begun {begun} committed {committed} aborted {aborted} restarts {restarts}\n"
+    )
+}
