@@ -88,6 +88,13 @@ impl Book {
         })
     }
 
+    /// The stamp of the last entry; 0 before the first.
+    pub fn stamp(&self) -> Stamp
+        ensures { result ≡ self.now.stamp }
+    {
+        self.stamp
+    }
+
     /// All transactions, in the order of their identifiers.
     pub fn transactions(&self) -> &BTreeMap<Tid, Transaction>
         ensures { result.now.entries ≡ self.now.transactions }
