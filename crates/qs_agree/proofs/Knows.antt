@@ -1,0 +1,169 @@
+use Rattle.std.proofs.Common.{◌≡◌, ◌≢◌, ℕ, true, false, refl, arith}
+use Rattle.std.proofs.lemmas.Bool.Decides.{nat_tests}
+use Rattle.qs_agree.specs.World.{Committed, Aborted, World, Issue, Issue_unknown, Issue_own, Meet, Notice, Engage, Join, Cover, Serve, Serve_own, Lend, Yield, Ask, Vote, Vote_volatile, Vote_log, Vote_cut, Decline, Yes, Yes_lost, Count, Refuse, Crash, Restart, Restart_home, Commit, Commit_cut, Commit_light, Abort, Tell, Tell_abort, Learn, Learn_cut, Learn_abort, Abort_ended, Acknowledge, Take_told, End, Inquire, Inquire_lost, Answer, Answer_running, Answer_unknown, Forget, Miss, Use, Inquire_home, Recall, Vote_some, Borrow, Step}
+
+-- while the record stands, the home's live place knows it
+pub record Knows (w : World) (k : ℕ) : Type 0 where
+  pub knows : w.cell ≡ Committed → w.record_stands ≡ true → w.live k ≡ true → w.node k ≡ w.node w.home → w.out k ≡ Committed
+
+-- all that Knows speaks of is the same
+pub record SameKnows (w v : World) : Type 0 where
+  pub node : v.node ≡ w.node
+  pub home : v.home ≡ w.home
+  pub cell : v.cell ≡ w.cell
+  pub live : v.live ≡ w.live
+  pub out : v.out ≡ w.out
+  pub record_stands : v.record_stands ≡ w.record_stands
+
+same : (w v : World) (k : ℕ) → Knows w k → SameKnows w v → Knows v k
+same w v k h e = grind (arith, h, e)
+
+pub by_issue : (p q : ℕ) (w v : World) (k : ℕ) → Knows w k → v.cell ≢ Aborted → Step (Issue p q) w v → Knows v k
+by_issue p q w v k h a s = same w v k h (rw s.3 (record { node = refl; home = refl; cell = refl; live = refl; out = refl; record_stands = refl }))
+
+pub by_issue_unknown : (p q : ℕ) (w v : World) (k : ℕ) → Knows w k → v.cell ≢ Aborted → Step (Issue_unknown p q) w v → Knows v k
+by_issue_unknown p q w v k h a s = same w v k h (rw s.3 (record { node = refl; home = refl; cell = refl; live = refl; out = refl; record_stands = refl }))
+
+pub by_issue_own : (p : ℕ) (w v : World) (k : ℕ) → Knows w k → v.cell ≢ Aborted → Step (Issue_own p) w v → Knows v k
+by_issue_own p w v k h a s = same w v k h (rw s.1 (record { node = refl; home = refl; cell = refl; live = refl; out = refl; record_stands = refl }))
+
+pub by_meet : (p q : ℕ) (w v : World) (k : ℕ) → Knows w k → v.cell ≢ Aborted → Step (Meet p q) w v → Knows v k
+by_meet p q w v k h a s = same w v k h (rw s.5 (record { node = refl; home = refl; cell = refl; live = refl; out = refl; record_stands = refl }))
+
+pub by_notice : (p q : ℕ) (w v : World) (k : ℕ) → Knows w k → v.cell ≢ Aborted → Step (Notice p q) w v → Knows v k
+by_notice p q w v k h a s = same w v k h (rw s.5 (record { node = refl; home = refl; cell = refl; live = refl; out = refl; record_stands = refl }))
+
+pub by_engage : (p q : ℕ) (w v : World) (k : ℕ) → Knows w k → v.cell ≢ Aborted → Step (Engage p q) w v → Knows v k
+by_engage p q w v k h a s = same w v k h (rw s.3 (record { node = refl; home = refl; cell = refl; live = refl; out = refl; record_stands = refl }))
+
+pub by_join : (p q : ℕ) (w v : World) (k : ℕ) → Knows w k → v.cell ≢ Aborted → Step (Join p q) w v → Knows v k
+by_join p q w v k h a s = same w v k h (rw s.4 (record { node = refl; home = refl; cell = refl; live = refl; out = refl; record_stands = refl }))
+
+pub by_cover : (p q : ℕ) (w v : World) (k : ℕ) → Knows w k → v.cell ≢ Aborted → Step (Cover p q) w v → Knows v k
+by_cover p q w v k h a s = same w v k h (rw s.3 (record { node = refl; home = refl; cell = refl; live = refl; out = refl; record_stands = refl }))
+
+pub by_serve : (p q : ℕ) (w v : World) (k : ℕ) → Knows w k → v.cell ≢ Aborted → Step (Serve p q) w v → Knows v k
+by_serve p q w v k h a s = same w v k h (rw s.2 (record { node = refl; home = refl; cell = refl; live = refl; out = refl; record_stands = refl }))
+
+pub by_serve_own : (p : ℕ) (w v : World) (k : ℕ) → Knows w k → v.cell ≢ Aborted → Step (Serve_own p) w v → Knows v k
+by_serve_own p w v k h a s = same w v k h (rw s.2 (record { node = refl; home = refl; cell = refl; live = refl; out = refl; record_stands = refl }))
+
+pub by_lend : (p q : ℕ) (w v : World) (k : ℕ) → Knows w k → v.cell ≢ Aborted → Step (Lend p q) w v → Knows v k
+by_lend p q w v k h a s = same w v k h (rw s.2 (record { node = refl; home = refl; cell = refl; live = refl; out = refl; record_stands = refl }))
+
+pub by_yield : (p : ℕ) (w v : World) (k : ℕ) → Knows w k → v.cell ≢ Aborted → Step (Yield p) w v → Knows v k
+by_yield p w v k h a s = same w v k h (rw s.2.2 (record { node = refl; home = refl; cell = refl; live = refl; out = refl; record_stands = refl }))
+
+pub by_ask : (p : ℕ) (w v : World) (k : ℕ) → Knows w k → v.cell ≢ Aborted → Step (Ask p) w v → Knows v k
+by_ask p w v k h a s = same w v k h (rw s.1 (record { node = refl; home = refl; cell = refl; live = refl; out = refl; record_stands = refl }))
+
+pub by_vote : (p q : ℕ) (w v : World) (k : ℕ) → Knows w k → v.cell ≢ Aborted → Step (Vote p q) w v → Knows v k
+by_vote p q w v k h a s = same w v k h (rw s.1 (record { node = refl; home = refl; cell = refl; live = refl; out = refl; record_stands = refl }))
+
+pub by_vote_volatile : (p q : ℕ) (w v : World) (k : ℕ) → Knows w k → v.cell ≢ Aborted → Step (Vote_volatile p q) w v → Knows v k
+by_vote_volatile p q w v k h a s = same w v k h (rw s.1 (record { node = refl; home = refl; cell = refl; live = refl; out = refl; record_stands = refl }))
+
+pub by_vote_log : (p q : ℕ) (w v : World) (k : ℕ) → Knows w k → v.cell ≢ Aborted → Step (Vote_log p q) w v → Knows v k
+by_vote_log p q w v k h a s = same w v k h (rw s.1 (record { node = refl; home = refl; cell = refl; live = refl; out = refl; record_stands = refl }))
+
+pub by_vote_cut : (p q : ℕ) (w v : World) (k : ℕ) → Knows w k → v.cell ≢ Aborted → Step (Vote_cut p q) w v → Knows v k
+by_vote_cut p q w v k h a s = grind (arith, nat_tests, h, s)
+
+pub by_decline : (p q : ℕ) (w v : World) (k : ℕ) → Knows w k → v.cell ≢ Aborted → Step (Decline p q) w v → Knows v k
+by_decline p q w v k h a s = same w v k h (rw s.1 (record { node = refl; home = refl; cell = refl; live = refl; out = refl; record_stands = refl }))
+
+pub by_yes : (p : ℕ) (w v : World) (k : ℕ) → Knows w k → v.cell ≢ Aborted → Step (Yes p) w v → Knows v k
+by_yes p w v k h a s = same w v k h (rw s.3 (record { node = refl; home = refl; cell = refl; live = refl; out = refl; record_stands = refl }))
+
+pub by_yes_lost : (p : ℕ) (w v : World) (k : ℕ) → Knows w k → v.cell ≢ Aborted → Step (Yes_lost p) w v → Knows v k
+by_yes_lost p w v k h a s = same w v k h (rw s.3 (record { node = refl; home = refl; cell = refl; live = refl; out = refl; record_stands = refl }))
+
+pub by_count : (p q : ℕ) (w v : World) (k : ℕ) → Knows w k → v.cell ≢ Aborted → Step (Count p q) w v → Knows v k
+by_count p q w v k h a s = same w v k h (rw s.3 (record { node = refl; home = refl; cell = refl; live = refl; out = refl; record_stands = refl }))
+
+pub by_refuse : (p : ℕ) (w v : World) (k : ℕ) → Knows w k → v.cell ≢ Aborted → Step (Refuse p) w v → Knows v k
+by_refuse p w v k h a s = same w v k h (rw s.1 (record { node = refl; home = refl; cell = refl; live = refl; out = refl; record_stands = refl }))
+
+pub by_crash : (p : ℕ) (w v : World) (k : ℕ) → Knows w k → v.cell ≢ Aborted → Step (Crash p) w v → Knows v k
+by_crash p w v k h a s = grind (arith, nat_tests, h, s)
+
+pub by_restart : (p : ℕ) (w v : World) (k : ℕ) → Knows w k → v.cell ≢ Aborted → Step (Restart p) w v → Knows v k
+by_restart p w v k h a s = grind (arith, nat_tests, h, s)
+
+pub by_restart_home : (p : ℕ) (w v : World) (k : ℕ) → Knows w k → v.cell ≢ Aborted → Step (Restart_home p) w v → Knows v k
+by_restart_home p w v k h a s = grind (arith, nat_tests, h, s)
+
+pub by_commit : (w v : World) (k : ℕ) → Knows w k → v.cell ≢ Aborted → Step Commit w v → (w.live k ≡ true → w.node k ≡ w.node w.home → k ≡ w.home) → Knows v k
+by_commit w v k h a s one = grind (arith, nat_tests, h, s)
+
+pub by_commit_cut : (w v : World) (k : ℕ) → Knows w k → v.cell ≢ Aborted → Step Commit_cut w v → (w.live k ≡ true → w.node k ≡ w.node w.home → k ≡ w.home) → Knows v k
+by_commit_cut w v k h a s one = grind (arith, nat_tests, h, s)
+
+pub by_commit_light : (w v : World) (k : ℕ) → Knows w k → v.cell ≢ Aborted → Step Commit_light w v → w.record_stands ≡ false → Knows v k
+by_commit_light w v k h a s none = grind (arith, nat_tests, h, s)
+
+pub by_abort : (w v : World) (k : ℕ) → Knows w k → v.cell ≢ Aborted → Step Abort w v → Knows v k
+by_abort w v k h a s = grind (arith, nat_tests, h, s)
+
+pub by_tell : (p q : ℕ) (w v : World) (k : ℕ) → Knows w k → v.cell ≢ Aborted → Step (Tell p q) w v → Knows v k
+by_tell p q w v k h a s = same w v k h (rw s.3 (record { node = refl; home = refl; cell = refl; live = refl; out = refl; record_stands = refl }))
+
+pub by_tell_abort : (p q : ℕ) (w v : World) (k : ℕ) → Knows w k → v.cell ≢ Aborted → Step (Tell_abort p q) w v → Knows v k
+by_tell_abort p q w v k h a s = same w v k h (rw s.3 (record { node = refl; home = refl; cell = refl; live = refl; out = refl; record_stands = refl }))
+
+pub by_learn : (p : ℕ) (w v : World) (k : ℕ) → Knows w k → v.cell ≢ Aborted → Step (Learn p) w v → Knows v k
+by_learn p w v k h a s = grind (arith, nat_tests, h, s)
+
+pub by_learn_cut : (p : ℕ) (w v : World) (k : ℕ) → Knows w k → v.cell ≢ Aborted → Step (Learn_cut p) w v → Knows v k
+by_learn_cut p w v k h a s = grind (arith, nat_tests, h, s)
+
+pub by_learn_abort : (p : ℕ) (w v : World) (k : ℕ) → Knows w k → v.cell ≢ Aborted → Step (Learn_abort p) w v → Knows v k
+by_learn_abort p w v k h a s = grind (arith, nat_tests, h, s)
+
+pub by_abort_ended : (p : ℕ) (w v : World) (k : ℕ) → Knows w k → v.cell ≢ Aborted → Step (Abort_ended p) w v → Knows v k
+by_abort_ended p w v k h a s = same w v k h (rw s.2 (record { node = refl; home = refl; cell = refl; live = refl; out = refl; record_stands = refl }))
+
+pub by_acknowledge : (p : ℕ) (w v : World) (k : ℕ) → Knows w k → v.cell ≢ Aborted → Step (Acknowledge p) w v → Knows v k
+by_acknowledge p w v k h a s = same w v k h (rw s.2 (record { node = refl; home = refl; cell = refl; live = refl; out = refl; record_stands = refl }))
+
+pub by_take_told : (p q : ℕ) (w v : World) (k : ℕ) → Knows w k → v.cell ≢ Aborted → Step (Take_told p q) w v → Knows v k
+by_take_told p q w v k h a s = same w v k h (rw s.3 (record { node = refl; home = refl; cell = refl; live = refl; out = refl; record_stands = refl }))
+
+pub by_end : (p : ℕ) (w v : World) (k : ℕ) → Knows w k → v.cell ≢ Aborted → Step (End p) w v → Knows v k
+by_end p w v k h a s = grind (arith, nat_tests, h, s)
+
+pub by_inquire : (p : ℕ) (w v : World) (k : ℕ) → Knows w k → v.cell ≢ Aborted → Step (Inquire p) w v → Knows v k
+by_inquire p w v k h a s = same w v k h (rw s.4 (record { node = refl; home = refl; cell = refl; live = refl; out = refl; record_stands = refl }))
+
+pub by_inquire_lost : (p : ℕ) (w v : World) (k : ℕ) → Knows w k → v.cell ≢ Aborted → Step (Inquire_lost p) w v → Knows v k
+by_inquire_lost p w v k h a s = same w v k h (rw s.5 (record { node = refl; home = refl; cell = refl; live = refl; out = refl; record_stands = refl }))
+
+pub by_answer : (p q : ℕ) (w v : World) (k : ℕ) → Knows w k → v.cell ≢ Aborted → Step (Answer p q) w v → Knows v k
+by_answer p q w v k h a s = same w v k h (rw s.2 (record { node = refl; home = refl; cell = refl; live = refl; out = refl; record_stands = refl }))
+
+pub by_answer_running : (p : ℕ) (w v : World) (k : ℕ) → Knows w k → v.cell ≢ Aborted → Step (Answer_running p) w v → Knows v k
+by_answer_running p w v k h a s = same w v k h (rw s.2 (record { node = refl; home = refl; cell = refl; live = refl; out = refl; record_stands = refl }))
+
+pub by_answer_unknown : (p q : ℕ) (w v : World) (k : ℕ) → Knows w k → v.cell ≢ Aborted → Step (Answer_unknown p q) w v → Knows v k
+by_answer_unknown p q w v k h a s = same w v k h (rw s.3 (record { node = refl; home = refl; cell = refl; live = refl; out = refl; record_stands = refl }))
+
+pub by_forget : (p : ℕ) (w v : World) (k : ℕ) → Knows w k → v.cell ≢ Aborted → Step (Forget p) w v → Knows v k
+by_forget p w v k h a s = same w v k h (rw s.5 (record { node = refl; home = refl; cell = refl; live = refl; out = refl; record_stands = refl }))
+
+pub by_miss : (p : ℕ) (w v : World) (k : ℕ) → Knows w k → v.cell ≢ Aborted → Step (Miss p) w v → Knows v k
+by_miss p w v k h a s = same w v k h (rw s.2 (record { node = refl; home = refl; cell = refl; live = refl; out = refl; record_stands = refl }))
+
+pub by_use : (p : ℕ) (w v : World) (k : ℕ) → Knows w k → v.cell ≢ Aborted → Step (Use p) w v → Knows v k
+by_use p w v k h a s = same w v k h (rw s.2 (record { node = refl; home = refl; cell = refl; live = refl; out = refl; record_stands = refl }))
+
+pub by_inquire_home : (p : ℕ) (w v : World) (k : ℕ) → Knows w k → v.cell ≢ Aborted → Step (Inquire_home p) w v → Knows v k
+by_inquire_home p w v k h a s = same w v k h (rw s.5 (record { node = refl; home = refl; cell = refl; live = refl; out = refl; record_stands = refl }))
+
+pub by_recall : (p : ℕ) (w v : World) (k : ℕ) → Knows w k → v.cell ≢ Aborted → Step (Recall p) w v → Knows v k
+by_recall p w v k h a s = grind (arith, nat_tests, h, s)
+
+pub by_vote_some : (p q : ℕ) (w v : World) (k : ℕ) → Knows w k → v.cell ≢ Aborted → Step (Vote_some p q) w v → Knows v k
+by_vote_some p q w v k h a s = same w v k h (rw s.1 (record { node = refl; home = refl; cell = refl; live = refl; out = refl; record_stands = refl }))
+
+pub by_borrow : (p : ℕ) (w v : World) (k : ℕ) → Knows w k → v.cell ≢ Aborted → Step (Borrow p) w v → Knows v k
+by_borrow p w v k h a s = same w v k h (rw s.2 (record { node = refl; home = refl; cell = refl; live = refl; out = refl; record_stands = refl }))
