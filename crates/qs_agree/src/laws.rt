@@ -1,18 +1,25 @@
 //! What holds of every run of the commit protocol.
 ghost use Rattle.std.specs.Prelude.{◌≡◌, ℕ, List};
-ghost use Rattle.qs_agree.specs.World.{World, Event, Committed, start, Run, IsSettled, IsAnswered, IsAgreed};
+ghost use Rattle.qs_agree.specs.World.{World, Opening, IsOpening, Committed, start};
+ghost use Rattle.qs_agree.specs.Step.{Event};
+ghost use Rattle.qs_agree.specs.Laws.{Run, IsSettled, IsAnswered, IsAgreed, IsSilenced};
 
 /// Once commit is decided, every request was served and stands before a vote, and no vote was against it.
 pub fn unanimity()
-    ensures settled { (node : ℕ → ℕ) (home : ℕ) (now : ℕ → ℕ) (events : List Event) (new : World) → now (node home) ≡ home → Run (start node home now) events new → new.cell ≡ Committed → IsSettled new }
+    ensures settled { (opening : Opening) (events : List Event) (new : World) → IsOpening opening → Run (start opening) events new → new.cell ≡ Committed → IsSettled new }
 {}
 
 /// Once commit is decided, whoever is in doubt is named by the Commit that stands in the home's log.
 pub fn nobody_forgotten()
-    ensures answered { (node : ℕ → ℕ) (home : ℕ) (now : ℕ → ℕ) (events : List Event) (new : World) → now (node home) ≡ home → Run (start node home now) events new → new.cell ≡ Committed → IsAnswered new }
+    ensures answered { (opening : Opening) (events : List Event) (new : World) → IsOpening opening → Run (start opening) events new → new.cell ≡ Committed → IsAnswered new }
 {}
 
-/// Nobody learns commit where another learns abort, and nobody is told against the decision.
+/// Nobody learns commit where another learns abort, and nobody knows or is told what was not decided.
 pub fn agreement()
-    ensures agreed { (node : ℕ → ℕ) (home : ℕ) (now : ℕ → ℕ) (events : List Event) (new : World) → now (node home) ≡ home → Run (start node home now) events new → IsAgreed new }
+    ensures agreed { (opening : Opening) (events : List Event) (new : World) → IsOpening opening → Run (start opening) events new → IsAgreed new }
+{}
+
+/// Whoever was told abort serves nothing more of the transaction, and votes on nothing.
+pub fn abort_is_final()
+    ensures silenced { (opening : Opening) (before after : List Event) (mid new : World) → IsOpening opening → Run (start opening) before mid → Run mid after new → IsSilenced mid new }
 {}

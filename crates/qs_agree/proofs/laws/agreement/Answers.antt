@@ -1,4 +1,4 @@
-use Rattle.qs_agree.proofs.Inv.{agreed}
+use Rattle.qs_agree.proofs.Lawful.{agreed}
 use Rattle.qs_agree.proofs.laws.agreement.Goals as goal
 
 pub returns : goal.returns

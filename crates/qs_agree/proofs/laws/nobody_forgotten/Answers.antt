@@ -1,4 +1,4 @@
-use Rattle.qs_agree.proofs.Inv.{answered}
+use Rattle.qs_agree.proofs.Lawful.{answered}
 use Rattle.qs_agree.proofs.laws.nobody_forgotten.Goals as goal
 
 pub returns : goal.returns

@@ -1,4 +1,4 @@
-use Rattle.qs_agree.proofs.Inv.{settled}
+use Rattle.qs_agree.proofs.Lawful.{settled}
 use Rattle.qs_agree.proofs.laws.unanimity.Goals as goal
 
 pub returns : goal.returns
