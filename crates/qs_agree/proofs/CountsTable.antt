@@ -3,7 +3,7 @@
 use Rattle.std.proofs.Common.{◌≡◌, ℕ, refl, arith}
 use Rattle.std.proofs.lemmas.Bool.Decides.{nat_tests}
 use Rattle.qs_agree.specs.World.{World}
-use Rattle.qs_agree.specs.Step.{Issue, Issue_unmet, Issue_local, Meet, Notice, Engage, Join, Cover, Serve, Serve_told, Lend, Yield, Ask, Vote_read, Vote_volatile, Force, Vote_recoverable, Vote_abort, Yes, Yes_lost, Count, Refuse, Miss, Forget, Crash, Restart, Restart_in_doubt, Restart_home, Commit, Commit_cut, Commit_unlogged, Abort, Tell, Learn, Learn_cut, Learn_home, Acknowledge, Take_told, End, Checkpoint, Tell_abort, Learn_abort, Name_again, Take_names, Learn_abort_home, Abort_logged, Drop_engage, Drop_join, Drop_cover, Inquire, Inquire_lost, Inquire_home, Answer_commit, Answer_running, Answer_abort, Step}
+use Rattle.qs_agree.specs.Step.{Issue, Issue_unmet, Issue_local, Meet, Notice, Engage, Join, Cover, Serve, Serve_told, Lend, Yield, Ask, Vote_read, Vote_volatile, Force, Vote_recoverable, Vote_abort, Yes, Yes_lost, Count, Ignore, Refuse, Miss, Forget, Crash, Restart, Restart_in_doubt, Restart_home, Commit, Commit_cut, Commit_unlogged, Abort, Tell, Learn, Learn_cut, Learn_home, Acknowledge, Take_told, End, Checkpoint, Tell_abort, Learn_abort, Name_again, Take_names, Learn_abort_home, Abort_logged, Drop_engage, Drop_join, Drop_cover, Inquire, Inquire_lost, Inquire_home, Answer_commit, Answer_running, Answer_abort, Step}
 use Rattle.qs_agree.proofs.Counts.{Counts}
 
 record Same (w v : World) : Type 0 where
@@ -85,6 +85,9 @@ by_yes_lost p w v i s = grind (arith, nat_tests, i, s)
 pub by_count : (p q : ℕ) (w v : World) → Counts w → Step (Count p q) w v → Counts v
 by_count p q w v i s = grind (arith, nat_tests, i, s)
 
+pub by_ignore : (p q : ℕ) (w v : World) → Counts w → Step (Ignore p q) w v → Counts v
+by_ignore p q w v i s = same w v i (rw s.4 (record { last = refl; received = refl; posted = refl; sent = refl; node = refl; peer = refl; present = refl; up = refl; closers = refl; closer = refl; covered = refl }))
+
 pub by_refuse : (p : ℕ) (w v : World) → Counts w → Step (Refuse p) w v → Counts v
 by_refuse p w v i s = same w v i (rw s.1 (record { last = refl; received = refl; posted = refl; sent = refl; node = refl; peer = refl; present = refl; up = refl; closers = refl; closer = refl; covered = refl }))
 
@@ -143,7 +146,7 @@ pub by_checkpoint : (p : ℕ) (w v : World) → Counts w → Step (Checkpoint p)
 by_checkpoint p w v i s = same w v i (rw s.3 (record { last = refl; received = refl; posted = refl; sent = refl; node = refl; peer = refl; present = refl; up = refl; closers = refl; closer = refl; covered = refl }))
 
 pub by_tell_abort : (p q : ℕ) (w v : World) → Counts w → Step (Tell_abort p q) w v → Counts v
-by_tell_abort p q w v i s = same w v i (rw s.3 (record { last = refl; received = refl; posted = refl; sent = refl; node = refl; peer = refl; present = refl; up = refl; closers = refl; closer = refl; covered = refl }))
+by_tell_abort p q w v i s = same w v i (rw s.4 (record { last = refl; received = refl; posted = refl; sent = refl; node = refl; peer = refl; present = refl; up = refl; closers = refl; closer = refl; covered = refl }))
 
 pub by_learn_abort : (p : ℕ) (w v : World) → Counts w → Step (Learn_abort p) w v → Counts v
 by_learn_abort p w v i s = same w v i (rw s.2 (record { last = refl; received = refl; posted = refl; sent = refl; node = refl; peer = refl; present = refl; up = refl; closers = refl; closer = refl; covered = refl }))

@@ -3,7 +3,7 @@
 use Rattle.std.proofs.Common.{◌≡◌, ◌≢◌, ℕ, ◌+◌, true, false, refl, arith}
 use Rattle.std.proofs.lemmas.Bool.Decides.{nat_tests}
 use Rattle.qs_agree.specs.World.{Open, Aborted, Flight, Dead, World}
-use Rattle.qs_agree.specs.Step.{Issue, Issue_unmet, Issue_local, Meet, Notice, Engage, Join, Cover, Serve, Serve_told, Lend, Yield, Ask, Vote_read, Vote_volatile, Force, Vote_recoverable, Vote_abort, Yes, Yes_lost, Count, Refuse, Miss, Forget, Crash, Restart, Restart_in_doubt, Restart_home, Commit, Commit_cut, Commit_unlogged, Tell, Learn, Learn_cut, Learn_home, Acknowledge, Take_told, End, Checkpoint, Inquire, Inquire_lost, Answer_commit, Answer_running, Step}
+use Rattle.qs_agree.specs.Step.{Issue, Issue_unmet, Issue_local, Meet, Notice, Engage, Join, Cover, Serve, Serve_told, Lend, Yield, Ask, Vote_read, Vote_volatile, Force, Vote_recoverable, Vote_abort, Yes, Yes_lost, Count, Ignore, Refuse, Miss, Forget, Crash, Restart, Restart_in_doubt, Restart_home, Commit, Commit_cut, Commit_unlogged, Tell, Learn, Learn_cut, Learn_home, Acknowledge, Take_told, End, Checkpoint, Inquire, Inquire_lost, Answer_commit, Answer_running, Step}
 use Rattle.qs_agree.proofs.Held.{Flying, Held, Leaving}
 
 record Same (w v : World) : Type 0 where
@@ -90,6 +90,9 @@ by_yes_lost p w v n h s l r = grind (arith, nat_tests, h, s)
 
 pub by_count : (p q : ℕ) (w v : World) (n : ℕ) → Held w n → Step (Count p q) w v → Held v n
 by_count p q w v n h s = grind (arith, nat_tests, h, h.flight_below (w.closers_taken p q + 1), s)
+
+pub by_ignore : (p q : ℕ) (w v : World) (n : ℕ) → Held w n → Step (Ignore p q) w v → Held v n
+by_ignore p q w v n h s = grind (arith, nat_tests, h, s)
 
 pub by_refuse : (p : ℕ) (w v : World) (n : ℕ) → Held w n → Step (Refuse p) w v → Held v n
 by_refuse p w v n h s = same w v n h (rw s.1 (record { cell = refl; way = refl; engaged = refl; holder = refl; node = refl; involved = refl; told_set = refl; present = refl; closers_taken = refl; sender = refl; index = refl; closers = refl; closer_set = refl; gone = refl; covered = refl; closer = refl; peer = refl }))

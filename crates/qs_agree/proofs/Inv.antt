@@ -3,7 +3,7 @@
 use Rattle.std.proofs.Common.{◌≡◌, ◌≢◌, ℕ, ◌∷◌, List, refl, sym, subst, arith, [], ◌∙◌}
 use Rattle.std.proofs.lemmas.Bool.Decides.{nat_tests}
 use Rattle.qs_agree.specs.World.{Aborted, World, Opening, IsOpening, start}
-use Rattle.qs_agree.specs.Step.{Issue, Issue_unmet, Issue_local, Meet, Notice, Engage, Join, Cover, Serve, Serve_told, Lend, Yield, Ask, Vote_read, Vote_volatile, Force, Vote_recoverable, Vote_abort, Yes, Yes_lost, Count, Refuse, Miss, Forget, Crash, Restart, Restart_in_doubt, Restart_home, Commit, Commit_cut, Commit_unlogged, Abort, Tell, Learn, Learn_cut, Learn_home, Acknowledge, Take_told, End, Checkpoint, Tell_abort, Learn_abort, Name_again, Take_names, Learn_abort_home, Abort_logged, Drop_engage, Drop_join, Drop_cover, Inquire, Inquire_lost, Inquire_home, Answer_commit, Answer_running, Answer_abort, Event, Step}
+use Rattle.qs_agree.specs.Step.{Issue, Issue_unmet, Issue_local, Meet, Notice, Engage, Join, Cover, Serve, Serve_told, Lend, Yield, Ask, Vote_read, Vote_volatile, Force, Vote_recoverable, Vote_abort, Yes, Yes_lost, Count, Ignore, Refuse, Miss, Forget, Crash, Restart, Restart_in_doubt, Restart_home, Commit, Commit_cut, Commit_unlogged, Abort, Tell, Learn, Learn_cut, Learn_home, Acknowledge, Take_told, End, Checkpoint, Tell_abort, Learn_abort, Name_again, Take_names, Learn_abort_home, Abort_logged, Drop_engage, Drop_join, Drop_cover, Inquire, Inquire_lost, Inquire_home, Answer_commit, Answer_running, Answer_abort, Event, Step}
 use Rattle.qs_agree.specs.Laws.{Run}
 use Rattle.qs_agree.proofs.Keeps.{Keeps}
 use Rattle.qs_agree.proofs.At.{At}
@@ -11,7 +11,7 @@ use Rattle.qs_agree.proofs.Kept.{Kept}
 use Rattle.qs_agree.proofs.Whole.{Inv, Whole}
 use Rattle.qs_agree.proofs.Never.{never_abort}
 use Rattle.qs_agree.proofs.Facts.{decides}
-use Rattle.qs_agree.proofs.StepTable.{counts_step, keeps_step, kept_step, outcomes_step, servers_step}
+use Rattle.qs_agree.proofs.StepTable.{counts_step, involved_step, keeps_step, kept_step, outcomes_step, servers_step}
 use Rattle.qs_agree.proofs.WholeTable.{whole_step}
 
 still : (e : Event) (w v : World) → ((k : ℕ) → Keeps w k) → Step e w v → v.cell ≢ Aborted → w.cell ≢ Aborted
@@ -36,6 +36,7 @@ still (Vote_abort p q) w v y s a = grind (arith, s, a)
 still (Yes p) w v y s a = grind (arith, s, a)
 still (Yes_lost p) w v y s a = grind (arith, s, a)
 still (Count p q) w v y s a = grind (arith, s, a)
+still (Ignore p q) w v y s a = grind (arith, s, a)
 still (Refuse p) w v y s a = grind (arith, s, a)
 still (Miss p) w v y s a = grind (arith, s, a)
 still (Forget p) w v y s a = grind (arith, s, a)
@@ -75,6 +76,7 @@ pub inv_step : (e : Event) (w v : World) → Inv w → Step e w v → Inv v
 inv_step e w v i s = record {
   counts = counts_step e w v i.counts s;
   servers = λ k j. servers_step e w v k j (i.servers k j) s;
+  involved = λ k j. involved_step e w v k j i.counts (i.involved k j) s;
   keeps = λ k. keeps_step e w v k i.counts i.keeps s;
   outcomes = outcomes_step e w v i.keeps i.outcomes s;
   whole = λ a. let b = still e w v i.keeps s a in whole_step e w v i.counts i.servers i.outcomes i.keeps (i.whole b) b a s;
@@ -108,6 +110,7 @@ pub inv_start : (o : Opening) → IsOpening o → Inv (start o)
 inv_start o is = record {
   counts = grind (arith, nat_tests, is);
   servers = λ k i. grind (arith, nat_tests);
+  involved = λ k i. grind (arith, nat_tests);
   keeps = λ k. grind (arith, nat_tests, is.up_present o.home is.home_up);
   outcomes = grind (arith, nat_tests);
   whole = λ a. whole_start o is;

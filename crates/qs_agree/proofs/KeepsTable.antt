@@ -3,7 +3,7 @@
 use Rattle.std.proofs.Common.{◌≡◌, ℕ, true, refl, arith}
 use Rattle.std.proofs.lemmas.Bool.Decides.{nat_tests}
 use Rattle.qs_agree.specs.World.{World}
-use Rattle.qs_agree.specs.Step.{Issue, Issue_unmet, Issue_local, Meet, Notice, Engage, Join, Cover, Serve, Serve_told, Lend, Yield, Ask, Vote_read, Vote_volatile, Force, Vote_recoverable, Vote_abort, Yes, Yes_lost, Count, Refuse, Miss, Forget, Crash, Restart, Restart_in_doubt, Restart_home, Commit, Commit_cut, Commit_unlogged, Abort, Tell, Learn, Learn_cut, Learn_home, Acknowledge, Take_told, End, Checkpoint, Tell_abort, Learn_abort, Name_again, Take_names, Learn_abort_home, Abort_logged, Drop_engage, Drop_join, Drop_cover, Inquire, Inquire_lost, Inquire_home, Answer_commit, Answer_running, Answer_abort, Step}
+use Rattle.qs_agree.specs.Step.{Issue, Issue_unmet, Issue_local, Meet, Notice, Engage, Join, Cover, Serve, Serve_told, Lend, Yield, Ask, Vote_read, Vote_volatile, Force, Vote_recoverable, Vote_abort, Yes, Yes_lost, Count, Ignore, Refuse, Miss, Forget, Crash, Restart, Restart_in_doubt, Restart_home, Commit, Commit_cut, Commit_unlogged, Abort, Tell, Learn, Learn_cut, Learn_home, Acknowledge, Take_told, End, Checkpoint, Tell_abort, Learn_abort, Name_again, Take_names, Learn_abort_home, Abort_logged, Drop_engage, Drop_join, Drop_cover, Inquire, Inquire_lost, Inquire_home, Answer_commit, Answer_running, Answer_abort, Step}
 use Rattle.qs_agree.proofs.Keeps.{Keeps}
 
 record Same (w v : World) : Type 0 where
@@ -80,6 +80,9 @@ by_yes_lost p w v k h s = same w v k h (rw s.3 (record { present = refl; node = 
 pub by_count : (p q : ℕ) (w v : World) (k : ℕ) → Keeps w k → Step (Count p q) w v → Keeps v k
 by_count p q w v k h s = same w v k h (rw s.3 (record { present = refl; node = refl; outcome = refl; up = refl; home = refl; cell = refl }))
 
+pub by_ignore : (p q : ℕ) (w v : World) (k : ℕ) → Keeps w k → Step (Ignore p q) w v → Keeps v k
+by_ignore p q w v k h s = same w v k h (rw s.4 (record { present = refl; node = refl; outcome = refl; up = refl; home = refl; cell = refl }))
+
 pub by_refuse : (p : ℕ) (w v : World) (k : ℕ) → Keeps w k → Step (Refuse p) w v → Keeps v k
 by_refuse p w v k h s = same w v k h (rw s.1 (record { present = refl; node = refl; outcome = refl; up = refl; home = refl; cell = refl }))
 
@@ -138,7 +141,7 @@ pub by_checkpoint : (p : ℕ) (w v : World) (k : ℕ) → Keeps w k → Step (Ch
 by_checkpoint p w v k h s = same w v k h (rw s.3 (record { present = refl; node = refl; outcome = refl; up = refl; home = refl; cell = refl }))
 
 pub by_tell_abort : (p q : ℕ) (w v : World) (k : ℕ) → Keeps w k → Step (Tell_abort p q) w v → Keeps v k
-by_tell_abort p q w v k h s = same w v k h (rw s.3 (record { present = refl; node = refl; outcome = refl; up = refl; home = refl; cell = refl }))
+by_tell_abort p q w v k h s = same w v k h (rw s.4 (record { present = refl; node = refl; outcome = refl; up = refl; home = refl; cell = refl }))
 
 pub by_learn_abort : (p : ℕ) (w v : World) (k : ℕ) → Keeps w k → Step (Learn_abort p) w v → w.present (w.node p) ≡ p → Keeps v k
 by_learn_abort p w v k h s now = grind (arith, nat_tests, h, s)

@@ -2,7 +2,7 @@
 use Rattle.std.proofs.Common.{◌≡◌, ℕ, ◌<◌, refl, arith}
 use Rattle.std.proofs.lemmas.Bool.Decides.{nat_tests}
 use Rattle.qs_agree.specs.World.{Open, World}
-use Rattle.qs_agree.specs.Step.{Issue, Issue_unmet, Issue_local, Meet, Notice, Engage, Join, Cover, Serve, Serve_told, Lend, Yield, Ask, Vote_read, Vote_volatile, Force, Vote_recoverable, Vote_abort, Yes, Yes_lost, Count, Refuse, Miss, Forget, Crash, Restart, Restart_in_doubt, Restart_home, Commit, Commit_cut, Commit_unlogged, Abort, Tell, Learn, Learn_cut, Learn_home, Acknowledge, Take_told, End, Checkpoint, Tell_abort, Learn_abort, Name_again, Take_names, Learn_abort_home, Abort_logged, Drop_engage, Drop_join, Drop_cover, Inquire, Inquire_lost, Inquire_home, Answer_commit, Answer_running, Answer_abort, Step}
+use Rattle.qs_agree.specs.Step.{Issue, Issue_unmet, Issue_local, Meet, Notice, Engage, Join, Cover, Serve, Serve_told, Lend, Yield, Ask, Vote_read, Vote_volatile, Force, Vote_recoverable, Vote_abort, Yes, Yes_lost, Count, Ignore, Refuse, Miss, Forget, Crash, Restart, Restart_in_doubt, Restart_home, Commit, Commit_cut, Commit_unlogged, Abort, Tell, Learn, Learn_cut, Learn_home, Acknowledge, Take_told, End, Checkpoint, Tell_abort, Learn_abort, Name_again, Take_names, Learn_abort_home, Abort_logged, Drop_engage, Drop_join, Drop_cover, Inquire, Inquire_lost, Inquire_home, Answer_commit, Answer_running, Answer_abort, Step}
 use Rattle.qs_agree.proofs.Kept.{Kept}
 
 pub by_issue : (p q r : ℕ) (w v : World) (k : ℕ) → Step (Issue p q r) w v → Kept w v k
@@ -68,6 +68,9 @@ by_yes_lost p w v k s = rw s.3 (record { known = λ is. is; served = λ i is. re
 pub by_count : (p q : ℕ) (w v : World) (k : ℕ) → Step (Count p q) w v → Kept w v k
 by_count p q w v k s = rw s.3 (record { known = λ is. is; served = λ i is. refl; voted = λ i is. refl })
 
+pub by_ignore : (p q : ℕ) (w v : World) (k : ℕ) → Step (Ignore p q) w v → Kept w v k
+by_ignore p q w v k s = rw s.4 (record { known = λ is. is; served = λ i is. refl; voted = λ i is. refl })
+
 pub by_refuse : (p : ℕ) (w v : World) (k : ℕ) → Step (Refuse p) w v → Kept w v k
 by_refuse p w v k s = rw s.1 (record { known = λ is. is; served = λ i is. refl; voted = λ i is. refl })
 
@@ -126,7 +129,7 @@ pub by_checkpoint : (p : ℕ) (w v : World) (k : ℕ) → Step (Checkpoint p) w 
 by_checkpoint p w v k s = rw s.3 (record { known = λ is. is; served = λ i is. refl; voted = λ i is. refl })
 
 pub by_tell_abort : (p q : ℕ) (w v : World) (k : ℕ) → Step (Tell_abort p q) w v → Kept w v k
-by_tell_abort p q w v k s = rw s.3 (record { known = λ is. is; served = λ i is. refl; voted = λ i is. refl })
+by_tell_abort p q w v k s = rw s.4 (record { known = λ is. is; served = λ i is. refl; voted = λ i is. refl })
 
 pub by_learn_abort : (p : ℕ) (w v : World) (k : ℕ) → Step (Learn_abort p) w v → Kept w v k
 by_learn_abort p w v k s = grind (arith, nat_tests, s)

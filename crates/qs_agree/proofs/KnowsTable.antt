@@ -3,7 +3,7 @@
 use Rattle.std.proofs.Common.{◌≡◌, ◌≢◌, ℕ, true, false, refl, arith}
 use Rattle.std.proofs.lemmas.Bool.Decides.{nat_tests}
 use Rattle.qs_agree.specs.World.{Aborted, World}
-use Rattle.qs_agree.specs.Step.{Issue, Issue_unmet, Issue_local, Meet, Notice, Engage, Join, Cover, Serve, Serve_told, Lend, Yield, Ask, Vote_read, Vote_volatile, Force, Vote_recoverable, Vote_abort, Yes, Yes_lost, Count, Refuse, Miss, Forget, Crash, Restart, Restart_in_doubt, Restart_home, Commit, Commit_cut, Commit_unlogged, Tell, Learn, Learn_cut, Learn_home, Acknowledge, Take_told, End, Checkpoint, Inquire, Inquire_lost, Answer_commit, Answer_running, Step}
+use Rattle.qs_agree.specs.Step.{Issue, Issue_unmet, Issue_local, Meet, Notice, Engage, Join, Cover, Serve, Serve_told, Lend, Yield, Ask, Vote_read, Vote_volatile, Force, Vote_recoverable, Vote_abort, Yes, Yes_lost, Count, Ignore, Refuse, Miss, Forget, Crash, Restart, Restart_in_doubt, Restart_home, Commit, Commit_cut, Commit_unlogged, Tell, Learn, Learn_cut, Learn_home, Acknowledge, Take_told, End, Checkpoint, Inquire, Inquire_lost, Answer_commit, Answer_running, Step}
 use Rattle.qs_agree.proofs.Knows.{Knows}
 
 record Same (w v : World) : Type 0 where
@@ -79,6 +79,9 @@ by_yes_lost p w v k h s = same w v k h (rw s.3 (record { cell = refl; commit_log
 
 pub by_count : (p q : ℕ) (w v : World) (k : ℕ) → Knows w k → Step (Count p q) w v → Knows v k
 by_count p q w v k h s = same w v k h (rw s.3 (record { cell = refl; commit_logged = refl; up = refl; node = refl; home = refl; outcome = refl }))
+
+pub by_ignore : (p q : ℕ) (w v : World) (k : ℕ) → Knows w k → Step (Ignore p q) w v → Knows v k
+by_ignore p q w v k h s = same w v k h (rw s.4 (record { cell = refl; commit_logged = refl; up = refl; node = refl; home = refl; outcome = refl }))
 
 pub by_refuse : (p : ℕ) (w v : World) (k : ℕ) → Knows w k → Step (Refuse p) w v → Knows v k
 by_refuse p w v k h s = same w v k h (rw s.1 (record { cell = refl; commit_logged = refl; up = refl; node = refl; home = refl; outcome = refl }))

@@ -3,12 +3,12 @@ use Rattle.std.proofs.Common.{◌≡◌, ◌≢◌, ◌⊎◌, ℕ, ◌≤◌, i
 use Rattle.qs_agree.specs.World.{Outcome, Open, Committed, Aborted, World, Opening, IsOpening, start}
 use Rattle.qs_agree.specs.Guards.{Votes}
 use Rattle.qs_agree.specs.Step.{Event}
-use Rattle.qs_agree.specs.Laws.{Run, IsReached, IsSettled, IsAnswered, IsAgreed, IsSilenced}
+use Rattle.qs_agree.specs.Laws.{Run, IsReached, IsSettled, IsAnswered, IsInvolved, IsAgreed, IsSilenced}
 use Rattle.qs_agree.proofs.Tree.{Tree}
 use Rattle.qs_agree.proofs.Whole.{Inv, Whole}
 use Rattle.qs_agree.proofs.Inv.{inv_run, inv_start, kept_run}
 
-settled_at : (w : World) → Inv w → w.cell ≡ Committed → IsSettled w
+pub settled_at : (w : World) → Inv w → w.cell ≡ Committed → IsSettled w
 settled_at w i is =
     let g : Whole w = i.whole (λ a. cc (a, is)) in
     let off : (p : ℕ) → w.engaged p ≡ false = λ p. (g.tree.at p).committed is in
@@ -45,7 +45,7 @@ is_aborted Open = inr (λ e. cc)
 is_aborted Committed = inr (λ e. cc)
 is_aborted Aborted = inl refl
 
-agreed_at : (w : World) → Inv w → IsAgreed w
+pub agreed_at : (w : World) → Inv w → IsAgreed w
 agreed_at w i = record {
   commits = i.outcomes.learnt;
   aborts = λ n learnt. elim (is_aborted w.cell) [ inl is ↦ is | inr other ↦ absurd (let off = (i.whole other).silent.learnt n in cc) ];
@@ -56,7 +56,7 @@ agreed_at w i = record {
   kept = (i.keeps w.home).home_keeps;
 }
 
-answered_at : (w : World) → Inv w → w.cell ≡ Committed → IsAnswered w
+pub answered_at : (w : World) → Inv w → w.cell ≡ Committed → IsAnswered w
 answered_at w i is =
     let g : Whole w = i.whole (λ a. cc (a, is)) in
     record {
@@ -64,6 +64,15 @@ answered_at w i is =
       in_doubt = λ p other on part unknown.
           ((g.owed (w.node p)).listed is other ((g.owed (w.node p)).involved_held p on part refl), ((g.doubt p).in_doubt is on part unknown other).0);
       known = λ h stands on same. (g.knows h).knows is (i.outcomes.stands stands) on same;
+    }
+
+pub involved_at : (w : World) → Inv w → w.cell ≡ Committed → IsInvolved w
+involved_at w i is =
+    let g : Whole w = i.whole (λ a. cc (a, is)) in
+    record {
+      sender = λ p m. (i.involved p m).sender;
+      one_phase = λ p s. (i.involved p s).one_phase;
+      prepared = λ p s other on prepared. (g.prepares p s).takes_part on prepared other;
     }
 
 pub silenced_at : (es : List Event) (w v : World) → Inv w → Run w es v → IsSilenced w v
@@ -84,6 +93,9 @@ settled o es v is r = settled_at v (reach o es v is r)
 
 pub answered : (o : Opening) (es : List Event) (v : World) → IsOpening o → Run (start o) es v → v.cell ≡ Committed → IsAnswered v
 answered o es v is r = answered_at v (reach o es v is r)
+
+pub involved : (o : Opening) (es : List Event) (v : World) → IsOpening o → Run (start o) es v → v.cell ≡ Committed → IsInvolved v
+involved o es v is r = involved_at v (reach o es v is r)
 
 pub agreed : (o : Opening) (es : List Event) (v : World) → IsOpening o → Run (start o) es v → IsAgreed v
 agreed o es v is r = agreed_at v (reach o es v is r)

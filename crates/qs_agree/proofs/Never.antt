@@ -14,7 +14,7 @@ never_abort w v a s = a (rw s.2 refl)
 
 -- nobody tells what nobody knows
 pub never_tell_abort : (p q : ℕ) (w v : World) → Silent w → Step (Tell_abort p q) w v → ⊥
-never_tell_abort p q w v m s = m.unknown p s.1
+never_tell_abort p q w v m s = m.unknown p s.2
 
 pub never_learn_abort : (p : ℕ) (w v : World) → Silent w → Step (Learn_abort p) w v → ⊥
 never_learn_abort p w v m s = let off = m.tells (w.node p) in cc (off, s.0.0)

@@ -4,7 +4,7 @@ use Rattle.std.proofs.Common.{◌≡◌, ◌≢◌, ℕ, true, refl, arith}
 use Rattle.std.proofs.lemmas.Bool.Decides.{nat_tests}
 use Rattle.qs_agree.specs.World.{Open, Committed, Aborted, Nobody, World}
 use Rattle.qs_agree.specs.Guards.{IsReady}
-use Rattle.qs_agree.specs.Step.{Issue, Issue_unmet, Issue_local, Meet, Notice, Engage, Join, Cover, Serve, Serve_told, Lend, Yield, Ask, Vote_read, Vote_volatile, Force, Vote_recoverable, Vote_abort, Yes, Yes_lost, Count, Refuse, Miss, Forget, Crash, Restart, Restart_in_doubt, Restart_home, Commit, Commit_cut, Commit_unlogged, Tell, Learn, Learn_cut, Learn_home, Acknowledge, Take_told, End, Checkpoint, Inquire, Inquire_lost, Answer_commit, Answer_running, Step}
+use Rattle.qs_agree.specs.Step.{Issue, Issue_unmet, Issue_local, Meet, Notice, Engage, Join, Cover, Serve, Serve_told, Lend, Yield, Ask, Vote_read, Vote_volatile, Force, Vote_recoverable, Vote_abort, Yes, Yes_lost, Count, Ignore, Refuse, Miss, Forget, Crash, Restart, Restart_in_doubt, Restart_home, Commit, Commit_cut, Commit_unlogged, Tell, Learn, Learn_cut, Learn_home, Acknowledge, Take_told, End, Checkpoint, Inquire, Inquire_lost, Answer_commit, Answer_running, Step}
 use Rattle.qs_agree.proofs.Owed.{Owed}
 
 record Same (w v : World) : Type 0 where
@@ -82,6 +82,9 @@ by_yes_lost p w v n h s = grind (arith, nat_tests, h, s)
 
 pub by_count : (p q : ℕ) (w v : World) (n : ℕ) → Owed w n → Step (Count p q) w v → Owed v n
 by_count p q w v n h s = grind (arith, nat_tests, h, s)
+
+pub by_ignore : (p q : ℕ) (w v : World) (n : ℕ) → Owed w n → Step (Ignore p q) w v → Owed v n
+by_ignore p q w v n h s = same w v n h (rw s.4 (record { up = refl; involved = refl; node = refl; way = refl; prepared = refl; cell = refl; home = refl; commit_list = refl }))
 
 pub by_refuse : (p : ℕ) (w v : World) (n : ℕ) → Owed w n → Step (Refuse p) w v → Owed v n
 by_refuse p w v n h s = same w v n h (rw s.1 (record { up = refl; involved = refl; node = refl; way = refl; prepared = refl; cell = refl; home = refl; commit_list = refl }))

@@ -3,7 +3,7 @@
 use Rattle.std.proofs.Common.{◌≡◌, ◌≢◌, ℕ, refl, arith}
 use Rattle.std.proofs.lemmas.Bool.Decides.{nat_tests}
 use Rattle.qs_agree.specs.World.{Aborted, World}
-use Rattle.qs_agree.specs.Step.{Issue, Issue_unmet, Issue_local, Meet, Notice, Engage, Join, Cover, Serve, Serve_told, Lend, Yield, Ask, Vote_read, Vote_volatile, Force, Vote_recoverable, Vote_abort, Yes, Yes_lost, Count, Refuse, Miss, Forget, Crash, Restart, Restart_in_doubt, Restart_home, Commit, Commit_cut, Commit_unlogged, Tell, Learn, Learn_cut, Learn_home, Acknowledge, Take_told, End, Checkpoint, Inquire, Inquire_lost, Answer_commit, Answer_running, Step}
+use Rattle.qs_agree.specs.Step.{Issue, Issue_unmet, Issue_local, Meet, Notice, Engage, Join, Cover, Serve, Serve_told, Lend, Yield, Ask, Vote_read, Vote_volatile, Force, Vote_recoverable, Vote_abort, Yes, Yes_lost, Count, Ignore, Refuse, Miss, Forget, Crash, Restart, Restart_in_doubt, Restart_home, Commit, Commit_cut, Commit_unlogged, Tell, Learn, Learn_cut, Learn_home, Acknowledge, Take_told, End, Checkpoint, Inquire, Inquire_lost, Answer_commit, Answer_running, Step}
 use Rattle.qs_agree.proofs.Counts.{Counts}
 use Rattle.qs_agree.proofs.Places.{Places}
 
@@ -80,6 +80,9 @@ by_yes_lost p w v c x s = same w v x (rw s.3 (record { received_at = refl; node 
 
 pub by_count : (p q : ℕ) (w v : World) → Counts w → Places w → Step (Count p q) w v → Places v
 by_count p q w v c x s = grind (arith, nat_tests, c, x, s)
+
+pub by_ignore : (p q : ℕ) (w v : World) → Counts w → Places w → Step (Ignore p q) w v → Places v
+by_ignore p q w v c x s = same w v x (rw s.4 (record { received_at = refl; node = refl; received = refl; posted = refl; gone = refl; covered = refl }))
 
 pub by_refuse : (p : ℕ) (w v : World) → Counts w → Places w → Step (Refuse p) w v → Places v
 by_refuse p w v c x s = same w v x (rw s.1 (record { received_at = refl; node = refl; received = refl; posted = refl; gone = refl; covered = refl }))

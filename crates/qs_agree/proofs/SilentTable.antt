@@ -3,7 +3,7 @@
 use Rattle.std.proofs.Common.{◌≡◌, ◌≢◌, ℕ, refl, arith}
 use Rattle.std.proofs.lemmas.Bool.Decides.{nat_tests}
 use Rattle.qs_agree.specs.World.{Committed, Aborted, World}
-use Rattle.qs_agree.specs.Step.{Issue, Issue_unmet, Issue_local, Meet, Notice, Engage, Join, Cover, Serve, Serve_told, Lend, Yield, Ask, Vote_read, Vote_volatile, Force, Vote_recoverable, Vote_abort, Yes, Yes_lost, Count, Refuse, Miss, Forget, Crash, Restart, Restart_in_doubt, Restart_home, Commit, Commit_cut, Commit_unlogged, Tell, Learn, Learn_cut, Learn_home, Acknowledge, Take_told, End, Checkpoint, Inquire, Inquire_lost, Answer_commit, Answer_running, Step}
+use Rattle.qs_agree.specs.Step.{Issue, Issue_unmet, Issue_local, Meet, Notice, Engage, Join, Cover, Serve, Serve_told, Lend, Yield, Ask, Vote_read, Vote_volatile, Force, Vote_recoverable, Vote_abort, Yes, Yes_lost, Count, Ignore, Refuse, Miss, Forget, Crash, Restart, Restart_in_doubt, Restart_home, Commit, Commit_cut, Commit_unlogged, Tell, Learn, Learn_cut, Learn_home, Acknowledge, Take_told, End, Checkpoint, Inquire, Inquire_lost, Answer_commit, Answer_running, Step}
 use Rattle.qs_agree.proofs.Silent.{Silent}
 
 record Same (w v : World) : Type 0 where
@@ -81,6 +81,9 @@ by_yes_lost p w v h s = same w v h (rw s.3 (record { outcome = refl; learnt_abor
 
 pub by_count : (p q : ℕ) (w v : World) → Silent w → Step (Count p q) w v → Silent v
 by_count p q w v h s = same w v h (rw s.3 (record { outcome = refl; learnt_abort = refl; tell_abort = refl; named = refl; cell = refl; prepared = refl; node = refl; home = refl }))
+
+pub by_ignore : (p q : ℕ) (w v : World) → Silent w → Step (Ignore p q) w v → Silent v
+by_ignore p q w v h s = same w v h (rw s.4 (record { outcome = refl; learnt_abort = refl; tell_abort = refl; named = refl; cell = refl; prepared = refl; node = refl; home = refl }))
 
 pub by_refuse : (p : ℕ) (w v : World) → Silent w → Step (Refuse p) w v → Silent v
 by_refuse p w v h s = same w v h (rw s.1 (record { outcome = refl; learnt_abort = refl; tell_abort = refl; named = refl; cell = refl; prepared = refl; node = refl; home = refl }))

@@ -1,15 +1,17 @@
 -- The records that hold in every world, by event.
 use Rattle.std.proofs.Common.{ℕ}
 use Rattle.qs_agree.specs.World.{World}
-use Rattle.qs_agree.specs.Step.{Issue, Issue_unmet, Issue_local, Meet, Notice, Engage, Join, Cover, Serve, Serve_told, Lend, Yield, Ask, Vote_read, Vote_volatile, Force, Vote_recoverable, Vote_abort, Yes, Yes_lost, Count, Refuse, Miss, Forget, Crash, Restart, Restart_in_doubt, Restart_home, Commit, Commit_cut, Commit_unlogged, Abort, Tell, Learn, Learn_cut, Learn_home, Acknowledge, Take_told, End, Checkpoint, Tell_abort, Learn_abort, Name_again, Take_names, Learn_abort_home, Abort_logged, Drop_engage, Drop_join, Drop_cover, Inquire, Inquire_lost, Inquire_home, Answer_commit, Answer_running, Answer_abort, Event, Step}
+use Rattle.qs_agree.specs.Step.{Issue, Issue_unmet, Issue_local, Meet, Notice, Engage, Join, Cover, Serve, Serve_told, Lend, Yield, Ask, Vote_read, Vote_volatile, Force, Vote_recoverable, Vote_abort, Yes, Yes_lost, Count, Ignore, Refuse, Miss, Forget, Crash, Restart, Restart_in_doubt, Restart_home, Commit, Commit_cut, Commit_unlogged, Abort, Tell, Learn, Learn_cut, Learn_home, Acknowledge, Take_told, End, Checkpoint, Tell_abort, Learn_abort, Name_again, Take_names, Learn_abort_home, Abort_logged, Drop_engage, Drop_join, Drop_cover, Inquire, Inquire_lost, Inquire_home, Answer_commit, Answer_running, Answer_abort, Event, Step}
 use Rattle.qs_agree.proofs.Counts.{Counts}
 use Rattle.qs_agree.proofs.Servers.{Servers}
+use Rattle.qs_agree.proofs.Involved.{Involved}
 use Rattle.qs_agree.proofs.Outcomes.{Outcomes}
 use Rattle.qs_agree.proofs.Keeps.{Keeps}
 use Rattle.qs_agree.proofs.Kept.{Kept}
 use Rattle.qs_agree.proofs.Facts.{home_open}
 use Rattle.qs_agree.proofs.CountsTable
 use Rattle.qs_agree.proofs.ServersTable
+use Rattle.qs_agree.proofs.InvolvedTable
 use Rattle.qs_agree.proofs.KeepsTable
 use Rattle.qs_agree.proofs.OutcomesTable
 use Rattle.qs_agree.proofs.KeptTable
@@ -36,6 +38,7 @@ counts_step (Vote_abort p q) w v c s = CountsTable.by_vote_abort p q w v c s
 counts_step (Yes p) w v c s = CountsTable.by_yes p w v c s
 counts_step (Yes_lost p) w v c s = CountsTable.by_yes_lost p w v c s
 counts_step (Count p q) w v c s = CountsTable.by_count p q w v c s
+counts_step (Ignore p q) w v c s = CountsTable.by_ignore p q w v c s
 counts_step (Refuse p) w v c s = CountsTable.by_refuse p w v c s
 counts_step (Miss p) w v c s = CountsTable.by_miss p w v c s
 counts_step (Forget p) w v c s = CountsTable.by_forget p w v c s
@@ -93,6 +96,7 @@ servers_step (Vote_abort p q) w v k i h s = ServersTable.by_vote_abort p q w v k
 servers_step (Yes p) w v k i h s = ServersTable.by_yes p w v k i h s
 servers_step (Yes_lost p) w v k i h s = ServersTable.by_yes_lost p w v k i h s
 servers_step (Count p q) w v k i h s = ServersTable.by_count p q w v k i h s
+servers_step (Ignore p q) w v k i h s = ServersTable.by_ignore p q w v k i h s
 servers_step (Refuse p) w v k i h s = ServersTable.by_refuse p w v k i h s
 servers_step (Miss p) w v k i h s = ServersTable.by_miss p w v k i h s
 servers_step (Forget p) w v k i h s = ServersTable.by_forget p w v k i h s
@@ -128,6 +132,64 @@ servers_step (Answer_commit p q) w v k i h s = ServersTable.by_answer_commit p q
 servers_step (Answer_running p) w v k i h s = ServersTable.by_answer_running p w v k i h s
 servers_step (Answer_abort p q) w v k i h s = ServersTable.by_answer_abort p q w v k i h s
 
+pub involved_step : (e : Event) (w v : World) (k i : ℕ) → Counts w → Involved w k i → Step e w v → Involved v k i
+involved_step (Issue p q r) w v k i c h s = InvolvedTable.by_issue p q r w v k i h s (c.up_present p s.0.0)
+involved_step (Issue_unmet p q r) w v k i c h s = InvolvedTable.by_issue_unmet p q r w v k i h s (c.up_present p s.0.0)
+involved_step (Issue_local p q) w v k i c h s = InvolvedTable.by_issue_local p q w v k i h s
+involved_step (Meet p q) w v k i c h s = InvolvedTable.by_meet p q w v k i h s
+involved_step (Notice p q) w v k i c h s = InvolvedTable.by_notice p q w v k i h s
+involved_step (Engage p q) w v k i c h s = InvolvedTable.by_engage p q w v k i h s
+involved_step (Join p q) w v k i c h s = InvolvedTable.by_join p q w v k i h s
+involved_step (Cover p q) w v k i c h s = InvolvedTable.by_cover p q w v k i h s
+involved_step (Serve p q) w v k i c h s = InvolvedTable.by_serve p q w v k i h s (c.up_present p s.0.0)
+involved_step (Serve_told p q) w v k i c h s = InvolvedTable.by_serve_told p q w v k i h s (c.up_present p s.0.0)
+involved_step (Lend p q) w v k i c h s = InvolvedTable.by_lend p q w v k i h s (c.up_present p s.0.0)
+involved_step (Yield p) w v k i c h s = InvolvedTable.by_yield p w v k i h s
+involved_step (Ask p) w v k i c h s = InvolvedTable.by_ask p w v k i h s
+involved_step (Vote_read p q) w v k i c h s = InvolvedTable.by_vote_read p q w v k i h s
+involved_step (Vote_volatile p q) w v k i c h s = InvolvedTable.by_vote_volatile p q w v k i h s
+involved_step (Force p q) w v k i c h s = InvolvedTable.by_force p q w v k i h s
+involved_step (Vote_recoverable p q) w v k i c h s = InvolvedTable.by_vote_recoverable p q w v k i h s
+involved_step (Vote_abort p q) w v k i c h s = InvolvedTable.by_vote_abort p q w v k i h s
+involved_step (Yes p) w v k i c h s = InvolvedTable.by_yes p w v k i h s
+involved_step (Yes_lost p) w v k i c h s = InvolvedTable.by_yes_lost p w v k i h s
+involved_step (Count p q) w v k i c h s = InvolvedTable.by_count p q w v k i h s
+involved_step (Ignore p q) w v k i c h s = InvolvedTable.by_ignore p q w v k i h s
+involved_step (Refuse p) w v k i c h s = InvolvedTable.by_refuse p w v k i h s
+involved_step (Miss p) w v k i c h s = InvolvedTable.by_miss p w v k i h s
+involved_step (Forget p) w v k i c h s = InvolvedTable.by_forget p w v k i h s
+involved_step (Crash p) w v k i c h s = InvolvedTable.by_crash p w v k i h s
+involved_step (Restart p) w v k i c h s = InvolvedTable.by_restart p w v k i h s
+involved_step (Restart_in_doubt p q) w v k i c h s = InvolvedTable.by_restart_in_doubt p q w v k i h s
+involved_step (Restart_home p) w v k i c h s = InvolvedTable.by_restart_home p w v k i h s
+involved_step Commit w v k i c h s = InvolvedTable.by_commit w v k i h s
+involved_step Commit_cut w v k i c h s = InvolvedTable.by_commit_cut w v k i h s
+involved_step Commit_unlogged w v k i c h s = InvolvedTable.by_commit_unlogged w v k i h s
+involved_step Abort w v k i c h s = InvolvedTable.by_abort w v k i h s
+involved_step (Tell p q) w v k i c h s = InvolvedTable.by_tell p q w v k i h s
+involved_step (Learn p) w v k i c h s = InvolvedTable.by_learn p w v k i h s
+involved_step (Learn_cut p) w v k i c h s = InvolvedTable.by_learn_cut p w v k i h s
+involved_step (Learn_home p) w v k i c h s = InvolvedTable.by_learn_home p w v k i h s
+involved_step (Acknowledge p) w v k i c h s = InvolvedTable.by_acknowledge p w v k i h s
+involved_step (Take_told p q) w v k i c h s = InvolvedTable.by_take_told p q w v k i h s
+involved_step (End p) w v k i c h s = InvolvedTable.by_end p w v k i h s
+involved_step (Checkpoint p) w v k i c h s = InvolvedTable.by_checkpoint p w v k i h s
+involved_step (Tell_abort p q) w v k i c h s = InvolvedTable.by_tell_abort p q w v k i h s
+involved_step (Learn_abort p) w v k i c h s = InvolvedTable.by_learn_abort p w v k i h s
+involved_step (Name_again p) w v k i c h s = InvolvedTable.by_name_again p w v k i h s
+involved_step (Take_names p q r) w v k i c h s = InvolvedTable.by_take_names p q r w v k i h s
+involved_step (Learn_abort_home p q) w v k i c h s = InvolvedTable.by_learn_abort_home p q w v k i h s
+involved_step (Abort_logged p) w v k i c h s = InvolvedTable.by_abort_logged p w v k i h s
+involved_step (Drop_engage p q) w v k i c h s = InvolvedTable.by_drop_engage p q w v k i h s
+involved_step (Drop_join p q) w v k i c h s = InvolvedTable.by_drop_join p q w v k i h s
+involved_step (Drop_cover p q) w v k i c h s = InvolvedTable.by_drop_cover p q w v k i h s
+involved_step (Inquire p) w v k i c h s = InvolvedTable.by_inquire p w v k i h s
+involved_step (Inquire_lost p) w v k i c h s = InvolvedTable.by_inquire_lost p w v k i h s
+involved_step (Inquire_home p) w v k i c h s = InvolvedTable.by_inquire_home p w v k i h s
+involved_step (Answer_commit p q) w v k i c h s = InvolvedTable.by_answer_commit p q w v k i h s
+involved_step (Answer_running p) w v k i c h s = InvolvedTable.by_answer_running p w v k i h s
+involved_step (Answer_abort p q) w v k i c h s = InvolvedTable.by_answer_abort p q w v k i h s
+
 pub keeps_step : (e : Event) (w v : World) (k : ℕ) → Counts w → ((j : ℕ) → Keeps w j) → Step e w v → Keeps v k
 keeps_step (Issue p q r) w v k c y s = KeepsTable.by_issue p q r w v k (y k) s
 keeps_step (Issue_unmet p q r) w v k c y s = KeepsTable.by_issue_unmet p q r w v k (y k) s
@@ -150,6 +212,7 @@ keeps_step (Vote_abort p q) w v k c y s = KeepsTable.by_vote_abort p q w v k (y 
 keeps_step (Yes p) w v k c y s = KeepsTable.by_yes p w v k (y k) s
 keeps_step (Yes_lost p) w v k c y s = KeepsTable.by_yes_lost p w v k (y k) s
 keeps_step (Count p q) w v k c y s = KeepsTable.by_count p q w v k (y k) s
+keeps_step (Ignore p q) w v k c y s = KeepsTable.by_ignore p q w v k (y k) s
 keeps_step (Refuse p) w v k c y s = KeepsTable.by_refuse p w v k (y k) s
 keeps_step (Miss p) w v k c y s = KeepsTable.by_miss p w v k (y k) s
 keeps_step (Forget p) w v k c y s = KeepsTable.by_forget p w v k (y k) s
@@ -207,6 +270,7 @@ outcomes_step (Vote_abort p q) w v y o s = OutcomesTable.by_vote_abort p q w v o
 outcomes_step (Yes p) w v y o s = OutcomesTable.by_yes p w v o s
 outcomes_step (Yes_lost p) w v y o s = OutcomesTable.by_yes_lost p w v o s
 outcomes_step (Count p q) w v y o s = OutcomesTable.by_count p q w v o s
+outcomes_step (Ignore p q) w v y o s = OutcomesTable.by_ignore p q w v o s
 outcomes_step (Refuse p) w v y o s = OutcomesTable.by_refuse p w v o s
 outcomes_step (Miss p) w v y o s = OutcomesTable.by_miss p w v o s
 outcomes_step (Forget p) w v y o s = OutcomesTable.by_forget p w v o s
@@ -264,6 +328,7 @@ kept_step (Vote_abort p q) w v k y s = KeptTable.by_vote_abort p q w v k s
 kept_step (Yes p) w v k y s = KeptTable.by_yes p w v k s
 kept_step (Yes_lost p) w v k y s = KeptTable.by_yes_lost p w v k s
 kept_step (Count p q) w v k y s = KeptTable.by_count p q w v k s
+kept_step (Ignore p q) w v k y s = KeptTable.by_ignore p q w v k s
 kept_step (Refuse p) w v k y s = KeptTable.by_refuse p w v k s
 kept_step (Miss p) w v k y s = KeptTable.by_miss p w v k s
 kept_step (Forget p) w v k y s = KeptTable.by_forget p w v k s

@@ -4,6 +4,7 @@ use Rattle.std.proofs.Common.{◌≢◌, ℕ}
 use Rattle.qs_agree.specs.World.{Aborted, World}
 use Rattle.qs_agree.proofs.Counts.{Counts}
 use Rattle.qs_agree.proofs.Servers.{Servers}
+use Rattle.qs_agree.proofs.Involved.{Involved}
 use Rattle.qs_agree.proofs.Outcomes.{Outcomes}
 use Rattle.qs_agree.proofs.Keeps.{Keeps}
 use Rattle.qs_agree.proofs.Places.{Places}
@@ -38,6 +39,7 @@ pub record Whole (w : World) : Type 0 where
 pub record Inv (w : World) : Type 0 where
   pub counts : Counts w
   pub servers : (k i : ℕ) → Servers w k i
+  pub involved : (k i : ℕ) → Involved w k i
   pub keeps : (k : ℕ) → Keeps w k
   pub outcomes : Outcomes w
   pub whole : w.cell ≢ Aborted → Whole w

@@ -1,7 +1,7 @@
 -- What holds while nothing is aborted, by event.
 use Rattle.std.proofs.Common.{◌≢◌, ℕ, ◌+◌, refl, arith, ap}
 use Rattle.qs_agree.specs.World.{Aborted, World}
-use Rattle.qs_agree.specs.Step.{Issue, Issue_unmet, Issue_local, Meet, Notice, Engage, Join, Cover, Serve, Serve_told, Lend, Yield, Ask, Vote_read, Vote_volatile, Force, Vote_recoverable, Vote_abort, Yes, Yes_lost, Count, Refuse, Miss, Forget, Crash, Restart, Restart_in_doubt, Restart_home, Commit, Commit_cut, Commit_unlogged, Abort, Tell, Learn, Learn_cut, Learn_home, Acknowledge, Take_told, End, Checkpoint, Tell_abort, Learn_abort, Name_again, Take_names, Learn_abort_home, Abort_logged, Drop_engage, Drop_join, Drop_cover, Inquire, Inquire_lost, Inquire_home, Answer_commit, Answer_running, Answer_abort, Event, Step}
+use Rattle.qs_agree.specs.Step.{Issue, Issue_unmet, Issue_local, Meet, Notice, Engage, Join, Cover, Serve, Serve_told, Lend, Yield, Ask, Vote_read, Vote_volatile, Force, Vote_recoverable, Vote_abort, Yes, Yes_lost, Count, Ignore, Refuse, Miss, Forget, Crash, Restart, Restart_in_doubt, Restart_home, Commit, Commit_cut, Commit_unlogged, Abort, Tell, Learn, Learn_cut, Learn_home, Acknowledge, Take_told, End, Checkpoint, Tell_abort, Learn_abort, Name_again, Take_names, Learn_abort_home, Abort_logged, Drop_engage, Drop_join, Drop_cover, Inquire, Inquire_lost, Inquire_home, Answer_commit, Answer_running, Answer_abort, Event, Step}
 use Rattle.qs_agree.proofs.Counts.{Counts}
 use Rattle.qs_agree.proofs.Servers.{Servers}
 use Rattle.qs_agree.proofs.Outcomes.{Outcomes}
@@ -343,6 +343,21 @@ whole_step (Count p q) w v c x o y g b a s = record {
   logged = λ n i. LoggedTable.by_count p q w v n i (g.logged n i) s;
   knows = λ k. KnowsTable.by_count p q w v k (g.knows k) s;
   asks = λ k j. AsksTable.by_count p q w v k j (g.asks k j) s;
+}
+whole_step (Ignore p q) w v c x o y g b a s = record {
+  places = PlacesTable.by_ignore p q w v c g.places s;
+  arrivals = λ i j l. ArrivalsTable.by_ignore p q w v i j l (g.arrivals i j l) s;
+  tree = record { home = HomeTable.by_ignore p q w v g.tree.home s; at = λ k. AtTable.by_ignore p q w v k (g.tree.at k) s };
+  bond = λ k. BondTable.by_ignore p q w v k (g.bond k) s;
+  held = λ n. HeldTable.by_ignore p q w v n (g.held n) s;
+  owed = λ n. OwedTable.by_ignore p q w v n (g.owed n) s;
+  silent = SilentTable.by_ignore p q w v g.silent s;
+  orphans = OrphansTable.by_ignore p q w v g.orphans s;
+  doubt = λ k. DoubtTable.by_ignore p q w v k (g.doubt k) s;
+  prepares = λ k i. PreparesTable.by_ignore p q w v k i (g.prepares k i) s;
+  logged = λ n i. LoggedTable.by_ignore p q w v n i (g.logged n i) s;
+  knows = λ k. KnowsTable.by_ignore p q w v k (g.knows k) s;
+  asks = λ k j. AsksTable.by_ignore p q w v k j (g.asks k j) s;
 }
 whole_step (Refuse p) w v c x o y g b a s = record {
   places = PlacesTable.by_refuse p w v c g.places s;

@@ -1,6 +1,6 @@
 -- What holds of every run.
 use Rattle.std.specs.Prelude.{◌≡◌, ◌≢◌, ℕ, ◌≤◌, true, false, List, [], ◌∷◌}
-use Rattle.qs_agree.specs.World.{Open, Committed, Aborted, World, Opening, IsOpening, start}
+use Rattle.qs_agree.specs.World.{Open, Committed, Aborted, OnePhase, World, Opening, IsOpening, start}
 use Rattle.qs_agree.specs.Guards.{Votes}
 use Rattle.qs_agree.specs.Step.{Event, Step}
 
@@ -30,6 +30,12 @@ pub record IsAnswered (w : World) : Type 0 where
   pub in_log : (n s : ℕ) → n ≢ w.node w.home → w.prepared n s ≡ true → (w.commit_list n ≡ true) × (w.unended ≡ true)
   pub in_doubt : (p : ℕ) → w.node p ≢ w.node w.home → w.up p ≡ true → w.involved p ≡ true → w.outcome p ≡ Open → (w.commit_list (w.node p) ≡ true) × (w.unended ≡ true)
   pub known : (h : ℕ) → w.unended ≡ true → w.up h ≡ true → w.node h ≡ w.node w.home → w.outcome h ≡ Committed
+
+-- a place is to be told where it sent a request, where a server that is told without a vote was used, and where its node's log holds a Prepare in doubt
+pub record IsInvolved (w : World) : Type 0 where
+  pub sender : (p m : ℕ) → 1 ≤ w.sent p m → w.involved p ≡ true
+  pub one_phase : (p s : ℕ) → w.class (w.node p) s ≡ OnePhase → 1 ≤ w.served p s → w.involved p ≡ true
+  pub prepared : (p s : ℕ) → w.node p ≢ w.node w.home → w.up p ≡ true → w.prepared (w.node p) s ≡ true → w.involved p ≡ true
 
 -- nobody learns commit where another learns abort; no place knows, and no message and no answer says, what was not decided; the home keeps what it decided
 pub record IsAgreed (w : World) : Type 0 where

@@ -1,5 +1,5 @@
 -- The rules of the protocol, one event each.
-use Rattle.std.specs.Prelude.{◌≡◌, ◌≢◌, ◌⊎◌, ℕ, ◌+◌, ◌==◌, ◌<◌, ◌≤◌, max, Bool, true, false, if◌then◌else◌}
+use Rattle.std.specs.Prelude.{◌≡◌, ◌≢◌, ◌⊎◌, ℕ, ◌+◌, ◌==◌, ◌<◌, ◌≤◌, max, true, false, if◌then◌else◌}
 use Rattle.qs_agree.specs.World.{Open, Committed, Aborted, Recoverable, Volatile, OnePhase, Immediate, Activity, Flight, Dead, World, with_at, with_at2, with_at3}
 use Rattle.qs_agree.specs.Guards.{MayIssue, NextAt, next, next_server, Drops, MayServe, Votes, VoteDue, IsReady, carried, reached, names, IsTold, NextInquiry, TellsAbort, closed, held, held_at, passed, passed_to, landed}
 
@@ -27,6 +27,7 @@ pub data Event : Type 0 where
   Yes : ℕ → Event  -- q is ready and sends VotedYes to the place that engaged it
   Yes_lost : ℕ → Event  -- the same where that place's node has restarted since
   Count : ℕ → ℕ → Event  -- the next Covered or VotedYes from q is handed up at p
+  Ignore : ℕ → ℕ → Event  -- it is dropped at p, which is not engaged
   Refuse : ℕ → Event  -- a VotedAbort came to q
   Miss : ℕ → Event  -- a reply that q waits for will never come: a cause Gone
   Forget : ℕ → Event  -- q forgets a transaction that it only read
@@ -212,6 +213,9 @@ Step (Count p q) old new =
       told_set = with_at old.told_set p (λ n. if old.told_set p n then true else old.closer_set q p (old.closers_taken p q + 1) n);
       way = λ n. if old.holder n == p then (if old.sender n == q then (if old.index n == old.closers_taken p q + 1 then landed (old.way n) else old.way n) else old.way n) else old.way n;
     })
+Step (Ignore p q) old new =
+    (old.up p ≡ true) × (old.peer p (old.node q) ≡ q) × (old.closers_taken p q < old.closers q p) × (old.engaged p ≡ false)
+    × (new ≡ record old { closers_taken = with_at2 old.closers_taken p q (old.closers_taken p q + 1) })
 Step (Refuse q) old new = (old.up q ≡ true) × (new ≡ record old { refused = with_at old.refused q true })
 Step (Miss q) old new = (old.up q ≡ true) × (old.engaged q ≡ true) × (new ≡ record old { gone = with_at old.gone q true })
 Step (Forget q) old new =
@@ -260,7 +264,7 @@ Step Commit_cut old new =
       up = with_at old.up old.home false;
       engaged = with_at old.engaged old.home false;
       prepared = with_at old.prepared (old.node old.home) (λ s. false);
-      commit_logged = true;
+      commit_logged = true;  -- kept by the cut
       unended = true;
       commit_list = old.told_set old.home;
       cell = Committed;
@@ -276,6 +280,7 @@ Step Commit_unlogged old new =
 Step Abort old new =
     (old.up old.home ≡ true) × (old.outcome old.home ≡ Open)
     × (new ≡ record old {
+      engaged = with_at old.engaged old.home false;
       outcome = with_at old.outcome old.home Aborted;
       to_tell = with_at old.to_tell old.home (reached old old.home);
       cell = Aborted;
@@ -315,7 +320,7 @@ Step (Checkpoint h) old new =
     (old.up h ≡ true) × (old.node h ≡ old.node old.home) × (old.unended ≡ false)
     × (new ≡ record old { commit_logged = false })
 Step (Tell_abort h n) old new =
-    TellsAbort old h × (old.outcome h ≡ Aborted) × (old.to_tell h n ≡ true)
+    (old.up h ≡ true) × (old.node h ≡ old.node old.home) × (old.outcome h ≡ Aborted) × (old.to_tell h n ≡ true)
     × (new ≡ record old { tell_abort = with_at old.tell_abort n true })
 Step (Learn_abort q) old new =
     IsTold old q (old.tell_abort (old.node q)) × (old.outcome q ≡ Open)
