@@ -322,7 +322,7 @@ abbrev w28 : World
 w28 = record w27 {
   outcome = with_at w27.outcome 3 Aborted;
   named = with_at w27.named 3 (names w27 3);
-  learnt_abort = with_at w27.learnt_abort (w27.node 3) (if w27.involved 3 then true else w27.learnt_abort (w27.node 3));
+  learnt_abort = with_at w27.learnt_abort (w27.node 3) true;
 }
 
 s28 : Step (Learn_abort 3) w27 w28
@@ -395,7 +395,7 @@ abbrev w36 : World
 w36 = record w35 {
   outcome = with_at w35.outcome 4 Aborted;
   named = with_at w35.named 4 (names w35 4);
-  learnt_abort = with_at w35.learnt_abort (w35.node 4) (if w35.involved 4 then true else w35.learnt_abort (w35.node 4));
+  learnt_abort = with_at w35.learnt_abort (w35.node 4) true;
 }
 
 s36 : Step (Learn_abort 4) w35 w36

@@ -32,7 +32,9 @@ shown_step : {State Act Tid : Type 0} (does : Act → State → State → Type 0
     → (t : Tid) (a : Act) (old new : State) → IsShown unbegun shows t old → does a old new → IsShown unbegun shows t new
 shown_step does unbegun shows begins goes_on t a old new (inl none) did = elim (begins t a old new none did) [
   | inl still ↦ inl still
-  | inr opened ↦ inr (start opened.0, lawful (start opened.0) (record { opening = opened.0; opens = opened.1; events = []; run = refl }), opened.2)
+  | inr opened ↦
+      let at_start : IsReached (start opened.0) = record { opening = opened.0; opens = opened.1; events = []; run = refl } in
+      inr (opened.2.0, lawful opened.2.0 (reached_on (start opened.0) opened.2.0 at_start opened.2.1), opened.2.2)
 ]
 shown_step does unbegun shows begins goes_on t a old new (inr is) did =
     let more = goes_on t a old new is.0 is.1 is.2 did in

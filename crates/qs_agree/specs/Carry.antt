@@ -25,9 +25,9 @@ pub record IsLawful (w : World) : Type 0 where
 abbrev pub IsShown : {State Tid : Type 0} → (Tid → State → Type 0) → (Tid → State → World → Type 0) → Tid → State → Type 0
 IsShown unbegun shows t s = unbegun t s ⊎ ((w : World) × IsLawful w × shows t s w)
 
--- it has not begun still, or begins
+-- it has not begun still, or it began, and the same act may have gone on with it
 abbrev pub Begins : {State Tid : Type 0} → (Tid → State → Type 0) → (Tid → State → World → Type 0) → Tid → State → Type 0
-Begins unbegun shows t s = unbegun t s ⊎ ((o : Opening) × IsOpening o × shows t s (start o))
+Begins unbegun shows t s = unbegun t s ⊎ ((o : Opening) × IsOpening o × ((w : World) × Leads (start o) w × shows t s w))
 
 -- what shows it goes on to what shows it later
 abbrev pub GoesOn : {State Tid : Type 0} → (Tid → State → World → Type 0) → Tid → State → World → Type 0

@@ -31,7 +31,7 @@ pub begins : (t : ℕ) (a : Act) (old new : Many) → unbegun t old → Does a o
 begins t (Begin u h) old new none did = elim (either (t == u)) [
   | inl is ↦
       let shows : Shows t (record old { began = with_at old.began u true; of = with_at old.of u (start (opening old h)) }) (start (opening old h)) = (at_same old.began u true t is, at_same old.of u (start (opening old h)) t is) in
-      inr (opening old h, did.1, subst (λ (m : Many). Shows t m (start (opening old h))) (sym did.2) shows)
+      inr (opening old h, did.1, (start (opening old h), stays (start (opening old h)), subst (λ (m : Many). Shows t m (start (opening old h))) (sym did.2) shows))
   | inr other ↦ inl (subst (λ (m : Many). unbegun t m) (sym did.2) (at_other old.began u true t other ∙ none))
 ]
 begins t (Own u e) old new none did = inl (subst (λ (m : Many). unbegun t m) (sym did.1.3) none)

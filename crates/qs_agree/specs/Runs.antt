@@ -1,7 +1,7 @@
 -- Whole runs, so that what is said of every run is not empty.
 use Rattle.std.specs.Prelude.{◌≡◌, ℕ, ◌+◌, ◌==◌, true, false, List, [], ◌∷◌, if◌then◌else◌}
 use Rattle.qs_agree.specs.World.{Committed, Aborted, Class, Recoverable, Volatile, OnePhase, Activity, World, Opening, start}
-use Rattle.qs_agree.specs.Step.{Event, Issue, Issue_local, Meet, Notice, Engage, Join, Cover, Serve, Serve_told, Lend, Yield, Ask, Vote_volatile, Vote_recoverable, Yes, Count, Crash, Restart, Restart_in_doubt, Restart_home, Commit, Abort, Tell, Learn, Take_told, End, Tell_abort, Learn_abort, Name_again, Take_names, Abort_logged, Drop_engage, Inquire, Inquire_lost, Answer_commit, Answer_abort}
+use Rattle.qs_agree.specs.Step.{Event, Abort, Abort_logged, Acknowledge, Answer_abort, Answer_commit, Ask, Checkpoint, Commit, Commit_cut, Count, Cover, Crash, Drop_engage, End, Engage, Force, Inquire, Inquire_lost, Issue, Issue_local, Join, Learn, Learn_abort, Learn_cut, Learn_home, Lend, Meet, Name_again, Notice, Restart, Restart_home, Restart_in_doubt, Serve, Serve_told, Take_names, Take_told, Tell, Tell_abort, Vote_recoverable, Vote_volatile, Yes, Yield}
 use Rattle.qs_agree.specs.Laws.{Run}
 
 -- four nodes, 0 to 3: places 1 to 4 are their first ones, and 5 to 8 the next
@@ -61,3 +61,32 @@ pub record AbortChain : Type 0 where
   pub known : (new.outcome 3 ≡ Aborted) × (new.outcome 4 ≡ Aborted) × (new.outcome 5 ≡ Aborted)
   pub prepared : new.prepared 3 0 ≡ false
   pub dropped : (new.last 4 3 ≡ 2) × (new.arrived 4 0 ≡ 1) × (new.served 4 0 ≡ 1)
+
+-- Node 1 votes one server after the other, and is cut off when the first has left its Prepare. It restarts with that Prepare in doubt; the home sees the restart and aborts; node 1 asks, and drops the Prepare.
+abbrev pub cut_pass : List Event
+cut_pass =
+    Meet 1 2 ∷ Meet 2 1 ∷ Issue 1 1 0 ∷ Engage 2 1 ∷ Issue 1 1 1 ∷ Join 2 1 ∷ Serve 2 0 ∷ Serve 2 1 ∷ Ask 2 ∷ Force 2 0
+    ∷ Crash 2 ∷ Restart_in_doubt 6 0 ∷ Notice 1 6 ∷ Meet 6 1 ∷ Abort ∷ Inquire 6 ∷ Answer_abort 1 6 ∷ Learn_abort 6 ∷ Abort_logged 6 ∷ []
+
+-- it leads to an abort that leaves nothing in doubt
+pub record CutPass : Type 0 where
+  pub new : World
+  pub run : Run (start four_nodes) cut_pass new
+  pub cell : new.cell ≡ Aborted
+  pub learnt : new.learnt_abort 1 ≡ true
+  pub prepared : new.prepared 1 0 ≡ false
+  pub votes : (new.voted 2 0 ≡ 0) × (new.voted 2 1 ≡ 0)
+
+-- The home is cut off in its decision with the Commit kept, and so is node 1 when it learns. Both restart, and the Commit is ended and dropped by a checkpoint.
+abbrev pub cut_commit : List Event
+cut_commit =
+    Meet 1 2 ∷ Meet 2 1 ∷ Issue 1 1 0 ∷ Engage 2 1 ∷ Serve 2 0 ∷ Ask 2 ∷ Vote_recoverable 2 0 ∷ Yes 2 ∷ Count 1 2 ∷ Ask 1 ∷ Commit_cut
+    ∷ Restart_home 5 ∷ Learn_home 5 ∷ Notice 2 5 ∷ Tell 5 1 ∷ Learn_cut 2 ∷ Restart 6 ∷ Meet 6 5 ∷ Acknowledge 6 ∷ Take_told 5 6 ∷ End 5 ∷ Checkpoint 5 ∷ []
+
+-- it leads to a commit that both have learnt, with nothing left in a log
+pub record CutCommit : Type 0 where
+  pub new : World
+  pub run : Run (start four_nodes) cut_commit new
+  pub cell : new.cell ≡ Committed
+  pub learnt : (new.learnt_commit 0 ≡ true) × (new.learnt_commit 1 ≡ true)
+  pub logs : (new.commit_logged ≡ false) × (new.unended ≡ false) × (new.prepared 1 0 ≡ false)

@@ -75,7 +75,7 @@ Step (Issue p m s) old new =
       sent = with_at2 old.sent p m (old.sent p m + 1);
       server_of = with_at3 old.server_of p m (old.sent p m + 1) s;
       posted = with_at2 old.posted p (old.peer p m) (old.sent p m + 1);
-      involved = with_at old.involved p true;
+      involved = with_at old.involved p true;  -- who sends a request is to be told
       way = with_at old.way (old.node p) (held (old.way (old.node p)));
       holder = with_at old.holder (old.node p) (held_at (old.way (old.node p)) p (old.holder (old.node p)));
     })
@@ -327,7 +327,7 @@ Step (Learn_abort q) old new =
     × (new ≡ record old {
       outcome = with_at old.outcome q Aborted;
       named = with_at old.named q (names old q);
-      learnt_abort = with_at old.learnt_abort (old.node q) (if old.involved q then true else old.learnt_abort (old.node q));
+      learnt_abort = with_at old.learnt_abort (old.node q) true;
     })
 Step (Name_again q) old new =
     (old.up q ≡ true) × (old.node q ≢ old.node old.home) × (old.outcome q ≡ Aborted)
