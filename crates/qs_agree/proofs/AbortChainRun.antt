@@ -2,7 +2,7 @@
 use Rattle.std.proofs.Common.{◌+◌, ◌==◌, max, true, false, refl, arith, if◌then◌else◌}
 use Rattle.std.proofs.lemmas.Bool.Decides.{nat_tests}
 use Rattle.qs_agree.specs.World.{Open, Committed, Aborted, Flight, World, start, with_at, with_at2, with_at3}
-use Rattle.qs_agree.specs.Guards.{next, next_server, carried, reached, names, closed, held, held_at, passed, passed_to, landed}
+use Rattle.qs_agree.specs.Guards.{next, next_server, carried, drawn, names, closed, held, held_at, passed, passed_to, landed}
 use Rattle.qs_agree.specs.Step.{Abort, Abort_logged, Answer_abort, Ask, Count, Crash, Drop_engage, Engage, Inquire_lost, Issue, Learn_abort, Meet, Name_again, Notice, Restart, Restart_home, Serve, Take_names, Tell_abort, Vote_recoverable, Yes, Step}
 use Rattle.qs_agree.specs.Runs.{four_nodes, AbortChain}
 
@@ -275,7 +275,7 @@ abbrev w24 : World
 w24 = record w23 {
   engaged = with_at w23.engaged w23.home false;
   outcome = with_at w23.outcome w23.home Aborted;
-  to_tell = with_at w23.to_tell w23.home (reached w23 w23.home);
+  to_tell = with_at w23.to_tell w23.home (drawn w23 w23.home);
   cell = Aborted;
   learnt_abort = with_at w23.learnt_abort (w23.node w23.home) true;
 }

@@ -23,9 +23,9 @@ pub record At (w : World) (k : ℕ) : Type 0 where
 
 -- the link from the place that engaged this one
 pub record Link (w : World) (k : ℕ) : Type 0 where
-  pub some : 1 ≤ k
-  pub known : k ≤ w.peer (w.engager k) (w.node k)
-  pub number : w.engaging k ≤ w.sent (w.engager k) (w.node k)
+  pub some : 1 ≤ k  -- it is a place
+  pub known : k ≤ w.peer (w.engager k) (w.node k)  -- which its engager knows, or a later one
+  pub number : w.engaging k ≤ w.sent (w.engager k) (w.node k)  -- the engaging request was sent
 
 pub linked : (w : World) (k : ℕ) → Counts w → At w k → w.engaged k ≡ true → k ≢ w.home → Link w k
 linked w k c h on other = link w k (h.by_received on other) (c.received_posted k (w.engager k)) (c.posted_sent (w.engager k) k) (c.posted_none (w.engager k)) (c.posted_known (w.engager k) k)

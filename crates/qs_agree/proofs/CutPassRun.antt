@@ -2,7 +2,7 @@
 use Rattle.std.proofs.Common.{◌+◌, ◌==◌, true, false, refl, arith, if◌then◌else◌}
 use Rattle.std.proofs.lemmas.Bool.Decides.{nat_tests}
 use Rattle.qs_agree.specs.World.{Aborted, World, start, with_at, with_at2, with_at3}
-use Rattle.qs_agree.specs.Guards.{next, next_server, reached, names, held, held_at}
+use Rattle.qs_agree.specs.Guards.{next, next_server, drawn, names, held, held_at}
 use Rattle.qs_agree.specs.Step.{Abort, Abort_logged, Answer_abort, Ask, Crash, Engage, Force, Inquire, Issue, Join, Learn_abort, Meet, Notice, Restart_in_doubt, Serve, Step}
 use Rattle.qs_agree.specs.Runs.{four_nodes, CutPass}
 
@@ -156,7 +156,7 @@ abbrev w15 : World
 w15 = record w14 {
   engaged = with_at w14.engaged w14.home false;
   outcome = with_at w14.outcome w14.home Aborted;
-  to_tell = with_at w14.to_tell w14.home (reached w14 w14.home);
+  to_tell = with_at w14.to_tell w14.home (drawn w14 w14.home);
   cell = Aborted;
   learnt_abort = with_at w14.learnt_abort (w14.node w14.home) true;
 }

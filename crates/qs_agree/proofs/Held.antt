@@ -31,9 +31,9 @@ told_at w n c t h is r other some =
 
 -- a VotedYes on its way to a place without Gone keeps a request there open
 pub record Flying (w : World) (n : ℕ) : Type 0 where
-  pub from : 1 ≤ w.sender n
-  pub is_open : w.covered (w.holder n) (w.node (w.sender n)) < w.sent (w.holder n) (w.node (w.sender n))
-  pub peer : w.peer (w.holder n) (w.node (w.sender n)) ≡ w.sender n
+  pub from : 1 ≤ w.sender n  -- its sender is a place
+  pub is_open : w.covered (w.holder n) (w.node (w.sender n)) < w.sent (w.holder n) (w.node (w.sender n))  -- the receiver has a request there that is not covered
+  pub peer : w.peer (w.holder n) (w.node (w.sender n)) ≡ w.sender n  -- and knows the sender as its node's place
 
 pub flying : (w : World) (n : ℕ) → Counts w → Held w n → w.cell ≡ Open → w.way n ≡ Flight → w.gone (w.holder n) ≡ false → Flying w n
 flying w n c h is flies gone =
@@ -62,12 +62,12 @@ ready_holds w n q c h is r at = (
 
 -- what a place and its superior are to each other when it sends VotedYes
 pub record Leaving (w : World) (q : ℕ) : Type 0 where
-  pub above : w.engaged (w.engager q) ≡ true
-  pub not_self : w.engager q ≢ q
-  pub taken : w.closers_taken (w.engager q) q ≤ w.closers q (w.engager q)
-  pub is_open : w.gone (w.engager q) ≡ false → (w.covered (w.engager q) (w.node q) < w.last q (w.engager q)) × (w.peer (w.engager q) (w.node q) ≡ q)
-  pub below : (x : ℕ) → 1 ≤ x → x ≤ w.closers q (w.engager q) → w.closer q (w.engager q) x < w.last q (w.engager q)
-  pub older : w.peer q (w.superior q) ≢ w.engager q → w.engager q < w.present (w.node (w.engager q))
+  pub above : w.engaged (w.engager q) ≡ true  -- the engager is engaged
+  pub not_self : w.engager q ≢ q  -- and another
+  pub taken : w.closers_taken (w.engager q) q ≤ w.closers q (w.engager q)  -- it took no more than was put
+  pub is_open : w.gone (w.engager q) ≡ false → (w.covered (w.engager q) (w.node q) < w.last q (w.engager q)) × (w.peer (w.engager q) (w.node q) ≡ q)  -- without Gone it has not covered the last request, and knows this place
+  pub below : (x : ℕ) → 1 ≤ x → x ≤ w.closers q (w.engager q) → w.closer q (w.engager q) x < w.last q (w.engager q)  -- nothing on its way covers that request
+  pub older : w.peer q (w.superior q) ≢ w.engager q → w.engager q < w.present (w.node (w.engager q))  -- where another place of the superior is known, the engager is dead
 
 pub leaving : (w : World) (q : ℕ) → Counts w → At w q → Bond w q → w.engaged q ≡ true → q ≢ w.home → Leaving w q
 leaving w q c t b on other = record {

@@ -4,7 +4,7 @@ use Rattle.qs_agree.specs.World.{Outcome, Open, Committed, Aborted, World, Openi
 use Rattle.qs_agree.specs.Guards.{Votes}
 use Rattle.qs_agree.specs.Step.{Event}
 use Rattle.qs_agree.specs.Laws.{Run, IsReached, IsSettled, IsAnswered, IsInvolved, IsAgreed, IsSilenced}
-use Rattle.qs_agree.proofs.Tree.{Tree}
+use Rattle.qs_agree.proofs.Tree.{Tree, sender_engaged}
 use Rattle.qs_agree.proofs.Whole.{Inv, Whole}
 use Rattle.qs_agree.proofs.Inv.{inv_run, inv_start, kept_run}
 
@@ -20,6 +20,9 @@ settled_at w i is =
       voted = λ q s votes. voted_all w q s g.tree (off q) votes (i.servers q s).voted_served (i.servers q s).served_arrived;
       loans = λ q. loans_off w q g.tree (off q);
       abort_votes = λ q. against_off w q g.tree (off q);
+      covered = λ p m. covers_all w p m g.tree (off p) (i.counts.covered_sent p m);
+      passive = off;
+      none_left = λ q p next. let on = sender_engaged w i.counts g.places g.tree q p next in let none = off p in cc (on, none);
     }
   where
     gone_off : (w : World) (p : ℕ) → Tree w → w.engaged p ≡ false → w.gone p ≡ false
@@ -27,6 +30,9 @@ settled_at w i is =
 
     covers : (w : World) (p m k : ℕ) → Tree w → w.engaged p ≡ false → k ≤ w.sent p m → k ≤ w.covered p m
     covers w p m k t off to = grind (arith, (t.at p).open_engaged m, off)
+
+    covers_all : (w : World) (p m : ℕ) → Tree w → w.engaged p ≡ false → w.covered p m ≤ w.sent p m → w.covered p m ≡ w.sent p m
+    covers_all w p m t off below = grind (arith, (t.at p).open_engaged m, off)
 
     served_all : (w : World) (q s : ℕ) → Tree w → w.engaged q ≡ false → w.served q s ≤ w.arrived q s → w.served q s ≡ w.arrived q s
     served_all w q s t off below = grind (arith, (t.at q).waits_engaged s, off)

@@ -3,4 +3,4 @@ use Rattle.std.proofs.Common.{◌≡◌, ◌<◌, true}
 use Rattle.qs_agree.specs.World.{World}
 
 pub record Orphans (w : World) : Type 0 where
-  pub above : w.orphaned ≡ true → (w.engaged w.orphaned_by ≡ true) × (w.orphaned_by < w.present (w.node w.orphaned_by))
+  pub above : w.orphaned ≡ true → (w.engaged w.orphaned_by ≡ true) × (w.orphaned_by < w.present (w.node w.orphaned_by))  -- it is engaged, and dead

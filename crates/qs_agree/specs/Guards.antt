@@ -39,29 +39,29 @@ VoteDue w q s = (w.up q ≡ true) × (w.asked q ≡ true) × (w.outcome q ≡ Op
 
 -- a place that can answer for all that came to it, and for all that it sent
 pub record IsReady (w : World) (q : ℕ) : Type 0 where
-  pub up : w.up q ≡ true
-  pub engaged : w.engaged q ≡ true
-  pub asked : w.asked q ≡ true
-  pub unknown : w.outcome q ≡ Open
-  pub refused : w.refused q ≡ false
-  pub gone : w.gone q ≡ false
-  pub abort_vote : w.abort_vote q ≡ false
-  pub loans : w.loans q ≡ 0
-  pub served : (s : ℕ) → w.served q s ≡ w.arrived q s
-  pub voted : (s : ℕ) → Votes w q s → w.voted q s ≡ w.arrived q s
-  pub covered : (m : ℕ) → w.covered q m ≡ w.sent q m
+  pub up : w.up q ≡ true  -- it runs
+  pub engaged : w.engaged q ≡ true  -- it is the home, or has a superior
+  pub asked : w.asked q ≡ true  -- it is asked
+  pub unknown : w.outcome q ≡ Open  -- it knows no outcome
+  pub refused : w.refused q ≡ false  -- no VotedAbort came
+  pub gone : w.gone q ≡ false  -- no cause Gone stands
+  pub abort_vote : w.abort_vote q ≡ false  -- no server voted abort
+  pub loans : w.loans q ≡ 0  -- every loan is given back
+  pub served : (s : ℕ) → w.served q s ≡ w.arrived q s  -- no request waits
+  pub voted : (s : ℕ) → Votes w q s → w.voted q s ≡ w.arrived q s  -- every last vote covers what came
+  pub covered : (m : ℕ) → w.covered q m ≡ w.sent q m  -- every request that it sent is covered
 
 -- the told set that a VotedYes carries: what was received, and the node itself where it is to be told
 abbrev pub carried : World → ℕ → ℕ → Bool
 carried w q n = if w.told_set q n then true else (if n == w.node q then w.involved q else false)
 
--- the nodes that a home tells abort: those in its told set, and those that it sent a request
-abbrev pub reached : World → ℕ → ℕ → Bool
-reached w p n = if w.told_set p n then true else (if w.sent p n == 0 then false else true)
+-- the nodes that a place has drawn in: those in its told set, and those that it sent a request
+abbrev pub drawn : World → ℕ → ℕ → Bool
+drawn w p n = if w.told_set p n then true else (if w.sent p n == 0 then false else true)
 
 -- the nodes that a Told on abort names: the same, without the home's
 abbrev pub names : World → ℕ → ℕ → Bool
-names w q n = if n == w.node w.home then false else reached w q n
+names w q n = if n == w.node w.home then false else drawn w q n
 
 -- a Tell is handed up at q, which knows a place of the home's node
 abbrev pub IsTold : World → ℕ → Bool → Type 0

@@ -1,7 +1,7 @@
 -- What holds of every run.
 use Rattle.std.specs.Prelude.{◌≡◌, ◌≢◌, ℕ, ◌≤◌, true, false, List, [], ◌∷◌}
 use Rattle.qs_agree.specs.World.{Open, Committed, Aborted, OnePhase, World, Opening, IsOpening, start}
-use Rattle.qs_agree.specs.Guards.{Votes}
+use Rattle.qs_agree.specs.Guards.{NextAt, Votes}
 use Rattle.qs_agree.specs.Step.{Event, Step}
 
 -- one step after another
@@ -16,7 +16,7 @@ pub record IsReached (w : World) : Type 0 where
   pub events : List Event
   pub run : Run (start opening) events w
 
--- every request that was ever issued was taken by a place of its node, and served there, and stands before a vote if its server votes; every loan is given back; no vote was against it
+-- every request that was ever issued was taken by a place of its node, and served there, and stands before a vote if its server votes; every loan is given back; no vote was against it; every request is covered, nobody is engaged, and none is still to be handed up
 pub record IsSettled (w : World) : Type 0 where
   pub taken : (p m k : ℕ) → 1 ≤ k → k ≤ w.sent p m → (1 ≤ w.received_at p m k) × (w.node (w.received_at p m k) ≡ m)
   pub came : (p m k : ℕ) → 1 ≤ k → k ≤ w.sent p m → (1 ≤ w.arrival p m k) × (w.arrival p m k ≤ w.arrived (w.received_at p m k) (w.server_of p m k))
@@ -24,6 +24,9 @@ pub record IsSettled (w : World) : Type 0 where
   pub voted : (q s : ℕ) → Votes w q s → w.voted q s ≡ w.arrived q s
   pub loans : (q : ℕ) → w.loans q ≡ 0
   pub abort_votes : (q : ℕ) → w.abort_vote q ≡ false
+  pub covered : (p m : ℕ) → w.covered p m ≡ w.sent p m
+  pub passive : (q : ℕ) → w.engaged q ≡ false
+  pub none_left : (q p : ℕ) → NextAt w q p → ⊥
 
 -- each other node with a Prepare in doubt, and each place that is to be told and knows no outcome, is named by the Commit that stands without an End; and the present place of the home's node knows that Commit
 pub record IsAnswered (w : World) : Type 0 where

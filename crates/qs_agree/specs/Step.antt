@@ -1,7 +1,7 @@
 -- The rules of the protocol, one event each.
 use Rattle.std.specs.Prelude.{◌≡◌, ◌≢◌, ◌⊎◌, ℕ, ◌+◌, ◌==◌, ◌<◌, ◌≤◌, max, true, false, if◌then◌else◌}
 use Rattle.qs_agree.specs.World.{Open, Committed, Aborted, Recoverable, Volatile, OnePhase, Immediate, Activity, Flight, Dead, World, with_at, with_at2, with_at3}
-use Rattle.qs_agree.specs.Guards.{MayIssue, NextAt, next, next_server, Drops, MayServe, Votes, VoteDue, IsReady, carried, reached, names, IsTold, NextInquiry, TellsAbort, closed, held, held_at, passed, passed_to, landed}
+use Rattle.qs_agree.specs.Guards.{MayIssue, NextAt, next, next_server, Drops, MayServe, Votes, VoteDue, IsReady, carried, drawn, names, IsTold, NextInquiry, TellsAbort, closed, held, held_at, passed, passed_to, landed}
 
 pub data Event : Type 0 where
   -- requests
@@ -52,7 +52,7 @@ pub data Event : Type 0 where
   Checkpoint : ℕ → Event  -- the home's log drops a Commit that is ended
   -- abort is told
   Tell_abort : ℕ → ℕ → Event  -- h tells node n abort
-  Learn_abort : ℕ → Event  -- q learns abort: its Told names whom it reached
+  Learn_abort : ℕ → Event  -- q learns abort: its Told names whom it drawn
   Name_again : ℕ → Event  -- q, which knows abort, sends its Told again, as after a restart of the home
   Take_names : ℕ → ℕ → ℕ → Event  -- h takes a Told of q that names n, and is to tell n too
   Learn_abort_home : ℕ → ℕ → Event  -- a restart of the home's node found a Prepare and no Commit
@@ -282,7 +282,7 @@ Step Abort old new =
     × (new ≡ record old {
       engaged = with_at old.engaged old.home false;
       outcome = with_at old.outcome old.home Aborted;
-      to_tell = with_at old.to_tell old.home (reached old old.home);
+      to_tell = with_at old.to_tell old.home (drawn old old.home);
       cell = Aborted;
       learnt_abort = with_at old.learnt_abort (old.node old.home) true;
     })
