@@ -102,13 +102,13 @@ by_forget p w v k h s = same w v k h (rw s.5 (record { cell = refl; up = refl; i
 pub by_crash : (p : ℕ) (w v : World) (k : ℕ) → Doubt w k → Step (Crash p) w v → Doubt v k
 by_crash p w v k h s = grind (arith, nat_tests, h, s)
 
-pub by_restart : (p : ℕ) (w v : World) (k : ℕ) → Doubt w k → Step (Restart p) w v → (w.present (w.node p) < p → (w.inquiries p ≡ 0) × (w.outcome p ≡ Open)) → Doubt v k
+pub by_restart : (p : ℕ) (w v : World) (k : ℕ) → Doubt w k → Step (Restart p) w v → (w.present (w.node p) < p → w.inquiries p ≡ 0) → Doubt v k
 by_restart p w v k h s unborn = grind (arith, nat_tests, h, s)
 
-pub by_restart_in_doubt : (p q : ℕ) (w v : World) (k : ℕ) → Doubt w k → Step (Restart_in_doubt p q) w v → (w.cell ≡ Committed → w.node p ≢ w.node w.home → w.prepared (w.node p) q ≡ true → (w.unended ≡ true) × (w.acknowledged (w.node p) ≡ false)) → (w.present (w.node p) < p → (w.inquiries p ≡ 0) × (w.outcome p ≡ Open)) → (w.ack_put k ≡ true → w.prepared (w.node k) q ≡ false) → Doubt v k
+pub by_restart_in_doubt : (p q : ℕ) (w v : World) (k : ℕ) → Doubt w k → Step (Restart_in_doubt p q) w v → (w.cell ≡ Committed → w.node p ≢ w.node w.home → w.prepared (w.node p) q ≡ true → (w.unended ≡ true) × (w.acknowledged (w.node p) ≡ false)) → (w.present (w.node p) < p → w.inquiries p ≡ 0) → (w.ack_put k ≡ true → w.prepared (w.node k) q ≡ false) → Doubt v k
 by_restart_in_doubt p q w v k h s logged unborn clear = grind (arith, nat_tests, h, s)
 
-pub by_restart_home : (p : ℕ) (w v : World) (k : ℕ) → Doubt w k → v.cell ≢ Aborted → Step (Restart_home p) w v → (w.present (w.node p) < p → (w.inquiries p ≡ 0) × (w.outcome p ≡ Open)) → Doubt v k
+pub by_restart_home : (p : ℕ) (w v : World) (k : ℕ) → Doubt w k → v.cell ≢ Aborted → Step (Restart_home p) w v → (w.present (w.node p) < p → w.inquiries p ≡ 0) → Doubt v k
 by_restart_home p w v k h a s unborn = grind (arith, nat_tests, h, s)
 
 pub by_commit : (w v : World) (k : ℕ) → Doubt w k → Step Commit w v → w.cell ≡ Open → w.acknowledged (w.node k) ≡ false → w.ack_put k ≡ false → w.present (w.node w.home) ≡ w.home → Doubt v k

@@ -69,7 +69,9 @@ answered_at w i is =
       in_log = λ n s other prepared. ((g.owed n).listed is other ((g.owed n).log_held s prepared), ((g.logged n s).in_log is other prepared).0);
       in_doubt = λ p other on part unknown.
           ((g.owed (w.node p)).listed is other ((g.owed (w.node p)).involved_held p on part refl), ((g.doubt p).in_doubt is on part unknown other).0);
-      known = λ h stands on same. (g.knows h).knows is (i.outcomes.stands stands) on same;
+      stands = i.outcomes.stands;
+      known = λ h logged on same. (g.knows h).knows is logged on same;
+      home_clear = λ s. g.silent.home_clear s is;
     }
 
 pub involved_at : (w : World) → Inv w → w.cell ≡ Committed → IsInvolved w

@@ -6,4 +6,3 @@ pub record Prepares (w : World) (k i : ℕ) : Type 0 where
   pub takes_part : w.up k ≡ true → w.prepared (w.node k) i ≡ true → w.node k ≢ w.node w.home → w.involved k ≡ true  -- while it is in doubt the running place is to be told
   pub knows_clear : w.up k ≡ true → w.outcome k ≡ Committed → w.node k ≢ w.node w.home → w.prepared (w.node k) i ≡ false  -- once that place knows commit it is not in doubt
   pub told_clear : w.ack_put k ≡ true → w.prepared (w.node k) i ≡ false  -- nor once a place of the node acknowledged
-  pub told_away : w.ack_put k ≡ true → w.node k ≢ w.node w.home  -- which the home's node never does

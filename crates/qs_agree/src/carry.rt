@@ -4,7 +4,7 @@ ghost use Rattle.qs_agree.specs.World.{World};
 ghost use Rattle.qs_agree.specs.Carry.{RunOf, IsLawful, IsShown, Begins, GoesOn, StaysLawful};
 
 /// Another world, and how the machine shows a transaction of it.
-pub trait Other {
+pub trait OtherWorld {
     ghost State: { Type 0 };
 
     ghost Act: { Type 0 };
@@ -21,10 +21,10 @@ pub trait Other {
 /// Such a world in which each transaction begins as the machine does, and each act is a list of the machine's events for each transaction.
 ///
 /// So a crash, a restart and the notice of one are events of every transaction.
-pub trait Shown: Other {
-    ghost begins: { (t : Self.Other.Tid) (a : Self.Other.Act) (old new : Self.Other.State) → Self.Other.unbegun t old → Self.Other.does a old new → Begins Self.Other.unbegun Self.Other.shows t new };
+pub trait Shown: OtherWorld {
+    ghost begins: { (t : Self.OtherWorld.Tid) (a : Self.OtherWorld.Act) (old new : Self.OtherWorld.State) → Self.OtherWorld.unbegun t old → Self.OtherWorld.does a old new → Begins Self.OtherWorld.unbegun Self.OtherWorld.shows t new };
 
-    ghost goes_on: { (t : Self.Other.Tid) (a : Self.Other.Act) (old new : Self.Other.State) (w : World) → IsLawful w → Self.Other.shows t old w → Self.Other.does a old new → GoesOn Self.Other.shows t new w };
+    ghost goes_on: { (t : Self.OtherWorld.Tid) (a : Self.OtherWorld.Act) (old new : Self.OtherWorld.State) (w : World) → IsLawful w → Self.OtherWorld.shows t old w → Self.OtherWorld.does a old new → GoesOn Self.OtherWorld.shows t new w };
 }
 
 /// After every run of such a world each transaction has not begun, or is shown by a world of which all laws hold.

@@ -4,12 +4,12 @@ ghost use Rattle.qs_agree.specs.Carry.{RunOf, IsLawful};
 ghost use Rattle.qs_agree.specs.Many.{Many, Act, Does, unbegun, Shows};
 ghost use Rattle.qs_agree.specs.ManyShown.{begins, goes_on};
 
-use crate::carry::{Other, Shown, carried};
+use crate::carry::{OtherWorld, Shown, carried};
 
 /// The world of many transactions over the same nodes.
 pub struct ManyAtOnce;
 
-impl Other for ManyAtOnce {
+impl OtherWorld for ManyAtOnce {
     ghost State = { Many };
 
     ghost Act = { Act };
