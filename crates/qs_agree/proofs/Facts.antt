@@ -1,5 +1,4 @@
 -- Facts that single events need beside their own record.
--- the home that is ready has decided nothing
 use Rattle.std.proofs.Common.{◌≡◌, ◌≢◌, ◌⊎◌, ℕ, ◌+◌, ◌<◌, ◌≤◌, true, false, sym, subst, arith, ap, ◌∙◌}
 use Rattle.qs_agree.specs.World.{Open, Committed, World}
 use Rattle.qs_agree.specs.Guards.{MayIssue, NextAt, VoteDue, IsReady}
@@ -12,6 +11,7 @@ use Rattle.qs_agree.proofs.Orphans.{Orphans}
 use Rattle.qs_agree.proofs.Doubt.{Doubt}
 use Rattle.qs_agree.proofs.Knows.{Knows}
 
+-- the home that is ready has decided nothing
 pub home_open : (w : World) → ((k : ℕ) → Keeps w k) → w.up w.home ≡ true → w.outcome w.home ≡ Open → w.cell ≡ Open
 home_open w y up unknown = sym ((y w.home).home_keeps up) ∙ unknown
 

@@ -1,11 +1,11 @@
 -- One line for each event: Home holds after it.
--- what Home speaks of is the same
 use Rattle.std.proofs.Common.{◌≡◌, ◌≢◌, ℕ, refl, arith}
 use Rattle.std.proofs.lemmas.Bool.Decides.{nat_tests}
 use Rattle.qs_agree.specs.World.{Aborted, World}
 use Rattle.qs_agree.specs.Step.{Issue, Issue_unmet, Issue_local, Meet, Notice, Engage, Join, Cover, Serve, Serve_told, Lend, Yield, Ask, Vote_read, Vote_volatile, Force, Vote_recoverable, Vote_abort, Yes, Yes_lost, Count, Ignore, Refuse, Miss, Forget, Crash, Restart, Restart_in_doubt, Restart_home, Commit, Commit_cut, Commit_unlogged, Tell, Learn, Learn_cut, Learn_home, Acknowledge, Take_told, End, Checkpoint, Inquire, Inquire_lost, Answer_commit, Answer_running, Step}
 use Rattle.qs_agree.proofs.Home.{Home}
 
+-- what Home speaks of is the same
 record Same (w v : World) : Type 0 where
   cell : v.cell ≡ w.cell
   engaged : v.engaged ≡ w.engaged

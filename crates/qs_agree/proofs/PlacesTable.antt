@@ -1,5 +1,4 @@
 -- One line for each event: Places holds after it.
--- what Places speaks of is the same
 use Rattle.std.proofs.Common.{◌≡◌, ◌≢◌, ℕ, refl, arith}
 use Rattle.std.proofs.lemmas.Bool.Decides.{nat_tests}
 use Rattle.qs_agree.specs.World.{Aborted, World}
@@ -7,6 +6,7 @@ use Rattle.qs_agree.specs.Step.{Issue, Issue_unmet, Issue_local, Meet, Notice, E
 use Rattle.qs_agree.proofs.Counts.{Counts}
 use Rattle.qs_agree.proofs.Places.{Places}
 
+-- what Places speaks of is the same
 record Same (w v : World) : Type 0 where
   received_at : v.received_at ≡ w.received_at
   node : v.node ≡ w.node

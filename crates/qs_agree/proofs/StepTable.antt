@@ -1,6 +1,6 @@
 -- The records that hold in every world, by event.
-use Rattle.std.proofs.Common.{ℕ}
-use Rattle.qs_agree.specs.World.{World}
+use Rattle.std.proofs.Common.{◌≢◌, ℕ, arith}
+use Rattle.qs_agree.specs.World.{Aborted, World}
 use Rattle.qs_agree.specs.Step.{Issue, Issue_unmet, Issue_local, Meet, Notice, Engage, Join, Cover, Serve, Serve_told, Lend, Yield, Ask, Vote_read, Vote_volatile, Force, Vote_recoverable, Vote_abort, Yes, Yes_lost, Count, Ignore, Refuse, Miss, Forget, Crash, Restart, Restart_in_doubt, Restart_home, Commit, Commit_cut, Commit_unlogged, Abort, Tell, Learn, Learn_cut, Learn_home, Acknowledge, Take_told, End, Checkpoint, Tell_abort, Learn_abort, Name_again, Take_names, Learn_abort_home, Abort_logged, Drop_engage, Drop_join, Drop_cover, Inquire, Inquire_lost, Inquire_home, Answer_commit, Answer_running, Answer_abort, Event, Step}
 use Rattle.qs_agree.proofs.Counts.{Counts}
 use Rattle.qs_agree.proofs.Servers.{Servers}
@@ -8,7 +8,8 @@ use Rattle.qs_agree.proofs.Involved.{Involved}
 use Rattle.qs_agree.proofs.Outcomes.{Outcomes}
 use Rattle.qs_agree.proofs.Keeps.{Keeps}
 use Rattle.qs_agree.proofs.Kept.{Kept}
-use Rattle.qs_agree.proofs.Facts.{home_open}
+use Rattle.qs_agree.proofs.Never.{never_abort}
+use Rattle.qs_agree.proofs.Facts.{decides, home_open}
 use Rattle.qs_agree.proofs.CountsTable
 use Rattle.qs_agree.proofs.ServersTable
 use Rattle.qs_agree.proofs.InvolvedTable
@@ -363,3 +364,62 @@ kept_step (Inquire_home p) w v k y s = KeptTable.by_inquire_home p w v k s
 kept_step (Answer_commit p q) w v k y s = KeptTable.by_answer_commit p q w v k s
 kept_step (Answer_running p) w v k y s = KeptTable.by_answer_running p w v k s
 kept_step (Answer_abort p q) w v k y s = KeptTable.by_answer_abort p q w v k s
+
+-- abort is for good
+pub still : (e : Event) (w v : World) → ((k : ℕ) → Keeps w k) → Step e w v → v.cell ≢ Aborted → w.cell ≢ Aborted
+still (Issue p q r) w v y s a = grind (arith, s, a)
+still (Issue_unmet p q r) w v y s a = grind (arith, s, a)
+still (Issue_local p q) w v y s a = grind (arith, s, a)
+still (Meet p q) w v y s a = grind (arith, s, a)
+still (Notice p q) w v y s a = grind (arith, s, a)
+still (Engage p q) w v y s a = grind (arith, s, a)
+still (Join p q) w v y s a = grind (arith, s, a)
+still (Cover p q) w v y s a = grind (arith, s, a)
+still (Serve p q) w v y s a = grind (arith, s, a)
+still (Serve_told p q) w v y s a = grind (arith, s, a)
+still (Lend p q) w v y s a = grind (arith, s, a)
+still (Yield p) w v y s a = grind (arith, s, a)
+still (Ask p) w v y s a = grind (arith, s, a)
+still (Vote_read p q) w v y s a = grind (arith, s, a)
+still (Vote_volatile p q) w v y s a = grind (arith, s, a)
+still (Force p q) w v y s a = grind (arith, s, a)
+still (Vote_recoverable p q) w v y s a = grind (arith, s, a)
+still (Vote_abort p q) w v y s a = grind (arith, s, a)
+still (Yes p) w v y s a = grind (arith, s, a)
+still (Yes_lost p) w v y s a = grind (arith, s, a)
+still (Count p q) w v y s a = grind (arith, s, a)
+still (Ignore p q) w v y s a = grind (arith, s, a)
+still (Refuse p) w v y s a = grind (arith, s, a)
+still (Miss p) w v y s a = grind (arith, s, a)
+still (Forget p) w v y s a = grind (arith, s, a)
+still (Crash p) w v y s a = grind (arith, s, a)
+still (Restart p) w v y s a = grind (arith, s, a)
+still (Restart_in_doubt p q) w v y s a = grind (arith, s, a)
+still (Restart_home p) w v y s a = grind (arith, s, a)
+still Commit w v y s a = λ is. let undecided = decides w y s.0 in cc (is, undecided)
+still Commit_cut w v y s a = λ is. let undecided = decides w y s.0 in cc (is, undecided)
+still Commit_unlogged w v y s a = λ is. let undecided = decides w y s.0 in cc (is, undecided)
+still Abort w v y s a = λ is. never_abort w v a s
+still (Tell p q) w v y s a = grind (arith, s, a)
+still (Learn p) w v y s a = grind (arith, s, a)
+still (Learn_cut p) w v y s a = grind (arith, s, a)
+still (Learn_home p) w v y s a = grind (arith, s, a)
+still (Acknowledge p) w v y s a = grind (arith, s, a)
+still (Take_told p q) w v y s a = grind (arith, s, a)
+still (End p) w v y s a = grind (arith, s, a)
+still (Checkpoint p) w v y s a = grind (arith, s, a)
+still (Tell_abort p q) w v y s a = grind (arith, s, a)
+still (Learn_abort p) w v y s a = grind (arith, s, a)
+still (Name_again p) w v y s a = grind (arith, s, a)
+still (Take_names p q r) w v y s a = grind (arith, s, a)
+still (Learn_abort_home p q) w v y s a = grind (arith, s, a)
+still (Abort_logged p) w v y s a = grind (arith, s, a)
+still (Drop_engage p q) w v y s a = grind (arith, s, a)
+still (Drop_join p q) w v y s a = grind (arith, s, a)
+still (Drop_cover p q) w v y s a = grind (arith, s, a)
+still (Inquire p) w v y s a = grind (arith, s, a)
+still (Inquire_lost p) w v y s a = grind (arith, s, a)
+still (Inquire_home p) w v y s a = grind (arith, s, a)
+still (Answer_commit p q) w v y s a = grind (arith, s, a)
+still (Answer_running p) w v y s a = grind (arith, s, a)
+still (Answer_abort p q) w v y s a = grind (arith, s, a)

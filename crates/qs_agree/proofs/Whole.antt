@@ -1,5 +1,4 @@
 -- The invariant: what holds in every world, and what holds while nothing is aborted.
--- what holds while nothing is aborted
 use Rattle.std.proofs.Common.{◌≢◌, ℕ}
 use Rattle.qs_agree.specs.World.{Aborted, World}
 use Rattle.qs_agree.proofs.Counts.{Counts}
@@ -21,6 +20,7 @@ use Rattle.qs_agree.proofs.Logged.{Logged}
 use Rattle.qs_agree.proofs.Knows.{Knows}
 use Rattle.qs_agree.proofs.Asks.{Asks}
 
+-- what holds while nothing is aborted
 pub record Whole (w : World) : Type 0 where
   pub places : Places w
   pub arrivals : (i j l : ℕ) → Arrivals w i j l
