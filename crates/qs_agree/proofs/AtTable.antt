@@ -1,7 +1,7 @@
 -- One line for each event: At holds after it.
 use Rattle.std.proofs.Common.{◌≡◌, ◌≢◌, ℕ, ◌+◌, ◌<◌, ◌≤◌, true, false, refl, arith}
 use Rattle.std.proofs.lemmas.Bool.Decides.{nat_tests}
-use Rattle.qs_agree.specs.World.{Open, Committed, Aborted, World}
+use Rattle.qs_agree.specs.World.{Committed, Aborted, World}
 use Rattle.qs_agree.specs.Step.{Issue, Issue_unmet, Issue_local, Meet, Notice, Engage, Join, Cover, Serve, Serve_told, Lend, Yield, Ask, Vote_read, Vote_volatile, Force, Vote_recoverable, Vote_abort, Yes, Yes_lost, Count, Ignore, Refuse, Miss, Forget, Crash, Restart, Restart_in_doubt, Restart_home, Commit, Commit_cut, Commit_unlogged, Tell, Learn, Learn_cut, Learn_home, Acknowledge, Take_told, End, Checkpoint, Inquire, Inquire_lost, Answer_commit, Answer_running, Step}
 use Rattle.qs_agree.proofs.At.{At, Link}
 
@@ -34,14 +34,14 @@ record Same (w v : World) : Type 0 where
 same : (w v : World) (k : ℕ) → At w k → Same w v → At v k
 same w v k h e = grind (arith, h, e)
 
-pub by_issue : (p q r : ℕ) (w v : World) (k : ℕ) → At w k → Step (Issue p q r) w v → w.engaged p ≡ true → (w.engaged k ≡ true → k ≢ w.home → Link w k) → (1 ≤ w.peer p q → w.node (w.peer p q) ≡ q) → At v k
-by_issue p q r w v k h s on link same_node = grind (arith, nat_tests, h, s)
+pub by_issue : (p q r : ℕ) (w v : World) (k : ℕ) → At w k → Step (Issue p q r) w v → (w.engaged k ≡ true → k ≢ w.home → Link w k) → (1 ≤ w.peer p q → w.node (w.peer p q) ≡ q) → At v k
+by_issue p q r w v k h s link same_node = grind (arith, nat_tests, h, s)
 
-pub by_issue_unmet : (p q r : ℕ) (w v : World) (k : ℕ) → At w k → Step (Issue_unmet p q r) w v → w.engaged p ≡ true → At v k
-by_issue_unmet p q r w v k h s on = grind (arith, nat_tests, h, s)
+pub by_issue_unmet : (p q r : ℕ) (w v : World) (k : ℕ) → At w k → Step (Issue_unmet p q r) w v → At v k
+by_issue_unmet p q r w v k h s = grind (arith, nat_tests, h, s)
 
-pub by_issue_local : (p q : ℕ) (w v : World) (k : ℕ) → At w k → Step (Issue_local p q) w v → w.engaged p ≡ true → At v k
-by_issue_local p q w v k h s on = grind (arith, nat_tests, h, s)
+pub by_issue_local : (p q : ℕ) (w v : World) (k : ℕ) → At w k → Step (Issue_local p q) w v → At v k
+by_issue_local p q w v k h s = grind (arith, nat_tests, h, s)
 
 pub by_meet : (p q : ℕ) (w v : World) (k : ℕ) → At w k → Step (Meet p q) w v → (w.engaged k ≡ true → k ≢ w.home → Link w k) → At v k
 by_meet p q w v k h s link = grind (arith, nat_tests, h, s)
@@ -64,8 +64,8 @@ by_serve p q w v k h s = grind (arith, nat_tests, h, s)
 pub by_serve_told : (p q : ℕ) (w v : World) (k : ℕ) → At w k → Step (Serve_told p q) w v → At v k
 by_serve_told p q w v k h s = grind (arith, nat_tests, h, s)
 
-pub by_lend : (p q : ℕ) (w v : World) (k : ℕ) → At w k → Step (Lend p q) w v → w.engaged p ≡ true → At v k
-by_lend p q w v k h s on = grind (arith, nat_tests, h, s)
+pub by_lend : (p q : ℕ) (w v : World) (k : ℕ) → At w k → Step (Lend p q) w v → At v k
+by_lend p q w v k h s = grind (arith, nat_tests, h, s)
 
 pub by_yield : (p : ℕ) (w v : World) (k : ℕ) → At w k → Step (Yield p) w v → At v k
 by_yield p w v k h s = grind (arith, nat_tests, h, s)
@@ -85,8 +85,8 @@ by_force p q w v k h s = same w v k h (rw s.2 (record { cell = refl; engaged = r
 pub by_vote_recoverable : (p q : ℕ) (w v : World) (k : ℕ) → At w k → Step (Vote_recoverable p q) w v → At v k
 by_vote_recoverable p q w v k h s = grind (arith, nat_tests, h, s)
 
-pub by_vote_abort : (p q : ℕ) (w v : World) (k : ℕ) → At w k → Step (Vote_abort p q) w v → w.engaged p ≡ true → At v k
-by_vote_abort p q w v k h s on = grind (arith, nat_tests, h, s)
+pub by_vote_abort : (p q : ℕ) (w v : World) (k : ℕ) → At w k → Step (Vote_abort p q) w v → At v k
+by_vote_abort p q w v k h s = grind (arith, nat_tests, h, s)
 
 pub by_yes : (p : ℕ) (w v : World) (k : ℕ) → At w k → Step (Yes p) w v → (w.engaged k ≡ true → k ≢ w.home → Link w k) → At v k
 by_yes p w v k h s link = grind (arith, nat_tests, h, s.1.covered (w.node k), s)
@@ -121,14 +121,14 @@ by_restart_in_doubt p q w v k h s = grind (arith, nat_tests, h, s)
 pub by_restart_home : (p : ℕ) (w v : World) (k : ℕ) → At w k → v.cell ≢ Aborted → Step (Restart_home p) w v → At v k
 by_restart_home p w v k h a s = grind (arith, nat_tests, h, s)
 
-pub by_commit : (w v : World) (k : ℕ) → At w k → Step Commit w v → w.cell ≡ Open → (w.engaged k ≡ true → k ≡ w.home) → At v k
-by_commit w v k h s is only = grind (arith, nat_tests, h, s)
+pub by_commit : (w v : World) (k : ℕ) → At w k → Step Commit w v → (w.engaged k ≡ true → k ≡ w.home) → At v k
+by_commit w v k h s only = grind (arith, nat_tests, h, s)
 
-pub by_commit_cut : (w v : World) (k : ℕ) → At w k → Step Commit_cut w v → w.cell ≡ Open → (w.engaged k ≡ true → k ≡ w.home) → At v k
-by_commit_cut w v k h s is only = grind (arith, nat_tests, h, s)
+pub by_commit_cut : (w v : World) (k : ℕ) → At w k → Step Commit_cut w v → (w.engaged k ≡ true → k ≡ w.home) → At v k
+by_commit_cut w v k h s only = grind (arith, nat_tests, h, s)
 
-pub by_commit_unlogged : (w v : World) (k : ℕ) → At w k → Step Commit_unlogged w v → w.cell ≡ Open → (w.engaged k ≡ true → k ≡ w.home) → At v k
-by_commit_unlogged w v k h s is only = grind (arith, nat_tests, h, s)
+pub by_commit_unlogged : (w v : World) (k : ℕ) → At w k → Step Commit_unlogged w v → (w.engaged k ≡ true → k ≡ w.home) → At v k
+by_commit_unlogged w v k h s only = grind (arith, nat_tests, h, s)
 
 pub by_tell : (p q : ℕ) (w v : World) (k : ℕ) → At w k → Step (Tell p q) w v → At v k
 by_tell p q w v k h s = same w v k h (rw s.3 (record { cell = refl; engaged = refl; present = refl; node = refl; covered = refl; sent = refl; served = refl; arrived = refl; voted = refl; loans = refl; gone = refl; abort_vote = refl; home = refl; engager = refl; depth = refl; engaging = refl; received = refl; superior = refl; closers = refl; closer = refl; posted = refl; peer = refl; class = refl }))

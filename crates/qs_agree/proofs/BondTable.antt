@@ -35,8 +35,8 @@ by_meet p q w v k h s = grind (arith, nat_tests, h, s)
 pub by_notice : (p q : ℕ) (w v : World) (k : ℕ) → Bond w k → Step (Notice p q) w v → Bond v k
 by_notice p q w v k h s = grind (arith, nat_tests, h, s)
 
-pub by_engage : (p q : ℕ) (w v : World) (k : ℕ) → Bond w k → Step (Engage p q) w v → w.last p q ≤ w.received p q → Bond v k
-by_engage p q w v k h s fits = grind (arith, nat_tests, h, s)
+pub by_engage : (p q : ℕ) (w v : World) (k : ℕ) → Bond w k → Step (Engage p q) w v → Bond v k
+by_engage p q w v k h s = grind (arith, nat_tests, h, s)
 
 pub by_join : (p q : ℕ) (w v : World) (k : ℕ) → Bond w k → Step (Join p q) w v → w.last p q ≤ w.received p q → Bond v k
 by_join p q w v k h s fits = grind (arith, nat_tests, h, s)

@@ -109,8 +109,8 @@ by_crash p w v n h s = same w v n h (rw s.1 (record { cell = refl; way = refl; e
 pub by_restart : (p : ℕ) (w v : World) (n : ℕ) → Held w n → Step (Restart p) w v → w.engaged p ≡ false → Held v n
 by_restart p w v n h s off = grind (arith, nat_tests, h, s)
 
-pub by_restart_in_doubt : (p q : ℕ) (w v : World) (n : ℕ) → Held w n → Step (Restart_in_doubt p q) w v → w.engaged p ≡ false → Held v n
-by_restart_in_doubt p q w v n h s off = grind (arith, nat_tests, h, s)
+pub by_restart_in_doubt : (p q : ℕ) (w v : World) (n : ℕ) → Held w n → Step (Restart_in_doubt p q) w v → Held v n
+by_restart_in_doubt p q w v n h s = grind (arith, nat_tests, h, s)
 
 pub by_restart_home : (p : ℕ) (w v : World) (n : ℕ) → Held w n → v.cell ≢ Aborted → Step (Restart_home p) w v → Held v n
 by_restart_home p w v n h a s = grind (arith, nat_tests, h, s)

@@ -103,14 +103,14 @@ by_restart_in_doubt p q w v h s = grind (arith, nat_tests, h, s)
 pub by_restart_home : (p : ℕ) (w v : World) → Orphans w → v.cell ≢ Aborted → Step (Restart_home p) w v → Orphans v
 by_restart_home p w v h a s = grind (arith, nat_tests, h, s)
 
-pub by_commit : (w v : World) → Orphans w → Step Commit w v → w.present (w.node w.home) ≡ w.home → (w.engaged w.orphaned_by ≡ true → w.orphaned_by ≡ w.home) → Orphans v
-by_commit w v h s now only = grind (arith, nat_tests, h, s)
+pub by_commit : (w v : World) → Orphans w → Step Commit w v → w.present (w.node w.home) ≡ w.home → Orphans v
+by_commit w v h s now = grind (arith, nat_tests, h, s)
 
-pub by_commit_cut : (w v : World) → Orphans w → Step Commit_cut w v → w.present (w.node w.home) ≡ w.home → (w.engaged w.orphaned_by ≡ true → w.orphaned_by ≡ w.home) → Orphans v
-by_commit_cut w v h s now only = grind (arith, nat_tests, h, s)
+pub by_commit_cut : (w v : World) → Orphans w → Step Commit_cut w v → w.present (w.node w.home) ≡ w.home → Orphans v
+by_commit_cut w v h s now = grind (arith, nat_tests, h, s)
 
-pub by_commit_unlogged : (w v : World) → Orphans w → Step Commit_unlogged w v → w.present (w.node w.home) ≡ w.home → (w.engaged w.orphaned_by ≡ true → w.orphaned_by ≡ w.home) → Orphans v
-by_commit_unlogged w v h s now only = grind (arith, nat_tests, h, s)
+pub by_commit_unlogged : (w v : World) → Orphans w → Step Commit_unlogged w v → w.present (w.node w.home) ≡ w.home → Orphans v
+by_commit_unlogged w v h s now = grind (arith, nat_tests, h, s)
 
 pub by_tell : (p q : ℕ) (w v : World) → Orphans w → Step (Tell p q) w v → Orphans v
 by_tell p q w v h s = same w v h (rw s.3 (record { orphaned = refl; engaged = refl; orphaned_by = refl; present = refl; node = refl }))

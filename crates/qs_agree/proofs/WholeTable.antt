@@ -32,7 +32,7 @@ pub whole_step : (e : Event) (w v : World) → Counts w → ((k i : ℕ) → Ser
 whole_step (Issue p q r) w v c x o y g b a s = record {
   places = PlacesTable.by_issue p q r w v c g.places s;
   arrivals = λ i j l. ArrivalsTable.by_issue p q r w v i j l (g.arrivals i j l) s (sent_before w c g.places i j l);
-  tree = record { home = HomeTable.by_issue p q r w v g.tree.home s; at = λ k. AtTable.by_issue p q r w v k (g.tree.at k) s (issuer_engaged w p g.tree s.0) (λ on other. linked w k c (g.tree.at k) on other) (c.peer_node p q) };
+  tree = record { home = HomeTable.by_issue p q r w v g.tree.home s; at = λ k. AtTable.by_issue p q r w v k (g.tree.at k) s (λ on other. linked w k c (g.tree.at k) on other) (c.peer_node p q) };
   bond = λ k. BondTable.by_issue p q r w v k (g.bond k) s;
   held = λ n. HeldTable.by_issue p q r w v n (g.held n) s (issuer_engaged w p g.tree s.0);
   owed = λ n. OwedTable.by_issue p q r w v n (g.owed n) s (issue_open w p g.tree s.0);
@@ -47,7 +47,7 @@ whole_step (Issue p q r) w v c x o y g b a s = record {
 whole_step (Issue_unmet p q r) w v c x o y g b a s = record {
   places = PlacesTable.by_issue_unmet p q r w v c g.places s;
   arrivals = λ i j l. ArrivalsTable.by_issue_unmet p q r w v i j l (g.arrivals i j l) s (sent_before w c g.places i j l);
-  tree = record { home = HomeTable.by_issue_unmet p q r w v g.tree.home s; at = λ k. AtTable.by_issue_unmet p q r w v k (g.tree.at k) s (issuer_engaged w p g.tree s.0) };
+  tree = record { home = HomeTable.by_issue_unmet p q r w v g.tree.home s; at = λ k. AtTable.by_issue_unmet p q r w v k (g.tree.at k) s };
   bond = λ k. BondTable.by_issue_unmet p q r w v k (g.bond k) s;
   held = λ n. HeldTable.by_issue_unmet p q r w v n (g.held n) s (issuer_engaged w p g.tree s.0);
   owed = λ n. OwedTable.by_issue_unmet p q r w v n (g.owed n) s (issue_open w p g.tree s.0);
@@ -62,7 +62,7 @@ whole_step (Issue_unmet p q r) w v c x o y g b a s = record {
 whole_step (Issue_local p q) w v c x o y g b a s = record {
   places = PlacesTable.by_issue_local p q w v c g.places s;
   arrivals = λ i j l. ArrivalsTable.by_issue_local p q w v i j l (g.arrivals i j l) s;
-  tree = record { home = HomeTable.by_issue_local p q w v g.tree.home s; at = λ k. AtTable.by_issue_local p q w v k (g.tree.at k) s (issuer_engaged w p g.tree s.0) };
+  tree = record { home = HomeTable.by_issue_local p q w v g.tree.home s; at = λ k. AtTable.by_issue_local p q w v k (g.tree.at k) s };
   bond = λ k. BondTable.by_issue_local p q w v k (g.bond k) s;
   held = λ n. HeldTable.by_issue_local p q w v n (g.held n) s;
   owed = λ n. OwedTable.by_issue_local p q w v n (g.owed n) s;
@@ -108,7 +108,7 @@ whole_step (Engage p q) w v c x o y g b a s = record {
   places = PlacesTable.by_engage p q w v c g.places s;
   arrivals = λ i j l. ArrivalsTable.by_engage p q w v i j l (g.arrivals i j l) s;
   tree = record { home = HomeTable.by_engage p q w v g.tree.home s; at = λ k. AtTable.by_engage p q w v k (g.tree.at k) s (engaged_open w q g.tree (sender_engaged w c g.places g.tree p q s.0)) (sender_engaged w c g.places g.tree p q s.0) (not_covered w c g.places p q s.0) (λ x from to. closer_received w p q x c from to) (λ r same below. old_received w q p r c s.0 same below) (known_now w q p c s.0) (born w p c s.0.0) };
-  bond = λ k. BondTable.by_engage p q w v k (g.bond k) s (c.last_received p q);
+  bond = λ k. BondTable.by_engage p q w v k (g.bond k) s;
   held = λ n. HeldTable.by_engage p q w v n (g.held n) s;
   owed = λ n. OwedTable.by_engage p q w v n (g.owed n) s;
   silent = SilentTable.by_engage p q w v g.silent s;
@@ -182,7 +182,7 @@ whole_step (Serve_told p q) w v c x o y g b a s = record {
 whole_step (Lend p q) w v c x o y g b a s = record {
   places = PlacesTable.by_lend p q w v c g.places s;
   arrivals = λ i j l. ArrivalsTable.by_lend p q w v i j l (g.arrivals i j l) s;
-  tree = record { home = HomeTable.by_lend p q w v g.tree.home s; at = λ k. AtTable.by_lend p q w v k (g.tree.at k) s (server_engaged w p q g.tree s.0.2) };
+  tree = record { home = HomeTable.by_lend p q w v g.tree.home s; at = λ k. AtTable.by_lend p q w v k (g.tree.at k) s };
   bond = λ k. BondTable.by_lend p q w v k (g.bond k) s;
   held = λ n. HeldTable.by_lend p q w v n (g.held n) s;
   owed = λ n. OwedTable.by_lend p q w v n (g.owed n) s;
@@ -287,7 +287,7 @@ whole_step (Vote_recoverable p q) w v c x o y g b a s = record {
 whole_step (Vote_abort p q) w v c x o y g b a s = record {
   places = PlacesTable.by_vote_abort p q w v c g.places s;
   arrivals = λ i j l. ArrivalsTable.by_vote_abort p q w v i j l (g.arrivals i j l) s;
-  tree = record { home = HomeTable.by_vote_abort p q w v g.tree.home s; at = λ k. AtTable.by_vote_abort p q w v k (g.tree.at k) s (voter_engaged w p q (x p q) g.tree s.0) };
+  tree = record { home = HomeTable.by_vote_abort p q w v g.tree.home s; at = λ k. AtTable.by_vote_abort p q w v k (g.tree.at k) s };
   bond = λ k. BondTable.by_vote_abort p q w v k (g.bond k) s;
   held = λ n. HeldTable.by_vote_abort p q w v n (g.held n) s;
   owed = λ n. OwedTable.by_vote_abort p q w v n (g.owed n) s;
@@ -439,7 +439,7 @@ whole_step (Restart_in_doubt p q) w v c x o y g b a s = record {
   arrivals = λ i j l. ArrivalsTable.by_restart_in_doubt p q w v i j l (g.arrivals i j l) s;
   tree = record { home = HomeTable.by_restart_in_doubt p q w v g.tree.home s; at = λ k. AtTable.by_restart_in_doubt p q w v k (g.tree.at k) s };
   bond = λ k. BondTable.by_restart_in_doubt p q w v k (g.bond k) s;
-  held = λ n. HeldTable.by_restart_in_doubt p q w v n (g.held n) s ((g.tree.at p).unborn s.1);
+  held = λ n. HeldTable.by_restart_in_doubt p q w v n (g.held n) s;
   owed = λ n. OwedTable.by_restart_in_doubt p q w v n (g.owed n) s;
   silent = SilentTable.by_restart_in_doubt p q w v g.silent s;
   orphans = OrphansTable.by_restart_in_doubt p q w v g.orphans s;
@@ -467,12 +467,12 @@ whole_step (Restart_home p) w v c x o y g b a s = record {
 whole_step Commit w v c x o y g b a s = record {
   places = PlacesTable.by_commit w v c g.places s;
   arrivals = λ i j l. ArrivalsTable.by_commit w v i j l (g.arrivals i j l) s;
-  tree = record { home = HomeTable.by_commit w v g.tree.home s; at = λ k. AtTable.by_commit w v k (g.tree.at k) s (decides w y s.0) (λ on. only_home w c g.tree s.0 (w.depth k + 1) k (omega arith) on) };
+  tree = record { home = HomeTable.by_commit w v g.tree.home s; at = λ k. AtTable.by_commit w v k (g.tree.at k) s (λ on. only_home w c g.tree s.0 (w.depth k + 1) k (omega arith) on) };
   bond = λ k. BondTable.by_commit w v k (g.bond k) s;
   held = λ n. HeldTable.by_commit w v n (g.held n) s;
   owed = λ n. OwedTable.by_commit w v n (g.owed n) s (decides w y s.0) (told_at w n c g.tree (g.held n));
   silent = SilentTable.by_commit w v g.silent s;
-  orphans = OrphansTable.by_commit w v g.orphans s (g.tree.home.home_present (decides w y s.0)) (λ on. only_home w c g.tree s.0 (w.depth w.orphaned_by + 1) w.orphaned_by (omega arith) on);
+  orphans = OrphansTable.by_commit w v g.orphans s (g.tree.home.home_present (decides w y s.0));
   doubt = λ k. DoubtTable.by_commit w v k (g.doubt k) s (decides w y s.0) (fresh w (w.node k) o (decides w y s.0)) (quiet w k o (open_not w (decides w y s.0))) (g.tree.home.home_present (decides w y s.0));
   prepares = λ k i. PreparesTable.by_commit w v k i (g.prepares k i) s (decides w y s.0) (quiet w k o (open_not w (decides w y s.0)));
   logged = λ n i. LoggedTable.by_commit w v n i (g.logged n i) s (decides w y s.0) (fresh w n o (decides w y s.0));
@@ -482,12 +482,12 @@ whole_step Commit w v c x o y g b a s = record {
 whole_step Commit_cut w v c x o y g b a s = record {
   places = PlacesTable.by_commit_cut w v c g.places s;
   arrivals = λ i j l. ArrivalsTable.by_commit_cut w v i j l (g.arrivals i j l) s;
-  tree = record { home = HomeTable.by_commit_cut w v g.tree.home s; at = λ k. AtTable.by_commit_cut w v k (g.tree.at k) s (decides w y s.0) (λ on. only_home w c g.tree s.0 (w.depth k + 1) k (omega arith) on) };
+  tree = record { home = HomeTable.by_commit_cut w v g.tree.home s; at = λ k. AtTable.by_commit_cut w v k (g.tree.at k) s (λ on. only_home w c g.tree s.0 (w.depth k + 1) k (omega arith) on) };
   bond = λ k. BondTable.by_commit_cut w v k (g.bond k) s;
   held = λ n. HeldTable.by_commit_cut w v n (g.held n) s;
   owed = λ n. OwedTable.by_commit_cut w v n (g.owed n) s (decides w y s.0) (told_at w n c g.tree (g.held n));
   silent = SilentTable.by_commit_cut w v g.silent s;
-  orphans = OrphansTable.by_commit_cut w v g.orphans s (g.tree.home.home_present (decides w y s.0)) (λ on. only_home w c g.tree s.0 (w.depth w.orphaned_by + 1) w.orphaned_by (omega arith) on);
+  orphans = OrphansTable.by_commit_cut w v g.orphans s (g.tree.home.home_present (decides w y s.0));
   doubt = λ k. DoubtTable.by_commit_cut w v k (g.doubt k) s (decides w y s.0) (fresh w (w.node k) o (decides w y s.0)) (quiet w k o (open_not w (decides w y s.0))) (g.tree.home.home_present (decides w y s.0));
   prepares = λ k i. PreparesTable.by_commit_cut w v k i (g.prepares k i) s (decides w y s.0) (quiet w k o (open_not w (decides w y s.0)));
   logged = λ n i. LoggedTable.by_commit_cut w v n i (g.logged n i) s (decides w y s.0) (fresh w n o (decides w y s.0));
@@ -497,12 +497,12 @@ whole_step Commit_cut w v c x o y g b a s = record {
 whole_step Commit_unlogged w v c x o y g b a s = record {
   places = PlacesTable.by_commit_unlogged w v c g.places s;
   arrivals = λ i j l. ArrivalsTable.by_commit_unlogged w v i j l (g.arrivals i j l) s;
-  tree = record { home = HomeTable.by_commit_unlogged w v g.tree.home s; at = λ k. AtTable.by_commit_unlogged w v k (g.tree.at k) s (decides w y s.0) (λ on. only_home w c g.tree s.0 (w.depth k + 1) k (omega arith) on) };
+  tree = record { home = HomeTable.by_commit_unlogged w v g.tree.home s; at = λ k. AtTable.by_commit_unlogged w v k (g.tree.at k) s (λ on. only_home w c g.tree s.0 (w.depth k + 1) k (omega arith) on) };
   bond = λ k. BondTable.by_commit_unlogged w v k (g.bond k) s;
   held = λ n. HeldTable.by_commit_unlogged w v n (g.held n) s;
   owed = λ n. OwedTable.by_commit_unlogged w v n (g.owed n) s (decides w y s.0) (told_at w n c g.tree (g.held n));
   silent = SilentTable.by_commit_unlogged w v g.silent s;
-  orphans = OrphansTable.by_commit_unlogged w v g.orphans s (g.tree.home.home_present (decides w y s.0)) (λ on. only_home w c g.tree s.0 (w.depth w.orphaned_by + 1) w.orphaned_by (omega arith) on);
+  orphans = OrphansTable.by_commit_unlogged w v g.orphans s (g.tree.home.home_present (decides w y s.0));
   doubt = λ k. DoubtTable.by_commit_unlogged w v k (g.doubt k) s (decides w y s.0) (λ other on part. told_at w (w.node k) c g.tree (g.held (w.node k)) (decides w y s.0) s.0 other ((g.owed (w.node k)).involved_held k on part refl)) (quiet w k o (open_not w (decides w y s.0))) (g.tree.home.home_present (decides w y s.0));
   prepares = λ k i. PreparesTable.by_commit_unlogged w v k i (g.prepares k i) s;
   logged = λ n i. LoggedTable.by_commit_unlogged w v n i (g.logged n i) s (decides w y s.0) (λ other prepared. told_at w n c g.tree (g.held n) (decides w y s.0) s.0 other ((g.owed n).log_held i prepared));

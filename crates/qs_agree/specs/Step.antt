@@ -14,37 +14,37 @@ pub data Event : Type 0 where
   Join : ℕ → ℕ → Event  -- q takes one more from its superior: nothing is answered
   Cover : ℕ → ℕ → Event  -- q takes one from another, or is the home: Covered at once
   Serve : ℕ → ℕ → Event  -- server s of q, which votes or is told nothing, serves a request
-  Serve_told : ℕ → ℕ → Event  -- the same for a server that is told without a vote
+  Serve_told : ℕ → ℕ → Event  -- server s of q, which is told without a vote, serves a request
   Lend : ℕ → ℕ → Event  -- the transaction is lent to a client of q
   Yield : ℕ → Event  -- a loan at q is given back
   -- votes
   Ask : ℕ → Event  -- the owner's commit, or an AskVote
   Vote_read : ℕ → ℕ → Event  -- server s of q votes read-only
-  Vote_volatile : ℕ → ℕ → Event  -- it votes volatile
-  Force : ℕ → ℕ → Event  -- its Prepare is on the disk and its vote does not count yet, as where the step is cut off
-  Vote_recoverable : ℕ → ℕ → Event  -- its Prepare is on the disk, and it votes recoverable
-  Vote_abort : ℕ → ℕ → Event  -- it votes abort
+  Vote_volatile : ℕ → ℕ → Event  -- server s of q votes volatile
+  Force : ℕ → ℕ → Event  -- the Prepare of server s of q is on the disk, and its vote does not count yet, as where the step is cut off
+  Vote_recoverable : ℕ → ℕ → Event  -- the Prepare of server s of q is on the disk, and it votes recoverable
+  Vote_abort : ℕ → ℕ → Event  -- server s of q votes abort
   Yes : ℕ → Event  -- q is ready and sends VotedYes to the place that engaged it
-  Yes_lost : ℕ → Event  -- the same where that place's node has restarted since
+  Yes_lost : ℕ → Event  -- q is ready, and its superior has restarted since: VotedYes goes to the later place
   Count : ℕ → ℕ → Event  -- the next Covered or VotedYes from q is handed up at p
-  Ignore : ℕ → ℕ → Event  -- it is dropped at p, which is not engaged
+  Ignore : ℕ → ℕ → Event  -- the next Covered or VotedYes from q is dropped at p, which is not engaged
   Refuse : ℕ → Event  -- a VotedAbort came to q
   Miss : ℕ → Event  -- a reply that q waits for will never come: a cause Gone
   Forget : ℕ → Event  -- q forgets a transaction that it only read
   -- crash and restart
-  Crash : ℕ → Event
+  Crash : ℕ → Event  -- p stops
   Restart : ℕ → Event  -- a node restarts as q, with no Prepare in doubt
   Restart_in_doubt : ℕ → ℕ → Event  -- a node restarts as q, and takes up server s's Prepare, which is in doubt
   Restart_home : ℕ → Event  -- the home's node restarts as q: it knows the Commits of its log
   -- decision
   Commit : Event  -- the home is ready: the Commit is forced
-  Commit_cut : Event  -- the same, cut off with the Commit kept
+  Commit_cut : Event  -- the home is ready, and is cut off with the Commit kept
   Commit_unlogged : Event  -- nobody is to be told, and nothing is in the log: no record is written
-  Abort : Event
+  Abort : Event  -- the home aborts
   -- commit is told
   Tell : ℕ → ℕ → Event  -- h tells node n commit
   Learn : ℕ → Event  -- q learns commit: its Commit is forced, and Told goes
-  Learn_cut : ℕ → Event  -- the same, cut off with the Commit kept
+  Learn_cut : ℕ → Event  -- q learns commit, and is cut off with its Commit kept
   Learn_home : ℕ → Event  -- the servers of the home's node learn a Commit that a restart found
   Acknowledge : ℕ → Event  -- q knows commit, or nothing of the transaction: Told goes
   Take_told : ℕ → ℕ → Event  -- the Told of q is handed up at h
@@ -61,12 +61,12 @@ pub data Event : Type 0 where
   Drop_join : ℕ → ℕ → Event  -- q knows abort and drops a request from its superior
   Drop_cover : ℕ → ℕ → Event  -- q drops any other, and Covered goes
   -- inquiries
-  Inquire : ℕ → Event  -- q is in doubt
-  Inquire_lost : ℕ → Event  -- q is engaged, and its superior restarted
-  Inquire_home : ℕ → Event  -- q is engaged, and the home's node restarted
-  Answer_commit : ℕ → ℕ → Event  -- h knows commit
-  Answer_running : ℕ → Event  -- the home runs the transaction: the asker is to be told
-  Answer_abort : ℕ → ℕ → Event  -- h knows abort, or nothing: abort
+  Inquire : ℕ → Event  -- q inquires, being in doubt
+  Inquire_lost : ℕ → Event  -- q inquires, being engaged by a place whose node restarted
+  Inquire_home : ℕ → Event  -- q inquires, being engaged while the home's node restarted
+  Answer_commit : ℕ → ℕ → Event  -- h knows commit, and answers q so
+  Answer_running : ℕ → Event  -- the home runs the transaction: q is to be told at the decision
+  Answer_abort : ℕ → ℕ → Event  -- h knows abort, or began after the home and knows nothing: it answers q abort
 
 abbrev pub Step : Event → World → World → Type 0
 Step (Issue p m s) old new =
