@@ -5,6 +5,7 @@ use Rattle.qs_agree.specs.World.{Open, Committed, Aborted, Flight, World, start,
 use Rattle.qs_agree.specs.Guards.{next, next_server, carried, drawn, names, closed, held, held_at, passed, passed_to, landed}
 use Rattle.qs_agree.specs.Step.{Abort, Abort_logged, Answer_abort, Ask, Count, Crash, Drop_engage, Engage, Inquire_lost, Issue, Learn_abort, Meet, Name_again, Notice, Restart, Restart_home, Serve, Take_names, Tell_abort, Vote_recoverable, Yes, Step}
 use Rattle.qs_agree.specs.Runs.{four_nodes, AbortChain}
+use Rattle.qs_agree.proofs.Opens.{opens}
 
 abbrev w0 : World
 w0 = start four_nodes
@@ -420,4 +421,4 @@ s38 : Step (Drop_engage 4 3) w37 w38
 s38 = grind (arith, nat_tests)
 
 pub shown : AbortChain
-shown = record { new = w38; run = (w1, s1, (w2, s2, (w3, s3, (w4, s4, (w5, s5, (w6, s6, (w7, s7, (w8, s8, (w9, s9, (w10, s10, (w11, s11, (w12, s12, (w13, s13, (w14, s14, (w15, s15, (w16, s16, (w17, s17, (w18, s18, (w19, s19, (w20, s20, (w21, s21, (w22, s22, (w23, s23, (w24, s24, (w25, s25, (w26, s26, (w27, s27, (w28, s28, (w29, s29, (w30, s30, (w31, s31, (w32, s32, (w33, s33, (w34, s34, (w35, s35, (w36, s36, (w37, s37, (w38, s38, refl)))))))))))))))))))))))))))))))))))))); cell = refl; learnt = (refl, refl); known = (refl, refl, refl); prepared = refl; dropped = (refl, refl, refl) }
+shown = record { opens = opens; new = w38; run = (w1, s1, (w2, s2, (w3, s3, (w4, s4, (w5, s5, (w6, s6, (w7, s7, (w8, s8, (w9, s9, (w10, s10, (w11, s11, (w12, s12, (w13, s13, (w14, s14, (w15, s15, (w16, s16, (w17, s17, (w18, s18, (w19, s19, (w20, s20, (w21, s21, (w22, s22, (w23, s23, (w24, s24, (w25, s25, (w26, s26, (w27, s27, (w28, s28, (w29, s29, (w30, s30, (w31, s31, (w32, s32, (w33, s33, (w34, s34, (w35, s35, (w36, s36, (w37, s37, (w38, s38, refl)))))))))))))))))))))))))))))))))))))); cell = refl; learnt = (refl, refl); known = (refl, refl, refl); prepared = refl; dropped = (refl, refl, refl) }

@@ -5,6 +5,7 @@ use Rattle.qs_agree.specs.World.{Open, Committed, Flight, World, start, with_at,
 use Rattle.qs_agree.specs.Guards.{next, next_server, carried, closed, held, held_at, passed, passed_to, landed}
 use Rattle.qs_agree.specs.Step.{Acknowledge, Ask, Checkpoint, Commit_cut, Count, End, Engage, Issue, Learn_cut, Learn_home, Meet, Notice, Restart, Restart_home, Serve, Take_told, Tell, Vote_recoverable, Yes, Step}
 use Rattle.qs_agree.specs.Runs.{four_nodes, CutCommit}
+use Rattle.qs_agree.proofs.Opens.{opens}
 
 abbrev w0 : World
 w0 = start four_nodes
@@ -222,4 +223,4 @@ s22 : Step (Checkpoint 5) w21 w22
 s22 = grind (arith, nat_tests)
 
 pub shown : CutCommit
-shown = record { new = w22; run = (w1, s1, (w2, s2, (w3, s3, (w4, s4, (w5, s5, (w6, s6, (w7, s7, (w8, s8, (w9, s9, (w10, s10, (w11, s11, (w12, s12, (w13, s13, (w14, s14, (w15, s15, (w16, s16, (w17, s17, (w18, s18, (w19, s19, (w20, s20, (w21, s21, (w22, s22, refl)))))))))))))))))))))); cell = refl; learnt = (refl, refl); logs = (refl, refl, refl) }
+shown = record { opens = opens; new = w22; run = (w1, s1, (w2, s2, (w3, s3, (w4, s4, (w5, s5, (w6, s6, (w7, s7, (w8, s8, (w9, s9, (w10, s10, (w11, s11, (w12, s12, (w13, s13, (w14, s14, (w15, s15, (w16, s16, (w17, s17, (w18, s18, (w19, s19, (w20, s20, (w21, s21, (w22, s22, refl)))))))))))))))))))))); cell = refl; learnt = (refl, refl); logs = (refl, refl, refl) }

@@ -5,6 +5,7 @@ use Rattle.qs_agree.specs.World.{Aborted, World, start, with_at, with_at2, with_
 use Rattle.qs_agree.specs.Guards.{next, next_server, drawn, names, held, held_at}
 use Rattle.qs_agree.specs.Step.{Abort, Abort_logged, Answer_abort, Ask, Crash, Engage, Force, Inquire, Issue, Join, Learn_abort, Meet, Notice, Restart_in_doubt, Serve, Step}
 use Rattle.qs_agree.specs.Runs.{four_nodes, CutPass}
+use Rattle.qs_agree.proofs.Opens.{opens}
 
 abbrev w0 : World
 w0 = start four_nodes
@@ -201,4 +202,4 @@ s19 : Step (Abort_logged 6) w18 w19
 s19 = grind (arith, nat_tests)
 
 pub shown : CutPass
-shown = record { new = w19; run = (w1, s1, (w2, s2, (w3, s3, (w4, s4, (w5, s5, (w6, s6, (w7, s7, (w8, s8, (w9, s9, (w10, s10, (w11, s11, (w12, s12, (w13, s13, (w14, s14, (w15, s15, (w16, s16, (w17, s17, (w18, s18, (w19, s19, refl))))))))))))))))))); cell = refl; learnt = refl; prepared = refl; votes = (refl, refl) }
+shown = record { opens = opens; new = w19; run = (w1, s1, (w2, s2, (w3, s3, (w4, s4, (w5, s5, (w6, s6, (w7, s7, (w8, s8, (w9, s9, (w10, s10, (w11, s11, (w12, s12, (w13, s13, (w14, s14, (w15, s15, (w16, s16, (w17, s17, (w18, s18, (w19, s19, refl))))))))))))))))))); cell = refl; learnt = refl; prepared = refl; votes = (refl, refl) }

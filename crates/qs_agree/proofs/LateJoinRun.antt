@@ -5,6 +5,7 @@ use Rattle.qs_agree.specs.World.{Open, Committed, Flight, World, start, with_at,
 use Rattle.qs_agree.specs.Guards.{next, next_server, carried, closed, held, held_at, passed, passed_to, landed}
 use Rattle.qs_agree.specs.Step.{Answer_commit, Ask, Commit, Count, Cover, Crash, End, Engage, Inquire, Issue, Issue_local, Join, Learn, Lend, Meet, Notice, Restart_home, Restart_in_doubt, Serve, Serve_told, Take_told, Tell, Vote_recoverable, Vote_volatile, Yes, Yield, Step}
 use Rattle.qs_agree.specs.Runs.{four_nodes, LateJoin}
+use Rattle.qs_agree.proofs.Opens.{opens}
 
 abbrev w0 : World
 w0 = start four_nodes
@@ -522,4 +523,4 @@ s51 : Step (Restart_home 5) w50 w51
 s51 = grind (arith, nat_tests)
 
 pub shown : LateJoin
-shown = record { new = w51; run = (w1, s1, (w2, s2, (w3, s3, (w4, s4, (w5, s5, (w6, s6, (w7, s7, (w8, s8, (w9, s9, (w10, s10, (w11, s11, (w12, s12, (w13, s13, (w14, s14, (w15, s15, (w16, s16, (w17, s17, (w18, s18, (w19, s19, (w20, s20, (w21, s21, (w22, s22, (w23, s23, (w24, s24, (w25, s25, (w26, s26, (w27, s27, (w28, s28, (w29, s29, (w30, s30, (w31, s31, (w32, s32, (w33, s33, (w34, s34, (w35, s35, (w36, s36, (w37, s37, (w38, s38, (w39, s39, (w40, s40, (w41, s41, (w42, s42, (w43, s43, (w44, s44, (w45, s45, (w46, s46, (w47, s47, (w48, s48, (w49, s49, (w50, s50, (w51, s51, refl))))))))))))))))))))))))))))))))))))))))))))))))))); cell = refl; learnt = (refl, refl, refl); listed = (refl, refl, refl); prepared = (refl, refl); ended = refl; known = refl }
+shown = record { opens = opens; new = w51; run = (w1, s1, (w2, s2, (w3, s3, (w4, s4, (w5, s5, (w6, s6, (w7, s7, (w8, s8, (w9, s9, (w10, s10, (w11, s11, (w12, s12, (w13, s13, (w14, s14, (w15, s15, (w16, s16, (w17, s17, (w18, s18, (w19, s19, (w20, s20, (w21, s21, (w22, s22, (w23, s23, (w24, s24, (w25, s25, (w26, s26, (w27, s27, (w28, s28, (w29, s29, (w30, s30, (w31, s31, (w32, s32, (w33, s33, (w34, s34, (w35, s35, (w36, s36, (w37, s37, (w38, s38, (w39, s39, (w40, s40, (w41, s41, (w42, s42, (w43, s43, (w44, s44, (w45, s45, (w46, s46, (w47, s47, (w48, s48, (w49, s49, (w50, s50, (w51, s51, refl))))))))))))))))))))))))))))))))))))))))))))))))))); cell = refl; learnt = (refl, refl, refl); listed = (refl, refl, refl); prepared = (refl, refl); ended = refl; known = refl }

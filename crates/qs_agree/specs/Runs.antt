@@ -1,6 +1,6 @@
 -- Whole runs, so that what is said of every run is not empty.
 use Rattle.std.specs.Prelude.{◌≡◌, ℕ, ◌+◌, ◌==◌, true, false, List, [], ◌∷◌, if◌then◌else◌}
-use Rattle.qs_agree.specs.World.{Committed, Aborted, Class, Recoverable, Volatile, OnePhase, Activity, World, Opening, start}
+use Rattle.qs_agree.specs.World.{Committed, Aborted, Class, Recoverable, Volatile, OnePhase, Activity, World, Opening, IsOpening, start}
 use Rattle.qs_agree.specs.Step.{Event, Abort, Abort_logged, Acknowledge, Answer_abort, Answer_commit, Ask, Checkpoint, Commit, Commit_cut, Count, Cover, Crash, Drop_engage, End, Engage, Force, Inquire, Inquire_lost, Issue, Issue_local, Join, Learn, Learn_abort, Learn_cut, Learn_home, Lend, Meet, Name_again, Notice, Restart, Restart_home, Restart_in_doubt, Serve, Serve_told, Take_names, Take_told, Tell, Tell_abort, Vote_recoverable, Vote_volatile, Yes, Yield}
 use Rattle.qs_agree.specs.Laws.{Run}
 
@@ -33,6 +33,7 @@ late_join =
 
 -- it leads to a commit that all have learnt and that is ended
 pub record LateJoin : Type 0 where
+  pub opens : IsOpening four_nodes
   pub new : World
   pub run : Run (start four_nodes) late_join new
   pub cell : new.cell ≡ Committed
@@ -54,6 +55,7 @@ abort_chain =
 
 -- it leads to an abort that nodes 2 and 3 have learnt
 pub record AbortChain : Type 0 where
+  pub opens : IsOpening four_nodes
   pub new : World
   pub run : Run (start four_nodes) abort_chain new
   pub cell : new.cell ≡ Aborted
@@ -70,6 +72,7 @@ cut_pass =
 
 -- it leads to an abort that leaves nothing in doubt
 pub record CutPass : Type 0 where
+  pub opens : IsOpening four_nodes
   pub new : World
   pub run : Run (start four_nodes) cut_pass new
   pub cell : new.cell ≡ Aborted
@@ -85,6 +88,7 @@ cut_commit =
 
 -- it leads to a commit that both have learnt, with nothing left in a log
 pub record CutCommit : Type 0 where
+  pub opens : IsOpening four_nodes
   pub new : World
   pub run : Run (start four_nodes) cut_commit new
   pub cell : new.cell ≡ Committed
