@@ -1,7 +1,7 @@
 -- One line for each event: Doubt holds after it.
-use Rattle.std.proofs.Common.{◌≡◌, ◌≢◌, ℕ, ◌<◌, true, false, refl, arith}
+use Rattle.std.proofs.Common.{◌≡◌, ◌≢◌, ℕ, true, false, refl, arith}
 use Rattle.std.proofs.lemmas.Bool.Decides.{nat_tests}
-use Rattle.qs_agree.specs.World.{Open, Committed, Aborted, World}
+use Rattle.qs_agree.specs.World.{Committed, Aborted, World}
 use Rattle.qs_agree.specs.Step.{Issue, Issue_unmet, Issue_local, Meet, Notice, Engage, Join, Cover, Serve, Serve_told, Lend, Yield, Ask, Vote_read, Vote_volatile, Force, Vote_recoverable, Vote_abort, Yes, Yes_lost, Count, Ignore, Refuse, Miss, Forget, Crash, Restart, Restart_in_doubt, Restart_home, Commit, Commit_cut, Commit_unlogged, Tell, Learn, Learn_cut, Learn_home, Acknowledge, Take_told, End, Checkpoint, Inquire, Inquire_lost, Answer_commit, Answer_running, Step}
 use Rattle.qs_agree.proofs.Doubt.{Doubt}
 
@@ -24,11 +24,11 @@ record Same (w v : World) : Type 0 where
 same : (w v : World) (k : ℕ) → Doubt w k → Same w v → Doubt v k
 same w v k h e = grind (arith, h, e)
 
-pub by_issue : (p q r : ℕ) (w v : World) (k : ℕ) → Doubt w k → Step (Issue p q r) w v → w.cell ≢ Committed → w.present (w.node p) ≡ p → w.ack_put k ≡ false → (w.node k ≡ w.node p → w.up k ≡ true → k ≡ p) → Doubt v k
-by_issue p q r w v k h s stop now quiet one = grind (arith, nat_tests, h, s)
+pub by_issue : (p q r : ℕ) (w v : World) (k : ℕ) → Doubt w k → Step (Issue p q r) w v → w.cell ≢ Committed → w.ack_put k ≡ false → Doubt v k
+by_issue p q r w v k h s stop quiet = grind (arith, nat_tests, h, s)
 
-pub by_issue_unmet : (p q r : ℕ) (w v : World) (k : ℕ) → Doubt w k → Step (Issue_unmet p q r) w v → w.cell ≢ Committed → w.present (w.node p) ≡ p → w.ack_put k ≡ false → (w.node k ≡ w.node p → w.up k ≡ true → k ≡ p) → Doubt v k
-by_issue_unmet p q r w v k h s stop now quiet one = grind (arith, nat_tests, h, s)
+pub by_issue_unmet : (p q r : ℕ) (w v : World) (k : ℕ) → Doubt w k → Step (Issue_unmet p q r) w v → w.cell ≢ Committed → w.ack_put k ≡ false → Doubt v k
+by_issue_unmet p q r w v k h s stop quiet = grind (arith, nat_tests, h, s)
 
 pub by_issue_local : (p q : ℕ) (w v : World) (k : ℕ) → Doubt w k → Step (Issue_local p q) w v → Doubt v k
 by_issue_local p q w v k h s = same w v k h (rw s.1 (record { cell = refl; up = refl; involved = refl; outcome = refl; node = refl; home = refl; unended = refl; acknowledged = refl; present = refl; inquiries = refl; peer = refl; orphaned = refl; ack_put = refl }))
@@ -51,8 +51,8 @@ by_cover p q w v k h s = same w v k h (rw s.4 (record { cell = refl; up = refl; 
 pub by_serve : (p q : ℕ) (w v : World) (k : ℕ) → Doubt w k → Step (Serve p q) w v → Doubt v k
 by_serve p q w v k h s = same w v k h (rw s.2 (record { cell = refl; up = refl; involved = refl; outcome = refl; node = refl; home = refl; unended = refl; acknowledged = refl; present = refl; inquiries = refl; peer = refl; orphaned = refl; ack_put = refl }))
 
-pub by_serve_told : (p q : ℕ) (w v : World) (k : ℕ) → Doubt w k → Step (Serve_told p q) w v → w.cell ≢ Committed → w.present (w.node p) ≡ p → w.ack_put k ≡ false → (w.node k ≡ w.node p → w.up k ≡ true → k ≡ p) → Doubt v k
-by_serve_told p q w v k h s stop now quiet one = grind (arith, nat_tests, h, s)
+pub by_serve_told : (p q : ℕ) (w v : World) (k : ℕ) → Doubt w k → Step (Serve_told p q) w v → w.cell ≢ Committed → w.ack_put k ≡ false → Doubt v k
+by_serve_told p q w v k h s stop quiet = grind (arith, nat_tests, h, s)
 
 pub by_lend : (p q : ℕ) (w v : World) (k : ℕ) → Doubt w k → Step (Lend p q) w v → Doubt v k
 by_lend p q w v k h s = same w v k h (rw s.2 (record { cell = refl; up = refl; involved = refl; outcome = refl; node = refl; home = refl; unended = refl; acknowledged = refl; present = refl; inquiries = refl; peer = refl; orphaned = refl; ack_put = refl }))
@@ -66,14 +66,14 @@ by_ask p w v k h s = same w v k h (rw s.1 (record { cell = refl; up = refl; invo
 pub by_vote_read : (p q : ℕ) (w v : World) (k : ℕ) → Doubt w k → Step (Vote_read p q) w v → Doubt v k
 by_vote_read p q w v k h s = same w v k h (rw s.1 (record { cell = refl; up = refl; involved = refl; outcome = refl; node = refl; home = refl; unended = refl; acknowledged = refl; present = refl; inquiries = refl; peer = refl; orphaned = refl; ack_put = refl }))
 
-pub by_vote_volatile : (p q : ℕ) (w v : World) (k : ℕ) → Doubt w k → Step (Vote_volatile p q) w v → w.cell ≢ Committed → w.present (w.node p) ≡ p → w.ack_put k ≡ false → (w.node k ≡ w.node p → w.up k ≡ true → k ≡ p) → Doubt v k
-by_vote_volatile p q w v k h s stop now quiet one = grind (arith, nat_tests, h, s)
+pub by_vote_volatile : (p q : ℕ) (w v : World) (k : ℕ) → Doubt w k → Step (Vote_volatile p q) w v → w.cell ≢ Committed → w.ack_put k ≡ false → Doubt v k
+by_vote_volatile p q w v k h s stop quiet = grind (arith, nat_tests, h, s)
 
-pub by_force : (p q : ℕ) (w v : World) (k : ℕ) → Doubt w k → Step (Force p q) w v → w.cell ≢ Committed → w.present (w.node p) ≡ p → w.ack_put k ≡ false → (w.node k ≡ w.node p → w.up k ≡ true → k ≡ p) → Doubt v k
-by_force p q w v k h s stop now quiet one = grind (arith, nat_tests, h, s)
+pub by_force : (p q : ℕ) (w v : World) (k : ℕ) → Doubt w k → Step (Force p q) w v → w.cell ≢ Committed → w.ack_put k ≡ false → Doubt v k
+by_force p q w v k h s stop quiet = grind (arith, nat_tests, h, s)
 
-pub by_vote_recoverable : (p q : ℕ) (w v : World) (k : ℕ) → Doubt w k → Step (Vote_recoverable p q) w v → w.cell ≢ Committed → w.present (w.node p) ≡ p → w.ack_put k ≡ false → (w.node k ≡ w.node p → w.up k ≡ true → k ≡ p) → Doubt v k
-by_vote_recoverable p q w v k h s stop now quiet one = grind (arith, nat_tests, h, s)
+pub by_vote_recoverable : (p q : ℕ) (w v : World) (k : ℕ) → Doubt w k → Step (Vote_recoverable p q) w v → w.cell ≢ Committed → w.ack_put k ≡ false → Doubt v k
+by_vote_recoverable p q w v k h s stop quiet = grind (arith, nat_tests, h, s)
 
 pub by_vote_abort : (p q : ℕ) (w v : World) (k : ℕ) → Doubt w k → Step (Vote_abort p q) w v → Doubt v k
 by_vote_abort p q w v k h s = same w v k h (rw s.1 (record { cell = refl; up = refl; involved = refl; outcome = refl; node = refl; home = refl; unended = refl; acknowledged = refl; present = refl; inquiries = refl; peer = refl; orphaned = refl; ack_put = refl }))
@@ -102,38 +102,38 @@ by_forget p w v k h s = same w v k h (rw s.5 (record { cell = refl; up = refl; i
 pub by_crash : (p : ℕ) (w v : World) (k : ℕ) → Doubt w k → Step (Crash p) w v → Doubt v k
 by_crash p w v k h s = grind (arith, nat_tests, h, s)
 
-pub by_restart : (p : ℕ) (w v : World) (k : ℕ) → Doubt w k → Step (Restart p) w v → (w.present (w.node p) < p → w.inquiries p ≡ 0) → Doubt v k
-by_restart p w v k h s unborn = grind (arith, nat_tests, h, s)
+pub by_restart : (p : ℕ) (w v : World) (k : ℕ) → Doubt w k → Step (Restart p) w v → Doubt v k
+by_restart p w v k h s = grind (arith, nat_tests, h, s)
 
-pub by_restart_in_doubt : (p q : ℕ) (w v : World) (k : ℕ) → Doubt w k → Step (Restart_in_doubt p q) w v → (w.cell ≡ Committed → w.node p ≢ w.node w.home → w.prepared (w.node p) q ≡ true → (w.unended ≡ true) × (w.acknowledged (w.node p) ≡ false)) → (w.present (w.node p) < p → w.inquiries p ≡ 0) → (w.ack_put k ≡ true → w.prepared (w.node k) q ≡ false) → Doubt v k
-by_restart_in_doubt p q w v k h s logged unborn clear = grind (arith, nat_tests, h, s)
+pub by_restart_in_doubt : (p q : ℕ) (w v : World) (k : ℕ) → Doubt w k → Step (Restart_in_doubt p q) w v → (w.cell ≡ Committed → w.node p ≢ w.node w.home → w.prepared (w.node p) q ≡ true → (w.unended ≡ true) × (w.acknowledged (w.node p) ≡ false)) → (w.ack_put k ≡ true → w.prepared (w.node k) q ≡ false) → Doubt v k
+by_restart_in_doubt p q w v k h s logged clear = grind (arith, nat_tests, h, s)
 
-pub by_restart_home : (p : ℕ) (w v : World) (k : ℕ) → Doubt w k → v.cell ≢ Aborted → Step (Restart_home p) w v → (w.present (w.node p) < p → w.inquiries p ≡ 0) → Doubt v k
-by_restart_home p w v k h a s unborn = grind (arith, nat_tests, h, s)
+pub by_restart_home : (p : ℕ) (w v : World) (k : ℕ) → Doubt w k → v.cell ≢ Aborted → Step (Restart_home p) w v → Doubt v k
+by_restart_home p w v k h a s = grind (arith, nat_tests, h, s)
 
-pub by_commit : (w v : World) (k : ℕ) → Doubt w k → Step Commit w v → w.cell ≡ Open → w.acknowledged (w.node k) ≡ false → w.ack_put k ≡ false → w.present (w.node w.home) ≡ w.home → Doubt v k
-by_commit w v k h s is fresh quiet now = grind (arith, nat_tests, h, s)
+pub by_commit : (w v : World) (k : ℕ) → Doubt w k → Step Commit w v → w.acknowledged (w.node k) ≡ false → Doubt v k
+by_commit w v k h s fresh = grind (arith, nat_tests, h, s)
 
-pub by_commit_cut : (w v : World) (k : ℕ) → Doubt w k → Step Commit_cut w v → w.cell ≡ Open → w.acknowledged (w.node k) ≡ false → w.ack_put k ≡ false → w.present (w.node w.home) ≡ w.home → Doubt v k
-by_commit_cut w v k h s is fresh quiet now = grind (arith, nat_tests, h, s)
+pub by_commit_cut : (w v : World) (k : ℕ) → Doubt w k → Step Commit_cut w v → w.acknowledged (w.node k) ≡ false → Doubt v k
+by_commit_cut w v k h s fresh = grind (arith, nat_tests, h, s)
 
-pub by_commit_unlogged : (w v : World) (k : ℕ) → Doubt w k → Step Commit_unlogged w v → w.cell ≡ Open → (w.node k ≢ w.node w.home → w.up k ≡ true → w.involved k ≡ true → w.told_set w.home (w.node k) ≡ true) → w.ack_put k ≡ false → w.present (w.node w.home) ≡ w.home → Doubt v k
-by_commit_unlogged w v k h s is told quiet now = grind (arith, nat_tests, h, s.1 (w.node k), s)
+pub by_commit_unlogged : (w v : World) (k : ℕ) → Doubt w k → Step Commit_unlogged w v → (w.node k ≢ w.node w.home → w.up k ≡ true → w.involved k ≡ true → w.told_set w.home (w.node k) ≡ true) → Doubt v k
+by_commit_unlogged w v k h s told = grind (arith, nat_tests, h, s.1 (w.node k), s)
 
 pub by_tell : (p q : ℕ) (w v : World) (k : ℕ) → Doubt w k → Step (Tell p q) w v → Doubt v k
 by_tell p q w v k h s = same w v k h (rw s.3 (record { cell = refl; up = refl; involved = refl; outcome = refl; node = refl; home = refl; unended = refl; acknowledged = refl; present = refl; inquiries = refl; peer = refl; orphaned = refl; ack_put = refl }))
 
-pub by_learn : (p : ℕ) (w v : World) (k : ℕ) → Doubt w k → Step (Learn p) w v → ((r : ℕ) → w.up r ≡ true → w.node r ≡ w.node p → r ≡ p) → w.present (w.node p) ≡ p → Doubt v k
-by_learn p w v k h s one now = grind (arith, nat_tests, h, s)
+pub by_learn : (p : ℕ) (w v : World) (k : ℕ) → Doubt w k → Step (Learn p) w v → ((r : ℕ) → w.up r ≡ true → w.node r ≡ w.node p → r ≡ p) → Doubt v k
+by_learn p w v k h s one = grind (arith, nat_tests, h, s)
 
-pub by_learn_cut : (p : ℕ) (w v : World) (k : ℕ) → Doubt w k → Step (Learn_cut p) w v → ((r : ℕ) → w.up r ≡ true → w.node r ≡ w.node p → r ≡ p) → w.present (w.node p) ≡ p → Doubt v k
-by_learn_cut p w v k h s one now = grind (arith, nat_tests, h, s)
+pub by_learn_cut : (p : ℕ) (w v : World) (k : ℕ) → Doubt w k → Step (Learn_cut p) w v → Doubt v k
+by_learn_cut p w v k h s = grind (arith, nat_tests, h, s)
 
 pub by_learn_home : (p : ℕ) (w v : World) (k : ℕ) → Doubt w k → Step (Learn_home p) w v → Doubt v k
 by_learn_home p w v k h s = same w v k h (rw s.3 (record { cell = refl; up = refl; involved = refl; outcome = refl; node = refl; home = refl; unended = refl; acknowledged = refl; present = refl; inquiries = refl; peer = refl; orphaned = refl; ack_put = refl }))
 
-pub by_acknowledge : (p : ℕ) (w v : World) (k : ℕ) → Doubt w k → Step (Acknowledge p) w v → ((r : ℕ) → w.up r ≡ true → w.node r ≡ w.node p → r ≡ p) → w.present (w.node p) ≡ p → Doubt v k
-by_acknowledge p w v k h s one now = grind (arith, nat_tests, h, s)
+pub by_acknowledge : (p : ℕ) (w v : World) (k : ℕ) → Doubt w k → Step (Acknowledge p) w v → ((r : ℕ) → w.up r ≡ true → w.node r ≡ w.node p → r ≡ p) → Doubt v k
+by_acknowledge p w v k h s one = grind (arith, nat_tests, h, s)
 
 pub by_take_told : (p q : ℕ) (w v : World) (k : ℕ) → Doubt w k → Step (Take_told p q) w v → (w.up k ≡ true → w.node k ≡ w.node q → w.involved k ≡ true → w.outcome k ≡ Committed) → Doubt v k
 by_take_told p q w v k h s known = grind (arith, nat_tests, h, s)

@@ -43,9 +43,6 @@ fresh w n o is = grind (arith, o.acks n, is)
 pub no_record : (w : World) → Outcomes w → w.cell ≡ Open → w.commit_logged ≡ false
 no_record w o is = grind (arith, o.logged, is)
 
-pub open_not : (w : World) → w.cell ≡ Open → w.cell ≢ Committed
-open_not w is other = cc
-
 pub not_orphaned : (w : World) → Tree w → Orphans w → w.cell ≡ Committed → w.orphaned ≡ false
 not_orphaned w t d is = grind (arith, d.above, (t.at w.orphaned_by).committed is)
 

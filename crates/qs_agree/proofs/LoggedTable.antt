@@ -104,8 +104,8 @@ by_restart_in_doubt p q w v n i h s = same w v n i h (rw s.4 (record { cell = re
 pub by_restart_home : (p : ℕ) (w v : World) (n i : ℕ) → Logged w n i → v.cell ≢ Aborted → Step (Restart_home p) w v → Logged v n i
 by_restart_home p w v n i h a s = grind (arith, nat_tests, h, s)
 
-pub by_commit : (w v : World) (n i : ℕ) → Logged w n i → Step Commit w v → w.cell ≡ Open → w.acknowledged n ≡ false → Logged v n i
-by_commit w v n i h s is fresh = grind (arith, nat_tests, h, s)
+pub by_commit : (w v : World) (n i : ℕ) → Logged w n i → Step Commit w v → w.acknowledged n ≡ false → Logged v n i
+by_commit w v n i h s fresh = grind (arith, nat_tests, h, s)
 
 pub by_commit_cut : (w v : World) (n i : ℕ) → Logged w n i → Step Commit_cut w v → w.cell ≡ Open → w.acknowledged n ≡ false → Logged v n i
 by_commit_cut w v n i h s is fresh = grind (arith, nat_tests, h, s)

@@ -1,7 +1,7 @@
 -- One line for each event: Prepares holds after it.
 use Rattle.std.proofs.Common.{◌≡◌, ◌≢◌, ℕ, ◌<◌, true, false, refl, arith}
 use Rattle.std.proofs.lemmas.Bool.Decides.{nat_tests}
-use Rattle.qs_agree.specs.World.{Open, Committed, Aborted, World}
+use Rattle.qs_agree.specs.World.{Open, Aborted, World}
 use Rattle.qs_agree.specs.Step.{Issue, Issue_unmet, Issue_local, Meet, Notice, Engage, Join, Cover, Serve, Serve_told, Lend, Yield, Ask, Vote_read, Vote_volatile, Force, Vote_recoverable, Vote_abort, Yes, Yes_lost, Count, Ignore, Refuse, Miss, Forget, Crash, Restart, Restart_in_doubt, Restart_home, Commit, Commit_cut, Commit_unlogged, Tell, Learn, Learn_cut, Learn_home, Acknowledge, Take_told, End, Checkpoint, Inquire, Inquire_lost, Answer_commit, Answer_running, Step}
 use Rattle.qs_agree.proofs.Prepares.{Prepares}
 
@@ -63,11 +63,11 @@ by_vote_read p q w v k i h s = same w v k i h (rw s.1 (record { up = refl; prepa
 pub by_vote_volatile : (p q : ℕ) (w v : World) (k i : ℕ) → Prepares w k i → Step (Vote_volatile p q) w v → Prepares v k i
 by_vote_volatile p q w v k i h s = grind (arith, nat_tests, h, s)
 
-pub by_force : (p q : ℕ) (w v : World) (k i : ℕ) → Prepares w k i → Step (Force p q) w v → w.present (w.node p) ≡ p → w.ack_put k ≡ false → (w.node k ≡ w.node p → w.up k ≡ true → k ≡ p) → w.outcome k ≢ Committed → Prepares v k i
-by_force p q w v k i h s now quiet one unknown = grind (arith, nat_tests, h, s)
+pub by_force : (p q : ℕ) (w v : World) (k i : ℕ) → Prepares w k i → Step (Force p q) w v → w.ack_put k ≡ false → (w.node k ≡ w.node p → w.up k ≡ true → k ≡ p) → Prepares v k i
+by_force p q w v k i h s quiet one = grind (arith, nat_tests, h, s)
 
-pub by_vote_recoverable : (p q : ℕ) (w v : World) (k i : ℕ) → Prepares w k i → Step (Vote_recoverable p q) w v → w.present (w.node p) ≡ p → w.ack_put k ≡ false → (w.node k ≡ w.node p → w.up k ≡ true → k ≡ p) → w.outcome k ≢ Committed → Prepares v k i
-by_vote_recoverable p q w v k i h s now quiet one unknown = grind (arith, nat_tests, h, s)
+pub by_vote_recoverable : (p q : ℕ) (w v : World) (k i : ℕ) → Prepares w k i → Step (Vote_recoverable p q) w v → w.ack_put k ≡ false → (w.node k ≡ w.node p → w.up k ≡ true → k ≡ p) → Prepares v k i
+by_vote_recoverable p q w v k i h s quiet one = grind (arith, nat_tests, h, s)
 
 pub by_vote_abort : (p q : ℕ) (w v : World) (k i : ℕ) → Prepares w k i → Step (Vote_abort p q) w v → Prepares v k i
 by_vote_abort p q w v k i h s = same w v k i h (rw s.1 (record { up = refl; prepared = refl; node = refl; home = refl; involved = refl; outcome = refl; ack_put = refl }))
@@ -96,20 +96,20 @@ by_forget p w v k i h s = same w v k i h (rw s.5 (record { up = refl; prepared =
 pub by_crash : (p : ℕ) (w v : World) (k i : ℕ) → Prepares w k i → Step (Crash p) w v → Prepares v k i
 by_crash p w v k i h s = grind (arith, nat_tests, h, s)
 
-pub by_restart : (p : ℕ) (w v : World) (k i : ℕ) → Prepares w k i → Step (Restart p) w v → (w.present (w.node p) < p → w.outcome p ≡ Open) → Prepares v k i
-by_restart p w v k i h s unborn = grind (arith, nat_tests, h, s.3 i, s)
+pub by_restart : (p : ℕ) (w v : World) (k i : ℕ) → Prepares w k i → Step (Restart p) w v → Prepares v k i
+by_restart p w v k i h s = grind (arith, nat_tests, h, s.3 i, s)
 
 pub by_restart_in_doubt : (p q : ℕ) (w v : World) (k i : ℕ) → Prepares w k i → Step (Restart_in_doubt p q) w v → (w.present (w.node p) < p → w.outcome p ≡ Open) → Prepares v k i
 by_restart_in_doubt p q w v k i h s unborn = grind (arith, nat_tests, h, s)
 
-pub by_restart_home : (p : ℕ) (w v : World) (k i : ℕ) → Prepares w k i → v.cell ≢ Aborted → Step (Restart_home p) w v → (w.present (w.node p) < p → w.outcome p ≡ Open) → Prepares v k i
-by_restart_home p w v k i h a s unborn = grind (arith, nat_tests, h, s)
+pub by_restart_home : (p : ℕ) (w v : World) (k i : ℕ) → Prepares w k i → v.cell ≢ Aborted → Step (Restart_home p) w v → Prepares v k i
+by_restart_home p w v k i h a s = grind (arith, nat_tests, h, s)
 
-pub by_commit : (w v : World) (k i : ℕ) → Prepares w k i → Step Commit w v → w.cell ≡ Open → w.ack_put k ≡ false → Prepares v k i
-by_commit w v k i h s is quiet = grind (arith, nat_tests, h, s)
+pub by_commit : (w v : World) (k i : ℕ) → Prepares w k i → Step Commit w v → Prepares v k i
+by_commit w v k i h s = grind (arith, nat_tests, h, s)
 
-pub by_commit_cut : (w v : World) (k i : ℕ) → Prepares w k i → Step Commit_cut w v → w.cell ≡ Open → w.ack_put k ≡ false → Prepares v k i
-by_commit_cut w v k i h s is quiet = grind (arith, nat_tests, h, s)
+pub by_commit_cut : (w v : World) (k i : ℕ) → Prepares w k i → Step Commit_cut w v → Prepares v k i
+by_commit_cut w v k i h s = grind (arith, nat_tests, h, s)
 
 pub by_commit_unlogged : (w v : World) (k i : ℕ) → Prepares w k i → Step Commit_unlogged w v → Prepares v k i
 by_commit_unlogged w v k i h s = grind (arith, nat_tests, h, s)
@@ -117,17 +117,17 @@ by_commit_unlogged w v k i h s = grind (arith, nat_tests, h, s)
 pub by_tell : (p q : ℕ) (w v : World) (k i : ℕ) → Prepares w k i → Step (Tell p q) w v → Prepares v k i
 by_tell p q w v k i h s = same w v k i h (rw s.3 (record { up = refl; prepared = refl; node = refl; home = refl; involved = refl; outcome = refl; ack_put = refl }))
 
-pub by_learn : (p : ℕ) (w v : World) (k i : ℕ) → Prepares w k i → Step (Learn p) w v → w.present (w.node p) ≡ p → (w.node k ≡ w.node p → w.up k ≡ true → k ≡ p) → Prepares v k i
-by_learn p w v k i h s now one = grind (arith, nat_tests, h, s)
+pub by_learn : (p : ℕ) (w v : World) (k i : ℕ) → Prepares w k i → Step (Learn p) w v → Prepares v k i
+by_learn p w v k i h s = grind (arith, nat_tests, h, s)
 
-pub by_learn_cut : (p : ℕ) (w v : World) (k i : ℕ) → Prepares w k i → Step (Learn_cut p) w v → w.present (w.node p) ≡ p → (w.node k ≡ w.node p → w.up k ≡ true → k ≡ p) → Prepares v k i
-by_learn_cut p w v k i h s now one = grind (arith, nat_tests, h, s)
+pub by_learn_cut : (p : ℕ) (w v : World) (k i : ℕ) → Prepares w k i → Step (Learn_cut p) w v → Prepares v k i
+by_learn_cut p w v k i h s = grind (arith, nat_tests, h, s)
 
 pub by_learn_home : (p : ℕ) (w v : World) (k i : ℕ) → Prepares w k i → Step (Learn_home p) w v → Prepares v k i
 by_learn_home p w v k i h s = same w v k i h (rw s.3 (record { up = refl; prepared = refl; node = refl; home = refl; involved = refl; outcome = refl; ack_put = refl }))
 
-pub by_acknowledge : (p : ℕ) (w v : World) (k i : ℕ) → Prepares w k i → Step (Acknowledge p) w v → w.present (w.node p) ≡ p → (w.node k ≡ w.node p → w.up k ≡ true → k ≡ p) → Prepares v k i
-by_acknowledge p w v k i h s now one = grind (arith, nat_tests, h, s)
+pub by_acknowledge : (p : ℕ) (w v : World) (k i : ℕ) → Prepares w k i → Step (Acknowledge p) w v → Prepares v k i
+by_acknowledge p w v k i h s = grind (arith, nat_tests, h, s)
 
 pub by_take_told : (p q : ℕ) (w v : World) (k i : ℕ) → Prepares w k i → Step (Take_told p q) w v → Prepares v k i
 by_take_told p q w v k i h s = same w v k i h (rw s.3 (record { up = refl; prepared = refl; node = refl; home = refl; involved = refl; outcome = refl; ack_put = refl }))
