@@ -5,7 +5,7 @@ use Rattle.qs_agree.specs.Step.{Event}
 use Rattle.qs_agree.specs.Laws.{Run, IsReached, IsSilenced}
 use Rattle.qs_agree.specs.Carry.{RunOf, Leads, IsLawful, IsShown, Begins, GoesOn, StaysLawful}
 use Rattle.qs_agree.proofs.Whole.{Inv}
-use Rattle.qs_agree.proofs.Lawful.{inv_reached, settled_at, answered_at, agreed_at, silenced_at}
+use Rattle.qs_agree.proofs.Lawful.{inv_reached, settled_at, answered_at, involved_at, agreed_at, silenced_at}
 
 -- one run after another
 pub run_append : (before after : List Event) (old mid new : World) → Run old before mid → Run mid after new → Run old (before ++ after) new
@@ -14,7 +14,7 @@ run_append (e ∷ es) after old mid new r next = (r.0, r.1, run_append es after 
 
 -- what a run leads to is lawful, and what it goes on to
 pub lawful : (w : World) → IsReached w → IsLawful w
-lawful w r = let i : Inv w = inv_reached w r in record { reached = r; agreed = agreed_at w i; settled = settled_at w i; answered = answered_at w i }
+lawful w r = let i : Inv w = inv_reached w r in record { reached = r; agreed = agreed_at w i; settled = settled_at w i; answered = answered_at w i; involved = involved_at w i }
 
 pub reached_on : (old new : World) → IsReached old → Leads old new → IsReached new
 reached_on old new r l = record { opening = r.opening; opens = r.opens; events = r.events ++ l.events; run = run_append r.events l.events (start r.opening) old new r.run l.run }

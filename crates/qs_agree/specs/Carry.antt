@@ -2,7 +2,7 @@
 use Rattle.std.specs.Prelude.{◌≡◌, ◌⊎◌, List, [], ◌∷◌}
 use Rattle.qs_agree.specs.World.{Committed, World, Opening, IsOpening, start}
 use Rattle.qs_agree.specs.Step.{Event}
-use Rattle.qs_agree.specs.Laws.{Run, IsReached, IsSettled, IsAnswered, IsAgreed, IsSilenced}
+use Rattle.qs_agree.specs.Laws.{Run, IsReached, IsSettled, IsAnswered, IsInvolved, IsAgreed, IsSilenced}
 
 -- one act of another world after another
 abbrev pub RunOf : {State Act : Type 0} → (Act → State → State → Type 0) → State → List Act → State → Type 0
@@ -20,6 +20,7 @@ pub record IsLawful (w : World) : Type 0 where
   pub agreed : IsAgreed w
   pub settled : w.cell ≡ Committed → IsSettled w
   pub answered : w.cell ≡ Committed → IsAnswered w
+  pub involved : w.cell ≡ Committed → IsInvolved w
 
 -- a transaction has not begun, or a lawful world of the machine shows it
 abbrev pub IsShown : {State Tid : Type 0} → (Tid → State → Type 0) → (Tid → State → World → Type 0) → Tid → State → Type 0

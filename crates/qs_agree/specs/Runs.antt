@@ -43,7 +43,7 @@ pub record LateJoin : Type 0 where
   pub ended : new.unended ≡ false
   pub known : new.outcome 5 ≡ Committed
 
--- The home draws in node 1, that one node 2, and that one node 3, which votes and leaves a Prepare. Node 1 crashes: nobody that runs has sent a request to node 2. The home decides abort; node 2 asks and is told, and crashes of the home come between. Node 2 names node 3, which is told too, and drops a request that comes late.
+-- The home draws in node 1, that one node 2, and that one node 3, which votes and leaves a Prepare. Node 1 crashes: nobody that runs has sent a request to node 2. The home decides abort; node 2 asks and is told. The home crashes before it takes the Told of node 2, which sends it again, with the name of node 3. So node 3 is told too, and drops a request that comes late.
 abbrev pub abort_chain : List Event
 abort_chain =
     Meet 1 2 ∷ Meet 2 1 ∷ Meet 2 3 ∷ Meet 3 2 ∷ Meet 3 4 ∷ Meet 4 3 ∷ Meet 3 1 ∷ Meet 1 3

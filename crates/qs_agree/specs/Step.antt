@@ -52,7 +52,7 @@ pub data Event : Type 0 where
   Checkpoint : ℕ → Event  -- the home's log drops a Commit that is ended
   -- abort is told
   Tell_abort : ℕ → ℕ → Event  -- h tells node n abort
-  Learn_abort : ℕ → Event  -- q learns abort: its Told names whom it drawn
+  Learn_abort : ℕ → Event  -- q learns abort: its Told names whom it has drawn in
   Name_again : ℕ → Event  -- q, which knows abort, sends its Told again, as after a restart of the home
   Take_names : ℕ → ℕ → ℕ → Event  -- h takes a Told of q that names n, and is to tell n too
   Learn_abort_home : ℕ → ℕ → Event  -- a restart of the home's node found a Prepare and no Commit
