@@ -1,0 +1,26 @@
+//! What holds of every run of the commit protocol.
+ghost use Rattle.std.specs.Prelude.{◌≡◌, ℕ, List};
+ghost use Rattle.qs_agree.specs.World.{World, Opening, IsOpening, Committed, start};
+ghost use Rattle.qs_agree.specs.Step.{Event};
+ghost use Rattle.qs_agree.specs.Laws.{Run, IsSettled, IsAnswered, IsInvolved, IsAgreed, IsSilenced};
+
+/// Once commit is decided, every request was served and stands before a vote, and no vote was against it.
+pub fn unanimity()
+    ensures settled { (opening : Opening) (events : List Event) (new : World) → IsOpening opening → Run (start opening) events new → new.cell ≡ Committed → IsSettled new }
+{}
+
+/// Once commit is decided, whoever is in doubt is named by the Commit that stands in the home's log. Whoever sent a request, used a server that is told without a vote, or has a Prepare in its log is among those.
+pub fn nobody_forgotten()
+    ensures answered { (opening : Opening) (events : List Event) (new : World) → IsOpening opening → Run (start opening) events new → new.cell ≡ Committed → IsAnswered new }
+    ensures involved { (opening : Opening) (events : List Event) (new : World) → IsOpening opening → Run (start opening) events new → new.cell ≡ Committed → IsInvolved new }
+{}
+
+/// Nobody learns commit where another learns abort, and nobody knows or is told what was not decided.
+pub fn agreement()
+    ensures agreed { (opening : Opening) (events : List Event) (new : World) → IsOpening opening → Run (start opening) events new → IsAgreed new }
+{}
+
+/// Whoever was told abort serves nothing more of the transaction, and votes on nothing.
+pub fn abort_is_final()
+    ensures silenced { (opening : Opening) (before after : List Event) (mid new : World) → IsOpening opening → Run (start opening) before mid → Run mid after new → IsSilenced mid new }
+{}
