@@ -1,0 +1,220 @@
+-- Every command that may stand is carried out, whatever its transaction came to.
+use Rattle.std.proofs.Common.{◌≡◌, ◌≤◌, ◌<◌, ◌^◌, ℕ, ◌+◌, ◌==◌, Bool, true, false, not, ◌&&◌, List, [], ◌∷◌, length, Option, Some, None, IsSome, refl, sym, ap, ◌∙◌, subst, arith, nat_lt, nat_le, ◌⊎◌, inl, inr, if◌then◌else◌}
+use Rattle.std.proofs.lemmas.Bool.{false≢true}
+use Rattle.std.specs.Option.{is_some}
+use Rattle.qs_base.specs.Order.{same_member}
+use Rattle.qs_base.proofs.Same.{same_member-true}
+use Rattle.qs_base.specs.declared.identifiers.Member.{Member}
+use Rattle.qs_base.specs.declared.identifiers.Tid.{Tid}
+use Rattle.qs_ops.specs.Files.{reply_to, share_of, has_changes}
+use Rattle.qs_ops.specs.declared.answer.Answer.TheVariants as answers
+use Rattle.qs_ops.specs.declared.answer.Cause.{Cause}
+use Rattle.qs_ops.specs.declared.answer.Cause.TheVariants as causes
+use Rattle.qs_ops.specs.declared.operation.Op.{Op}
+use Rattle.qs_ops.specs.declared.operation.Op.TheVariants as ops
+use Rattle.qs_ops.specs.declared.reply.Reply.{Reply}
+use Rattle.qs_book.specs.Book.{BookValue, find_label, find_transaction}
+use Rattle.qs_book.specs.Clauses.{is_for}
+use Rattle.qs_book.specs.Transaction.{TransactionValue, next_number, part_of}
+use Rattle.qs_book.specs.declared.entry.Entry.{Entry}
+use Rattle.qs_book.specs.declared.script_line.Command.{Command}
+use Rattle.qs_book.specs.declared.script_line.Command.TheVariants as commands
+use Rattle.qs_book.specs.declared.script_line.ScriptLine.{ScriptLine}
+use Rattle.qs_book.specs.declared.state.NodeState.{NodeState}
+use Rattle.qs_book.specs.declared.state.Owner.{Owner}
+use Rattle.qs_book.specs.declared.transaction.Cell.{Cell}
+use Rattle.qs_book.specs.declared.transaction.Cell.TheVariants as cells
+use Rattle.qs_book.specs.declared.transaction.Part.{Part}
+use Rattle.qs_text.specs.Fits.{FitsLine, is_plain, is_plain_op}
+use Rattle.qs_text.specs.Lines.{files_of_node_0}
+use Rattle.qs_text.specs.Script.{is_begin, may_name}
+use Rattle.qs_text.specs.Kept.{Progresses, due_answer, labelled}
+use Rattle.qs_text.specs.declared.script.Script.{Script}
+use Rattle.qs_top.specs.Node.{client_0, files_0, link_0, next_tid, entries_of, of_labelled, of_known, of_commit, of_abort, of_request, committing, aborting, requesting, aborted_answer, answer_entries, begin_entries}
+use Rattle.qs_top.proofs.Chain.{Turn, Carried, labelled_is, committed_answer, ended_answer}
+use Rattle.qs_top.proofs.Chain as chain
+use Rattle.qs_top.proofs.Flows.{Given, only_answered, empty_commit, read_commit, commit, empty_abort, abort, open_parts}
+use Rattle.qs_top.proofs.MoreFlows.{request, begin}
+use Rattle.qs_top.specs.Rest.{Resting, AtRest, IsTold, PartAtRest, no_part, one_part}
+
+-- a command on a transaction that was begun
+record Asked (script : Script) (node : NodeState) (owner : Owner) (book : BookValue) (progress : Progresses) (line : ScriptLine) : Type 0 where
+  rest : Resting node owner book
+  turn : Turn script progress line
+  low : book.stamp + 3 < 2 ^ 62
+  rises : nat_lt owner.line line.line ≡ true
+
+given : (script : Script) (node : NodeState) (owner : Owner) (book : BookValue) (progress : Progresses) (line : ScriptLine) (tid : Tid) (tx : TransactionValue) → Asked script node owner book progress line
+    → find_label book line.label ≡ Some tid → find_transaction book tid ≡ Some tx → tx.cell ≡ cells.Open → tx.asked ≡ false → Given script node owner book progress line tid tx
+given script node owner book progress line tid tx a begun found cell fresh =
+    record { rest = a.rest; turn = a.turn; low = a.low; rises = a.rises; begun = begun; found = found; is_open = cell; fresh = fresh }
+
+-- ---- the cell tells what is known of it
+
+told_open : (owner : Owner) (tx : TransactionValue) (c : Cell) → c ≡ cells.Open → IsTold owner tx c → IsTold owner tx cells.Open
+told_open owner tx c is told = subst (λ x. IsTold owner tx x) is told
+
+told_commit : (owner : Owner) (tx : TransactionValue) (c : Cell) → c ≡ cells.Commit → IsTold owner tx c → IsTold owner tx cells.Commit
+told_commit owner tx c is told = subst (λ x. IsTold owner tx x) is told
+
+told_abort : (owner : Owner) (tx : TransactionValue) (c : Cell) → c ≡ cells.Abort → IsTold owner tx c → IsTold owner tx cells.Abort
+told_abort owner tx c is told = subst (λ x. IsTold owner tx x) is told
+
+-- ---- commit and abort
+
+committed : (script : Script) (node : NodeState) (owner : Owner) (book : BookValue) (progress : Progresses) (line : ScriptLine) (tid : Tid) (tx : TransactionValue) → Asked script node owner book progress line
+    → find_label book line.label ≡ Some tid → find_transaction book tid ≡ Some tx → line.command ≡ commands.Commit → (c : Cell) → tx.cell ≡ c
+    → Carried script book progress line (elim c [ cells.Open ↦ committing book.stamp tid line.line (part_of tx files_0) (has_changes (share_of node.files tid)) | cells.Commit ↦ answer_entries book.stamp line.line answers.Committed | cells.Abort ↦ answer_entries book.stamp line.line (aborted_answer tx.cause) ])
+committed script node owner book progress line tid tx a begun found is cells.Open cell =
+    let mine : AtRest owner tid tx = a.rest.all tid tx found in
+    let told : IsTold owner tx cells.Open = told_open owner tx tx.cell cell mine.told in
+    let g : Given script node owner book progress line tid tx = given script node owner book progress line tid tx a begun found cell told.0 in
+    by tx.parts refl told.2 (has_changes (share_of node.files tid)) refl g
+  where
+    by : (ps : List (Member × Part)) → tx.parts ≡ ps → PartAtRest ps → (b : Bool) → has_changes (share_of node.files tid) ≡ b → Given script node owner book progress line tid tx
+        → Carried script book progress line (committing book.stamp tid line.line (part_of tx files_0) b)
+    by _ parts no_part b pending g = rw parts (empty_commit script node owner book progress line tid tx g is parts)
+    by _ parts (one_part n) true pending g = rw parts (rw parts at (commit script node owner book progress line tid tx n g is parts pending))
+    by _ parts (one_part n) false pending g = rw parts (rw parts at (read_commit script node owner book progress line tid tx n g is parts pending))
+committed script node owner book progress line tid tx a begun found is cells.Commit cell =
+    let mine : AtRest owner tid tx = a.rest.all tid tx found in
+    only_answered script node owner book progress line answers.Committed a.rest a.turn (rw is refl) a.low a.rises (told_commit owner tx tx.cell cell mine.told)
+    (rw is (committed_answer (labelled book line.label) tx (labelled_is book line.label tid tx begun found) cell))
+committed script node owner book progress line tid tx a begun found is cells.Abort cell =
+    let mine : AtRest owner tid tx = a.rest.all tid tx found in
+    let told : IsTold owner tx cells.Abort = told_abort owner tx tx.cell cell mine.told in
+    rw told.0 (only_answered script node owner book progress line (answers.Aborted causes.Asked) a.rest a.turn (rw is refl) a.low a.rises told.1
+    (rw is (chain.aborted_answer (labelled book line.label) tx (labelled_is book line.label tid tx begun found) cell told.0)))
+
+aborted : (script : Script) (node : NodeState) (owner : Owner) (book : BookValue) (progress : Progresses) (line : ScriptLine) (tid : Tid) (tx : TransactionValue) → Asked script node owner book progress line
+    → find_label book line.label ≡ Some tid → find_transaction book tid ≡ Some tx → line.command ≡ commands.Abort → (c : Cell) → tx.cell ≡ c
+    → Carried script book progress line (elim c [ cells.Open ↦ aborting book.stamp tid line.line (part_of tx files_0) | cells.Commit ↦ answer_entries book.stamp line.line answers.Committed | cells.Abort ↦ answer_entries book.stamp line.line (aborted_answer tx.cause) ])
+aborted script node owner book progress line tid tx a begun found is cells.Open cell =
+    let mine : AtRest owner tid tx = a.rest.all tid tx found in
+    let told : IsTold owner tx cells.Open = told_open owner tx tx.cell cell mine.told in
+    let g : Given script node owner book progress line tid tx = given script node owner book progress line tid tx a begun found cell told.0 in
+    by tx.parts refl told.2 g
+  where
+    by : (ps : List (Member × Part)) → tx.parts ≡ ps → PartAtRest ps → Given script node owner book progress line tid tx
+        → Carried script book progress line (aborting book.stamp tid line.line (part_of tx files_0))
+    by _ parts no_part g = rw parts (empty_abort script node owner book progress line tid tx g is)
+    by _ parts (one_part n) g = rw parts (abort script node owner book progress line tid tx n g is parts)
+aborted script node owner book progress line tid tx a begun found is cells.Commit cell =
+    let mine : AtRest owner tid tx = a.rest.all tid tx found in
+    only_answered script node owner book progress line answers.Committed a.rest a.turn (rw is refl) a.low a.rises (told_commit owner tx tx.cell cell mine.told)
+    (rw is (committed_answer (labelled book line.label) tx (labelled_is book line.label tid tx begun found) cell))
+aborted script node owner book progress line tid tx a begun found is cells.Abort cell =
+    let mine : AtRest owner tid tx = a.rest.all tid tx found in
+    let told : IsTold owner tx cells.Abort = told_abort owner tx tx.cell cell mine.told in
+    rw told.0 (only_answered script node owner book progress line (answers.Aborted causes.Asked) a.rest a.turn (rw is refl) a.low a.rises told.1
+    (rw is (chain.aborted_answer (labelled book line.label) tx (labelled_is book line.label tid tx begun found) cell told.0)))
+
+-- ---- requests
+
+requested : (script : Script) (node : NodeState) (owner : Owner) (book : BookValue) (progress : Progresses) (line : ScriptLine) (tid : Tid) (tx : TransactionValue) (op : Op) (reply : Reply) → Asked script node owner book progress line
+    → find_label book line.label ≡ Some tid → find_transaction book tid ≡ Some tx → line.command ≡ commands.Request files_0 op → is_for op files_0 ≡ true → reply_to node.files tid op ≡ Some reply → (c : Cell) → tx.cell ≡ c
+    → Carried script book progress line (elim c [ cells.Open ↦ requesting book.stamp tid line.line (next_number tx link_0) op (Some reply) | cells.Commit ↦ answer_entries book.stamp line.line answers.Ended | cells.Abort ↦ answer_entries book.stamp line.line answers.Ended ])
+requested script node owner book progress line tid tx op reply a begun found is for_files due cells.Open cell =
+    let mine : AtRest owner tid tx = a.rest.all tid tx found in
+    let told : IsTold owner tx cells.Open = told_open owner tx tx.cell cell mine.told in
+    request script node owner book progress line tid tx op reply (given script node owner book progress line tid tx a begun found cell told.0) is for_files due
+requested script node owner book progress line tid tx op reply a begun found is for_files due cells.Commit cell =
+    only_answered script node owner book progress line answers.Ended a.rest a.turn (rw is refl) a.low a.rises refl
+    (rw is (ended_answer (labelled book line.label) tx (progress 0).made (labelled_is book line.label tid tx begun found) (inl cell)))
+requested script node owner book progress line tid tx op reply a begun found is for_files due cells.Abort cell =
+    only_answered script node owner book progress line answers.Ended a.rest a.turn (rw is refl) a.low a.rises refl
+    (rw is (ended_answer (labelled book line.label) tx (progress 0).made (labelled_is book line.label tid tx begun found) (inr cell)))
+
+-- an operation of this stage has a reply
+has_reply : (node : NodeState) (tid : Tid) (op : Op) → is_plain_op op ≡ true → (reply : Reply) × ((reply_to node.files tid op ≡ Some reply) × (is_for op files_0 ≡ true))
+has_reply node tid (ops.Put name text) plain = (_, (refl, refl))
+has_reply node tid (ops.Get name) plain = (_, (refl, refl))
+has_reply node tid _ plain = absurd (false≢true plain)
+
+-- ---- any command
+
+found_some : {A : Type 0} (o : Option A) → is_some o ≡ true → (x : A) × (o ≡ Some x)
+found_some None h = absurd (false≢true h)
+found_some (Some x) h = (x, refl)
+
+none_found : {A : Type 0} (o : Option A) → not (is_some o) ≡ true → o ≡ None
+none_found None h = refl
+none_found (Some x) h = absurd (false≢true h)
+
+-- the transaction of a label that was begun
+pub record Labelled (book : BookValue) (label : List ℕ) : Type 0 where
+  pub tid : Tid
+  pub tx : TransactionValue
+  pub begun : find_label book label ≡ Some tid
+  pub found : find_transaction book tid ≡ Some tx
+
+labelled_tx : (node : NodeState) (owner : Owner) (book : BookValue) (label : List ℕ) → Resting node owner book → is_some (find_label book label) ≡ true → Labelled book label
+labelled_tx node owner book label r is =
+    let l : (t : Tid) × (find_label book label ≡ Some t) = found_some (find_label book label) is in
+    let f : (t : TransactionValue) × (find_transaction book l.0 ≡ Some t) = found_some (find_transaction book l.0) (r.known label l.0 l.1) in
+    record { tid = l.0; tx = f.0; begun = l.1; found = f.1 }
+
+of_labelled_is : (book : BookValue) (node : NodeState) (line : ScriptLine) (l : Labelled book line.label) → of_labelled book node line (find_label book line.label) ≡ of_known book.stamp node l.tid l.tx line.line line.command
+of_labelled_is book node line l =
+    ap (λ (o : Option Tid). of_labelled book node line o) l.begun
+    ∙ subst (λ (o : Option TransactionValue). (elim o [ None ↦ [] | Some tx ↦ of_known book.stamp node l.tid tx line.line line.command ]) ≡ of_known book.stamp node l.tid l.tx line.line line.command) (sym l.found) refl
+
+-- the entries of the command that the line has
+of_command : (book : BookValue) (node : NodeState) (line : ScriptLine) (l : Labelled book line.label) (c : Command) → line.command ≡ c → of_labelled book node line (find_label book line.label) ≡ of_known book.stamp node l.tid l.tx line.line c
+of_command book node line l c is = of_labelled_is book node line l ∙ ap (λ (d : Command). of_known book.stamp node l.tid l.tx line.line d) is
+
+plain_member : (m : Member) (op : Op) (b : Bool) → (same_member m files_of_node_0 && b) ≡ true → m ≡ files_0
+plain_member m op b h = same_member-true m files_of_node_0 (first (same_member m files_of_node_0) b h)
+  where
+    first : (c d : Bool) → (c && d) ≡ true → c ≡ true
+    first true d g = refl
+    first false d g = absurd (false≢true g)
+
+second : (c d : Bool) → (c && d) ≡ true → d ≡ true
+second true d g = g
+second false d g = absurd (false≢true g)
+
+-- by the cell: what an open transaction does, or the answer of one that ended
+abbrev by_cell : Cell → List Entry → List Entry → List Entry
+by_cell c going ended = elim c [ cells.Open ↦ going | cells.Commit ↦ ended | cells.Abort ↦ ended ]
+
+-- a request with a reply
+of_reply : (book : BookValue) (node : NodeState) (line : ScriptLine) (l : Labelled book line.label) (op : Op) (reply : Reply) → reply_to node.files l.tid op ≡ Some reply
+    → of_request book.stamp node l.tid l.tx line.line op
+    ≡ by_cell l.tx.cell (requesting book.stamp l.tid line.line (next_number l.tx link_0) op (Some reply)) (answer_entries book.stamp line.line answers.Ended)
+of_reply book node line l op reply due =
+    ap (λ (o : Option Reply). by_cell l.tx.cell (requesting book.stamp l.tid line.line (next_number l.tx link_0) op o) (answer_entries book.stamp line.line answers.Ended)) due
+
+pub carried_out : (script : Script) (node : NodeState) (owner : Owner) (book : BookValue) (progress : Progresses) (line : ScriptLine)
+    → Resting node owner book → Turn script progress line → book.stamp + 3 < 2 ^ 62
+    → FitsLine (λ label. is_some (find_label book label)) owner.line line
+    → Carried script book progress line (entries_of book node line)
+carried_out script node owner book progress line r turn low fits = by line.command refl fits.plain fits.named
+  where
+    a : Asked script node owner book progress line
+    a = record { rest = r; turn = turn; low = low; rises = fits.later }
+
+    by : (c : Command) → line.command ≡ c → is_plain c ≡ true → may_name (λ label. is_some (find_label book label)) line.label c ≡ true
+        → Carried script book progress line (elim c [
+          | commands.Begin ↦ begin_entries book.stamp (next_tid node) line.label line.line
+          | commands.Commit ↦ of_labelled book node line (find_label book line.label)
+          | commands.Abort ↦ of_labelled book node line (find_label book line.label)
+          | commands.Take ↦ []
+          | commands.Yield ↦ []
+          | commands.Request member op ↦ of_labelled book node line (find_label book line.label)
+        ])
+    by commands.Begin is plain named = begin script node owner book progress line r turn low fits.later is (none_found (find_label book line.label) named)
+    by commands.Commit is plain named =
+        let l : Labelled book line.label = labelled_tx node owner book line.label r named in
+        subst (λ es. Carried script book progress line es) (sym (of_command book node line l commands.Commit is)) (committed script node owner book progress line l.tid l.tx (record { rest = r; turn = turn; low = low; rises = fits.later }) l.begun l.found is l.tx.cell refl)
+    by commands.Abort is plain named =
+        let l : Labelled book line.label = labelled_tx node owner book line.label r named in
+        subst (λ es. Carried script book progress line es) (sym (of_command book node line l commands.Abort is)) (aborted script node owner book progress line l.tid l.tx (record { rest = r; turn = turn; low = low; rises = fits.later }) l.begun l.found is l.tx.cell refl)
+    by commands.Take is plain named = absurd (false≢true plain)
+    by commands.Yield is plain named = absurd (false≢true plain)
+    by (commands.Request member op) is plain named =
+        let l : Labelled book line.label = labelled_tx node owner book line.label r named in
+        let here : member ≡ files_0 = plain_member member op (is_plain_op op) plain in
+        let has : (reply : Reply) × ((reply_to node.files l.tid op ≡ Some reply) × (is_for op files_0 ≡ true)) = has_reply node l.tid op (second (same_member member files_of_node_0) (is_plain_op op) plain) in
+        let is_files : line.command ≡ commands.Request files_0 op = is ∙ ap (λ (m : Member). commands.Request m op) here in
+        subst (λ es. Carried script book progress line es) (sym (of_command book node line l (commands.Request member op) is ∙ of_reply book node line l op has.0 has.1.0)) (requested script node owner book progress line l.tid l.tx op has.0 (record { rest = r; turn = turn; low = low; rises = fits.later }) l.begun l.found is_files has.1.1 has.1.0 l.tx.cell refl)

@@ -1,0 +1,8 @@
+pub mod CarriedOut
+pub mod Chain
+pub mod Flows
+pub mod MapSteps
+pub mod MoreFlows
+pub mod Ready
+pub mod Requests
+pub mod Steps

@@ -1,0 +1,239 @@
+-- A request and a begin of client 0, carried out from rest to rest.
+use Rattle.std.proofs.Common.{◌≡◌, ◌≤◌, ◌<◌, ◌^◌, ℕ, ◌+◌, ◌-◌, ◌==◌, Bool, true, false, not, ◌&&◌, ◌||◌, List, [], ◌∷◌, Option, Some, None, IsSome, refl, sym, ap, ◌∙◌, subst, arith, nat_lt, slice_get, if◌then◌else◌}
+use Rattle.std.proofs.lemmas.Bool.{false≢true}
+use Rattle.std.proofs.lemmas.Bool.Decides.{nat_tests}
+use Rattle.std.proofs.lemmas.Cmp.{tied_itself}
+use Rattle.std.proofs.lemmas.Map.Lookups.{exact_bytes}
+use Rattle.std.specs.BTreeMap.{insert_entry, is_at}
+use Rattle.std.specs.Cmp.Lexicographic.{texts_ties, nat_list_cmp_total}
+use Rattle.std.specs.List.{list_any}
+use Rattle.std.specs.Map.{lookup}
+use Rattle.std.specs.Option.{is_some}
+use Rattle.qs_base.specs.Order.{bytes_cmp, same_bytes, tid_cmp, same_tid, same_member}
+use Rattle.qs_base.proofs.Same.{same_bytes-self, same_bytes-true, same_tid-self, same_tid-true}
+use Rattle.qs_base.specs.declared.identifiers.Member.{Member}
+use Rattle.qs_base.specs.declared.identifiers.Tid.{Tid}
+use Rattle.qs_ops.proofs.IndexSteps.{tid_total, tid_exact, same_tid-cmp}
+use Rattle.qs_ops.specs.Files.{reply_to, served}
+use Rattle.qs_ops.specs.Operations.{answer_of}
+use Rattle.qs_ops.specs.declared.answer.Answer.{Answer}
+use Rattle.qs_ops.specs.declared.answer.Answer.TheVariants as answers
+use Rattle.qs_ops.specs.declared.operation.Op.{Op}
+use Rattle.qs_ops.specs.declared.reply.Reply.{Reply}
+use Rattle.qs_ops.specs.declared.reply.Reply.TheVariants.{Done, Value, Left, Names, Notes, Busy, Absent, TooMany, TooLong}
+use Rattle.qs_book.specs.Book.{BookValue, broken, effect, find_label, find_transaction, with_begun, with_files, with_line}
+use Rattle.qs_book.specs.Clauses.{is_for, is_known}
+use Rattle.qs_book.specs.Transaction.{TransactionValue, begun, issued, learnt_abort, next_number, served_in}
+use Rattle.qs_book.specs.declared.entry.Act.TheVariants as acts
+use Rattle.qs_book.specs.declared.entry.Entry.{Entry}
+use Rattle.qs_book.specs.declared.script_line.Command.{Command}
+use Rattle.qs_book.specs.declared.script_line.Command.TheVariants as commands
+use Rattle.qs_book.specs.declared.script_line.ScriptLine.{ScriptLine}
+use Rattle.qs_book.specs.declared.state.NodeState.{NodeState}
+use Rattle.qs_book.specs.declared.state.Owner.{Owner}
+use Rattle.qs_book.specs.declared.transaction.Cell.{Cell}
+use Rattle.qs_book.specs.declared.transaction.Cell.TheVariants as cells
+use Rattle.qs_book.specs.declared.transaction.Part.{Part}
+use Rattle.qs_text.specs.Fits.{begins_line}
+use Rattle.qs_text.specs.Kept.{Made, Progress, Progresses, with_progress, makes, current, seat_of, after_served, served_made, is_seat, request_answer, labelled, due_answer, commands_of, CarriesOut, CarriesOutFor, IssuesFor}
+use Rattle.qs_text.specs.Kept as kept
+use Rattle.qs_text.specs.declared.script.Script.{Script}
+use Rattle.qs_top.specs.Node.{client_0, files_0, issuer_0, link_0, node_0, next_tid, entry, answered, begin_entries, request_entries}
+use Rattle.qs_top.specs.Carrying.{Chain}
+use Rattle.qs_top.proofs.Chain.{no_more, then_more, Turn, Carried, answered_0, same_others, carries, carries_for, labelled_is, reply_answer}
+use Rattle.qs_top.proofs.Flows.{Given, answer_chain, carried}
+use Rattle.qs_top.proofs.MapSteps.{lookup_put, lookup_put_apart}
+use Rattle.qs_top.proofs.Requests.{request_of_0, issue_lawful, issue_after, serve_lawful, serve_after, rest_after_serve}
+use Rattle.qs_top.proofs.Steps.{Working, working_from, resting_from, lawful_here, in_order, nodes_after, eq_self, answer_lawful, answer_after, own_key}
+use Rattle.qs_top.specs.Rest.{Resting, AtRest, IsTold, PartAtRest, no_part, one_part}
+
+-- ---- a request
+
+-- a reply is no outcome, so that any client may be told it
+known_reply : (owner : Owner) (reply : Reply) → is_known owner (answer_of reply) ≡ true
+known_reply owner Done = refl
+known_reply owner (Value text) = refl
+known_reply owner (Left ticks) = refl
+known_reply owner (Names list) = refl
+known_reply owner (Notes list) = refl
+known_reply owner (Busy holder) = refl
+known_reply owner Absent = refl
+known_reply owner TooMany = refl
+known_reply owner TooLong = refl
+
+none_learnt : (tx : TransactionValue) → PartAtRest tx.parts → learnt_abort 0 tx ≡ false
+none_learnt tx parts = by tx.parts parts
+  where
+    by : (ps : List (Member × Part)) → PartAtRest ps → list_any (λ (e : Member × Part). (e.0.node.0 == 0) && e.1.aborted) ps ≡ false
+    by _ no_part = refl
+    by _ (one_part n) = refl
+
+open_told : (owner : Owner) (tx : TransactionValue) (c : Cell) → c ≡ cells.Open → IsTold owner tx c → PartAtRest tx.parts
+open_told owner tx cells.Open h told = told.2
+open_told owner tx cells.Commit h told = absurd (cc)
+open_told owner tx cells.Abort h told = absurd (cc)
+
+-- what client 0 has made once its request was served
+served_0 : (script : Script) (progress : Progresses) (tid : Tid) (number : ℕ) (reply : Reply) → seat_of script 0 ≡ Some 0
+    → after_served script (makes progress 0 (kept.issued tid files_0 number None)) tid files_0 0 number reply 0
+    ≡ record { answered = (progress 0).answered; made = kept.issued tid files_0 number (Some reply) }
+served_0 script progress tid number reply seat = rw (seat, same_tid-self tid, eq_self number) refl
+
+served_others : (script : Script) (progress : Progresses) (tid : Tid) (number : ℕ) (reply : Reply) (client : ℕ) → seat_of script client ≡ None → (client == 0) ≡ false
+    → after_served script (makes progress 0 (kept.issued tid files_0 number None)) tid files_0 0 number reply client ≡ progress client
+served_others script progress tid number reply client seat other = rw (seat, other) refl
+
+pub request : (script : Script) (node : NodeState) (owner : Owner) (book : BookValue) (progress : Progresses) (line : ScriptLine) (tid : Tid) (tx : TransactionValue) (op : Op) (reply : Reply)
+    → Given script node owner book progress line tid tx → line.command ≡ commands.Request files_0 op → is_for op files_0 ≡ true → reply_to node.files tid op ≡ Some reply
+    → Carried script book progress line (request_entries book.stamp tid line.line (next_number tx link_0) op reply)
+request script node owner book progress line tid tx op reply g is for_files due =
+    let mine : AtRest owner tid tx = g.rest.all tid tx g.found in
+    let w0 : Working node owner tid tx book = working_from node owner tid tx book g.rest g.found in
+    let s1 : ℕ = book.stamp + 1 in let s2 : ℕ = book.stamp + 2 in
+    let number : ℕ = next_number tx link_0 in
+    let e1 : Entry = entry s1 (acts.Issue tid issuer_0 files_0 number op) in
+    let b1 : BookValue = effect book e1 in
+    let tx1 : TransactionValue = issued link_0 (request_of_0 op) tx in
+    let w1 : Working node owner tid tx1 b1 = issue_after node owner tid tx book s1 number op w0 in
+    let p1 : Progresses = makes progress 0 (kept.issued tid files_0 number None) in
+    let e2 : Entry = entry s2 (acts.Serve tid files_0 node_0 number reply) in
+    let b2 : BookValue = effect b1 e2 in
+    let tx2 : TransactionValue = served_in files_0 link_0 number tx1 in
+    let n2 : NodeState = with_files (λ files. served files tid op reply) node in
+    let w2 : Working n2 owner tid tx2 b2 = serve_after node owner tid tx b1 s2 op reply w1 in
+    let p2 : Progresses = after_served script p1 tid files_0 0 number reply in
+    let r2 : Resting n2 owner b2 = resting_from n2 owner tid tx2 b2 w2 (rest_after_serve owner tid tx op mine g.is_open) in
+    let mine_2 : p2 0 ≡ record { answered = (progress 0).answered; made = kept.issued tid files_0 number (Some reply) } = served_0 script progress tid number reply g.turn.seat in
+    let first : current script p2 0 ≡ Some line = subst (λ (p : Progress). slice_get (commands_of script 0) p.answered ≡ Some line) (sym mine_2) g.turn.first in
+    let answer : Answer = answer_of reply in
+    let due_2 : due_answer b2 (p2 0).made line.label line.command ≡ Some answer =
+    subst (λ (c : Command). due_answer b2 (p2 0).made line.label c ≡ Some answer) (sym is)
+    (subst (λ (p : Progress). request_answer (labelled b2 line.label) p.made ≡ Some answer) (sym mine_2)
+    (reply_answer (labelled b2 line.label) tx2 tid files_0 number reply (labelled_is b2 line.label tid tx2 g.begun w2.found) g.is_open)) in
+    carried script n2 owner book b2 progress p2 line s2 answer (request_entries book.stamp tid line.line number op reply) r2 (rw is refl) (λ label. refl)
+    (ap (λ (p : Progress). p.answered) mine_2) (λ client other. served_others script progress tid number reply client (g.turn.only client other) other)
+    (then_more script book (effect b2 (answered s2 line.line answer)) progress p1 (answered_0 p2) e1 _
+    (issue_lawful node owner tid tx book s1 op w0 (omega (arith, g.low)) (omega (arith, g.low)) mine g.is_open g.fresh for_files)
+    (record { client = 0; issuer_is = refl; carries = subst (λ (c : Command). CarriesOutFor script book progress 0 0 tid c) is (carries_for script book progress line tid g.turn g.begun) })
+    refl
+    (then_more script b1 (effect b2 (answered s2 line.line answer)) p1 p2 (answered_0 p2) e2 _
+    (serve_lawful node owner tid tx b1 s2 op reply w1 (omega (arith, g.low)) (omega (arith, g.low)) due (none_learnt tx (open_told owner tx tx.cell g.is_open mine.told)))
+    tt refl
+    (answer_chain script n2 owner b2 p2 line s2 answer r2 first g.turn.seat (omega (arith, g.low)) (omega (arith, g.low)) g.rises (known_reply owner reply) due_2)))
+
+-- ---- a begin
+
+other_way : (tid q : Tid) → is_at (tid_cmp tid) q ≡ false → is_at (tid_cmp q) tid ≡ false
+other_way tid q other = by (is_at (tid_cmp q) tid) refl
+  where
+    by : (b : Bool) → is_at (tid_cmp q) tid ≡ b → b ≡ false
+    by true is =
+        let same : q ≡ tid = same_tid-true q tid (same_tid-cmp q tid ∙ is) in
+        let no_way : is_at (tid_cmp tid) tid ≡ false = subst (λ x. is_at (tid_cmp tid) x ≡ false) same other in
+        absurd (false≢true (sym no_way ∙ own_key tid))
+    by false is = refl
+
+begin_lawful : (node : NodeState) (owner : Owner) (book : BookValue) (stamp : ℕ) (label : List ℕ) → Resting node owner book → book.stamp ≤ stamp → stamp < 2 ^ 62 → find_label book label ≡ None
+    → broken book (entry stamp (acts.Begin (next_tid node) label client_0)) ≡ None
+begin_lawful node owner book stamp label r later low fresh =
+    let e : Entry = entry stamp (acts.Begin (next_tid node) label client_0) in
+    lawful_here book node e (in_order book e r.last later low) (rw r.nodes refl) r.up (rw (eq_self node.inc, eq_self (node.begun + 1), fresh) refl)
+
+-- the label is found where it is the new one, and as before elsewhere
+label_after : (book : BookValue) (stamp : ℕ) (tid : Tid) (label other : List ℕ) → find_label (effect book (entry stamp (acts.Begin tid label client_0))) other ≡ (if same_bytes label other then Some tid else find_label book other)
+label_after book stamp tid label other = by (same_bytes label other) refl
+  where
+    by : (b : Bool) → same_bytes label other ≡ b → lookup (is_at (bytes_cmp other)) (insert_entry bytes_cmp book.labels label tid) ≡ (if b then Some tid else find_label book other)
+    by true is =
+        let same : label ≡ other = same_bytes-true label other is in
+        subst (λ (x : List ℕ). lookup (is_at (bytes_cmp x)) (insert_entry bytes_cmp book.labels label tid) ≡ Some tid) same (lookup_put bytes_cmp label tid (tied_itself nat_list_cmp_total label) book.labels)
+    by false is = lookup_put_apart bytes_cmp label tid (exact_bytes label) (is_at (bytes_cmp other)) (not_at is) book.labels
+      where
+        not_at : same_bytes label other ≡ false → is_at (bytes_cmp other) label ≡ false
+        not_at h = at_not (is_at (bytes_cmp other) label) refl h
+          where
+            at_not : (c : Bool) → is_at (bytes_cmp other) label ≡ c → same_bytes label other ≡ false → c ≡ false
+            at_not true here g =
+                let same : other ≡ label = same_bytes-true other label (texts_ties other label ∙ here) in
+                let self : same_bytes label label ≡ false = subst (λ (x : List ℕ). same_bytes label x ≡ false) same g in
+                absurd (false≢true (sym self ∙ same_bytes-self label))
+            at_not false here g = refl
+
+begin_after : (node : NodeState) (owner : Owner) (book : BookValue) (stamp : ℕ) (label : List ℕ) → Resting node owner book
+    → Working (with_begun (node.begun + 1) node) owner (next_tid node) (begun label client_0) (effect book (entry stamp (acts.Begin (next_tid node) label client_0)))
+begin_after node owner book stamp label r = record {
+  nodes = nodes_after book node (with_begun (node.begun + 1)) r.nodes;
+  up = r.up;
+  last = refl;
+  owners = r.owners;
+  found = found_new;
+  others = λ q t other found. r.all q t (sym (apart q other) ∙ found);
+  known = known;
+}
+  where
+    tid : Tid
+    tid = next_tid node
+
+    found_new : lookup (is_at (tid_cmp (next_tid node))) (insert_entry tid_cmp book.transactions (next_tid node) (begun label client_0)) ≡ Some (begun label client_0)
+    found_new = lookup_put tid_cmp (next_tid node) (begun label client_0) (tied_itself tid_total (next_tid node)) book.transactions
+
+    apart : (q : Tid) → is_at (tid_cmp (next_tid node)) q ≡ false → lookup (is_at (tid_cmp q)) (insert_entry tid_cmp book.transactions (next_tid node) (begun label client_0)) ≡ find_transaction book q
+    apart q other = lookup_put_apart tid_cmp (next_tid node) (begun label client_0) (tid_exact (next_tid node)) (is_at (tid_cmp q)) (other_way (next_tid node) q other) book.transactions
+
+    is_there : (q : Tid) (b : Bool) → is_at (tid_cmp (next_tid node)) q ≡ b → IsSome (find_transaction book q) → IsSome (lookup (is_at (tid_cmp q)) (insert_entry tid_cmp book.transactions (next_tid node) (begun label client_0)))
+    is_there q true is some =
+        let same : next_tid node ≡ q = same_tid-true (next_tid node) q (same_tid-cmp (next_tid node) q ∙ is) in
+        subst (λ x. IsSome (lookup (is_at (tid_cmp x)) (insert_entry tid_cmp book.transactions (next_tid node) (begun label client_0)))) same (rw found_new refl)
+    is_there q false is some = rw (apart q is) some
+
+    known : (other : List ℕ) (q : Tid) → find_label (effect book (entry stamp (acts.Begin (next_tid node) label client_0))) other ≡ Some q → IsSome (find_transaction (effect book (entry stamp (acts.Begin (next_tid node) label client_0))) q)
+    known other q is = by (same_bytes label other) refl
+      where
+        by : (b : Bool) → same_bytes label other ≡ b → IsSome (lookup (is_at (tid_cmp q)) (insert_entry tid_cmp book.transactions (next_tid node) (begun label client_0)))
+        by true same =
+            let here : Some (next_tid node) ≡ Some q = sym (rw same at (label_after book stamp (next_tid node) label other)) ∙ is in
+            let equal : next_tid node ≡ q = cc in
+            subst (λ x. IsSome (lookup (is_at (tid_cmp x)) (insert_entry tid_cmp book.transactions (next_tid node) (begun label client_0)))) equal (rw found_new refl)
+        by false apart_label =
+            let before : find_label book other ≡ Some q = sym (rw apart_label at (label_after book stamp (next_tid node) label other)) ∙ is in
+            is_there q (is_at (tid_cmp (next_tid node)) q) refl (r.known other q before)
+
+pub begin : (script : Script) (node : NodeState) (owner : Owner) (book : BookValue) (progress : Progresses) (line : ScriptLine)
+    → Resting node owner book → Turn script progress line → book.stamp + 3 < 2 ^ 62 → nat_lt owner.line line.line ≡ true
+    → line.command ≡ commands.Begin → find_label book line.label ≡ None
+    → Carried script book progress line (begin_entries book.stamp (next_tid node) line.label line.line)
+begin script node owner book progress line r turn low rises is fresh =
+    let s1 : ℕ = book.stamp + 1 in
+    let tid : Tid = next_tid node in
+    let e1 : Entry = entry s1 (acts.Begin tid line.label client_0) in
+    let b1 : BookValue = effect book e1 in
+    let n1 : NodeState = with_begun (node.begun + 1) node in
+    let w1 : Working n1 owner tid (begun line.label client_0) b1 = begin_after node owner book s1 line.label r in
+    let rest : AtRest owner tid (begun line.label client_0) = record { home = refl; owned = refl; loans = refl; crossed = refl; refusals = refl; served = refl; told = (refl, refl, no_part) } in
+    let r1 : Resting n1 owner b1 = resting_from n1 owner tid (begun line.label client_0) b1 w1 rest in
+    let p1 : Progresses = makes progress 0 kept.began in
+    record {
+      after = effect b1 (answered s1 line.line answers.Done);
+      later = answered_0 p1;
+      node = n1;
+      owner = with_line line.line owner;
+      chain = then_more script book (effect b1 (answered s1 line.line answers.Done)) progress p1 (answered_0 p1) e1 _
+          (begin_lawful node owner book s1 line.label r (omega (arith, low)) (omega (arith, low)) fresh)
+          (subst (λ (c : Command). CarriesOut script progress 0 0 line.label c) is (carries script progress line turn))
+          refl
+          (answer_chain script n1 owner b1 p1 line s1 answers.Done r1 turn.first turn.seat (omega (arith, low)) (omega (arith, low)) rises refl (rw is refl));
+      rest = answer_after n1 owner b1 s1 line.line answers.Done r1;
+      at_line = refl;
+      labels = λ label. labels label;
+      count = refl;
+      others = λ client other. rw other refl;
+    }
+  where
+    either : (b : Bool) (o : Option Tid) (t : Tid) → is_some (if b then Some t else o) ≡ (is_some o || b)
+    either true (Some x) t = refl
+    either true None t = refl
+    either false (Some x) t = refl
+    either false None t = refl
+
+    labels : (label : List ℕ) → is_some (find_label (effect book (entry (book.stamp + 1) (acts.Begin (next_tid node) line.label client_0))) label) ≡ (is_some (find_label book label) || begins_line label line)
+    labels label = ap is_some (label_after book (book.stamp + 1) (next_tid node) line.label label) ∙ (either (same_bytes line.label label) (find_label book label) (next_tid node) ∙ rw is refl)

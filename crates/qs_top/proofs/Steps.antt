@@ -1,0 +1,272 @@
+-- One entry of one transaction at the only node: it is lawful, and what stands after it.
+use Rattle.std.proofs.Common.{◌≡◌, ◌≢◌, ◌≤◌, ◌<◌, ◌^◌, ℕ, ◌+◌, ◌==◌, Bool, true, false, not, ◌&&◌, ◌||◌, List, [], ◌∷◌, ◌++◌, Option, Some, None, refl, sym, ap, ◌∙◌, subst, arith, nat_lt, slice_get, IsSome}
+use Rattle.std.proofs.lemmas.Bool.{false≢true}
+use Rattle.std.proofs.lemmas.Bool.Decides.{nat_tests}
+use Rattle.std.proofs.lemmas.Cmp.{tied_itself}
+use Rattle.std.specs.List.{list_any}
+use Rattle.std.specs.BTreeMap.{is_at}
+use Rattle.std.specs.Map.{lookup}
+use Rattle.std.specs.Ordering.{is_eq}
+use Rattle.qs_base.specs.Order.{tid_cmp, same_tid}
+use Rattle.qs_base.proofs.Same.{same_tid-true}
+use Rattle.qs_base.specs.declared.identifiers.Member.{Member}
+use Rattle.qs_base.specs.declared.identifiers.Tid.{Tid}
+use Rattle.qs_ops.proofs.IndexSteps.{tid_total, same_tid-cmp}
+use Rattle.qs_ops.specs.Alike.{same_cause}
+use Rattle.qs_base.specs.declared.identifiers.Outcome.{Outcome}
+use Rattle.qs_base.specs.declared.identifiers.Outcome.TheVariants as outcomes
+use Rattle.qs_ops.specs.declared.answer.Answer.{Answer}
+use Rattle.qs_ops.specs.declared.answer.Cause.{Cause}
+use Rattle.qs_ops.specs.declared.answer.Cause.TheVariants as causes
+use Rattle.qs_ops.specs.declared.vote.Vote.{Vote}
+use Rattle.qs_book.specs.Book.{BookValue, broken, broken_act, broken_at, effect, is_in_order, find_transaction, find_label, with_transaction, with_files, with_outcome, with_line, after_vote, after_learn}
+use Rattle.qs_book.specs.Clauses.{may_ask, is_vote_due, is_vote, may_decide, broken_outcome, may_learn, is_let_go, is_known}
+use Rattle.qs_book.specs.Maps.{changed_at, changed_value}
+use Rattle.qs_book.specs.Transaction.{TransactionValue, all_served, asked, is_open, part_of, voted, decided, learnt}
+use Rattle.qs_book.specs.declared.entry.Act.{Act}
+use Rattle.qs_book.specs.declared.entry.Act.TheVariants as acts
+use Rattle.qs_book.specs.declared.entry.Entry.{Entry}
+use Rattle.qs_book.specs.declared.state.NodeState.{NodeState}
+use Rattle.qs_book.specs.declared.state.Owner.{Owner}
+use Rattle.qs_book.specs.declared.transaction.Cell.{Cell}
+use Rattle.qs_book.specs.declared.transaction.Cell.TheVariants as cells
+use Rattle.qs_book.specs.declared.transaction.Part.{Part}
+use Rattle.qs_top.specs.Node.{entry, answered, client_0, files_0}
+use Rattle.qs_top.specs.Rest.{AtRest, IsTold, PartAtRest, Resting}
+use Rattle.qs_top.proofs.MapSteps.{lookup_changed, lookup_apart}
+
+-- ---- the book while one transaction is worked on
+
+abbrev pub is_other : Tid → Tid → Bool
+is_other tid q = not (is_at (tid_cmp tid) q)
+
+pub record Working (node : NodeState) (owner : Owner) (tid : Tid) (tx : TransactionValue) (book : BookValue) : Type 0 where
+  pub nodes : book.nodes ≡ node ∷ []
+  pub up : node.up ≡ true
+  pub last : book.node ≡ 0
+  pub owners : slice_get book.owners 0 ≡ Some owner
+  pub found : find_transaction book tid ≡ Some tx
+  pub others : (q : Tid) (t : TransactionValue) → is_at (tid_cmp tid) q ≡ false → find_transaction book q ≡ Some t → AtRest owner q t
+  pub known : (label : List ℕ) (q : Tid) → find_label book label ≡ Some q → IsSome (find_transaction book q)
+
+-- ---- order and node
+
+pub in_order : (book : BookValue) (e : Entry) → book.node ≡ 0 → book.stamp ≤ e.stamp → e.stamp < 2 ^ 62 → is_in_order book e ≡ true
+in_order book e last later low = grind (arith, nat_tests)
+
+pub lawful_here : (book : BookValue) (node : NodeState) (e : Entry) → is_in_order book e ≡ true → slice_get book.nodes e.node.0 ≡ Some node → node.up ≡ true → broken_act book e.node.0 node e.act ≡ None → broken book e ≡ None
+lawful_here book node e order here up lawful = rw (order, here, up) lawful
+
+-- ---- keys
+
+pub own_key : (tid : Tid) → is_at (tid_cmp tid) tid ≡ true
+own_key tid = ap is_eq (tied_itself tid_total tid)
+
+apart : (tid q : Tid) → is_at (tid_cmp tid) q ≡ false → (k : Tid) → is_at (tid_cmp q) k ≡ true → is_at (tid_cmp tid) k ≡ false
+apart tid q other k is =
+    let same : q ≡ k = same_tid-true q k (same_tid-cmp q k ∙ is) in
+    subst (λ x. is_at (tid_cmp tid) x ≡ false) same other
+
+pub found_changed : (book : BookValue) (tid : Tid) (f : TransactionValue → TransactionValue) (tx : TransactionValue) → find_transaction book tid ≡ Some tx → lookup (is_at (tid_cmp tid)) (changed_value (is_at (tid_cmp tid)) f book.transactions) ≡ Some (f tx)
+found_changed book tid f tx found = lookup_changed (is_at (tid_cmp tid)) f book.transactions tx found
+
+pub found_apart : (book : BookValue) (tid q : Tid) (f : TransactionValue → TransactionValue) → is_at (tid_cmp tid) q ≡ false → lookup (is_at (tid_cmp q)) (changed_value (is_at (tid_cmp tid)) f book.transactions) ≡ find_transaction book q
+found_apart book tid q f other = lookup_apart (is_at (tid_cmp tid)) (is_at (tid_cmp q)) (apart tid q other) f book.transactions
+
+-- a transaction is known as before, whatever became of one
+pub known_changed : (book : BookValue) (tid q : Tid) (f : TransactionValue → TransactionValue) (tx : TransactionValue) → find_transaction book tid ≡ Some tx → IsSome (find_transaction book q) → IsSome (lookup (is_at (tid_cmp q)) (changed_value (is_at (tid_cmp tid)) f book.transactions))
+known_changed book tid q f tx found some = by (is_at (tid_cmp tid) q) refl
+  where
+    by : (b : Bool) → is_at (tid_cmp tid) q ≡ b → IsSome (lookup (is_at (tid_cmp q)) (changed_value (is_at (tid_cmp tid)) f book.transactions))
+    by true is =
+        let same : tid ≡ q = same_tid-true tid q (same_tid-cmp tid q ∙ is) in
+        subst (λ x. IsSome (lookup (is_at (tid_cmp x)) (changed_value (is_at (tid_cmp tid)) f book.transactions))) same (rw (found_changed book tid f tx found) refl)
+    by false is = rw (found_apart book tid q f is) some
+
+-- ---- from rest and back
+
+pub working_from : (node : NodeState) (owner : Owner) (tid : Tid) (tx : TransactionValue) (book : BookValue) → Resting node owner book → find_transaction book tid ≡ Some tx → Working node owner tid tx book
+working_from node owner tid tx book r found = record {
+  nodes = r.nodes;
+  up = r.up;
+  last = r.last;
+  owners = r.owners;
+  found = found;
+  others = λ q t other is. r.all q t is;
+  known = r.known;
+}
+
+pub resting_from : (node : NodeState) (owner : Owner) (tid : Tid) (tx : TransactionValue) (book : BookValue) → Working node owner tid tx book → AtRest owner tid tx → Resting node owner book
+resting_from node owner tid tx book w rest = record {
+  nodes = w.nodes;
+  up = w.up;
+  last = w.last;
+  owners = w.owners;
+  known = w.known;
+  all = λ q t found. by q t found (is_at (tid_cmp tid) q) refl;
+}
+  where
+    by : (q : Tid) (t : TransactionValue) → find_transaction book q ≡ Some t → (b : Bool) → is_at (tid_cmp tid) q ≡ b → AtRest owner q t
+    by q t found true is =
+        let same : tid ≡ q = same_tid-true tid q (same_tid-cmp tid q ∙ is) in
+        let mine : find_transaction book q ≡ Some tx = subst (λ x. find_transaction book x ≡ Some tx) same w.found in
+        let equal : tx ≡ t = some_same (sym mine ∙ found) in
+        subst (λ x. AtRest owner q x) equal (subst (λ x. AtRest owner x tx) same rest)
+      where
+        some_same : {A : Type 0} {x y : A} → Some x ≡ Some y → x ≡ y
+        some_same h = cc
+    by q t found false is = w.others q t is found
+
+-- ---- what stands after a change
+
+pub after_change : (node after : NodeState) (owner later : Owner) (tid : Tid) (tx : TransactionValue) (f : TransactionValue → TransactionValue) (book new : BookValue)
+    → Working node owner tid tx book
+    → new.nodes ≡ after ∷ [] → after.up ≡ true → new.node ≡ 0 → slice_get new.owners 0 ≡ Some later → new.labels ≡ book.labels
+    → new.transactions ≡ changed_value (is_at (tid_cmp tid)) f book.transactions
+    → ((q : Tid) (t : TransactionValue) → AtRest owner q t → AtRest later q t)
+    → Working after later tid (f tx) new
+after_change node after owner later tid tx f book new w nodes up last owners labels transactions more = record {
+  nodes = nodes;
+  up = up;
+  last = last;
+  owners = owners;
+  found = rw transactions (found_changed book tid f tx w.found);
+  others = λ q t other found. more q t (w.others q t other (sym (found_apart book tid q f other) ∙ (rw transactions at found)));
+  known = λ label q found. rw transactions (known_changed book tid q f tx w.found (w.known label q (rw labels at found)));
+}
+
+pub same_rest : (owner : Owner) (q : Tid) (t : TransactionValue) → AtRest owner q t → AtRest owner q t
+same_rest owner q t rest = rest
+
+-- a change of the node alone in the list of nodes
+pub nodes_after : (book : BookValue) (node : NodeState) (g : NodeState → NodeState) → book.nodes ≡ node ∷ [] → changed_at 0 g book.nodes ≡ g node ∷ []
+nodes_after book node g nodes = rw nodes refl
+
+-- a change of the first owner
+pub owner_after_change : (owners : List Owner) (owner : Owner) (g : Owner → Owner) → slice_get owners 0 ≡ Some owner → slice_get (changed_at 0 g owners) 0 ≡ Some (g owner)
+owner_after_change [] owner g h = absurd (cc)
+owner_after_change (x ∷ xs) owner g h = let same : x ≡ owner = cc in ap (λ o. Some (g o)) same
+
+-- ---- numbers
+
+pub eq_self : (n : ℕ) → (n == n) ≡ true
+eq_self n = grind (arith, nat_tests)
+
+pub none_below : (n : ℕ) → nat_lt 0 (n + 1) ≡ true
+none_below n = grind (arith, nat_tests)
+
+-- ---- steps
+
+pub ask_lawful : (node : NodeState) (owner : Owner) (tid : Tid) (tx : TransactionValue) (book : BookValue) (stamp : ℕ) → Working node owner tid tx book → book.stamp ≤ stamp → stamp < 2 ^ 62 → may_ask 0 tid tx ≡ true → broken book (entry stamp (acts.Ask tid)) ≡ None
+ask_lawful node owner tid tx book stamp w later low may =
+    let e : Entry = entry stamp (acts.Ask tid) in
+    lawful_here book node e (in_order book e w.last later low) (rw w.nodes refl) w.up (rw (w.found, may) refl)
+
+pub ask_after : (node : NodeState) (owner : Owner) (tid : Tid) (tx : TransactionValue) (book : BookValue) (stamp : ℕ) → Working node owner tid tx book → Working node owner tid (asked tx) (effect book (entry stamp (acts.Ask tid)))
+ask_after node owner tid tx book stamp w =
+    after_change node node owner owner tid tx asked book (effect book (entry stamp (acts.Ask tid))) w w.nodes w.up refl w.owners refl refl (same_rest owner)
+
+pub vote_lawful : (node : NodeState) (owner : Owner) (tid : Tid) (tx : TransactionValue) (book : BookValue) (stamp : ℕ) (vote : Vote) → Working node owner tid tx book → book.stamp ≤ stamp → stamp < 2 ^ 62
+    → is_vote_due 0 tx files_0 (part_of tx files_0) ≡ true → is_vote node.files tid files_0 vote ≡ true
+    → broken book (entry stamp (acts.Vote tid files_0 vote (part_of tx files_0).served)) ≡ None
+vote_lawful node owner tid tx book stamp vote w later low due is =
+    let e : Entry = entry stamp (acts.Vote tid files_0 vote (part_of tx files_0).served) in
+    lawful_here book node e (in_order book e w.last later low) (rw w.nodes refl) w.up (rw (w.found, due, eq_self (part_of tx files_0).served, is) refl)
+
+pub vote_after : (node : NodeState) (owner : Owner) (tid : Tid) (tx : TransactionValue) (book : BookValue) (stamp : ℕ) (vote : Vote) (covers : ℕ) → Working node owner tid tx book
+    → Working (with_files (after_vote vote tid) node) owner tid (voted files_0 vote tx) (effect book (entry stamp (acts.Vote tid files_0 vote covers)))
+vote_after node owner tid tx book stamp vote covers w =
+    after_change node (with_files (after_vote vote tid) node) owner owner tid tx (voted files_0 vote) book (effect book (entry stamp (acts.Vote tid files_0 vote covers))) w
+    (nodes_after book node (with_files (after_vote vote tid)) w.nodes) w.up refl w.owners refl refl (same_rest owner)
+
+-- the owner may be told more, and nothing that it may be told is lost
+pub record TellsMore (owner later : Owner) : Type 0 where
+  pub committed : owner.committed ≡ true → later.committed ≡ true
+  pub aborted : list_any (same_cause causes.Asked) owner.causes ≡ true → list_any (same_cause causes.Asked) later.causes ≡ true
+
+pub told_more : (owner later : Owner) → TellsMore owner later → (q : Tid) (t : TransactionValue) → AtRest owner q t → AtRest later q t
+told_more owner later more q t rest = record {
+  home = rest.home;
+  owned = rest.owned;
+  loans = rest.loans;
+  crossed = rest.crossed;
+  refusals = rest.refusals;
+  served = rest.served;
+  told = by t.cell rest.told;
+}
+  where
+    by : (c : Cell) → IsTold owner t c → IsTold later t c
+    by cells.Open told = told
+    by cells.Commit told = more.committed told
+    by cells.Abort told = (told.0, more.aborted told.1)
+
+any_more : (cs : List Cause) (cause : Cause) → list_any (same_cause causes.Asked) cs ≡ true → list_any (same_cause causes.Asked) (cs ++ cause ∷ []) ≡ true
+any_more [] cause h = absurd (false≢true h)
+any_more (c ∷ cs) cause h = by (same_cause causes.Asked c) (any_more cs cause) h
+  where
+    by : (b : Bool) → (list_any (same_cause causes.Asked) cs ≡ true → list_any (same_cause causes.Asked) (cs ++ cause ∷ []) ≡ true) → (b || list_any (same_cause causes.Asked) cs) ≡ true → (b || list_any (same_cause causes.Asked) (cs ++ cause ∷ [])) ≡ true
+    by true more g = refl
+    by false more g = more g
+
+any_last : (cs : List Cause) → list_any (same_cause causes.Asked) (cs ++ causes.Asked ∷ []) ≡ true
+any_last [] = refl
+any_last (c ∷ cs) = by (same_cause causes.Asked c) (any_last cs)
+  where
+    by : (b : Bool) → list_any (same_cause causes.Asked) (cs ++ causes.Asked ∷ []) ≡ true → (b || list_any (same_cause causes.Asked) (cs ++ causes.Asked ∷ [])) ≡ true
+    by true more = refl
+    by false more = more
+
+pub tells_commit : (owner : Owner) → TellsMore owner (with_outcome outcomes.Commit None owner)
+tells_commit owner = record { committed = λ h. refl; aborted = λ h. h }
+
+pub tells_abort : (owner : Owner) → TellsMore owner (with_outcome outcomes.Abort (Some causes.Asked) owner)
+tells_abort owner = record { committed = λ h. h; aborted = any_more owner.causes causes.Asked }
+
+pub abort_told : (owner : Owner) → list_any (same_cause causes.Asked) (with_outcome outcomes.Abort (Some causes.Asked) owner).causes ≡ true
+abort_told owner = any_last owner.causes
+
+pub decide_lawful : (node : NodeState) (owner : Owner) (tid : Tid) (tx : TransactionValue) (book : BookValue) (stamp : ℕ) (outcome : Outcome) (cause : Option Cause) → Working node owner tid tx book → book.stamp ≤ stamp → stamp < 2 ^ 62
+    → may_decide 0 tid tx ≡ true → broken_outcome tx outcome cause ≡ None
+    → broken book (entry stamp (acts.Decide tid outcome cause)) ≡ None
+decide_lawful node owner tid tx book stamp outcome cause w later low may fits =
+    let e : Entry = entry stamp (acts.Decide tid outcome cause) in
+    lawful_here book node e (in_order book e w.last later low) (rw w.nodes refl) w.up (rw (w.found, may) fits)
+
+pub decide_after : (node : NodeState) (owner : Owner) (tid : Tid) (tx : TransactionValue) (book : BookValue) (stamp : ℕ) (outcome : Outcome) (cause : Option Cause) → Working node owner tid tx book → tx.owner ≡ Some client_0
+    → TellsMore owner (with_outcome outcome cause owner)
+    → Working node (with_outcome outcome cause owner) tid (decided outcome cause tx) (effect book (entry stamp (acts.Decide tid outcome cause)))
+decide_after node owner tid tx book stamp outcome cause w owned more =
+    after_change node node owner (with_outcome outcome cause owner) tid tx (decided outcome cause) book (effect book (entry stamp (acts.Decide tid outcome cause))) w
+    w.nodes w.up refl (rw (w.found, owned) (owner_after_change book.owners owner (with_outcome outcome cause) w.owners)) refl refl (told_more owner (with_outcome outcome cause owner) more)
+
+pub learn_lawful : (node : NodeState) (owner : Owner) (tid : Tid) (tx : TransactionValue) (book : BookValue) (stamp : ℕ) (outcome : Outcome) → Working node owner tid tx book → book.stamp ≤ stamp → stamp < 2 ^ 62
+    → may_learn 0 tx files_0 (part_of tx files_0) outcome ≡ true → is_let_go (part_of tx files_0) ≡ false
+    → broken book (entry stamp (acts.Learn tid files_0 outcome)) ≡ None
+learn_lawful node owner tid tx book stamp outcome w later low may kept =
+    let e : Entry = entry stamp (acts.Learn tid files_0 outcome) in
+    lawful_here book node e (in_order book e w.last later low) (rw w.nodes refl) w.up (rw (w.found, may, kept) refl)
+
+pub learn_after : (node : NodeState) (owner : Owner) (tid : Tid) (tx : TransactionValue) (book : BookValue) (stamp : ℕ) (outcome : Outcome) → Working node owner tid tx book
+    → Working (with_files (after_learn outcome tid) node) owner tid (learnt files_0 outcome tx) (effect book (entry stamp (acts.Learn tid files_0 outcome)))
+learn_after node owner tid tx book stamp outcome w =
+    after_change node (with_files (after_learn outcome tid) node) owner owner tid tx (learnt files_0 outcome) book (effect book (entry stamp (acts.Learn tid files_0 outcome))) w
+    (nodes_after book node (with_files (after_learn outcome tid)) w.nodes) w.up refl w.owners refl refl (same_rest owner)
+
+-- an answer leaves the transactions alone
+pub answer_lawful : (node : NodeState) (owner : Owner) (book : BookValue) (stamp line : ℕ) (answer : Answer) → Resting node owner book → book.stamp ≤ stamp → stamp < 2 ^ 62
+    → nat_lt owner.line line ≡ true → is_known owner answer ≡ true
+    → broken book (answered stamp line answer) ≡ None
+answer_lawful node owner book stamp line answer r later low rises is =
+    let e : Entry = answered stamp line answer in
+    lawful_here book node e (in_order book e r.last later low) (rw r.nodes refl) r.up (rw (r.owners, rises, is) refl)
+
+pub answer_after : (node : NodeState) (owner : Owner) (book : BookValue) (stamp line : ℕ) (answer : Answer) → Resting node owner book
+    → Resting node (with_line line owner) (effect book (answered stamp line answer))
+answer_after node owner book stamp line answer r = record {
+  nodes = r.nodes;
+  up = r.up;
+  last = refl;
+  known = r.known;
+  owners = owner_after_change book.owners owner (with_line line) r.owners;
+  all = λ q t found. told_more owner (with_line line owner) (record { committed = λ h. h; aborted = λ h. h }) q t (r.all q t found);
+}

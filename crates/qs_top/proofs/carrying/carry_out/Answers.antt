@@ -1,0 +1,17 @@
+use Rattle.std.proofs.Common.{◌≡◌, ◌++◌, ◌∙◌, List, ap}
+use Rattle.qs_book.specs.Book.{book_after}
+use Rattle.qs_book.specs.declared.entry.Entry.{Entry}
+use Rattle.qs_top.proofs.Ready.{makes_lawful, makes_ready}
+use Rattle.qs_top.proofs.carrying.carry_out.Goals as goal
+
+pub take_in-requires : goal.take_in-requires
+take_in-requires c =
+    rw c.as_slice.ensures (makes_lawful c.args.script.now c.args.journal.now.items c.args.book.now c.args.line.now c.args.rest.now c.in_ok-entries.entries c.requires c.in_ok-entries.ensures)
+
+pub returns : goal.returns
+returns c =
+    let items : c.append.new.self.items ≡ c.args.journal.now.items ++ c.in_ok-entries.entries =
+    c.in_ok-append.ensures.items ∙ ap (λ (l : List Entry). c.args.journal.now.items ++ l) c.into_vec.ensures in
+    let book : c.take_in.new.book ≡ book_after c.args.book.now c.in_ok-entries.entries =
+    c.in_ok-take_in.ensures ∙ ap (λ (l : List Entry). book_after c.args.book.now l) c.as_slice.ensures in
+    rw (items, book) (makes_ready c.args.script.now c.args.journal.now.items c.args.book.now c.args.line.now c.args.rest.now c.in_ok-entries.entries c.requires c.in_ok-entries.ensures)

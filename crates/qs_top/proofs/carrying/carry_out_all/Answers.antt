@@ -1,0 +1,6 @@
+use Rattle.qs_top.proofs.Ready.{ready_start}
+use Rattle.qs_top.proofs.carrying.carry_out_all.Goals as goal
+
+pub loop-rest-init : goal.loop-rest-init
+loop-rest-init c =
+    rw (c.in_ok-book.ensures, c.new-journal.ensures.items, c.as_slice-rest.ensures) (ready_start c.args.script.now c.requires.fits c.requires.seated)

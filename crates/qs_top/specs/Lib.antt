@@ -1,0 +1,4 @@
+pub mod Carrying
+pub mod Node
+pub mod Rest
+pub mod Run

@@ -1,0 +1,87 @@
+//! A script is carried out command by command, and every entry is taken into the book.
+ghost use Rattle.std.specs.Prelude.{◌≡◌, [], ◌∷◌, false, None, OnOk, IfOk};
+ghost use Rattle.qs_book.specs.Book.{IsLawful, book_after, broken, effect};
+ghost use Rattle.qs_text.specs.Fits.{Fits, IsSeated};
+ghost use Rattle.qs_top.specs.Carrying.{Makes, Ready};
+
+use crate::node::{NODE, entries_of};
+use qs_base::{List, NoMemory};
+use qs_book::{Book, Entry, ScriptLine};
+use qs_text::Script;
+use std::alloc::Global;
+
+/// The stamps end below 2^62, and a command takes three at most.
+const LAST_START: u64 = (1 << 62) - 4;
+
+/// Takes entries in that are lawful one after the other.
+fn take_in(book: &mut Book, entries: &[Entry]) -> Result<(), NoMemory>
+    requires { IsLawful book.old entries.now }
+    ensures { OnOk result (book.new ≡ book_after book.old entries.now) }
+{
+    let mut rest = entries;
+    while let [entry, more @ ..] = rest {
+        take_one(book, entry)?;
+        rest = more;
+    }
+    Ok(())
+}
+
+/// Takes a lawful entry in.
+fn take_one(book: &mut Book, entry: &Entry) -> Result<(), NoMemory>
+    requires { broken book.old entry.now ≡ None }
+    ensures { OnOk result (book.new ≡ effect book.old entry.now) }
+{
+    // What is lawful is refused for want of memory alone.
+    let Ok(()) = book.apply(entry) else {
+        return Err(NoMemory);
+    };
+    Ok(())
+}
+
+/// The entries that a command makes in the book as it stands.
+fn entries_for(alloc: Global, book: &Book, line: &ScriptLine) -> Result<List<Entry>, NoMemory>
+    ensures { IfOk result (λ list. Makes book.now line.now list) }
+{
+    let Some(node) = book.state(NODE) else {
+        return Err(NoMemory);
+    };
+    if book.stamp() > LAST_START {
+        return Err(NoMemory);
+    }
+    entries_of(alloc, book, node, line)
+}
+
+/// Carries out the next command of the script, after which these are left.
+fn carry_out(
+    alloc: Global,
+    script: &Script,
+    line: &ScriptLine,
+    rest: &[ScriptLine],
+    book: &mut Book,
+    journal: &mut Vec<Entry>,
+) -> Result<(), NoMemory>
+    requires { Ready script.now journal.old.items book.old (line.now ∷ rest.now) }
+    ensures { OnOk result (Ready script.now journal.new.items book.new rest.now) }
+{
+    let entries = entries_for(alloc, book, line)?;
+    take_in(book, entries.as_slice())?;
+    journal.append(&mut entries.into_vec())?;
+    Ok(())
+}
+
+/// Carries out all commands of a script that was read, over empty logs; answers the journal, and the
+/// book after it.
+pub fn carry_out_all(alloc: Global, script: &Script) -> Result<(List<Entry>, Book), NoMemory>
+    requires fits { Fits (λ label. false) 0 script.now.lines }
+    requires seated { IsSeated script.now }
+    ensures { IfOk result (λ done. Ready script.now done.0 done.1 []) }
+{
+    let mut book = Book::over_empty_logs(alloc, &[1])?;
+    let mut journal = Vec::new(alloc);
+    let mut rest = script.lines.as_slice();
+    while let [line, more @ ..] = rest {
+        carry_out(alloc, script, line, more, &mut book, &mut journal)?;
+        rest = more;
+    }
+    Ok((List::from_vec(journal), book))
+}

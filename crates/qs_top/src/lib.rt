@@ -1,0 +1,10 @@
+//! The top call: a script is read, run and printed.
+#![tactic(auto)]
+
+mod carrying;
+mod node;
+mod outcome;
+mod running;
+
+pub use outcome::Run;
+pub use running::run;

@@ -1,0 +1,14 @@
+//! What a run answers.
+
+use qs_base::List;
+use qs_book::Entry;
+use qs_text::Status;
+
+/// How a run ended, and what happened in it.
+#[derive(Debug, Drop)]
+pub struct Run {
+    pub status: Status,
+    /// All entries, in the order in which they were made. It is empty but on `Finished` and
+    /// `WriteFault`.
+    pub journal: List<Entry>,
+}
