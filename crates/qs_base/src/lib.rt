@@ -5,6 +5,8 @@ mod bytes;
 mod identifiers;
 mod list;
 mod memory;
+#[cfg(test)]
+mod tests;
 
 pub use bytes::Bytes;
 pub use identifiers::{Class, ClientNo, Member, NodeNo, Outcome, ServerNo, Stamp, Tid};
