@@ -5,6 +5,8 @@ mod carrying;
 mod node;
 mod outcome;
 mod running;
+#[cfg(test)]
+mod tests;
 
 pub use outcome::Run;
 pub use running::run;

@@ -1,0 +1,119 @@
+//! Whole runs: words and a script go in, a status and an output come out.
+
+use crate::run;
+use qs_base::NoMemory;
+use qs_io::{MemSink, MemSource};
+use std::alloc::Global;
+use std::test::Fail;
+use std::thread::Threads;
+
+/// Runs a script and answers the number of the status.
+fn ran<R: Threads + Sync>(
+    rt: &R,
+    alloc: Global,
+    words: &[&str],
+    script: &str,
+    sink: &mut MemSink,
+) -> Result<u8, NoMemory> {
+    let mut owned = Vec::new(alloc);
+    for word in words {
+        owned.push(String::from_str(alloc, word)?)?;
+    }
+    let mut source = MemSource::new(alloc, script.as_bytes(), &[])?;
+    Ok(
+        run(rt, alloc, owned.as_slice(), &mut source, sink)
+            .status
+            .number(),
+    )
+}
+
+fn wide_sink(alloc: Global) -> Result<MemSink, NoMemory> {
+    MemSink::new(alloc, 4096, 4096, &[])
+}
+
+const WORDS: [&str; 4] = ["run", "1", "--serial", "7"];
+
+#[test]
+fn rows_end_as_they_should(rt: HostRuntime) -> Result<(), Fail> {
+    let rows = [
+        (
+            "client 0 0\n0 begin a\n0 put a 0 f hello\n0 commit a\n",
+            "client 0\n2 ok\n3 ok\n4 committed\nnode 0 inc 1\nfile f hello\ntotals begun 1 committed 1 aborted 0 restarts 0\n",
+        ),
+        (
+            "client 0 0\n0 begin a\n0 put a 0 f hello\n0 abort a\n",
+            "client 0\n2 ok\n3 ok\n4 aborted asked\nnode 0 inc 1\ntotals begun 1 committed 0 aborted 1 restarts 0\n",
+        ),
+        (
+            "client 0 0\n0 begin a\n0 put a 0 f x\n0 get a 0 f\n0 abort a\n0 begin b\n0 get b 0 f\n0 commit b\n",
+            "client 0\n2 ok\n3 ok\n4 value x\n5 aborted asked\n6 ok\n7 absent\n8 committed\nnode 0 inc 1\ntotals begun 2 committed 1 aborted 1 restarts 0\n",
+        ),
+        (
+            "client 0 0\n0 begin a\n0 begin b\n0 put a 0 f x\n0 put b 0 f y\n0 commit a\n0 put b 0 f y\n0 put a 0 g z\n0 abort b\n0 commit a\n",
+            "client 0\n2 ok\n3 ok\n4 ok\n5 busy a\n6 committed\n7 ok\n8 ended\n9 aborted asked\n10 committed\nnode 0 inc 1\nfile f x\ntotals begun 2 committed 1 aborted 1 restarts 0\n",
+        ),
+        (
+            "",
+            "node 0 inc 1\ntotals begun 0 committed 0 aborted 0 restarts 0\n",
+        ),
+    ];
+    for (script, output) in rows {
+        let mut sink = wide_sink(rt.alloc())?;
+        assert_eq!(rt; ran(&rt, rt.alloc(), &WORDS, script, &mut sink)?, 0);
+        assert_eq!(rt; sink.given(), output.as_bytes());
+    }
+    Ok(())
+}
+
+#[test]
+fn bad_input_gives_nothing(rt: HostRuntime) -> Result<(), Fail> {
+    let rows = [
+        ("client 0 0\n0 begin a\n", 3),
+        ("0 begin a\n", 3),
+        ("client 0 0\n0 put a 0 f x\n", 3),
+        ("client 0 0\nclient 0 0\n", 3),
+        ("client 0 0\n0 begin a\n0 begin a\n0 commit a\n", 3),
+    ];
+    for (script, number) in rows {
+        let mut sink = wide_sink(rt.alloc())?;
+        assert_eq!(rt; ran(&rt, rt.alloc(), &WORDS, script, &mut sink)?, number);
+        assert_eq!(rt; sink.given().len(), 0);
+    }
+    let mut sink = wide_sink(rt.alloc())?;
+    assert_eq!(rt;
+        ran(
+            &rt,
+            rt.alloc(),
+            &["run", "01", "--serial", "7"],
+            "",
+            &mut sink
+        )?,
+        2
+    );
+    assert_eq!(rt; sink.given().len(), 0);
+    Ok(())
+}
+
+#[test]
+fn faults_of_the_outside_are_told(rt: HostRuntime) -> Result<(), Fail> {
+    let script = "client 0 0\n0 begin a\n0 put a 0 f hello\n0 commit a\n";
+    let alloc = rt.alloc();
+    let mut words = Vec::new(alloc);
+    for word in WORDS {
+        words.push(String::from_str(alloc, word)?)?;
+    }
+    let mut source = MemSource::new(alloc, script.as_bytes(), &[1])?;
+    let mut sink = wide_sink(alloc)?;
+    assert_eq!(rt;
+        run(&rt, alloc, words.as_slice(), &mut source, &mut sink)
+            .status
+            .number(),
+        4
+    );
+    assert_eq!(rt; sink.given().len(), 0);
+
+    let mut sink = MemSink::new(alloc, 1_048_576, 16, &[2])?;
+    assert_eq!(rt; ran(&rt, rt.alloc(), &WORDS, script, &mut sink)?, 5);
+    assert_eq!(rt; sink.given(), b"client 0\n2 ok\n3 ".as_slice());
+    Ok(())
+}
