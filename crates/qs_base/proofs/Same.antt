@@ -1,5 +1,5 @@
 -- What a test for the same bytes, the same transaction or the same member tells, and that each is the same as itself.
-use Rattle.std.proofs.Common.{◌≡◌, ℕ, Bool, true, List, refl, arith, nat_eq}
+use Rattle.std.proofs.Common.{◌≡◌, ℕ, true, List, refl, arith}
 use Rattle.std.proofs.lemmas.Bool.Decides.{nat_tests}
 use Rattle.std.specs.Cmp.Lexicographic.{pointwise, pointwise_decides, bytes_decides}
 use Rattle.qs_base.specs.Order.{same_bytes, same_tid, same_member}

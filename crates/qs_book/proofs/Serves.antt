@@ -1,5 +1,5 @@
 -- A lawful serve has the reply that is due.
-use Rattle.std.proofs.Common.{◌≡◌, ◌≢◌, ℕ, Bool, true, false, ◌&&◌, not, List, Option, Some, None, if◌then◌else◌, refl, sym, ap, subst, ◌∙◌, arith, rules, ◌==◌}
+use Rattle.std.proofs.Common.{◌≡◌, ℕ, Bool, true, false, ◌&&◌, not, List, Option, Some, None, if◌then◌else◌, refl, ap, arith, ◌==◌}
 use Rattle.std.proofs.lemmas.Bool.{false≢true}
 use Rattle.std.proofs.lemmas.Bool.Decides.{nat_tests}
 use Rattle.qs_base.specs.declared.identifiers.Member.{Member}
@@ -11,7 +11,7 @@ use Rattle.qs_ops.specs.declared.operation.Op.{Op}
 use Rattle.qs_ops.specs.declared.reply.Reply.{Reply}
 use Rattle.qs_ops.specs.declared.reply.Reply.TheVariants.{Done, Value, Left, Names, Notes, Busy, Absent, TooMany, TooLong}
 use Rattle.qs_book.specs.Book.{BookValue, broken_at, find_transaction, IsRepliedAt, IsReplied, request_of, link_from}
-use Rattle.qs_book.specs.Clauses.{is_reply, broken_serve, broken_request, standing_request, is_standing_at}
+use Rattle.qs_book.specs.Clauses.{is_reply, broken_serve, broken_request, is_standing_at}
 use Rattle.qs_book.specs.Transaction.{TransactionValue, request_at, learnt_abort}
 use Rattle.qs_base.proofs.Same.{same_bytes-true, same_lists-true, same_tid-true}
 use Rattle.qs_book.specs.declared.entry.Act.TheVariants as acts

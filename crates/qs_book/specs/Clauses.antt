@@ -1,6 +1,6 @@
 -- The clauses of the lawful step: for each kind of entry the first clause that it breaks, by number.
 -- `here` is the entry's node, `node` what the machine keeps of it.
-use Rattle.std.specs.Prelude.{ℕ, ◌+◌, ◌==◌, Bool, true, false, not, ◌&&◌, ◌||◌, List, [], ◌∷◌, Option, Some, None, is_none, is_some, nat_lt, if◌then◌else◌}
+use Rattle.std.specs.Prelude.{ℕ, ◌+◌, ◌==◌, Bool, true, false, not, ◌&&◌, ◌||◌, List, [], ◌∷◌, Option, Some, None, is_none, nat_lt, if◌then◌else◌}
 use Rattle.std.specs.List.{list_any, list_all}
 use Rattle.std.specs.Map.{lookup}
 use Rattle.std.specs.BTreeMap.{is_at}
@@ -9,7 +9,6 @@ use Rattle.qs_base.specs.declared.identifiers.ClientNo.{ClientNo}
 use Rattle.qs_base.specs.declared.identifiers.Member.{Member}
 use Rattle.qs_base.specs.declared.identifiers.Outcome.{Outcome}
 use Rattle.qs_base.specs.declared.identifiers.Outcome.TheVariants as outcomes
-use Rattle.qs_base.specs.declared.identifiers.ServerNo.{ServerNo}
 use Rattle.qs_base.specs.declared.identifiers.Tid.{Tid}
 use Rattle.qs_ops.specs.Alike.{same_reply, same_reason, same_cause}
 use Rattle.qs_ops.specs.Files.{FilesValue, reply_to, share_of, has_changes}
@@ -26,7 +25,6 @@ use Rattle.qs_ops.specs.declared.vote.Vote.TheVariants as votes
 use Rattle.qs_book.specs.Transaction.{TransactionValue, class_of, is_two_phase, learns_outcome, has_loan, is_open, is_commit, is_outcome, next_number, request_at, part_of, all_served, learnt_abort}
 use Rattle.qs_book.specs.declared.state.NodeState.{NodeState}
 use Rattle.qs_book.specs.declared.state.Owner.{Owner}
-use Rattle.qs_book.specs.declared.transaction.Link.{Link}
 use Rattle.qs_book.specs.declared.transaction.Loan.{Loan}
 use Rattle.qs_book.specs.declared.transaction.Part.{Part}
 use Rattle.qs_book.specs.declared.transaction.Refusal.{Refusal}

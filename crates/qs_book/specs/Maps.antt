@@ -1,5 +1,5 @@
 -- Changes of one value in a list, and of one in a map.
-use Rattle.std.specs.Prelude.{ℕ, Bool, List, Option, Some, None, slice_get, slice_set}
+use Rattle.std.specs.Prelude.{ℕ, Bool, List, Some, None, slice_get, slice_set}
 use Rattle.std.specs.Map.{lookup, set_value}
 
 -- the item at a place is changed; nothing where there is none

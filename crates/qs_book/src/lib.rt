@@ -10,6 +10,8 @@ mod member_clauses;
 mod requests;
 mod script_line;
 mod state;
+#[cfg(test)]
+mod tests;
 mod transaction;
 
 pub use book::{Book, BookFault};
