@@ -5,10 +5,9 @@ use qs_io::{StdSink, StdSource};
 use qs_text::{Status, status_line};
 use qs_top::run;
 use std::alloc::Global;
-use std::env;
-use std::io;
 use std::process::ExitCode;
 use std::rt::Env;
+use std::{env, io};
 
 /// The words after the program's name.
 fn words_of<R: Env + AllocGlobal>(rt: &R) -> io::Result<Vec<String>> {

@@ -1,5 +1,5 @@
 -- Every command that may stand is carried out, whatever its transaction came to.
-use Rattle.std.proofs.Common.{◌≡◌, ◌≤◌, ◌<◌, ◌^◌, ℕ, ◌+◌, ◌==◌, Bool, true, false, not, ◌&&◌, List, [], ◌∷◌, length, Option, Some, None, IsSome, refl, sym, ap, ◌∙◌, subst, arith, nat_lt, nat_le, ◌⊎◌, inl, inr, if◌then◌else◌}
+use Rattle.std.proofs.Common.{◌≡◌, ◌<◌, ◌^◌, ℕ, ◌+◌, Bool, true, false, not, ◌&&◌, List, [], Option, Some, None, refl, sym, ap, ◌∙◌, subst, nat_lt, inl, inr}
 use Rattle.std.proofs.lemmas.Bool.{false≢true}
 use Rattle.std.specs.Option.{is_some}
 use Rattle.qs_base.specs.Order.{same_member}
@@ -8,7 +8,6 @@ use Rattle.qs_base.specs.declared.identifiers.Member.{Member}
 use Rattle.qs_base.specs.declared.identifiers.Tid.{Tid}
 use Rattle.qs_ops.specs.Files.{reply_to, share_of, has_changes}
 use Rattle.qs_ops.specs.declared.answer.Answer.TheVariants as answers
-use Rattle.qs_ops.specs.declared.answer.Cause.{Cause}
 use Rattle.qs_ops.specs.declared.answer.Cause.TheVariants as causes
 use Rattle.qs_ops.specs.declared.operation.Op.{Op}
 use Rattle.qs_ops.specs.declared.operation.Op.TheVariants as ops
@@ -27,13 +26,13 @@ use Rattle.qs_book.specs.declared.transaction.Cell.TheVariants as cells
 use Rattle.qs_book.specs.declared.transaction.Part.{Part}
 use Rattle.qs_text.specs.Fits.{FitsLine, is_plain, is_plain_op}
 use Rattle.qs_text.specs.Lines.{files_of_node_0}
-use Rattle.qs_text.specs.Script.{is_begin, may_name}
-use Rattle.qs_text.specs.Kept.{Progresses, due_answer, labelled}
+use Rattle.qs_text.specs.Script.{may_name}
+use Rattle.qs_text.specs.Kept.{Progresses, labelled}
 use Rattle.qs_text.specs.declared.script.Script.{Script}
-use Rattle.qs_top.specs.Node.{client_0, files_0, link_0, next_tid, entries_of, of_labelled, of_known, of_commit, of_abort, of_request, committing, aborting, requesting, aborted_answer, answer_entries, begin_entries}
+use Rattle.qs_top.specs.Node.{files_0, link_0, next_tid, entries_of, of_labelled, of_known, of_request, committing, aborting, requesting, aborted_answer, answer_entries, begin_entries}
 use Rattle.qs_top.proofs.Chain.{Turn, Carried, labelled_is, committed_answer, ended_answer}
 use Rattle.qs_top.proofs.Chain as chain
-use Rattle.qs_top.proofs.Flows.{Given, only_answered, empty_commit, read_commit, commit, empty_abort, abort, open_parts}
+use Rattle.qs_top.proofs.Flows.{Given, only_answered, empty_commit, read_commit, commit, empty_abort, abort}
 use Rattle.qs_top.proofs.MoreFlows.{request, begin}
 use Rattle.qs_top.specs.Rest.{Resting, AtRest, IsTold, PartAtRest, no_part, one_part}
 

@@ -1,28 +1,21 @@
 -- Entries one after the other: each lawful, each kept to the script, with the book and the progress that they leave.
-use Rattle.std.proofs.Common.{◌≡◌, ℕ, ◌+◌, ◌==◌, Bool, true, false, ◌||◌, List, [], ◌∷◌, Option, Some, None, refl, sym, ap, ◌∙◌, subst, ◌⊎◌, inl, inr}
-use Rattle.std.proofs.lemmas.Bool.{false≢true}
+use Rattle.std.proofs.Common.{◌≡◌, ℕ, ◌+◌, ◌==◌, false, ◌||◌, List, [], ◌∷◌, Option, Some, None, refl, sym, ap, subst, ◌⊎◌, inl, inr}
 use Rattle.std.specs.Option.{is_some}
 use Rattle.qs_base.specs.declared.identifiers.Member.{Member}
 use Rattle.qs_base.specs.declared.identifiers.Tid.{Tid}
 use Rattle.qs_ops.specs.Operations.{answer_of}
-use Rattle.qs_ops.specs.declared.answer.Answer.{Answer}
 use Rattle.qs_ops.specs.declared.answer.Answer.TheVariants as answers
 use Rattle.qs_ops.specs.declared.answer.Cause.TheVariants as causes
-use Rattle.qs_ops.specs.declared.operation.Op.{Op}
 use Rattle.qs_ops.specs.declared.reply.Reply.{Reply}
-use Rattle.qs_book.specs.Book.{BookValue, broken, effect, book_after, IsLawful, find_label, find_transaction}
+use Rattle.qs_book.specs.Book.{BookValue, broken, effect, find_label, find_transaction}
 use Rattle.qs_book.specs.Transaction.{TransactionValue}
-use Rattle.qs_book.specs.declared.entry.Act.TheVariants as acts
 use Rattle.qs_book.specs.declared.entry.Entry.{Entry}
-use Rattle.qs_book.specs.declared.script_line.Command.{Command}
-use Rattle.qs_book.specs.declared.script_line.Command.TheVariants as commands
 use Rattle.qs_book.specs.declared.script_line.ScriptLine.{ScriptLine}
 use Rattle.qs_book.specs.declared.state.NodeState.{NodeState}
 use Rattle.qs_book.specs.declared.state.Owner.{Owner}
-use Rattle.qs_book.specs.declared.transaction.Cell.{Cell}
 use Rattle.qs_book.specs.declared.transaction.Cell.TheVariants as cells
 use Rattle.qs_text.specs.Fits.{begins_line}
-use Rattle.qs_text.specs.Kept.{Made, nothing, issued, Progress, Progresses, with_progress, makes, owner_makes, owner_of, progress_after, progress_of, Keeps, IsKept, current, seat_of, CarriesOut, CarriesOutFor, OwnerCarriesOut, Answers, due_answer, outcome_answer, request_answer, made_reply, labelled}
+use Rattle.qs_text.specs.Kept.{Made, nothing, issued, Progress, Progresses, with_progress, makes, owner_makes, owner_of, progress_after, progress_of, Keeps, IsKept, current, seat_of, CarriesOut, CarriesOutFor, OwnerCarriesOut, outcome_answer, request_answer, labelled}
 use Rattle.qs_text.specs.declared.script.Script.{Script}
 use Rattle.qs_top.specs.Carrying.{Chain}
 use Rattle.qs_top.specs.Node.{client_0}

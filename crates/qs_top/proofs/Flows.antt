@@ -1,19 +1,15 @@
 -- Each command of client 0, carried out from rest to rest.
-use Rattle.std.proofs.Common.{◌≡◌, ◌≤◌, ◌<◌, ◌^◌, ℕ, ◌+◌, ◌==◌, Bool, true, false, not, ◌&&◌, ◌||◌, List, [], ◌∷◌, Option, Some, None, refl, sym, ap, ◌∙◌, subst, arith, nat_lt, ◌⊎◌, inl, inr}
-use Rattle.std.proofs.lemmas.Bool.{false≢true}
+use Rattle.std.proofs.Common.{◌≡◌, ◌≤◌, ◌<◌, ◌^◌, ℕ, ◌+◌, ◌==◌, Bool, true, false, ◌||◌, List, [], ◌∷◌, Some, None, refl, ap, ◌∙◌, subst, arith, nat_lt}
 use Rattle.std.specs.Option.{is_some}
 use Rattle.qs_base.specs.declared.identifiers.Member.{Member}
 use Rattle.qs_base.specs.declared.identifiers.Outcome.TheVariants as outcomes
 use Rattle.qs_base.specs.declared.identifiers.Tid.{Tid}
-use Rattle.qs_ops.specs.Files.{reply_to, share_of, has_changes}
-use Rattle.qs_ops.specs.Operations.{answer_of}
+use Rattle.qs_ops.specs.Files.{share_of, has_changes}
 use Rattle.qs_ops.specs.declared.answer.Answer.{Answer}
 use Rattle.qs_ops.specs.declared.answer.Answer.TheVariants as answers
 use Rattle.qs_ops.specs.declared.answer.Cause.TheVariants as causes
-use Rattle.qs_ops.specs.declared.operation.Op.{Op}
-use Rattle.qs_ops.specs.declared.reply.Reply.{Reply}
 use Rattle.qs_ops.specs.declared.vote.Vote.TheVariants as votes
-use Rattle.qs_book.specs.Book.{BookValue, broken, effect, book_after, find_label, find_transaction, with_files, with_outcome, with_line, after_vote, after_learn}
+use Rattle.qs_book.specs.Book.{BookValue, effect, find_label, find_transaction, with_files, with_outcome, with_line, after_vote, after_learn}
 use Rattle.qs_book.specs.Clauses.{is_known, is_let_go, may_ask, may_decide, may_learn, is_vote_due, broken_outcome}
 use Rattle.qs_book.specs.Transaction.{TransactionValue, asked, voted, decided, learnt, part_of}
 use Rattle.qs_book.specs.declared.entry.Act.TheVariants as acts
@@ -23,7 +19,6 @@ use Rattle.qs_book.specs.declared.script_line.Command.TheVariants as commands
 use Rattle.qs_book.specs.declared.script_line.ScriptLine.{ScriptLine}
 use Rattle.qs_book.specs.declared.state.NodeState.{NodeState}
 use Rattle.qs_book.specs.declared.state.Owner.{Owner}
-use Rattle.qs_book.specs.declared.transaction.Cell.{Cell}
 use Rattle.qs_book.specs.declared.transaction.Cell.TheVariants as cells
 use Rattle.qs_book.specs.declared.transaction.Part.{Part}
 use Rattle.qs_text.specs.Fits.{begins_line}
@@ -33,9 +28,9 @@ use Rattle.qs_text.specs.Kept as kept
 use Rattle.qs_text.specs.declared.script.Script.{Script}
 use Rattle.qs_top.specs.Node.{client_0, files_0, entry, answered, answer_entries, empty_commit_entries, read_commit_entries, commit_entries, empty_abort_entries, abort_entries}
 use Rattle.qs_top.specs.Carrying.{Chain}
-use Rattle.qs_top.proofs.Chain.{no_more, then_more, Turn, Carried, answered_0, same_others, owner_carries, owner_made, labelled_is, committed_answer, aborted_answer, ended_answer}
+use Rattle.qs_top.proofs.Chain.{no_more, then_more, Turn, Carried, answered_0, same_others, owner_carries, owner_made, labelled_is, committed_answer, aborted_answer}
 use Rattle.qs_top.proofs.Steps.{Working, working_from, resting_from, none_below, eq_self, ask_lawful, ask_after, vote_lawful, vote_after, decide_lawful, decide_after, learn_lawful, learn_after, answer_lawful, answer_after, tells_commit, tells_abort, abort_told}
-use Rattle.qs_top.specs.Rest.{Resting, AtRest, IsTold, PartAtRest}
+use Rattle.qs_top.specs.Rest.{Resting, AtRest}
 
 -- ---- the end of each command
 

@@ -1,7 +1,6 @@
 -- A request and a begin of client 0, carried out from rest to rest.
-use Rattle.std.proofs.Common.{◌≡◌, ◌≤◌, ◌<◌, ◌^◌, ℕ, ◌+◌, ◌-◌, ◌==◌, Bool, true, false, not, ◌&&◌, ◌||◌, List, [], ◌∷◌, Option, Some, None, IsSome, refl, sym, ap, ◌∙◌, subst, arith, nat_lt, slice_get, if◌then◌else◌}
+use Rattle.std.proofs.Common.{◌≡◌, ◌≤◌, ◌<◌, ◌^◌, ℕ, ◌+◌, ◌==◌, Bool, true, false, ◌&&◌, ◌||◌, List, Option, Some, None, IsSome, refl, sym, ap, ◌∙◌, subst, arith, nat_lt, slice_get, if◌then◌else◌}
 use Rattle.std.proofs.lemmas.Bool.{false≢true}
-use Rattle.std.proofs.lemmas.Bool.Decides.{nat_tests}
 use Rattle.std.proofs.lemmas.Cmp.{tied_itself}
 use Rattle.std.proofs.lemmas.Map.Lookups.{exact_bytes}
 use Rattle.std.specs.BTreeMap.{insert_entry, is_at}
@@ -9,7 +8,7 @@ use Rattle.std.specs.Cmp.Lexicographic.{texts_ties, nat_list_cmp_total}
 use Rattle.std.specs.List.{list_any}
 use Rattle.std.specs.Map.{lookup}
 use Rattle.std.specs.Option.{is_some}
-use Rattle.qs_base.specs.Order.{bytes_cmp, same_bytes, tid_cmp, same_tid, same_member}
+use Rattle.qs_base.specs.Order.{bytes_cmp, same_bytes, tid_cmp}
 use Rattle.qs_base.proofs.Same.{same_bytes-self, same_bytes-true, same_tid-self, same_tid-true}
 use Rattle.qs_base.specs.declared.identifiers.Member.{Member}
 use Rattle.qs_base.specs.declared.identifiers.Tid.{Tid}
@@ -39,12 +38,11 @@ use Rattle.qs_text.specs.Kept.{Made, Progress, Progresses, with_progress, makes,
 use Rattle.qs_text.specs.Kept as kept
 use Rattle.qs_text.specs.declared.script.Script.{Script}
 use Rattle.qs_top.specs.Node.{client_0, files_0, issuer_0, link_0, node_0, next_tid, entry, answered, begin_entries, request_entries}
-use Rattle.qs_top.specs.Carrying.{Chain}
-use Rattle.qs_top.proofs.Chain.{no_more, then_more, Turn, Carried, answered_0, same_others, carries, carries_for, labelled_is, reply_answer}
+use Rattle.qs_top.proofs.Chain.{then_more, Turn, Carried, answered_0, carries, carries_for, labelled_is, reply_answer}
 use Rattle.qs_top.proofs.Flows.{Given, answer_chain, carried}
 use Rattle.qs_top.proofs.MapSteps.{lookup_put, lookup_put_apart}
 use Rattle.qs_top.proofs.Requests.{request_of_0, issue_lawful, issue_after, serve_lawful, serve_after, rest_after_serve}
-use Rattle.qs_top.proofs.Steps.{Working, working_from, resting_from, lawful_here, in_order, nodes_after, eq_self, answer_lawful, answer_after, own_key}
+use Rattle.qs_top.proofs.Steps.{Working, working_from, resting_from, lawful_here, in_order, nodes_after, eq_self, answer_after, own_key}
 use Rattle.qs_top.specs.Rest.{Resting, AtRest, IsTold, PartAtRest, no_part, one_part}
 
 -- ---- a request

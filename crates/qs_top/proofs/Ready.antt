@@ -1,17 +1,13 @@
 -- A script is run command by command: what holds between two of them, at the start, and at the end.
-use Rattle.std.proofs.Common.{zero, suc, ◌≡◌, ◌<◌, ◌^◌, ℕ, ◌+◌, ◌==◌, Bool, true, false, ◌||◌, ◌&&◌, List, [], ◌∷◌, ◌++◌, length, drop, filter, Option, Some, None, refl, sym, ap, ◌∙◌, subst, arith, nat_lt, ◌⊎◌, inl, inr, slice_get, if◌then◌else◌}
-use Rattle.std.proofs.lemmas.Bool.{false≢true}
+use Rattle.std.proofs.Common.{zero, suc, ◌≡◌, ◌<◌, ◌^◌, ℕ, ◌+◌, ◌==◌, Bool, true, false, ◌||◌, List, [], ◌∷◌, ◌++◌, length, drop, filter, Some, refl, sym, ap, ◌∙◌, subst, arith, inl, inr, slice_get, if◌then◌else◌}
 use Rattle.std.proofs.lemmas.Bool.Decides.{nat_tests}
 use Rattle.std.specs.Option.{is_some}
-use Rattle.qs_book.specs.Book.{BookValue, book_after, broken, effect, find_label, first_book, fresh_node, no_owner, IsLawful}
+use Rattle.qs_book.specs.Book.{BookValue, book_after, effect, find_label, fresh_node, no_owner, IsLawful}
 use Rattle.qs_book.specs.declared.entry.Entry.{Entry}
 use Rattle.qs_book.specs.declared.script_line.ScriptLine.{ScriptLine}
-use Rattle.qs_book.specs.declared.state.NodeState.{NodeState}
-use Rattle.qs_book.specs.declared.state.Owner.{Owner}
-use Rattle.qs_text.specs.Fits.{Fits, FitsLine, IsSeated, begins_line}
-use Rattle.qs_text.specs.Kept.{nothing, Progress, Progresses, at_start, commands_of, current, seat_of, IsAnswered, IsKept, progress_after, progress_of}
+use Rattle.qs_text.specs.Fits.{Fits, IsSeated, begins_line}
+use Rattle.qs_text.specs.Kept.{Progress, Progresses, at_start, commands_of, IsAnswered, IsKept, progress_after, progress_of}
 use Rattle.qs_text.specs.declared.script.Script.{Script}
-use Rattle.qs_text.specs.declared.script.Seat.{Seat}
 use Rattle.qs_top.specs.Node.{entries_of}
 use Rattle.qs_top.proofs.CarriedOut.{carried_out}
 use Rattle.qs_top.proofs.Chain.{Carried, Turn, no_more}

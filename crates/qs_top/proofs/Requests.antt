@@ -1,11 +1,10 @@
 -- A request of one transaction at the only node: issued, and then served.
-use Rattle.std.proofs.Common.{◌≡◌, ◌≢◌, ◌≤◌, ◌<◌, ◌^◌, ℕ, ◌+◌, ◌-◌, ◌==◌, Bool, true, false, not, ◌&&◌, ◌||◌, List, [], ◌∷◌, ◌++◌, length, Option, Some, None, refl, sym, ap, ◌∙◌, subst, arith, nat_lt, slice_get, slice_set}
+use Rattle.std.proofs.Common.{◌≡◌, ◌≤◌, ◌<◌, ◌^◌, ℕ, ◌+◌, ◌-◌, ◌==◌, Bool, true, false, not, ◌&&◌, ◌||◌, List, [], ◌∷◌, ◌++◌, length, Option, Some, None, refl, sym, ap, subst, arith, slice_get, slice_set}
 use Rattle.std.proofs.lemmas.Bool.{false≢true}
 use Rattle.std.proofs.lemmas.Bool.Decides.{nat_tests}
-use Rattle.std.specs.List.{list_any, list_all}
+use Rattle.std.specs.List.{list_all}
 use Rattle.std.specs.BTreeMap.{insert_entry, is_at}
 use Rattle.std.specs.Map.{lookup, set_value}
-use Rattle.std.specs.Option.{option_map}
 use Rattle.std.specs.declared.cmp.Ordering.{Ordering}
 use Rattle.std.specs.declared.cmp.Ordering.TheVariants.{Less, Equal, Greater}
 use Rattle.std.specs.Prelude.{unwrap_or, if◌then◌else◌}
@@ -13,14 +12,14 @@ use Rattle.qs_base.specs.declared.identifiers.Member.{Member}
 use Rattle.qs_base.specs.declared.identifiers.Tid.{Tid}
 use Rattle.qs_base.proofs.Same.{same_bytes-self, same_lists-self, same_tid-self}
 use Rattle.qs_ops.specs.Alike.{same_reply}
-use Rattle.qs_ops.specs.Files.{FilesValue, reply_to, served}
+use Rattle.qs_ops.specs.Files.{reply_to, served}
 use Rattle.qs_ops.specs.declared.operation.Op.{Op}
 use Rattle.qs_ops.specs.declared.reply.Reply.{Reply}
 use Rattle.qs_ops.specs.declared.reply.Reply.TheVariants.{Done, Value, Left, Names, Notes, Busy, Absent, TooMany, TooLong}
-use Rattle.qs_book.specs.Book.{BookValue, broken, effect, with_files, served_request}
+use Rattle.qs_book.specs.Book.{BookValue, broken, effect, with_files}
 use Rattle.qs_book.specs.Clauses.{is_for, broken_request, is_standing_at, is_numbered, may_issue, may_issue_as_borrower, is_owner_of}
 use Rattle.qs_book.specs.Maps.{changed_at, changed_value}
-use Rattle.qs_book.specs.Transaction.{TransactionValue, all_served, is_served, issued, link_cmp, marked, next_number, request_at, request_in, requests_on, served_in, with_request, learnt_abort, part_of, is_open, is_commit, served_once, no_part as no_part_yet}
+use Rattle.qs_book.specs.Transaction.{TransactionValue, is_served, issued, link_cmp, marked, next_number, request_at, request_in, served_in, with_request, learnt_abort, is_open, is_commit, served_once, no_part as no_part_yet}
 use Rattle.qs_book.specs.declared.entry.Act.TheVariants as acts
 use Rattle.qs_book.specs.declared.entry.Entry.{Entry}
 use Rattle.qs_book.specs.declared.state.NodeState.{NodeState}
@@ -34,7 +33,7 @@ use Rattle.qs_book.specs.declared.transaction.Part.{Part}
 use Rattle.qs_book.specs.declared.transaction.Request.{Request}
 use Rattle.qs_top.specs.Node.{entry, client_0, files_0, issuer_0, link_0, node_0}
 use Rattle.qs_top.proofs.MapSteps.{lookup_put, lookup_set}
-use Rattle.qs_top.proofs.Steps.{Working, lawful_here, in_order, after_change, same_rest, nodes_after, eq_self}
+use Rattle.qs_top.proofs.Steps.{Working, lawful_here, in_order, after_change, same_rest, eq_self}
 use Rattle.qs_top.specs.Rest.{AtRest, IsTold, PartAtRest, no_part, one_part}
 
 -- ---- lists of requests

@@ -1,5 +1,5 @@
 -- One entry of one transaction at the only node: it is lawful, and what stands after it.
-use Rattle.std.proofs.Common.{◌≡◌, ◌≢◌, ◌≤◌, ◌<◌, ◌^◌, ℕ, ◌+◌, ◌==◌, Bool, true, false, not, ◌&&◌, ◌||◌, List, [], ◌∷◌, ◌++◌, Option, Some, None, refl, sym, ap, ◌∙◌, subst, arith, nat_lt, slice_get, IsSome}
+use Rattle.std.proofs.Common.{◌≡◌, ◌≤◌, ◌<◌, ◌^◌, ℕ, ◌+◌, ◌==◌, Bool, true, false, not, ◌||◌, List, [], ◌∷◌, ◌++◌, Option, Some, None, refl, sym, ap, ◌∙◌, subst, arith, nat_lt, slice_get, IsSome}
 use Rattle.std.proofs.lemmas.Bool.{false≢true}
 use Rattle.std.proofs.lemmas.Bool.Decides.{nat_tests}
 use Rattle.std.proofs.lemmas.Cmp.{tied_itself}
@@ -7,9 +7,8 @@ use Rattle.std.specs.List.{list_any}
 use Rattle.std.specs.BTreeMap.{is_at}
 use Rattle.std.specs.Map.{lookup}
 use Rattle.std.specs.Ordering.{is_eq}
-use Rattle.qs_base.specs.Order.{tid_cmp, same_tid}
+use Rattle.qs_base.specs.Order.{tid_cmp}
 use Rattle.qs_base.proofs.Same.{same_tid-true}
-use Rattle.qs_base.specs.declared.identifiers.Member.{Member}
 use Rattle.qs_base.specs.declared.identifiers.Tid.{Tid}
 use Rattle.qs_ops.proofs.IndexSteps.{tid_total, same_tid-cmp}
 use Rattle.qs_ops.specs.Alike.{same_cause}
@@ -19,20 +18,18 @@ use Rattle.qs_ops.specs.declared.answer.Answer.{Answer}
 use Rattle.qs_ops.specs.declared.answer.Cause.{Cause}
 use Rattle.qs_ops.specs.declared.answer.Cause.TheVariants as causes
 use Rattle.qs_ops.specs.declared.vote.Vote.{Vote}
-use Rattle.qs_book.specs.Book.{BookValue, broken, broken_act, broken_at, effect, is_in_order, find_transaction, find_label, with_transaction, with_files, with_outcome, with_line, after_vote, after_learn}
+use Rattle.qs_book.specs.Book.{BookValue, broken, broken_act, effect, is_in_order, find_transaction, find_label, with_files, with_outcome, with_line, after_vote, after_learn}
 use Rattle.qs_book.specs.Clauses.{may_ask, is_vote_due, is_vote, may_decide, broken_outcome, may_learn, is_let_go, is_known}
 use Rattle.qs_book.specs.Maps.{changed_at, changed_value}
-use Rattle.qs_book.specs.Transaction.{TransactionValue, all_served, asked, is_open, part_of, voted, decided, learnt}
-use Rattle.qs_book.specs.declared.entry.Act.{Act}
+use Rattle.qs_book.specs.Transaction.{TransactionValue, asked, part_of, voted, decided, learnt}
 use Rattle.qs_book.specs.declared.entry.Act.TheVariants as acts
 use Rattle.qs_book.specs.declared.entry.Entry.{Entry}
 use Rattle.qs_book.specs.declared.state.NodeState.{NodeState}
 use Rattle.qs_book.specs.declared.state.Owner.{Owner}
 use Rattle.qs_book.specs.declared.transaction.Cell.{Cell}
 use Rattle.qs_book.specs.declared.transaction.Cell.TheVariants as cells
-use Rattle.qs_book.specs.declared.transaction.Part.{Part}
 use Rattle.qs_top.specs.Node.{entry, answered, client_0, files_0}
-use Rattle.qs_top.specs.Rest.{AtRest, IsTold, PartAtRest, Resting}
+use Rattle.qs_top.specs.Rest.{AtRest, IsTold, Resting}
 use Rattle.qs_top.proofs.MapSteps.{lookup_changed, lookup_apart}
 
 -- ---- the book while one transaction is worked on

@@ -1,5 +1,5 @@
 -- A script that is carried out command by command: what holds of the journal, the book and the script so far.
-use Rattle.std.specs.Prelude.{◌≡◌, ℕ, ◌+◌, ◌==◌, Bool, false, List, [], ◌∷◌, length, drop, is_some, slice_get, Some, ◌<◌, ◌^◌}
+use Rattle.std.specs.Prelude.{◌≡◌, ℕ, ◌+◌, ◌==◌, false, List, [], ◌∷◌, length, drop, is_some, slice_get, Some, ◌<◌, ◌^◌}
 use Rattle.qs_book.specs.Book.{BookValue, book_after, find_label, first_book, IsLawful}
 use Rattle.qs_book.specs.declared.entry.Entry.{Entry}
 use Rattle.qs_book.specs.declared.script_line.ScriptLine.{ScriptLine}

@@ -1,7 +1,7 @@
 -- What the top call promises: of the text that was read, of the journal, and of what was given.
-use Rattle.std.specs.Prelude.{◌≡◌, ◌⊎◌, ℕ, List, [], ◌∷◌, Option, Result, Ok, Err, ⊤}
+use Rattle.std.specs.Prelude.{◌≡◌, ℕ, List, [], Option, Result, Ok, Err, ⊤}
 use Rattle.std.specs.Io.KnownBytes.{Consumes, Appends}
-use Rattle.qs_book.specs.Book.{BookValue, book_after, first_book, IsLawful}
+use Rattle.qs_book.specs.Book.{book_after}
 use Rattle.qs_book.specs.declared.entry.Entry.{Entry}
 use Rattle.qs_io.specs.Streams.{IsWholeOrLonger, GivesPart}
 use Rattle.qs_text.specs.Kept.{at_start, IsAnswered, IsKept}
