@@ -85,7 +85,8 @@ pub fn run<R: Threads + Sync, S: Source, K: Sink>(
     ensures silent { result.status ≢ Status.Finished → result.status ≢ Status.WriteFault → K.given sink.new ≡ K.given sink.old }
     ensures empty { result.status ≢ Status.Finished → result.status ≢ Status.WriteFault → result.journal ≡ [] }
 
-    // What was taken of the source, whatever the status.
+    // What was taken of the source: nothing on Usage, and never more than the limit and one byte.
+    ensures unread { result.status ≡ Status.Usage → S.left source.new ≡ S.left source.old }
     ensures bound { TakesAtMost 1048577 (S.left source.old) (S.left source.new) }
 {
     if read_words(words).is_err() {
