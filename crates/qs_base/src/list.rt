@@ -1,8 +1,9 @@
 //! A growable list, seen as its items.
-ghost use Rattle.std.specs.Prelude.{◌≡◌, ℕ, List, [], ◌∷◌, ◌++◌, length, OnOk, OnErr, IfOk, slice_get, ◌==◌};
+ghost use Rattle.std.specs.Prelude.{◌≡◌, ℕ, List, [], ◌∷◌, ◌++◌, length, take, OnOk, OnErr, IfOk, slice_get, ◌==◌};
 ghost use Rattle.std.specs.Option.{option_copied};
 ghost use Rattle.std.specs.Cmp.Lexicographic.{pointwise, lists_per, lists_equiv};
 
+use crate::identifiers::{NodeNo, Tid};
 use crate::memory::NoMemory;
 use std::alloc::Global;
 use std::marker::Model;
@@ -82,6 +83,26 @@ impl<T> List<T> {
         self.items.push(item)?;
         Ok(())
     }
+
+    /// Leaves the first `len` items, or all where there are no more. It takes no memory.
+    pub fn truncate(&mut self, len: usize)
+    where
+        T: Drop,
+        ensures { self.new ≡ take len self.old }
+    {
+        self.items.truncate(len);
+    }
+}
+
+impl List<u8> {
+    /// Adds bytes at the end. After a refusal the list is as it was.
+    pub fn append(&mut self, bytes: &[u8]) -> Result<(), NoMemory>
+        ensures ok { OnOk result (self.new ≡ self.old ++ bytes.now) }
+        ensures err { OnErr result (self.new ≡ self.old) }
+    {
+        self.items.extend_from_slice(bytes)?;
+        Ok(())
+    }
 }
 
 impl<T: PartialEq> PartialEq for List<T> {
@@ -111,6 +132,18 @@ impl<T: Copied> List<T> {
         ensures { IfOk result (λ xs. xs ≡ self.now) }
     {
         copy_list(*self.items.allocator(), self.as_slice())
+    }
+}
+
+impl Copied for NodeNo {
+    fn copy(&self) -> Result<Self, NoMemory> {
+        Ok(*self)
+    }
+}
+
+impl Copied for Tid {
+    fn copy(&self) -> Result<Self, NoMemory> {
+        Ok(*self)
     }
 }
 

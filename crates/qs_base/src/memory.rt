@@ -28,6 +28,11 @@ pub enum GrowFault {
 }
 
 impl From<NoMemory> for GrowFault {
+    ghost use Rattle.std.specs.Prelude.{◌≡◌};
+    ghost use Rattle.qs_base.specs.declared.memory.GrowFault.TheVariants.{NoMemory};
+
+    ghost from_gives = { λ _ e. e ≡ NoMemory };
+
     fn from(_error: NoMemory) -> GrowFault {
         GrowFault::NoMemory
     }

@@ -10,7 +10,8 @@ use Rattle.std.specs.List.{position_from, AllByRecursion}
 use Rattle.std.specs.Int.{Width, w8, w32, w64, byte_len, from_be_bytes}
 use Rattle.qs_codec.specs.declared.fault.CodecFault.{CodecFault}
 use Rattle.qs_codec.specs.declared.fault.CodecFault.TheVariants.{Short, TooLong, BadNumber}
-use Rattle.qs_codec.specs.Grammar.{Field, Byte, Word, Long, Number, Text, IsByte, IsPrintable, IsBigEndian, Spells}
+use Rattle.qs_codec.specs.Grammar.{Field, Byte, Word, Long, Number, Text, IsByte, IsBigEndian, Spells}
+use Rattle.qs_base.specs.Printable.{IsPrintable}
 use Rattle.qs_codec.specs.Reading.{Reading, left_of, reading_after, IsNext, Reads, reading_at, number_ahead, integer_at, number_at, text_ahead, checked_text, text_at, is_unprintable}
 use Rattle.qs_codec.proofs.GrammarLemmas.{IsWide, wide8, wide32, wide64}
 

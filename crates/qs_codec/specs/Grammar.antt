@@ -1,5 +1,6 @@
 -- Which bytes spell a field. Each case goes by the bytes, and names neither the reader nor the writer.
 use Rattle.std.specs.Prelude.{◌≡◌, ℕ, ◌+◌, ◌*◌, ◌^◌, ◌<◌, ◌≤◌, List, [], ◌∷◌, ◌++◌, length, All}
+use Rattle.qs_base.specs.Printable.{IsPrintable}
 
 -- a field: one byte, four bytes, eight bytes, eight bytes of a number below 2^62, or a text
 pub data Field : Type 0 where
@@ -12,10 +13,6 @@ pub data Field : Type 0 where
 -- a byte
 abbrev pub IsByte : ℕ → Type 0
 IsByte b = b < 256
-
--- a character from the blank to the tilde
-abbrev pub IsPrintable : ℕ → Type 0
-IsPrintable b = (32 ≤ b) × (b ≤ 126)
 
 -- the number that bytes stand for, the highest first
 abbrev pub big_endian : List ℕ → ℕ

@@ -36,6 +36,16 @@ impl<'a> Reader<'a> {
         Reader { bytes, at: 0 }
     }
 
+    /// A second reader that stands at the same place of the same bytes.
+    pub fn ahead(&self) -> Reader<'a>
+        ensures { result ≡ self.now }
+    {
+        Reader {
+            bytes: self.bytes,
+            at: self.at,
+        }
+    }
+
     /// How many bytes are left.
     pub fn left(&self) -> usize
         ensures { result ≡ length (left_of self.now) }

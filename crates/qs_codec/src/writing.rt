@@ -1,9 +1,9 @@
 //! Fields written at the end of a list of bytes.
 ghost use Rattle.std.specs.Prelude.{◌≡◌, ◌^◌, ◌<◌, ◌++◌, length, All, OnOk, OnErr};
-ghost use Rattle.qs_codec.specs.Grammar.{Byte, Word, Long, Number, Text, IsPrintable};
+ghost use Rattle.qs_codec.specs.Grammar.{Byte, Word, Long, Number, Text};
+ghost use Rattle.qs_base.specs.Printable.{IsPrintable};
 ghost use Rattle.qs_codec.specs.Writing.{Appends};
 
-use core::mem;
 use qs_base::{List, NoMemory};
 
 /// Adds one byte at the end. After `NoMemory`, which comes where memory was refused, the list is as
@@ -50,20 +50,11 @@ fn append(out: &mut List<u8>, head: &[u8], rest: &[u8]) -> Result<(), NoMemory>
     ensures ok { OnOk result (out.new ≡ out.old ++ (head.now ++ rest.now)) }
     ensures err { OnErr result (out.new ≡ out.old) }
 {
-    mem::replace_with(out, (head, rest), |list, (head, rest)| {
-        let mut items = list.into_vec();
-        let result = extend(&mut items, head, rest);
-        (List::from_vec(items), result)
-    })
-}
-
-// Adds the head and then the rest at the end, or neither.
-fn extend(items: &mut Vec<u8>, head: &[u8], rest: &[u8]) -> Result<(), NoMemory>
-    ensures ok { OnOk result (items.new.items ≡ items.old.items ++ (head.now ++ rest.now)) }
-    ensures err { OnErr result (items.new.items ≡ items.old.items) }
-{
-    items.reserve(head.len() + rest.len())?;
-    items.extend_from_slice(head).unwrap();
-    items.extend_from_slice(rest).unwrap();
-    Ok(())
+    let len = out.len();
+    out.append(head)?;
+    let added = out.append(rest);
+    if added.is_err() {
+        out.truncate(len);
+    }
+    added
 }

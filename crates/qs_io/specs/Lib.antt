@@ -1,5 +1,4 @@
 -- What sources and sinks tell, and why they refuse.
-pub mod Causes
 pub mod Memory
 pub mod Standard
 pub mod Streams

@@ -1,7 +1,7 @@
 //! A whole text given to a sink, piece by piece.
 ghost use Rattle.std.specs.Prelude.{ℕ, List, Option, OnOk, OnErr};
 ghost use Rattle.std.specs.Io.KnownBytes.{Appends};
-ghost use Rattle.qs_io.specs.Causes.{HasCause};
+ghost use Rattle.qs_base.specs.Causes.{HasCause};
 ghost use Rattle.qs_io.specs.Streams.{GivesPart};
 
 use crate::faults::WriteFailed;

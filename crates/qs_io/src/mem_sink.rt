@@ -2,7 +2,7 @@
 ghost use Rattle.std.specs.Prelude.{◌≡◌, ℕ, ◌+◌, ◌-◌, ◌^◌, ◌≤◌, ◌<◌, ◌↔◌, ◌++◌, min, List, [], length, vec_capacity, take, Some, IfOk, OnOk, OnErr, IsErr, Contains};
 ghost use Rattle.std.specs.Io.{WritesAtMost};
 ghost use Rattle.std.specs.Io.KnownBytes.{WriteAppends};
-ghost use Rattle.qs_io.specs.Causes.{HasCause};
+ghost use Rattle.qs_base.specs.Causes.{HasCause};
 ghost use Rattle.qs_io.specs.Memory.{raised, taken_count, RefusesGive};
 
 use crate::faults::WriteFailed;

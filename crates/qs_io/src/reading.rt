@@ -1,7 +1,7 @@
 //! The text of a source, read to the end or past a limit.
 ghost use Rattle.std.specs.Prelude.{◌≡◌, ◌+◌, ◌^◌, ◌≤◌, ◌<◌, ℕ, length, IfOk, Err};
 ghost use Rattle.std.specs.Io.KnownBytes.{Consumes};
-ghost use Rattle.qs_io.specs.Causes.{Rose};
+ghost use Rattle.qs_base.specs.Causes.{Rose};
 ghost use Rattle.qs_io.specs.Streams.{TakesAtMost, IsWholeOrLonger};
 
 use crate::faults::ReadFault;

@@ -2,7 +2,7 @@
 ghost use Rattle.std.specs.Prelude.{ℕ, ◌<◌, List, Option, IfOk, length};
 ghost use Rattle.std.specs.Io.{WritesAtMost};
 ghost use Rattle.std.specs.Io.KnownBytes.{WriteAppends};
-ghost use Rattle.qs_io.specs.Causes.{HasCause};
+ghost use Rattle.qs_base.specs.Causes.{HasCause};
 
 use crate::faults::WriteFailed;
 

@@ -2,7 +2,7 @@
 ghost use Rattle.std.specs.Prelude.{ℕ, List, Option};
 ghost use Rattle.std.specs.Io.{ReadsAtMost};
 ghost use Rattle.std.specs.Io.KnownBytes.{ReadConsumes};
-ghost use Rattle.qs_io.specs.Causes.{HasCause};
+ghost use Rattle.qs_base.specs.Causes.{HasCause};
 
 use crate::faults::ReadFailed;
 

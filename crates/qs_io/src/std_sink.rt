@@ -2,7 +2,7 @@
 ghost use Rattle.std.specs.Prelude.{◌≡◌, ◌<◌, length, IfOk, OnOk, OnErr};
 ghost use Rattle.std.specs.Io.{WritesAtMost};
 ghost use Rattle.std.specs.Io.KnownBytes.{WriteAppends};
-ghost use Rattle.qs_io.specs.Causes.{HasCause};
+ghost use Rattle.qs_base.specs.Causes.{HasCause};
 ghost use Rattle.qs_io.specs.Memory.{raised};
 
 use crate::faults::WriteFailed;

@@ -5,3 +5,4 @@ pub mod Index
 pub mod Operations
 pub mod Places
 pub mod Refusals
+pub mod Spelled

@@ -12,6 +12,7 @@ mod refusal;
 mod reply;
 mod serving;
 mod shares;
+mod spelling;
 mod table;
 mod vote;
 
@@ -19,5 +20,6 @@ pub use answer::{Answer, Cause, answer_of};
 pub use file::{File, Share};
 pub use operation::{Changes, Op, server_of};
 pub use reply::Reply;
+pub use spelling::{is_change, op_length, prepare_length};
 pub use table::FileTable;
 pub use vote::{Notice, Reason, Vote};
