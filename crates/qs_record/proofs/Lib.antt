@@ -1,0 +1,11 @@
+pub mod Ahead
+pub mod Found
+pub mod Fronts
+pub mod Lengths
+pub mod Nodes
+pub mod Ops
+pub mod Places
+pub mod Readers
+pub mod Records
+pub mod Rising
+pub mod Writers
