@@ -1,0 +1,51 @@
+use Rattle.std.proofs.Common.{◌≡◌, Err, sym, ◌∙◌, ap}
+use Rattle.qs_log.specs.Image.{InSlot, live_area}
+use Rattle.qs_slot.proofs.OpeningLemmas.{same_keeps}
+use Rattle.qs_log.proofs.ReadLemmas.{log_read, damage_read}
+use Rattle.qs_log.specs.declared.fault.OpenFault.TheVariants as faults
+use Rattle.qs_log.proofs.opening.read_held.Goals as goal
+
+pub returns-in-Err-clause-damaged : goal.returns-in-Err-clause-damaged
+returns-in-Err-clause-damaged g c = λ told at e.
+    let named : c.of_slot.result ≡ faults.Damaged at = cc in
+    InSlot (c.in-Err.ensures.damaged told at (ap Err (c.of_slot.ensures.damaged at named)))
+
+pub returns-in-Err-read_area-clause-damaged : goal.returns-in-Err-read_area-clause-damaged
+returns-in-Err-read_area-clause-damaged g c = λ told at e.
+    let named : c.in-Err-read_area.fault ≡ faults.Damaged at = cc in
+    absurd (c.in-Err-read_area.ensures.never at (ap Err named))
+
+pub returns-in-Err-read_area-clause-moments : goal.returns-in-Err-read_area-clause-moments
+returns-in-Err-read_area-clause-moments g c = λ told.
+    same_keeps (g.D.Disk.state c.args.disk.now) (g.D.Disk.state c.open_slots.new.disk) (g.D.Disk.state c.read_area.new.disk)
+    (c.open_slots.ensures.content told) (c.open_slots.ensures.moments told) (c.read_area.ensures.moments told)
+
+pub returns-in-Ok-counted-clause-log : goal.returns-in-Ok-counted-clause-log
+returns-in-Ok-counted-clause-log g c = λ told.
+    let area : c.as_slice.result.now ≡ live_area c.value-format.result.generation (g.D.Disk.state c.args.disk.now).content =
+    c.as_slice.ensures.value ∙ c.in-Ok-read_area.ensures.area told ∙ ap (live_area c.value-format.result.generation) (c.open_slots.ensures.content told) in
+    log_read c.in-Ok.slots.present c.value-format.result (g.D.Disk.state c.args.disk.now).content c.as_slice.result.now _ _
+    (record { value_is = c.value-format.ensures; area_is = area }) (c.in-Ok.ensures.holds told).say c.in-Ok-counted.ensures.found
+
+pub returns-in-Ok-counted-clause-damaged : goal.returns-in-Ok-counted-clause-damaged
+returns-in-Ok-counted-clause-damaged g c = λ told at e. cc
+
+pub returns-in-Ok-counted-clause-moments : goal.returns-in-Ok-counted-clause-moments
+returns-in-Ok-counted-clause-moments g c = λ told.
+    same_keeps (g.D.Disk.state c.args.disk.now) (g.D.Disk.state c.open_slots.new.disk) (g.D.Disk.state c.read_area.new.disk)
+    (c.open_slots.ensures.content told) (c.open_slots.ensures.moments told) (c.read_area.ensures.moments told)
+
+pub returns-clause-damaged : goal.returns-clause-damaged
+returns-clause-damaged g c = λ told at e.
+    let named : c.in-Err-counted.fault ≡ faults.Damaged at = cc in
+    let area : c.as_slice.result.now ≡ live_area c.value-format.result.generation (g.D.Disk.state c.args.disk.now).content =
+    c.as_slice.ensures.value ∙ c.in-Ok-read_area.ensures.area told ∙ ap (live_area c.value-format.result.generation) (c.open_slots.ensures.content told) in
+    damage_read c.args.limit c.in-Ok.slots.present c.value-format.result (g.D.Disk.state c.args.disk.now).content c.as_slice.result.now c.size.result c.area_start-start.result at
+    (record { value_is = c.value-format.ensures; area_is = area }) (c.in-Ok.ensures.value told)
+    (g.met.D.Disk.sized c.args.disk.now told ∙ sym c.open_slots.ensures.size ∙ sym c.read_area.ensures.size ∙ sym c.size.ensures.value) c.area_start-start.ensures
+    (c.in-Err-counted.ensures.broken at (ap Err named))
+
+pub returns-clause-moments : goal.returns-clause-moments
+returns-clause-moments g c = λ told.
+    same_keeps (g.D.Disk.state c.args.disk.now) (g.D.Disk.state c.open_slots.new.disk) (g.D.Disk.state c.read_area.new.disk)
+    (c.open_slots.ensures.content told) (c.open_slots.ensures.moments told) (c.read_area.ensures.moments told)
