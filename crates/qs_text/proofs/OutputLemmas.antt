@@ -5,7 +5,13 @@ use Rattle.std.proofs.Math.Seq.{drop-nil}
 use Rattle.std.proofs.lemmas.Bool.{lt-ltb, le-ltb}
 use Rattle.std.proofs.lemmas.List.{append-nil}
 use Rattle.qs_book.specs.declared.state.NodeState.{NodeState}
-use Rattle.qs_text.specs.Output.{nodes_text, node_text}
+use Rattle.std.specs.Prelude.{Bool}
+use Rattle.std.specs.List.{flat_map}
+use Rattle.qs_book.specs.Book.{BookValue}
+use Rattle.qs_book.specs.declared.entry.Entry.{Entry}
+use Rattle.qs_text.specs.Output.{client_text, nodes_text, node_text, totals_text, shown_journal, out_of}
+use Rattle.qs_text.specs.declared.script.Script.{Script}
+use Rattle.qs_text.specs.declared.script.Seat.{Seat}
 
 at_node : (nodes : List NodeState) (number : ℕ) (node : NodeState) → slice_get nodes number ≡ Some node → drop number nodes ≡ node ∷ drop (suc number) nodes
 at_node [] number node e = cc
@@ -36,3 +42,17 @@ node_last out new start number node nodes great found is whole =
 pub no_node : (out start : List ℕ) (number : ℕ) (nodes : List NodeState) → None ≡ slice_get nodes number
     → out ++ nodes_text number (drop number nodes) ≡ start → out ≡ start
 no_node out start number nodes none whole = sym (append-nil out) ∙ (rw (at_end nodes number (sym none)) at whole)
+
+four_parts : (first second third fourth a b c d e : List ℕ) → a ≡ [] → b ≡ a ++ first → c ≡ b ++ second → d ≡ c ++ third → e ≡ d ++ fourth
+    → e ≡ first ++ (second ++ (third ++ fourth))
+four_parts first second third fourth a b c d e none one two three four =
+    rw (four, three, two, one, none) (append_assoc (first ++ second) third fourth ∙ append_assoc first second (third ++ fourth))
+
+pub whole_output : (script : Script) (seats : List Seat) (history answered counted shown : List Entry) (book : BookValue) (journal : Bool) (a b c d e : List ℕ)
+    → seats ≡ script.seats → answered ≡ history → counted ≡ history → shown ≡ history
+    → a ≡ [] → b ≡ a ++ flat_map (client_text answered book) seats → c ≡ b ++ nodes_text 0 book.nodes → d ≡ c ++ totals_text counted book
+    → e ≡ d ++ shown_journal shown book journal → e ≡ out_of script history book journal
+whole_output script seats history answered counted shown book journal a b c d e is_seats is_answered is_counted is_shown none one two three four =
+    rw (← is_seats, ← is_answered) (
+    four_parts (flat_map (client_text answered book) seats) (nodes_text 0 book.nodes) (totals_text answered book) (shown_journal answered book journal) a b c d e
+    none one two (rw (is_answered, ← is_counted) three) (rw (is_answered, ← is_shown) four))

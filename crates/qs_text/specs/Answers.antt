@@ -1,5 +1,5 @@
 -- The texts of answers, causes and identifiers.
-use Rattle.std.specs.Prelude.{ℕ, ◌==◌, List, [], ◌++◌, Option, unwrap_or, codes, decimal, if◌then◌else◌}
+use Rattle.std.specs.Prelude.{ℕ, ◌==◌, List, [], ◌++◌, Option, None, unwrap_or, codes, decimal, if◌then◌else◌}
 use Rattle.std.specs.List.{flat_map}
 use Rattle.qs_base.specs.declared.identifiers.Member.{Member}
 use Rattle.qs_base.specs.declared.identifiers.Tid.{Tid}
@@ -89,3 +89,12 @@ answer_rest label _ = []
 
 abbrev pub answer_text : Option (List ℕ) → Answer → List ℕ
 answer_text label answer = answer_words answer ++ answer_rest label answer
+
+-- the label of the transaction that a busy answer names
+abbrev pub holder_label : (Tid → Option (List ℕ)) → Answer → Option (List ℕ)
+holder_label labels (Busy holder) = labels holder
+holder_label labels _ = None
+
+-- LINE ANSWER
+abbrev pub told_text : (Tid → Option (List ℕ)) → ℕ → Answer → List ℕ
+told_text labels line answer = (decimal line ++ codes " ") ++ answer_text (holder_label labels answer) answer

@@ -1,5 +1,6 @@
 pub mod Answers
 pub mod Fits
+pub mod Journal
 pub mod Kept
 pub mod Labels
 pub mod Lines

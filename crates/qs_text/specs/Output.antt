@@ -4,7 +4,6 @@ use Rattle.std.specs.List.{flat_map, count_by}
 use Rattle.qs_base.specs.declared.identifiers.ClientNo.{ClientNo}
 use Rattle.qs_base.specs.declared.identifiers.Tid.{Tid}
 use Rattle.qs_ops.specs.declared.answer.Answer.{Answer}
-use Rattle.qs_ops.specs.declared.answer.Answer.TheVariants.{Busy}
 use Rattle.qs_ops.specs.declared.file.File.{File}
 use Rattle.qs_book.specs.Book.{BookValue, find_transaction}
 use Rattle.qs_book.specs.Transaction.{TransactionValue}
@@ -14,7 +13,8 @@ use Rattle.qs_book.specs.declared.entry.Entry.{Entry}
 use Rattle.qs_book.specs.declared.state.NodeState.{NodeState}
 use Rattle.qs_book.specs.declared.transaction.Cell.{Cell}
 use Rattle.qs_book.specs.declared.transaction.Cell.TheVariants as cells
-use Rattle.qs_text.specs.Answers.{answer_text}
+use Rattle.qs_text.specs.Answers.{told_text}
+use Rattle.qs_text.specs.Journal.{journal_text}
 use Rattle.qs_text.specs.declared.script.Script.{Script}
 use Rattle.qs_text.specs.declared.script.Seat.{Seat}
 
@@ -28,14 +28,9 @@ label_in (Some tx) = tx.label
 abbrev pub label_of : BookValue → Tid → Option (List ℕ)
 label_of book tid = label_in (find_transaction book tid)
 
--- the label of the transaction that a busy answer names
-abbrev pub holder_label : BookValue → Answer → Option (List ℕ)
-holder_label book (Busy holder) = label_of book holder
-holder_label book _ = None
-
 -- LINE ANSWER
 abbrev pub line_text : BookValue → ℕ → Answer → List ℕ
-line_text book line answer = (decimal line ++ codes " ") ++ (answer_text (holder_label book answer) answer ++ codes "\n")
+line_text book line answer = told_text (label_of book) line answer ++ codes "\n"
 
 abbrev pub act_text : BookValue → ClientNo → Act → List ℕ
 act_text book client (acts.Answer other line answer) = if other.0 == client.0 then line_text book line answer else []
@@ -112,6 +107,11 @@ totals_text history book = totals_line
 
 -- ---- the whole
 
-abbrev pub out_of : Script → List Entry → BookValue → List ℕ
-out_of script history book =
-    flat_map (client_text history book) script.seats ++ (nodes_text 0 book.nodes ++ totals_text history book)
+-- the history, where the journal is asked for
+abbrev pub shown_journal : List Entry → BookValue → Bool → List ℕ
+shown_journal history book journal = if journal then journal_text (label_of book) history else []
+
+abbrev pub out_of : Script → List Entry → BookValue → Bool → List ℕ
+out_of script history book journal =
+    flat_map (client_text history book) script.seats
+    ++ (nodes_text 0 book.nodes ++ (totals_text history book ++ shown_journal history book journal))

@@ -83,17 +83,21 @@ fn put_holder(
 }
 
 /// Adds the identifier of a transaction.
-pub fn put_tid(alloc: Global, out: &mut Bytes, tid: Tid) -> Result<(), NoMemory>
+fn put_tid(alloc: Global, out: &mut Bytes, tid: Tid) -> Result<(), NoMemory>
     ensures { OnOk result (out.new ≡ out.old ++ tid_text tid) }
 {
-    put(
-        out,
-        format!(in alloc; "{}.{}.{}", tid.home.0, tid.inc, tid.seq)?,
-    )
+    put(out, tid_text(alloc, tid)?)
+}
+
+/// The identifier of a transaction.
+pub fn tid_text(alloc: Global, tid: Tid) -> Result<String, AllocError>
+    ensures { IfOk result (λ text. string_bytes text ≡ tid_text tid) }
+{
+    format!(in alloc; "{}.{}.{}", tid.home.0, tid.inc, tid.seq)
 }
 
 /// Adds why a transaction was aborted.
-fn put_cause(alloc: Global, out: &mut Bytes, cause: &Cause) -> Result<(), NoMemory>
+pub fn put_cause(alloc: Global, out: &mut Bytes, cause: &Cause) -> Result<(), NoMemory>
     ensures { OnOk result (out.new ≡ out.old ++ cause_text cause.now) }
 {
     match cause {
@@ -116,7 +120,7 @@ fn put_vote(alloc: Global, out: &mut Bytes, member: Member, reason: &Reason) -> 
 }
 
 /// The name of a server.
-fn server_text(alloc: Global, server: ServerNo) -> Result<String, AllocError>
+pub fn server_text(alloc: Global, server: ServerNo) -> Result<String, AllocError>
     ensures { IfOk result (λ name. string_bytes name ≡ server_text server.0) }
 {
     match server.0 {
@@ -133,7 +137,7 @@ fn server_text(alloc: Global, server: ServerNo) -> Result<String, AllocError>
 }
 
 /// Adds why a member voted abort.
-fn put_reason(alloc: Global, out: &mut Bytes, reason: &Reason) -> Result<(), NoMemory>
+pub fn put_reason(alloc: Global, out: &mut Bytes, reason: &Reason) -> Result<(), NoMemory>
     ensures { OnOk result (out.new ≡ out.old ++ reason_text reason.now) }
 {
     match reason {

@@ -5,10 +5,16 @@ mod answers;
 mod command;
 mod ending;
 mod form;
+mod journal;
+#[cfg(test)]
+mod journal_tests;
 mod label_set;
+mod labels;
 mod line;
 mod open;
+mod operations;
 mod output;
+mod pieces;
 mod reader;
 mod reading;
 mod script;
@@ -20,6 +26,7 @@ mod words;
 
 pub use ending::status_line;
 pub use form::{Form, WordsFault};
+pub use journal::journal_text;
 pub use output::out_text;
 pub use reading::{ScriptFailed, read_script};
 pub use script::{FaultLine, Planned, Quota, Script, Seat};

@@ -1,26 +1,28 @@
 //! The output of a run.
 ghost use Rattle.std.specs.Prelude.{◌≡◌, ◌++◌, List, ℕ, IfOk, OnOk, string_bytes};
 ghost use Rattle.std.specs.List.{flat_map};
-ghost use Rattle.std.specs.Option.{option_copied};
-ghost use Rattle.qs_text.specs.Output.{out_of, client_text, entry_text, line_text, holder_label, label_of, nodes_text, node_text, file_text, totals_text, totals_line};
+ghost use Rattle.qs_text.specs.Output.{out_of, client_text, entry_text, line_text, nodes_text, node_text, file_text, totals_text, totals_line, shown_journal};
 
-use crate::answers::{put, put_answer};
+use crate::answers::put;
+use crate::journal::put_journal;
+use crate::labels::put_told;
 use crate::script::{Script, Seat};
 use crate::totals::{aborted, begun, committed, restarts};
-use qs_base::{Bytes, ClientNo, List, NoMemory, NodeNo, Tid};
+use qs_base::{Bytes, ClientNo, List, NoMemory, NodeNo};
 use qs_book::{Act, Book, Entry, NodeState};
 use qs_ops::{Answer, File};
 use std::alloc::{AllocError, Global};
 
 /// The output of a run: the answers to each client in the order of the history, the files of each
-/// node, and the totals.
+/// node, the totals, and with `journal` the history, a line for each entry.
 pub fn out_text(
     alloc: Global,
     script: &Script,
     history: &List<Entry>,
     book: &Book,
+    journal: bool,
 ) -> Result<Bytes, NoMemory>
-    ensures { IfOk result (λ out. out ≡ out_of script.now history.now book.now) }
+    ensures { IfOk result (λ out. out ≡ out_of script.now history.now book.now journal) }
 {
     let mut out = Bytes::new(alloc);
     put_clients(
@@ -32,7 +34,24 @@ pub fn out_text(
     )?;
     put_nodes(alloc, &mut out, book)?;
     put_totals(alloc, &mut out, history.as_slice(), book)?;
+    put_shown(alloc, &mut out, history.as_slice(), book, journal)?;
     Ok(out)
+}
+
+/// Adds the history, where the journal is asked for.
+fn put_shown(
+    alloc: Global,
+    out: &mut Bytes,
+    history: &[Entry],
+    book: &Book,
+    journal: bool,
+) -> Result<(), NoMemory>
+    ensures { OnOk result (out.new ≡ out.old ++ shown_journal history.now book.now journal) }
+{
+    if !journal {
+        return Ok(());
+    }
+    put_journal(alloc, out, history, book)
 }
 
 /// Adds the clients, each with its answers.
@@ -98,26 +117,8 @@ fn put_line(
 ) -> Result<(), NoMemory>
     ensures { OnOk result (out.new ≡ out.old ++ line_text book.now line answer.now) }
 {
-    put(out, format!(in alloc; "{line} ")?)?;
-    put_answer(alloc, out, answer, holder_label(answer, book))?;
+    put_told(alloc, out, line, answer, book)?;
     out.append("\n".as_bytes())
-}
-
-/// The label of the transaction that a busy answer names.
-fn holder_label<'a>(answer: &Answer, book: &'a Book) -> Option<&'a Bytes>
-    ensures { option_copied result ≡ holder_label book.now answer.now }
-{
-    match answer {
-        Answer::Busy { holder } => label_of(*holder, book),
-        _ => None,
-    }
-}
-
-/// The label under which a transaction was begun in this run.
-fn label_of(tid: Tid, book: &Book) -> Option<&Bytes>
-    ensures { option_copied result ≡ label_of book.now tid }
-{
-    book.transaction(tid)?.label()
 }
 
 /// Adds the nodes, each with its files.

@@ -135,7 +135,7 @@ fn a_committed_put_is_printed(rt: HostRuntime) -> Result<(), Fail> {
     for entry in history.as_slice() {
         book.apply(entry)?;
     }
-    let out = out_text(alloc, &script, &history, &book)?;
+    let out = out_text(alloc, &script, &history, &book, false)?;
     let text =
         "client 0\n2 ok\n3 ok\n4 committed\nnode 0 inc 1\nfile f hello\ntotals begun 1 committed 1 aborted 0 restarts 0\n";
     assert_eq!(rt; out.as_slice(), text.as_bytes());
