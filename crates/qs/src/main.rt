@@ -1,6 +1,10 @@
 //! The program: runs a script from standard input and ends with the number of its status.
 #![tactic(auto)]
 
+ghost use Rattle.std.specs.Prelude.{◌≡◌, length, IfOk};
+
+use qs_base::NoMemory;
+use qs_disk::MemDisk;
 use qs_io::{StdSink, StdSource};
 use qs_text::{Status, status_line};
 use qs_top::run;
@@ -8,6 +12,9 @@ use std::alloc::Global;
 use std::process::ExitCode;
 use std::rt::Env;
 use std::{env, io};
+
+/// The bytes of each disk.
+const DISK_SIZE: u64 = 65_536;
 
 /// The words after the program's name.
 fn words_of<R: Env + AllocGlobal>(rt: &R) -> io::Result<Vec<String>> {
@@ -29,15 +36,34 @@ fn tell(rt: &impl Eprint, alloc: Global, status: &Status) -> io::Result<()> {
     }
 }
 
+/// Eight disks in memory, one for each node that a run may have.
+fn disks(alloc: Global) -> Result<Vec<MemDisk>, NoMemory>
+    ensures { IfOk result (λ disks. length disks.items ≡ 8) }
+{
+    let mut disks = Vec::new(alloc);
+    for seed in 0..8 {
+        disks.push(MemDisk::new(alloc, DISK_SIZE, seed, &[])?)?;
+    }
+    Ok(disks)
+}
+
 fn main(rt: HostRuntime) -> ExitCode {
     let alloc = rt.alloc();
-    let status = match words_of(&rt) {
-        Ok(words) => {
+    let status = match (words_of(&rt), disks(alloc)) {
+        (Ok(words), Ok(mut disks)) => {
             let mut source = StdSource::new(rt.reader());
             let mut sink = StdSink::new(io::writer(&rt));
-            run(&rt, alloc, words.as_slice(), &mut source, &mut sink).status
+            run(
+                &rt,
+                alloc,
+                words.as_slice(),
+                &mut source,
+                &mut sink,
+                &mut disks,
+            )
+            .status
         }
-        Err(_) => Status::NoMemory,
+        _ => Status::NoMemory,
     };
     // Where standard error takes nothing, the number alone tells.
     let _ = tell(&rt, alloc, &status);

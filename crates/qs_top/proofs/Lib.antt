@@ -3,6 +3,7 @@ pub mod Chain
 pub mod Flows
 pub mod MapSteps
 pub mod MoreFlows
+pub mod OpeningLemmas
 pub mod Ready
 pub mod Requests
 pub mod Steps

@@ -67,8 +67,8 @@ seats_of script line rest n mine left (inl none) = absurd (none_left n (subst (�
     none_left zero h = cc
     none_left (suc k) h = cc
 
-pub turn_of : (script : Script) (journal : List Entry) (book : BookValue) (line : ScriptLine) (rest : List ScriptLine) → (r : Ready script journal book (line ∷ rest)) → Turn script r.progress line
-turn_of script journal book line rest r =
+pub turn_of : (inc : ℕ) (script : Script) (journal : List Entry) (book : BookValue) (line : ScriptLine) (rest : List ScriptLine) → (r : Ready inc script journal book (line ∷ rest)) → Turn script r.progress line
+turn_of inc script journal book line rest r =
     let seats : script.seats ≡ record { client = record { 0 = 0 }; node = record { 0 = 0 } } ∷ [] = seats_of script line rest (r.progress 0).answered r.mine r.left r.seated in
     record {
       first = drop_first (commands_of script 0) (r.progress 0).answered line rest r.left;
@@ -78,15 +78,15 @@ turn_of script journal book line rest r =
     }
 
 -- a command that was carried out leaves all ready for the next
-pub next_ready : (script : Script) (journal : List Entry) (book : BookValue) (line : ScriptLine) (rest : List ScriptLine) → (r : Ready script journal book (line ∷ rest)) → book.stamp + 3 < 2 ^ 62
-    → Ready script (journal ++ entries_of book r.node line) (book_after book (entries_of book r.node line)) rest
-next_ready script journal book line rest r low =
-    let c : Carried script book r.progress line (entries_of book r.node line) = carried_out script r.node r.owner book r.progress line r.resting (turn_of script journal book line rest r) low r.fits.0 in
+pub next_ready : (inc : ℕ) (script : Script) (journal : List Entry) (book : BookValue) (line : ScriptLine) (rest : List ScriptLine) → (r : Ready inc script journal book (line ∷ rest)) → book.stamp + 3 < 2 ^ 62
+    → Ready inc script (journal ++ entries_of book r.node line) (book_after book (entries_of book r.node line)) rest
+next_ready inc script journal book line rest r low =
+    let c : Carried script book r.progress line (entries_of book r.node line) = carried_out script r.node r.owner book r.progress line r.resting (turn_of inc script journal book line rest r) low r.fits.0 in
     record {
       progress = c.later;
       node = c.node;
       owner = c.owner;
-      chain = chain_append script opening book (book_after book (entries_of book r.node line)) at_start r.progress c.later journal (entries_of book r.node line) r.chain
+      chain = chain_append script (opening inc) book (book_after book (entries_of book r.node line)) at_start r.progress c.later journal (entries_of book r.node line) r.chain
           (subst (λ b. Chain script book b r.progress c.later (entries_of book r.node line)) (sym c.chain.book_is) c.chain);
       resting = subst (λ b. Resting c.node c.owner b) (sym c.chain.book_is) c.rest;
       fits = subst (λ b. Fits (λ label. is_some (find_label b label)) c.owner.line rest) (sym c.chain.book_is)
@@ -101,22 +101,22 @@ next_ready script journal book line rest r low =
       seated = r.seated;
     }
 
-same_node : (script : Script) (journal : List Entry) (book : BookValue) (line : ScriptLine) (rest : List ScriptLine) (entries : List Entry) → (r : Ready script journal book (line ∷ rest)) → (m : Makes book line entries) → r.node ≡ m.node
-same_node script journal book line rest entries r m = let here : Some r.node ≡ Some m.node = sym (rw r.resting.nodes refl) ∙ m.here in cc
+same_node : (inc : ℕ) (script : Script) (journal : List Entry) (book : BookValue) (line : ScriptLine) (rest : List ScriptLine) (entries : List Entry) → (r : Ready inc script journal book (line ∷ rest)) → (m : Makes book line entries) → r.node ≡ m.node
+same_node inc script journal book line rest entries r m = let here : Some r.node ≡ Some m.node = sym (rw r.resting.nodes refl) ∙ m.here in cc
 
-entries_are : (script : Script) (journal : List Entry) (book : BookValue) (line : ScriptLine) (rest : List ScriptLine) (entries : List Entry) → (r : Ready script journal book (line ∷ rest)) → Makes book line entries → entries_of book r.node line ≡ entries
-entries_are script journal book line rest entries r m = ap (λ node. entries_of book node line) (same_node script journal book line rest entries r m) ∙ sym m.made
+entries_are : (inc : ℕ) (script : Script) (journal : List Entry) (book : BookValue) (line : ScriptLine) (rest : List ScriptLine) (entries : List Entry) → (r : Ready inc script journal book (line ∷ rest)) → Makes book line entries → entries_of book r.node line ≡ entries
+entries_are inc script journal book line rest entries r m = ap (λ node. entries_of book node line) (same_node inc script journal book line rest entries r m) ∙ sym m.made
 
 -- the entries of the next command are lawful
-pub makes_lawful : (script : Script) (journal : List Entry) (book : BookValue) (line : ScriptLine) (rest : List ScriptLine) (entries : List Entry) → Ready script journal book (line ∷ rest) → Makes book line entries → IsLawful book entries
-makes_lawful script journal book line rest entries r m =
-    subst (λ es. IsLawful book es) (entries_are script journal book line rest entries r m)
-    (carried_out script r.node r.owner book r.progress line r.resting (turn_of script journal book line rest r) m.low r.fits.0).chain.lawful
+pub makes_lawful : (inc : ℕ) (script : Script) (journal : List Entry) (book : BookValue) (line : ScriptLine) (rest : List ScriptLine) (entries : List Entry) → Ready inc script journal book (line ∷ rest) → Makes book line entries → IsLawful book entries
+makes_lawful inc script journal book line rest entries r m =
+    subst (λ es. IsLawful book es) (entries_are inc script journal book line rest entries r m)
+    (carried_out script r.node r.owner book r.progress line r.resting (turn_of inc script journal book line rest r) m.low r.fits.0).chain.lawful
 
 -- and leave all ready for the one after it
-pub makes_ready : (script : Script) (journal : List Entry) (book : BookValue) (line : ScriptLine) (rest : List ScriptLine) (entries : List Entry) → Ready script journal book (line ∷ rest) → Makes book line entries → Ready script (journal ++ entries) (book_after book entries) rest
-makes_ready script journal book line rest entries r m =
-    subst (λ es. Ready script (journal ++ es) (book_after book es) rest) (entries_are script journal book line rest entries r m) (next_ready script journal book line rest r m.low)
+pub makes_ready : (inc : ℕ) (script : Script) (journal : List Entry) (book : BookValue) (line : ScriptLine) (rest : List ScriptLine) (entries : List Entry) → Ready inc script journal book (line ∷ rest) → Makes book line entries → Ready inc script (journal ++ entries) (book_after book entries) rest
+makes_ready inc script journal book line rest entries r m =
+    subst (λ es. Ready inc script (journal ++ es) (book_after book es) rest) (entries_are inc script journal book line rest entries r m) (next_ready inc script journal book line rest r m.low)
 
 -- ---- the start
 
@@ -134,14 +134,14 @@ none_of_others client other begun above (line ∷ lines) fits = by line.client.0
     by : (n : ℕ) → n ≡ 0 → filter (λ (l : ScriptLine). l.client.0 == client) lines ≡ [] → (if (n == client) then line ∷ filter (λ (l : ScriptLine). l.client.0 == client) lines else filter (λ (l : ScriptLine). l.client.0 == client) lines) ≡ []
     by n is more = rw (is, back_to_front client other) more
 
-pub ready_start : (script : Script) → Fits (λ label. false) 0 script.lines → IsSeated script → Ready script [] opening script.lines
-ready_start script fits seated =
+pub ready_start : (inc : ℕ) (script : Script) → Fits (λ label. false) 0 script.lines → IsSeated script → Ready inc script [] (opening inc) script.lines
+ready_start inc script fits seated =
     let mine : commands_of script 0 ≡ script.lines = all_mine (λ label. false) 0 script.lines fits in
     record {
       progress = at_start;
-      node = fresh_node 1;
+      node = fresh_node inc;
       owner = no_owner;
-      chain = no_more script opening at_start;
+      chain = no_more script (opening inc) at_start;
       resting = record { nodes = refl; up = refl; last = refl; owners = refl; all = λ q t found. absurd (cc found); known = λ label q found. absurd (cc found) };
       fits = fits;
       left = mine;
@@ -155,12 +155,12 @@ ready_start script fits seated =
 
 -- ---- the end
 
-pub answered_at_end : (script : Script) (journal : List Entry) (book : BookValue) → (r : Ready script journal book []) → IsAnswered script opening journal
-answered_at_end script journal book r client = by (client == 0) refl
+pub answered_at_end : (inc : ℕ) (script : Script) (journal : List Entry) (book : BookValue) → (r : Ready inc script journal book []) → IsAnswered script (opening inc) journal
+answered_at_end inc script journal book r client = by (client == 0) refl
   where
-    by : (b : Bool) → (client == 0) ≡ b → (progress_of script opening at_start journal client).answered ≡ length (commands_of script client)
+    by : (b : Bool) → (client == 0) ≡ b → (progress_of script (opening inc) at_start journal client).answered ≡ length (commands_of script client)
     by true is =
         let zero_is : 0 ≡ client = grind (arith, nat_tests) in
         let done : (r.progress 0).answered ≡ length (commands_of script 0) = omega (arith, r.count) in
-        subst (λ n. (progress_of script opening at_start journal n).answered ≡ length (commands_of script n)) zero_is (ap (λ (p : Progresses). (p 0).answered) r.chain.progress_is ∙ done)
+        subst (λ n. (progress_of script (opening inc) at_start journal n).answered ≡ length (commands_of script n)) zero_is (ap (λ (p : Progresses). (p 0).answered) r.chain.progress_is ∙ done)
     by false is = ap (λ (p : Progresses). (p client).answered) r.chain.progress_is ∙ (ap (λ (p : Progress). p.answered) (r.others client is) ∙ sym (ap length (r.none_else client is)))

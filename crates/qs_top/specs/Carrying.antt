@@ -20,14 +20,15 @@ pub record Chain (script : Script) (book after : BookValue) (progress later : Pr
 
 -- ---- between two commands
 
-abbrev pub opening : BookValue
-opening = first_book (1 ∷ [])
+-- one node, in its incarnation, over a log that holds nothing
+abbrev pub opening : ℕ → BookValue
+opening inc = first_book (inc ∷ [])
 
-pub record Ready (script : Script) (journal : List Entry) (book : BookValue) (rest : List ScriptLine) : Type 0 where
+pub record Ready (inc : ℕ) (script : Script) (journal : List Entry) (book : BookValue) (rest : List ScriptLine) : Type 0 where
   pub progress : Progresses
   pub node : NodeState
   pub owner : Owner
-  pub chain : Chain script opening book at_start progress journal
+  pub chain : Chain script (opening inc) book at_start progress journal
   pub resting : Resting node owner book
   pub fits : Fits (λ label. is_some (find_label book label)) owner.line rest
   pub left : drop (progress 0).answered (commands_of script 0) ≡ rest

@@ -1,4 +1,5 @@
 pub mod Carrying
 pub mod Node
+pub mod Opening
 pub mod Rest
 pub mod Run

@@ -13,6 +13,17 @@ use std::alloc::Global;
 /// The stamps end below 2^62, and a command takes three at most.
 const LAST_START: u64 = (1 << 62) - 4;
 
+/// A run of one node so far.
+#[derive(Drop)]
+pub struct Course {
+    /// The incarnation of the node.
+    pub inc: u64,
+    /// The reference machine after all entries.
+    pub book: Book,
+    /// All entries, in the order in which they were made.
+    pub journal: Vec<Entry>,
+}
+
 /// Takes entries in that are lawful one after the other.
 fn take_in(book: &mut Book, entries: &[Entry]) -> Result<(), NoMemory>
     requires { IsLawful book.old entries.now }
@@ -57,31 +68,36 @@ fn carry_out(
     script: &Script,
     line: &ScriptLine,
     rest: &[ScriptLine],
-    book: &mut Book,
-    journal: &mut Vec<Entry>,
+    course: &mut Course,
 ) -> Result<(), NoMemory>
-    requires { Ready script.now journal.old.items book.old (line.now ∷ rest.now) }
-    ensures { OnOk result (Ready script.now journal.new.items book.new rest.now) }
+    requires { Ready course.old.inc script.now course.old.journal.items course.old.book (line.now ∷ rest.now) }
+    ensures inc { course.new.inc ≡ course.old.inc }
+    ensures ready { OnOk result (Ready course.old.inc script.now course.new.journal.items course.new.book rest.now) }
 {
-    let entries = entries_for(alloc, book, line)?;
-    take_in(book, entries.as_slice())?;
-    journal.append(&mut entries.into_vec())?;
+    let entries = entries_for(alloc, &course.book, line)?;
+    take_in(&mut course.book, entries.as_slice())?;
+    course.journal.append(&mut entries.into_vec())?;
     Ok(())
 }
 
-/// Carries out all commands of a script that was read, over empty logs; answers the journal, and the
-/// book after it.
-pub fn carry_out_all(alloc: Global, script: &Script) -> Result<(List<Entry>, Book), NoMemory>
+/// Carries out all commands of a script that was read, on a node in this incarnation, over a log that
+/// holds nothing.
+pub fn carry_out_all(alloc: Global, inc: u64, script: &Script) -> Result<Course, NoMemory>
     requires fits { Fits (λ label. false) 0 script.now.lines }
     requires seated { IsSeated script.now }
-    ensures { IfOk result (λ done. Ready script.now done.0 done.1 []) }
+    ensures inc { IfOk result (λ course. course.inc ≡ inc) }
+    ensures ready { IfOk result (λ course. Ready inc script.now course.journal.items course.book []) }
 {
-    let mut book = Book::over_empty_logs(alloc, &[1])?;
-    let mut journal = Vec::new(alloc);
+    let book = Book::over_empty_logs(alloc, &[inc])?;
+    let mut course = Course {
+        inc,
+        book,
+        journal: Vec::new(alloc),
+    };
     let mut rest = script.lines.as_slice();
     while let [line, more @ ..] = rest {
-        carry_out(alloc, script, line, more, &mut book, &mut journal)?;
+        carry_out(alloc, script, line, more, &mut course)?;
         rest = more;
     }
-    Ok((List::from_vec(journal), book))
+    Ok(course)
 }

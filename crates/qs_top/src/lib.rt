@@ -3,6 +3,7 @@
 
 mod carrying;
 mod node;
+mod opening;
 mod outcome;
 mod running;
 #[cfg(test)]

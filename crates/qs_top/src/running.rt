@@ -1,7 +1,8 @@
 //! The top call.
-ghost use Rattle.std.specs.Prelude.{◌≡◌, ◌≢◌, ◌↔◌, ◌≤◌, ℕ, [], Ok, Err, None, IfOk};
+ghost use Rattle.std.specs.Prelude.{◌≡◌, ◌≢◌, ◌↔◌, ◌≤◌, ℕ, [], Ok, Err, None, IfOk, length};
+ghost use Rattle.qs_base.specs.declared.identifiers.NodeNo.{NodeNo};
 ghost use Rattle.qs_book.specs.Book.{IsLawful, book_after};
-ghost use Rattle.qs_io.specs.Causes.{Rose};
+ghost use Rattle.qs_base.specs.Causes.{Rose};
 ghost use Rattle.qs_io.specs.Streams.{TakesAtMost};
 ghost use Rattle.std.specs.Prelude.{false};
 ghost use Rattle.qs_text.specs.Fits.{Fits, IsSeated};
@@ -11,13 +12,17 @@ ghost use Rattle.qs_text.specs.Script.{script_of};
 ghost use Rattle.qs_text.specs.Words.{form_of};
 ghost use Rattle.qs_text.specs.declared.status.ScriptFault.{ScriptFault};
 ghost use Rattle.qs_top.specs.Carrying.{opening};
-ghost use Rattle.qs_top.specs.Run.{ReadWhole, IsRunOf, IsGiven, IsCutOff, IsBuilt};
+ghost use Rattle.qs_top.specs.Run.{ReadWhole, IsRunOf, HasLawful, IsFaultOf, IsDamageOf, IsGiven, IsCutOff, IsBuilt, IsEarly, AreTouched, not_opened};
 
-use crate::carrying::carry_out_all;
+use crate::carrying::{Course, carry_out_all};
+use crate::node::NODE;
+use crate::opening::raise_first;
 use crate::outcome::Run;
 use qs_base::{Bytes, List, NoMemory};
 use qs_book::Entry;
+use qs_disk::Disk;
 use qs_io::{ReadFault, Sink, Source, give_all, read_text};
+use qs_log::OpenFault;
 use qs_text::{Script, ScriptFailed, Status, out_text, read_script, read_words};
 use std::alloc::Global;
 use std::thread::Threads;
@@ -36,37 +41,62 @@ fn ended(alloc: Global, status: Status) -> Run
     }
 }
 
-/// The journal of a script that was read, and the output of the run.
-fn made(alloc: Global, text: &[u8], script: &Script) -> Result<(List<Entry>, Bytes), NoMemory>
+/// The journal of a script that was read, on a node in this incarnation, and the output of the run.
+fn made(
+    alloc: Global,
+    inc: u64,
+    text: &[u8],
+    script: &Script,
+) -> Result<(List<Entry>, Bytes), NoMemory>
     requires read { script_of text.now ≡ Ok script.now }
     requires fits { Fits (λ label. false) 0 script.now.lines }
     requires seated { IsSeated script.now }
-    ensures lawful { IfOk result (λ done. IsLawful opening done.0) }
-    ensures run { IfOk result (λ done. IsRunOf text.now done.0) }
-    ensures output { IfOk result (λ done. done.1 ≡ out_of script.now done.0 (book_after opening done.0)) }
+    ensures lawful { IfOk result (λ done. IsLawful (opening inc) done.0) }
+    ensures run { IfOk result (λ done. IsRunOf inc text.now done.0) }
+    ensures output { IfOk result (λ done. done.1 ≡ out_of script.now done.0 (book_after (opening inc) done.0) false) }
 {
-    let (journal, book) = carry_out_all(alloc, script)?;
-    let output = out_text(alloc, script, &journal, &book)?;
+    let Course { book, journal, .. } = carry_out_all(alloc, inc, script)?;
+    let journal = List::from_vec(journal);
+    let output = out_text(alloc, script, &journal, &book, false)?;
     Ok((journal, output))
 }
 
-/// Reads a script from the source, runs it on one node over an empty log in memory, and gives the
+/// The status of a run whose node's disk was not opened.
+fn not_opened(why: OpenFault) -> Status
+    ensures { result ≡ not_opened why }
+{
+    match why {
+        OpenFault::DiskFailed => Status::DiskFault { node: NODE },
+        OpenFault::Damaged { at } => Status::Damaged { node: NODE, at },
+        OpenFault::NoMemory => Status::NoMemory,
+    }
+}
+
+/// Reads a script from the source, runs it on one node over the log of the first disk, and gives the
 /// output to the sink.
 ///
 /// The words are those after the program's name: exactly `run`, `1`, `--serial` and a number of 64
-/// bits. At most 1,048,577 bytes are taken of the source. `ReadFault` and `WriteFault` come only
-/// where the count of faults of the source or the sink rose in this call. The journal is empty but
-/// on `Finished` and `WriteFault`.
-pub fn run<R: Threads + Sync, S: Source, K: Sink>(
+/// bits. At most 1,048,577 bytes are taken of the source. After the script the log of the first disk
+/// is opened and its incarnation raised; nothing else is written to it yet, and the other disks are
+/// not used. There are at least 8 disks.
+///
+/// `ReadFault`, `WriteFault` and `DiskFault` come only where the count of faults of the source, the
+/// sink or the disk rose in this call; `Damaged` only where a slot or a batch of the disk that was
+/// handed in is damaged at that byte. The journal is empty but on `Finished` and `WriteFault`, and the
+/// disks are as they were on `Usage`, `Script` and `ReadFault`.
+pub fn run<R: Threads + Sync, S: Source, K: Sink, D: Disk>(
     _rt: &R,
     alloc: Global,
     words: &[String],
     source: &mut S,
     sink: &mut K,
+    disks: &mut Vec<D>,
 ) -> Run
+    requires disks { 8 ≤ length disks.old.items }
+
     // The journal is a lawful run of the machine with one outcome cell for each transaction,
-    // whatever the status.
-    ensures lawful { IsLawful opening result.journal }
+    // whatever the status; the machine opens in the incarnation that the log was raised to.
+    ensures lawful { HasLawful D.told D.state result.journal disks.old.items disks.new.items }
 
     // Each status has its cause.
     ensures usage { (result.status ≡ Status.Usage) ↔ (form_of words.now ≡ None) }
@@ -74,20 +104,30 @@ pub fn run<R: Threads + Sync, S: Source, K: Sink>(
         → ReadWhole (S.left source.old) (S.left source.new) (λ text. script_of text ≡ Err (Fault line fault)) }
     ensures read_fault { result.status ≡ Status.ReadFault → Rose (S.faults source.old) (S.faults source.new) }
     ensures write_fault { result.status ≡ Status.WriteFault → Rose (K.faults sink.old) (K.faults sink.new) }
+    ensures disk_fault { (node : NodeNo) → result.status ≡ Status.DiskFault node
+        → IsFaultOf D.fault_count node disks.old.items disks.new.items }
+    ensures damaged { (node : NodeNo) (at : ℕ) → result.status ≡ Status.Damaged node at
+        → IsDamageOf D.told D.state node at disks.old.items disks.new.items }
     ensures built { IsBuilt result.status }
 
     // The journal is a run of the script that was read, every command was answered, and the output
     // was given whole; at a write fault a part of it was, and else nothing.
     ensures finished { result.status ≡ Status.Finished
-        → ReadWhole (S.left source.old) (S.left source.new) (λ text. IsGiven text result.journal (K.given sink.old) (K.given sink.new)) }
+        → ReadWhole (S.left source.old) (S.left source.new)
+        (λ text. IsGiven D.told D.state text result.journal (K.given sink.old) (K.given sink.new) disks.old.items disks.new.items) }
     ensures cut_off { result.status ≡ Status.WriteFault
-        → ReadWhole (S.left source.old) (S.left source.new) (λ text. IsCutOff text result.journal (K.given sink.old) (K.given sink.new)) }
+        → ReadWhole (S.left source.old) (S.left source.new)
+        (λ text. IsCutOff D.told D.state text result.journal (K.given sink.old) (K.given sink.new) disks.old.items disks.new.items) }
     ensures silent { result.status ≢ Status.Finished → result.status ≢ Status.WriteFault → K.given sink.new ≡ K.given sink.old }
     ensures empty { result.status ≢ Status.Finished → result.status ≢ Status.WriteFault → result.journal ≡ [] }
 
     // What was taken of the source: nothing on Usage, and never more than the limit and one byte.
     ensures unread { result.status ≡ Status.Usage → S.left source.new ≡ S.left source.old }
     ensures bound { TakesAtMost 1048577 (S.left source.old) (S.left source.new) }
+
+    // The disks: as they were before the log is opened, and changed at most by its raise.
+    ensures early { IsEarly result.status → disks.new.items ≡ disks.old.items }
+    ensures touched { AreTouched D.told D.state disks.old.items disks.new.items }
 {
     if read_words(words).is_err() {
         return ended(alloc, Status::Usage);
@@ -104,7 +144,11 @@ pub fn run<R: Threads + Sync, S: Source, K: Sink>(
         }
         Err(ScriptFailed::NoMemory) => return ended(alloc, Status::NoMemory),
     };
-    let Ok((journal, output)) = made(alloc, text.as_slice(), &script) else {
+    let inc = match raise_first(alloc, disks) {
+        Ok(inc) => inc,
+        Err(why) => return ended(alloc, not_opened(why)),
+    };
+    let Ok((journal, output)) = made(alloc, inc, text.as_slice(), &script) else {
         return ended(alloc, Status::NoMemory);
     };
     let status = match give_all(sink, output.as_slice()) {

@@ -1,13 +1,48 @@
 //! Whole runs: words and a script go in, a status and an output come out.
+ghost use Rattle.std.specs.Prelude.{◌≡◌, length, IfOk};
 
 use crate::run;
 use qs_base::NoMemory;
+use qs_disk::{MemDisk, is_size};
 use qs_io::{MemSink, MemSource};
 use std::alloc::Global;
 use std::test::Fail;
 use std::thread::Threads;
 
-/// Runs a script and answers the number of the status.
+/// Eight disks of zeros; the calls of the first whose numbers stand in `fail` fail.
+fn fresh_disks(alloc: Global, fail: &[u64]) -> Result<Vec<MemDisk>, NoMemory>
+    ensures { IfOk result (λ disks. length disks.items ≡ 8) }
+{
+    let mut disks = Vec::new(alloc);
+    disks.push(MemDisk::new(alloc, SIZE, 0, fail)?)?;
+    for seed in 1..8 {
+        disks.push(MemDisk::new(alloc, SIZE, seed, &[])?)?;
+    }
+    Ok(disks)
+}
+
+/// Runs a script over disks and answers the number of the status.
+fn ran_over<R: Threads + Sync>(
+    rt: &R,
+    alloc: Global,
+    words: &[&str],
+    script: &str,
+    sink: &mut MemSink,
+    disks: &mut Vec<MemDisk>,
+) -> Result<u8, NoMemory>
+    requires { length disks.old.items ≡ 8 }
+    ensures { length disks.new.items ≡ 8 }
+{
+    let mut owned = Vec::new(alloc);
+    for word in words {
+        owned.push(String::from_str(alloc, word)?)?;
+    }
+    let mut source = MemSource::new(alloc, script.as_bytes(), &[])?;
+    let ran = run(rt, alloc, owned.as_slice(), &mut source, sink, disks);
+    Ok(ran.status.number())
+}
+
+/// Runs a script over fresh disks and answers the number of the status.
 fn ran<R: Threads + Sync>(
     rt: &R,
     alloc: Global,
@@ -15,21 +50,15 @@ fn ran<R: Threads + Sync>(
     script: &str,
     sink: &mut MemSink,
 ) -> Result<u8, NoMemory> {
-    let mut owned = Vec::new(alloc);
-    for word in words {
-        owned.push(String::from_str(alloc, word)?)?;
-    }
-    let mut source = MemSource::new(alloc, script.as_bytes(), &[])?;
-    Ok(
-        run(rt, alloc, owned.as_slice(), &mut source, sink)
-            .status
-            .number(),
-    )
+    let mut disks = fresh_disks(alloc, &[])?;
+    ran_over(rt, alloc, words, script, sink, &mut disks)
 }
 
 fn wide_sink(alloc: Global) -> Result<MemSink, NoMemory> {
     MemSink::new(alloc, 4096, 4096, &[])
 }
+
+const SIZE: u64 = 65_536;
 
 const WORDS: [&str; 4] = ["run", "1", "--serial", "7"];
 
@@ -104,16 +133,69 @@ fn faults_of_the_outside_are_told(rt: HostRuntime) -> Result<(), Fail> {
     }
     let mut source = MemSource::new(alloc, script.as_bytes(), &[1])?;
     let mut sink = wide_sink(alloc)?;
-    assert_eq!(rt;
-        run(&rt, alloc, words.as_slice(), &mut source, &mut sink)
-            .status
-            .number(),
-        4
+    let mut disks = fresh_disks(alloc, &[])?;
+    let failed = run(
+        &rt,
+        alloc,
+        words.as_slice(),
+        &mut source,
+        &mut sink,
+        &mut disks,
     );
+    assert_eq!(rt; failed.status.number(), 4);
     assert_eq!(rt; sink.given().len(), 0);
 
     let mut sink = MemSink::new(alloc, 1_048_576, 16, &[2])?;
     assert_eq!(rt; ran(&rt, rt.alloc(), &WORDS, script, &mut sink)?, 5);
     assert_eq!(rt; sink.given(), b"client 0\n2 ok\n3 ".as_slice());
+    Ok(())
+}
+
+#[test]
+fn the_incarnation_is_read_from_the_log(rt: HostRuntime) -> Result<(), Fail> {
+    let alloc = rt.alloc();
+    let mut disks = fresh_disks(alloc, &[])?;
+    let mut sink = wide_sink(alloc)?;
+    assert_eq!(rt; ran_over(&rt, alloc, &WORDS, "", &mut sink, &mut disks)?, 0);
+    assert_eq!(rt; ran_over(&rt, alloc, &WORDS, "", &mut sink, &mut disks)?, 0);
+    let output =
+        "node 0 inc 1\ntotals begun 0 committed 0 aborted 0 restarts 0\nnode 0 inc 2\ntotals begun 0 committed 0 aborted 0 restarts 0\n";
+    assert_eq!(rt; sink.given(), output.as_bytes());
+    Ok(())
+}
+
+#[test]
+fn a_disk_that_fails_is_told(rt: HostRuntime) -> Result<(), Fail> {
+    let alloc = rt.alloc();
+    let mut sink = wide_sink(alloc)?;
+    let mut disks = fresh_disks(alloc, &[1])?;
+    assert_eq!(rt; ran_over(&rt, alloc, &WORDS, "", &mut sink, &mut disks)?, 6);
+    assert_eq!(rt; sink.given().len(), 0);
+    Ok(())
+}
+
+/// A disk with an open gate over what is no batch, at the start of its log.
+fn damaged_disk(alloc: Global) -> Result<MemDisk, NoMemory> {
+    let mut bytes = vec![in alloc; 0; SIZE as usize]?;
+    bytes[8_192] = 1;
+    disk_of(alloc, bytes.as_slice())
+}
+
+/// A disk that holds these bytes, whose number has to be a disk's.
+fn disk_of(alloc: Global, bytes: &[u8]) -> Result<MemDisk, NoMemory> {
+    if !is_size(bytes.len() as u64) {
+        return Err(NoMemory);
+    }
+    MemDisk::from_bytes(alloc, bytes, 1, &[])
+}
+
+#[test]
+fn a_damaged_disk_is_told(rt: HostRuntime) -> Result<(), Fail> {
+    let alloc = rt.alloc();
+    let mut sink = wide_sink(alloc)?;
+    let mut disks = fresh_disks(alloc, &[])?;
+    disks[0] = damaged_disk(alloc)?;
+    assert_eq!(rt; ran_over(&rt, alloc, &WORDS, "", &mut sink, &mut disks)?, 7);
+    assert_eq!(rt; sink.given().len(), 0);
     Ok(())
 }
