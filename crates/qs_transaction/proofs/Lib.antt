@@ -1,0 +1,3 @@
+pub mod Present
+pub mod Served
+pub mod Starts

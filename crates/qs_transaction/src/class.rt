@@ -1,0 +1,44 @@
+//! How members take part in a commit.
+ghost use Rattle.std.specs.Prelude.{◌≡◌};
+ghost use Rattle.qs_transaction.specs.Transaction.{class_of, is_two_phase, learns_outcome, cell_of};
+
+use crate::state::Cell;
+use qs_base::{Class, Outcome, ServerNo};
+
+/// The class of the members of that server number.
+pub fn class_of(server: ServerNo) -> Class
+    ensures { result ≡ class_of server.0 }
+{
+    match server.0 {
+        2 => Class::Volatile,
+        3 => Class::Immediate,
+        4 => Class::Standard,
+        5 => Class::Delayed,
+        0..=31 => Class::Recoverable,
+        _ => Class::Activity,
+    }
+}
+
+/// Whether members of that class vote.
+pub fn is_two_phase(class: Class) -> bool
+    ensures { result ≡ is_two_phase class }
+{
+    class == Class::Recoverable || class == Class::Volatile
+}
+
+/// Whether members of that class are told the outcome itself.
+pub fn learns_outcome(class: Class) -> bool
+    ensures { result ≡ learns_outcome class }
+{
+    class != Class::Immediate && class != Class::Activity
+}
+
+/// The cell of an outcome.
+pub fn cell_of(outcome: Outcome) -> Cell
+    ensures { result ≡ cell_of outcome }
+{
+    match outcome {
+        Outcome::Commit => Cell::Commit,
+        Outcome::Abort => Cell::Abort,
+    }
+}
