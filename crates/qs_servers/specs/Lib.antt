@@ -1,0 +1,9 @@
+pub mod Edits
+pub mod Held
+pub mod Index
+pub mod Refusals
+pub mod Restarts
+pub mod Staged
+pub mod Table
+pub mod Timers
+pub mod Views

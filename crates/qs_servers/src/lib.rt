@@ -1,0 +1,26 @@
+//! What the servers of a node keep, and how they answer.
+#![tactic(auto)]
+
+mod claims;
+mod commits;
+mod contents;
+mod counts;
+mod edits;
+mod free_reply;
+mod holders;
+mod locks;
+mod refusal;
+mod restarts;
+mod serving;
+mod share;
+mod shares;
+mod staged;
+mod table;
+#[cfg(test)]
+mod tests;
+mod timers;
+mod views;
+
+pub use share::{Kept, Share};
+pub use table::Table;
+pub use timers::TimerTable;
