@@ -1,0 +1,6 @@
+pub mod Book
+pub mod Clauses
+pub mod Lawful
+pub mod Nodes
+pub mod Opening
+pub mod Restart
