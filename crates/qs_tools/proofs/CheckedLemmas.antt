@@ -22,9 +22,9 @@ none_lawful line book (entry ∷ entries) h =
 
 pub lawful_none : (line : ℕ) (book : BookValue) (entries : List Entry) → IsLawful book entries → first_broken_line line book entries ≡ None
 lawful_none line book [] l = refl
-lawful_none line book (entry ∷ entries) l = 
+lawful_none line book (entry ∷ entries) l =
     subst (λ (first : Option ℕ). from_first line first (first_broken_line (line + 1) (effect book entry) entries) ≡ None) (sym l.0)
-        (lawful_none (line + 1) (effect book entry) entries l.1)
+    (lawful_none (line + 1) (effect book entry) entries l.1)
 
 pub lawful_iff : (line : ℕ) (book : BookValue) (entries : List Entry) → (first_broken_line line book entries ≡ None) ↔ IsLawful book entries
 lawful_iff line book entries = (none_lawful line book entries, lawful_none line book entries)

@@ -24,11 +24,7 @@ pub fn check(alloc: Global, journal: &Journal) -> Result<Option<(u32, u16)>, NoM
 }
 
 /// The first of these entries that is no lawful step, by its line; the first of them stands at `line`.
-fn check_from(
-    book: &mut Book,
-    line: u32,
-    entries: &[Entry],
-) -> Result<Option<(u32, u16)>, NoMemory>
+fn check_from(book: &mut Book, line: u32, entries: &[Entry]) -> Result<Option<(u32, u16)>, NoMemory>
     requires { line + length entries.now ≤ 4294967295 }
     ensures { IfOk result (λ found. found ≡ first_broken_line line book.old entries.now) }
 {
