@@ -16,3 +16,13 @@ pub mod Fates
 pub mod Reopens
 pub mod ShutOpenings
 pub mod Committed
+pub mod Shares
+pub mod Holds
+pub mod Holding
+pub mod Ends
+pub mod Found
+pub mod Again
+pub mod Counts
+pub mod Covers
+pub mod Covering
+pub mod Covered

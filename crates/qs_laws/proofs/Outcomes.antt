@@ -266,7 +266,7 @@ module _ (book : BookValue) (here : ℕ) (node : NodeValue) (tid : Tid) (label :
   aged_here : age_at book tid.home.0 ≡ Some (age node)
   aged_here = ap (age_at book) (next_is here node tid next).0 ∙ ap (option_map age) at_here
 
-  is_new : (seen : Face) → face_at book tid ≡ Some seen → ⊥
+  pub is_new : (seen : Face) → face_at book tid ≡ Some seen → ⊥
   is_new seen is =
       let n = next_is here node tid next in
       not_begun node.inc node.begun tid n.1 n.2 (i.begun tid seen (age node) is aged_here)

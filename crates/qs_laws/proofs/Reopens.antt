@@ -69,7 +69,7 @@ kept_leaves : (keeps : List KeptShare) (table : TableValue) → ((fold kept tabl
 kept_leaves [] table = (refl, refl)
 kept_leaves (k ∷ keeps) table = kept_leaves keeps (kept table k)
 
-restarted_is : (table : TableValue) (changes : List Op) (keeps : List KeptShare)
+pub restarted_is : (table : TableValue) (changes : List Op) (keeps : List KeptShare)
     → ((restarted table changes keeps).contents ≡ fold apply_change table.contents changes) × ((restarted table changes keeps).notes ≡ fold apply_note table.notes changes)
 restarted_is table changes keeps = kept_leaves keeps (record (applied table changes) { shares = [] })
 
@@ -124,11 +124,11 @@ still_all f each [] book = still_self book
 still_all f each (x ∷ xs) book = still_then book (f book x) (fold f (f book x) xs) (each book x) (still_all f each xs (f book x))
 
 -- what is on record is no part of files and audit
-forgot_files : (tids : List Tid) (node : NodeValue) → (fold without_records node tids).files ≡ node.files
+pub forgot_files : (tids : List Tid) (node : NodeValue) → (fold without_records node tids).files ≡ node.files
 forgot_files [] node = refl
 forgot_files (tid ∷ tids) node = forgot_files tids (without_records node tid)
 
-forgot_audit : (tids : List Tid) (node : NodeValue) → (fold without_records node tids).audit ≡ node.audit
+pub forgot_audit : (tids : List Tid) (node : NodeValue) → (fold without_records node tids).audit ≡ node.audit
 forgot_audit [] node = refl
 forgot_audit (tid ∷ tids) node = forgot_audit tids (without_records node tid)
 

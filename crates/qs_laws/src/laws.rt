@@ -1,19 +1,25 @@
 //! What holds of every lawful history of the reference machine, from logs as nodes leave them.
-ghost use Rattle.std.specs.Prelude.{◌≡◌, ℕ, false, Some, slice_get, List, ◌∷◌, ◌++◌};
+ghost use Rattle.std.specs.Prelude.{◌≡◌, ℕ, true, false, None, Some, is_some, slice_get, List, [], ◌∷◌, ◌++◌};
 ghost use Rattle.qs_base.specs.declared.identifiers.ClientNo.{ClientNo};
 ghost use Rattle.qs_base.specs.declared.identifiers.Member.{Member};
 ghost use Rattle.qs_base.specs.declared.identifiers.Outcome.{Outcome};
+ghost use Rattle.qs_base.specs.declared.identifiers.Outcome.TheVariants as outcomes;
 ghost use Rattle.qs_base.specs.declared.identifiers.Tid.{Tid};
 ghost use Rattle.qs_ops.specs.declared.answer.Answer.{Answer};
+ghost use Rattle.qs_ops.specs.declared.vote.Vote.TheVariants as votes;
 ghost use Rattle.qs_book.specs.declared.entry.Act.TheVariants as acts;
 ghost use Rattle.qs_book.specs.declared.entry.Entry.{Entry};
+ghost use Rattle.qs_book.specs.declared.entry.Found.{Found};
 ghost use Rattle.qs_transaction.specs.Transaction.{cell_of};
 ghost use Rattle.qs_transaction.specs.declared.state.Cell.{Cell};
-ghost use Rattle.qs_machine.specs.Lawful.{IsLawful, book_after, effect};
-ghost use Rattle.qs_machine.specs.Nodes.{NodeValue};
+ghost use Rattle.qs_machine.specs.Book.{BookValue};
+ghost use Rattle.qs_machine.specs.Lawful.{IsLawful, broken, book_after, effect};
+ghost use Rattle.qs_machine.specs.Nodes.{NodeValue, changes_of};
 ghost use Rattle.qs_machine.specs.Opening.{opening};
+ghost use Rattle.qs_machine.specs.Restart.{record_at, is_among};
 ghost use Rattle.qs_machine.specs.declared.opened.Opened.{Opened};
-ghost use Rattle.qs_laws.specs.Laws.{IsCoherent, IsDecided, IsTrueAnswer, TakesCommitted, LeavesCommitted, may_take};
+ghost use Rattle.qs_laws.specs.Served.{held_at, crossed_at, changes_served, keeps_contents, IsHolding, NeverVotes, HasApplied, IsLogged, PendsAgain, CommitsOnce};
+ghost use Rattle.qs_laws.specs.Laws.{IsCoherent, IsCommitted, IsDecided, IsTrueAnswer, TakesCommitted, LeavesCommitted, may_take};
 
 /// A transaction has one outcome: its cell, once decided, never changes; every member learns the outcome that the cell
 /// has; no two members learn different ones; and a client is told of a commit or an abort only where a transaction of its
@@ -31,4 +37,31 @@ pub fn one_outcome()
 pub fn nothing_of_an_aborted_transaction()
     ensures taken { (opened : List Opened) (before after : List Entry) (entry : Entry) (n : ℕ) (was now : NodeValue) → IsCoherent opened → IsLawful (opening opened) (before ++ (entry ∷ after)) → slice_get (book_after (opening opened) before).nodes n ≡ Some was → slice_get (effect (book_after (opening opened) before) entry).nodes n ≡ Some now → TakesCommitted (effect (book_after (opening opened) before) entry) was now }
     ensures left { (opened : List Opened) (before after : List Entry) (entry : Entry) (n : ℕ) (was now : NodeValue) → IsCoherent opened → IsLawful (opening opened) (before ++ (entry ∷ after)) → may_take entry.act ≡ false → slice_get (book_after (opening opened) before).nodes n ≡ Some was → slice_get (effect (book_after (opening opened) before) entry).nodes n ≡ Some now → LeavesCommitted was now }
+{}
+
+/// Files and audit keep each change that they served until they let go of it. What a member has pending of a transaction that
+/// isn't crossed there is, after any lawful history, what it had before, followed by each change that it served with `Done`
+/// since, in order, until it votes read-only, learns the outcome, or its node restarts. It votes read-only only where it has nothing
+/// pending; a vote that it can commit puts all that is pending on record; and as it learns commit, it applies all of it, in
+/// order and once.
+pub fn served_changes_are_kept()
+    ensures held { (book : BookValue) (entries : List Entry) (tid : Tid) (member : Member) → keeps_contents member.server.0 ≡ true → IsLawful book entries → IsHolding book tid member entries → held_at (book_after book entries) tid member ≡ held_at book tid member ++ changes_served book tid member entries }
+    ensures let_go { (book : BookValue) (entry : Entry) (tid : Tid) (member : Member) (covers : ℕ) → keeps_contents member.server.0 ≡ true → broken book entry ≡ None → crossed_at book tid member ≡ false → entry.act ≡ acts.Vote tid member votes.ReadOnly covers → held_at book tid member ≡ [] }
+    ensures voted { (book : BookValue) (entry : Entry) (tid : Tid) (member : Member) (covers : ℕ) → broken book entry ≡ None → entry.act ≡ acts.Vote tid member votes.Recoverable covers → record_at member.node.0 (effect book entry) tid member.server.0 ≡ Some (record { changes = held_at book tid member; covers = covers }) }
+    ensures applied { (book : BookValue) (entry : Entry) (tid : Tid) (member : Member) (was now : NodeValue) → keeps_contents member.server.0 ≡ true → broken book entry ≡ None → entry.act ≡ acts.Learn tid member outcomes.Commit → slice_get book.nodes member.node.0 ≡ Some was → slice_get (effect book entry).nodes member.node.0 ≡ Some now → HasApplied member.server.0 (held_at book tid member) was now }
+{}
+
+/// A restart loses nothing that is on record of a committed transaction. It reads what files and audit had on record, or, where
+/// it finds a vote that was not told, what was pending as the node stopped. Where it finds the transaction's Commit, it commits
+/// these changes, once, in order; else, where the transaction isn't crossed there, they stay on record, and are pending again.
+pub fn a_restart_keeps_what_is_on_record()
+    ensures logged { (book : BookValue) (entry : Entry) (inc : ℕ) (pend : List Found) (done : List Tid) (tid : Tid) (member : Member) → broken book entry ≡ None → entry.act ≡ acts.Restart inc pend done → entry.node.0 ≡ member.node.0 → IsLogged book pend tid member }
+    ensures pending { (book : BookValue) (entry : Entry) (inc : ℕ) (pend : List Found) (done : List Tid) (tid : Tid) (member : Member) → keeps_contents member.server.0 ≡ true → broken book entry ≡ None → entry.act ≡ acts.Restart inc pend done → entry.node.0 ≡ member.node.0 → IsCommitted book tid → crossed_at book tid member ≡ false → is_some (record_at member.node.0 book tid member.server.0) ≡ true → is_among done tid ≡ false → PendsAgain book (effect book entry) pend tid member }
+    ensures committed { (book : BookValue) (entry : Entry) (inc : ℕ) (pend : List Found) (done : List Tid) (tid : Tid) (member : Member) (was now : NodeValue) → keeps_contents member.server.0 ≡ true → broken book entry ≡ None → entry.act ≡ acts.Restart inc pend done → entry.node.0 ≡ member.node.0 → is_some (record_at member.node.0 book tid member.server.0) ≡ true → is_among done tid ≡ true → slice_get book.nodes member.node.0 ≡ Some was → slice_get (effect book entry).nodes member.node.0 ≡ Some now → CommitsOnce book pend tid member was now }
+{}
+
+/// Where a member voted that it can commit, and neither voted again, let go nor restarted since, then as its transaction's
+/// commit is decided, what it has on record is all that it has pending.
+pub fn a_commit_covers_what_was_served()
+    ensures { (opened : List Opened) (before between after : List Entry) (vote decision : Entry) (tid : Tid) (member : Member) (covers : ℕ) → IsCoherent opened → keeps_contents member.server.0 ≡ true → IsLawful (opening opened) (before ++ (vote ∷ (between ++ (decision ∷ after)))) → vote.act ≡ acts.Vote tid member votes.Recoverable covers → decision.act ≡ acts.Decide tid outcomes.Commit None → IsHolding (book_after (opening opened) before) tid member (vote ∷ between) → NeverVotes tid member between → changes_of (record_at member.node.0 (book_after (opening opened) (before ++ (vote ∷ between))) tid member.server.0) ≡ held_at (book_after (opening opened) (before ++ (vote ∷ between))) tid member }
 {}
