@@ -22,7 +22,8 @@ use Rattle.qs_ops.specs.declared.reply.Reply.{Reply}
 use Rattle.qs_ops.specs.declared.vote.Reason.{Reason}
 use Rattle.qs_ops.specs.declared.vote.Vote.{Vote}
 use Rattle.qs_ops.specs.declared.vote.Vote.TheVariants as votes
-use Rattle.qs_book.specs.Transaction.{TransactionValue, class_of, is_two_phase, learns_outcome, has_loan, is_open, is_commit, is_outcome, next_number, request_at, part_of, all_served, learnt_abort}
+use Rattle.qs_ops.specs.Members.{class_of, is_two_phase, learns_outcome}
+use Rattle.qs_book.specs.Transaction.{TransactionValue, has_loan, is_open, is_commit, is_outcome, next_number, request_at, part_of, all_served, learnt_abort}
 use Rattle.qs_book.specs.declared.state.NodeState.{NodeState}
 use Rattle.qs_book.specs.declared.state.Owner.{Owner}
 use Rattle.qs_book.specs.declared.transaction.Loan.{Loan}

@@ -7,8 +7,6 @@ use Rattle.std.specs.Map.{lookup, set_value}
 use Rattle.std.specs.BTreeMap.{insert_entry, is_at}
 use Rattle.qs_base.specs.Order.{member_cmp}
 use Rattle.qs_base.specs.declared.identifiers.ClientNo.{ClientNo}
-use Rattle.qs_base.specs.declared.identifiers.Class.{Class}
-use Rattle.qs_base.specs.declared.identifiers.Class.TheVariants.{Recoverable, Volatile, Immediate, Standard, Delayed, Activity}
 use Rattle.qs_base.specs.declared.identifiers.Member.{Member}
 use Rattle.qs_base.specs.declared.identifiers.Outcome.{Outcome}
 use Rattle.qs_base.specs.declared.identifiers.Outcome.TheVariants as outcomes
@@ -37,28 +35,6 @@ pub record TransactionValue : Type 0 where
   pub refusals : List Refusal  -- the votes against commit
   pub loans : List Loan  -- to whom it was lent
   pub crossed : List Member  -- members at which two requests have one number
-
--- ---- classes of members
-
-abbrev pub class_of : ℕ → Class
-class_of server =
-    if server == 2 then Volatile
-    else if server == 3 then Immediate
-    else if server == 4 then Standard
-    else if server == 5 then Delayed
-    else if nat_lt 31 server then Activity
-    else Recoverable
-
-abbrev pub is_two_phase : Class → Bool
-is_two_phase Recoverable = true
-is_two_phase Volatile = true
-is_two_phase _ = false
-
--- a member that is told the outcome itself
-abbrev pub learns_outcome : Class → Bool
-learns_outcome Immediate = false
-learns_outcome Activity = false
-learns_outcome _ = true
 
 -- ---- cells
 

@@ -5,11 +5,10 @@ ghost use Rattle.std.specs.Option.{option_copied};
 ghost use Rattle.qs_ops.specs.Alike.{same_cause};
 ghost use Rattle.qs_book.specs.Clauses.{broken_begin, is_next_tid, broken_issue, is_numbered, is_for, is_client_here, is_files_here, is_owner_of, may_issue, may_issue_as_owner, may_issue_as_borrower, may_ask, broken_ask, may_decide, broken_outcome, broken_decide, is_known, broken_answer, may_learn, is_let_go, broken_learn};
 
-use crate::class::{class_of, learns_outcome};
 use crate::state::{NodeState, Owner};
 use crate::transaction::{Cell, Link, Part, Transaction, cell_of};
 use qs_base::{Bytes, ClientNo, Member, NodeNo, Outcome, ServerNo, Tid};
-use qs_ops::{Answer, Cause, Op, server_of};
+use qs_ops::{Answer, Cause, Op, class_of, learns_outcome, server_of};
 use std::collections::BTreeMap;
 
 /// A kind of entry that is not built yet.

@@ -2,7 +2,6 @@
 #![tactic(auto)]
 
 mod book;
-mod class;
 mod clauses;
 mod effects;
 mod entry;
@@ -15,7 +14,6 @@ mod tests;
 mod transaction;
 
 pub use book::{Book, BookFault};
-pub use class::class_of;
 pub use entry::{Act, CrashCause, Entry, Found};
 pub use requests::Requests;
 pub use script_line::{Command, Kind, LineAnswer, Point, ScriptLine};

@@ -4,7 +4,6 @@ ghost use Rattle.std.specs.Option.{option_copied};
 ghost use Rattle.qs_book.specs.Clauses.{standing_request, is_standing_at, is_reply, broken_serve, is_vote_due, is_vote, broken_vote};
 ghost use Rattle.qs_book.specs.Transaction.{part_of};
 
-use crate::class::{class_of, is_two_phase};
 use crate::clauses::{
     NO_SERVE_AFTER_ABORT, REPLY_BY_THE_RULES, SERVE_OF_A_STANDING_ISSUE, VOTE_BY_THE_RULES,
     VOTE_COVERS, VOTE_IS_DUE,
@@ -12,7 +11,7 @@ use crate::clauses::{
 use crate::state::NodeState;
 use crate::transaction::{Cell, Link, Request, Transaction};
 use qs_base::{Member, NodeNo, Tid};
-use qs_ops::{FileTable, Op, Reply, Vote};
+use qs_ops::{FileTable, Op, Reply, Vote, class_of, is_two_phase};
 
 /// The standing request of that number, from that node to that member, which is at `here`.
 pub fn standing_request<'a>(

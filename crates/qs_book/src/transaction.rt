@@ -4,10 +4,9 @@ ghost use Rattle.std.specs.Option.{option_copied};
 ghost use Rattle.qs_book.specs.Clauses.{counts_from, is_covered, is_refusal};
 ghost use Rattle.qs_book.specs.Transaction.{served_once, voted_part, learnt_part, cell_of, is_standing, request_in};
 
-use crate::class::{class_of, is_two_phase};
 use crate::requests::Requests;
 use qs_base::{Bytes, ClientNo, Copied, List, Member, NoMemory, NodeNo, Outcome, ServerNo, Tid};
-use qs_ops::{Cause, FileTable, Op, Reason, Reply, Vote};
+use qs_ops::{Cause, FileTable, Op, Reason, Reply, Vote, class_of, is_two_phase};
 use std::alloc::Global;
 use std::collections::BTreeMap;
 use std::collections::btree_map::Entry;

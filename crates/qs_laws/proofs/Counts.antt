@@ -18,7 +18,8 @@ use Rattle.qs_base.proofs.Same.{same_member-true, same_member-self}
 use Rattle.qs_ops.specs.declared.answer.Cause.{Cause}
 use Rattle.qs_ops.specs.declared.vote.Vote.{Vote}
 use Rattle.qs_book.specs.declared.entry.Found.{Found}
-use Rattle.qs_transaction.specs.Transaction.{TransactionValue, changed_value, part_of, no_part, life, life_cmp, learnt, learnt_part, lent, made_part, given_back, yielded_part, voted, voted_part, served_in, serving_part, class_of, found_at, found_part, with_learnt, decided_at, heard}
+use Rattle.qs_ops.specs.Members.{class_of}
+use Rattle.qs_transaction.specs.Transaction.{TransactionValue, changed_value, part_of, no_part, life, life_cmp, learnt, learnt_part, lent, made_part, given_back, yielded_part, voted, voted_part, served_in, serving_part, found_at, found_part, with_learnt, decided_at, heard}
 use Rattle.qs_transaction.specs.declared.state.Life.{Life}
 use Rattle.qs_transaction.specs.declared.state.Part.{Part}
 use Rattle.qs_transaction.specs.declared.state.RequestNo.{RequestNo}

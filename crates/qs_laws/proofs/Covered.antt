@@ -15,7 +15,8 @@ use Rattle.qs_ops.specs.declared.vote.Vote.TheVariants as votes
 use Rattle.qs_book.specs.declared.entry.Act.{Act}
 use Rattle.qs_book.specs.declared.entry.Act.TheVariants as acts
 use Rattle.qs_book.specs.declared.entry.Entry.{Entry}
-use Rattle.qs_transaction.specs.Transaction.{TransactionValue, changed_value, life, life_cmp, no_part, voted, voted_part, is_unanimous, agrees, agrees_in, class_of, is_empty}
+use Rattle.qs_ops.specs.Members.{class_of}
+use Rattle.qs_transaction.specs.Transaction.{TransactionValue, changed_value, life, life_cmp, no_part, voted, voted_part, is_unanimous, agrees, agrees_in, is_empty}
 use Rattle.qs_transaction.specs.declared.state.Life.{Life}
 use Rattle.qs_transaction.specs.declared.state.Part.{Part}
 use Rattle.qs_machine.specs.Book.{BookValue, find_transaction, changed_at, crossed_in, vote_node, inc_at}

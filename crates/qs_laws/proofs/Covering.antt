@@ -22,7 +22,8 @@ use Rattle.qs_book.specs.declared.entry.Act.{Act}
 use Rattle.qs_book.specs.declared.entry.Act.TheVariants.{Begin, Issue, Serve, Ask, Counted, Decide, Ending, Learn, Answer, Loan, Yield, Tick, Crash, Restart}
 use Rattle.qs_book.specs.declared.entry.Act.TheVariants as acts
 use Rattle.qs_book.specs.declared.entry.Found.{Found}
-use Rattle.qs_transaction.specs.Transaction.{TransactionValue, begun, issued, asked_at, counted, ended, ended_part, learnt, voted, served_in, life, life_cmp, class_of, serving_part}
+use Rattle.qs_ops.specs.Members.{class_of}
+use Rattle.qs_transaction.specs.Transaction.{TransactionValue, begun, issued, asked_at, counted, ended, ended_part, learnt, voted, served_in, life, life_cmp, serving_part}
 use Rattle.qs_transaction.specs.declared.state.Part.{Part}
 use Rattle.qs_transaction.specs.declared.state.Request.{Request}
 use Rattle.qs_transaction.specs.declared.state.RequestNo.{RequestNo}

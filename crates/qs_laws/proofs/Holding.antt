@@ -27,7 +27,8 @@ use Rattle.qs_book.specs.declared.entry.Act.TheVariants.{Begin, Issue, Serve, As
 use Rattle.qs_book.specs.declared.entry.Act.TheVariants as acts
 use Rattle.qs_book.specs.declared.entry.Entry.{Entry}
 use Rattle.qs_book.specs.declared.entry.Found.{Found}
-use Rattle.qs_transaction.specs.Transaction.{TransactionValue, standing_request, part_of, issued, crossed_by, class_of, is_two_phase, is_outcome}
+use Rattle.qs_ops.specs.Members.{class_of, is_two_phase}
+use Rattle.qs_transaction.specs.Transaction.{TransactionValue, standing_request, part_of, issued, crossed_by, is_outcome}
 use Rattle.qs_transaction.specs.declared.state.Request.{Request}
 use Rattle.qs_transaction.specs.declared.state.RequestNo.{RequestNo}
 use Rattle.qs_machine.specs.Book.{BookValue, find_transaction, changed_at, with_owner, with_transaction, with_waiting, with_crossing, crosses, issue, serve_node, vote_node, crossed_in, learn_node, doubts_after, hear, answer, waiting_of, loan_to, give_back_from, inc_at, end_node, tick_node, crash_node}

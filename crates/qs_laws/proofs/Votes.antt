@@ -9,7 +9,8 @@ use Rattle.qs_base.specs.declared.identifiers.Member.{Member}
 use Rattle.qs_base.specs.declared.identifiers.Tid.{Tid}
 use Rattle.qs_ops.specs.declared.vote.Vote.{Vote}
 use Rattle.qs_book.specs.declared.entry.Found.{Found}
-use Rattle.qs_transaction.specs.Transaction.{TransactionValue, class_of, is_two_phase, is_commit, part_of, was_in_commit, was_committed, is_before}
+use Rattle.qs_ops.specs.Members.{class_of, is_two_phase}
+use Rattle.qs_transaction.specs.Transaction.{TransactionValue, is_commit, part_of, was_in_commit, was_committed, is_before}
 use Rattle.qs_machine.specs.Book.{BookValue, find_transaction}
 use Rattle.qs_machine.specs.Clauses.{broken_vote, is_vote_due}
 use Rattle.qs_machine.specs.Nodes.{NodeValue, voter, voter_cmp, record_of, pending_at, changes_of, is_recoverable}

@@ -134,7 +134,7 @@ abbrev pub issue : ℕ → Tid → Member → Member → ℕ → Op → BookValu
 issue here tid issuer member number op book =
     with_crossing (crosses (find_transaction book tid) at member) tid member
     (with_waiting tid issuer member
-    (with_transaction tid (issued at request (inc_at book member.node)) book))
+    (with_transaction tid (issued at request (inc_at book member.node) book.place) book))
   where
     at : RequestNo
     at = record { link = link_to here member; number = number }

@@ -14,6 +14,7 @@ use Rattle.qs_base.specs.declared.identifiers.Outcome.{Outcome}
 use Rattle.qs_base.specs.declared.identifiers.Outcome.TheVariants as outcomes
 use Rattle.qs_base.specs.declared.identifiers.Tid.{Tid}
 use Rattle.qs_ops.specs.Alike.{same_reply, same_cause}
+use Rattle.qs_ops.specs.Members.{class_of, is_two_phase, learns_outcome}
 use Rattle.qs_ops.specs.Operations.{server_of}
 use Rattle.qs_ops.specs.Spelled.{prepare_length}
 use Rattle.qs_ops.specs.declared.answer.Answer.{Answer}
@@ -31,7 +32,7 @@ use Rattle.qs_book.specs.declared.entry.CrashCause.{CrashCause}
 use Rattle.qs_book.specs.declared.entry.CrashCause.TheVariants as crashes
 use Rattle.qs_servers.specs.Table.{TableValue, is_due, reply_to, share_of, has_changes, view_bytes, least_taken, changes_name}
 use Rattle.qs_servers.specs.Timers.{timer_reply_to}
-use Rattle.qs_transaction.specs.Transaction.{TransactionValue, class_of, is_two_phase, learns_outcome, is_open, is_commit, is_abort, is_outcome, part_of, is_crossed, sent_in, sent_on, next_number, standing_request, has_note, is_gone, is_covering, has_refusal, borrower, has_loan, is_loan_due, is_unanimous, is_let_go, may_learn_still, learnt_abort}
+use Rattle.qs_transaction.specs.Transaction.{TransactionValue, is_open, is_commit, is_abort, is_outcome, part_of, is_crossed, sent_in, sent_on, next_number, standing_request, has_note, is_gone, is_covering, has_refusal, borrower, has_loan, is_loan_due, is_unanimous, is_let_go, may_learn_still, learnt_abort}
 use Rattle.qs_transaction.specs.declared.state.Link.{Link}
 use Rattle.qs_transaction.specs.declared.state.Noted.{Noted}
 use Rattle.qs_transaction.specs.declared.state.Part.{Part}
@@ -278,11 +279,11 @@ is_server_vote node server tid vote =
 abbrev pub has_vote : ℕ → Vote → Bool
 has_vote server votes.ReadOnly = true
 has_vote server votes.Volatile = server == 2
-has_vote server votes.Recoverable = not (server == 2)
+has_vote server votes.Recoverable = (server == 0) || (server == 1)
 has_vote server (votes.Abort (reasons.Quota bytes limit)) = server == 0
-has_vote server (votes.Abort (reasons.LogRoom need room)) = not (server == 2)
+has_vote server (votes.Abort (reasons.LogRoom need room)) = (server == 0) || (server == 1)
 has_vote server (votes.Abort (reasons.Taken name)) = server == 2
-has_vote server (votes.Abort (reasons.Code code)) = server == 6
+has_vote server (votes.Abort (reasons.Code code)) = false
 
 -- 42 vote by the rules; where the transaction is crossed, any that the server has
 abbrev pub is_vote : NodeValue → Tid → TransactionValue → Member → Vote → Bool

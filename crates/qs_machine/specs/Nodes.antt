@@ -126,8 +126,12 @@ crossed_table tid server node = with_table server (λ table. released table tid)
 abbrev pub crossed_names : Tid → NodeValue → NodeValue
 crossed_names tid node = crossed_table tid 2 (with_doubts tid (bound_names (pending_at node tid 2)) node)
 
-abbrev pub crossed_node : Tid → ℕ → NodeValue → NodeValue
-crossed_node tid server node =
+abbrev pub crossed_server : Tid → ℕ → NodeValue → NodeValue
+crossed_server tid server node =
     if server == 2 then crossed_names tid node
     else if server == 3 then record node { timers = timers_ended node.timers tid }
     else crossed_table tid server node
+
+-- while its node is down, the server stays as it stopped
+abbrev pub crossed_node : Tid → ℕ → NodeValue → NodeValue
+crossed_node tid server node = if node.up then crossed_server tid server node else node

@@ -1,6 +1,6 @@
 -- The machine as a run begins, from what the logs of its nodes hold.
-use Rattle.std.specs.Prelude.{ℕ, ◌==◌, true, false, List, [], ◌∷◌, length, map, fold, replicate, Some, None, slice_get, suc, if◌then◌else◌}
-use Rattle.std.specs.List.{flat_map}
+use Rattle.std.specs.Prelude.{ℕ, ◌==◌, true, false, List, [], ◌∷◌, length, map, fold, replicate, Some, None, nat_lt, suc, if◌then◌else◌}
+use Rattle.std.specs.List.{list_any, flat_map}
 use Rattle.std.specs.BTreeMap.{insert_entry}
 use Rattle.std.specs.BTreeSet.{insert_key}
 use Rattle.qs_base.specs.Order.{tid_cmp}
@@ -67,36 +67,40 @@ opened_node opened = record {
 
 -- ---- transactions
 
--- commit where the log of the home has the Commit; abort where the home is in the run and has none; else open
-abbrev pub opened_transaction : List Opened → Tid → TransactionValue
-opened_transaction opened tid = elim (slice_get opened tid.home.0) [
-  | None ↦ opened_as cells.Open None
-  | Some home ↦ if is_among home.committed tid then opened_as cells.Commit None else opened_as cells.Abort (Some (causes.Home tid.inc))
-]
+-- the log of the node has its Commit
+abbrev pub has_commit : Tid → NodeValue → Bool
+has_commit tid node = is_among node.committed tid
+
+-- commit where any log of the run has its Commit; abort where its home is in the run and none has it; else open
+abbrev pub opened_transaction : List NodeValue → Tid → TransactionValue
+opened_transaction nodes tid =
+    if list_any (has_commit tid) nodes then opened_as cells.Commit None
+    else if nat_lt tid.home.0 (length nodes) then opened_as cells.Abort (Some (causes.Home tid.inc))
+    else opened_as cells.Open None
 
 -- a transaction that a log names stands in the machine
-abbrev pub name_transaction : List Opened → BookValue → Tid → BookValue
-name_transaction opened book tid = elim (find_transaction book tid) [
+abbrev pub name_transaction : BookValue → Tid → BookValue
+name_transaction book tid = elim (find_transaction book tid) [
   | Some tx ↦ book
-  | None ↦ record book { transactions = insert_entry tid_cmp book.transactions tid (opened_transaction opened tid) }
+  | None ↦ record book { transactions = insert_entry tid_cmp book.transactions tid (opened_transaction book.nodes tid) }
 ]
 
 -- and a vote that a log holds was left to its member
-abbrev pub name_pending : List Opened → ℕ → ℕ → BookValue → Pending → BookValue
-name_pending opened here inc book pending =
+abbrev pub name_pending : ℕ → ℕ → BookValue → Pending → BookValue
+name_pending here inc book pending =
     with_transaction pending.tid
     (found_at (member_at here pending.server.0) inc pending.covers (length pending.changes))
-    (name_transaction opened book pending.tid)
+    (name_transaction book pending.tid)
 
 -- what the log of a node names
-abbrev pub name_all : List Opened → ℕ → Opened → BookValue → BookValue
-name_all opened here one book =
-    fold (name_pending opened here one.inc) (fold (name_transaction opened) book one.committed) one.pending
+abbrev pub name_all : ℕ → Opened → BookValue → BookValue
+name_all here one book =
+    fold (name_pending here one.inc) (fold name_transaction book one.committed) one.pending
 
 -- the logs from this number on
-abbrev pub name_from : List Opened → ℕ → List Opened → BookValue → BookValue
-name_from opened here [] book = book
-name_from opened here (one ∷ more) book = name_from opened (suc here) more (name_all opened here one book)
+abbrev pub name_from : ℕ → List Opened → BookValue → BookValue
+name_from here [] book = book
+name_from here (one ∷ more) book = name_from (suc here) more (name_all here one book)
 
 -- ---- the whole
 
@@ -104,7 +108,7 @@ abbrev pub no_owner : Owner
 no_owner = record { line = 0; committed = false; causes = []; waiting = [] }
 
 abbrev pub opening : List Opened → BookValue
-opening opened = name_from opened 0 opened (record {
+opening opened = name_from 0 opened (record {
   stamp = 0;
   node = 0;
   place = 0;

@@ -14,7 +14,7 @@ use Rattle.qs_book.specs.declared.entry.Found.{Found}
 use Rattle.qs_servers.specs.Table.{no_table, restarted}
 use Rattle.qs_servers.specs.Timers.{no_timers}
 use Rattle.qs_servers.specs.declared.share.Kept.{Kept}
-use Rattle.qs_transaction.specs.Transaction.{TransactionValue, is_open, is_commit, is_abort, part_of, is_crossed, is_covering, is_unanimous, has_learnt, with_learnt, found_at, was_in_commit, is_empty}
+use Rattle.qs_transaction.specs.Transaction.{TransactionValue, is_open, is_commit, is_abort, part_of, was_crossed, is_covering, is_unanimous, has_learnt, with_learnt, found_at, was_in_commit, is_empty}
 use Rattle.qs_machine.specs.Book.{BookValue, find_transaction, with_node, with_transaction, decide, crossed_in, inc_at}
 use Rattle.qs_machine.specs.Nodes.{NodeValue, without_record, record_of, changes_of, pending_at, is_recoverable, voter, voter_cmp}
 use Rattle.qs_machine.specs.declared.state.Reopened.{Reopened}
@@ -38,13 +38,13 @@ is_on_record node found = elim (record_of node found.tid found.server.0) [
 ]
 
 -- as the node stopped, its member could vote recoverable: asked and not committed, something served since its last vote,
--- covers that count, something pending
+-- covers that count, something pending or the transaction crossed there
 abbrev pub could_vote : ℕ → NodeValue → TransactionValue → Found → Bool
 could_vote here node tx found =
-    (is_recoverable found.server.0 && was_in_commit node.stopped tx)
+    was_in_commit node.stopped tx
     && ((nat_lt (part_of tx (member_at here found.server.0) node.inc).voted (part_of tx (member_at here found.server.0) node.inc).served
     && is_covering tx (member_at here found.server.0) node.inc found.covers)
-    && (is_crossed tx (member_at here found.server.0) || not (is_empty (pending_at node found.tid found.server.0))))
+    && (was_crossed node.stopped tx (member_at here found.server.0) || not (is_empty (pending_at node found.tid found.server.0))))
 
 abbrev pub is_new_vote : ℕ → NodeValue → Option TransactionValue → Found → Bool
 is_new_vote here node None found = false
@@ -56,11 +56,13 @@ was_applied here node done None found = false
 was_applied here node done (Some tx) found =
     is_among done found.tid && (has_learnt tx (member_at here found.server.0) || is_among node.committed found.tid)
 
+-- a member that keeps its votes in a log made it
 abbrev pub is_found_vote : ℕ → BookValue → NodeValue → List Tid → Found → Bool
 is_found_vote here book node done found =
-    is_on_record node found
+    is_recoverable found.server.0
+    && (is_on_record node found
     || (is_new_vote here node (find_transaction book found.tid) found
-    || was_applied here node done (find_transaction book found.tid) found)
+    || was_applied here node done (find_transaction book found.tid) found))
 
 -- a vote of the same member for the same transaction
 abbrev pub is_same_vote : Found → Found → Bool

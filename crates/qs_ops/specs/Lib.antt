@@ -2,6 +2,7 @@ pub mod Alike
 pub mod Files
 pub mod Held
 pub mod Index
+pub mod Members
 pub mod Operations
 pub mod Places
 pub mod Refusals

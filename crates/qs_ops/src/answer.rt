@@ -9,7 +9,7 @@ use crate::vote::Reason;
 use qs_base::{Bytes, Copied, List, Member, NoMemory, NodeNo, Tid};
 
 /// Why a transaction was aborted.
-#[derive(Debug, Drop, PartialEq, Eq)]
+#[derive(Debug, Drop, PartialEq, Eq, PartialOrd, Ord)]
 pub enum Cause {
     /// Its owner asked for it.
     Asked,

@@ -2,6 +2,7 @@
 #![tactic(auto)]
 
 mod answer;
+mod class;
 mod contents;
 mod file;
 mod free_reply;
@@ -17,6 +18,7 @@ mod table;
 mod vote;
 
 pub use answer::{Answer, Cause, answer_of};
+pub use class::{class_of, is_two_phase, learns_outcome};
 pub use file::{File, Share};
 pub use operation::{Changes, Op, server_of};
 pub use reply::Reply;

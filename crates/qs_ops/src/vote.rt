@@ -6,7 +6,7 @@ ghost use Rattle.qs_ops.specs.Alike.{same_reason};
 use qs_base::{Bytes, Copied, NoMemory};
 
 /// Why a member votes abort.
-#[derive(Debug, Drop, PartialEq, Eq)]
+#[derive(Debug, Drop, PartialEq, Eq, PartialOrd, Ord)]
 pub enum Reason {
     /// All files together would have `bytes`, above the quota `limit`.
     Quota { bytes: u64, limit: u64 },

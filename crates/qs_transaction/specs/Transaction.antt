@@ -9,12 +9,13 @@ use Rattle.std.specs.BTreeSet.{insert_key}
 use Rattle.qs_base.specs.Order.{member_cmp, same_member, bytes_cmp}
 use Rattle.qs_base.specs.declared.identifiers.ClientNo.{ClientNo}
 use Rattle.qs_base.specs.declared.identifiers.Class.{Class}
-use Rattle.qs_base.specs.declared.identifiers.Class.TheVariants.{Recoverable, Volatile, Immediate, Standard, Delayed, Activity}
+use Rattle.qs_base.specs.declared.identifiers.Class.TheVariants.{Recoverable, Volatile, Activity}
 use Rattle.qs_base.specs.declared.identifiers.Member.{Member}
 use Rattle.qs_base.specs.declared.identifiers.NodeNo.{NodeNo}
 use Rattle.qs_base.specs.declared.identifiers.Outcome.{Outcome}
 use Rattle.qs_base.specs.declared.identifiers.Outcome.TheVariants as outcomes
 use Rattle.qs_ops.specs.Alike.{same_reason}
+use Rattle.qs_ops.specs.Members.{class_of}
 use Rattle.qs_ops.specs.declared.answer.Cause.{Cause}
 use Rattle.qs_ops.specs.declared.operation.Op.{Op}
 use Rattle.qs_ops.specs.declared.operation.Op.TheVariants.{Note}
@@ -49,31 +50,8 @@ pub record TransactionValue : Type 0 where
   pub parts : List (Life × Part)  -- what each member did, in each incarnation of its node
   pub starts : List Start  -- where a count of served requests may begin anew
   pub refusals : List Refusal  -- the votes against commit, ever
-  pub crossed : List Member  -- members at which a request had the number of an earlier one that was not served
+  pub crossed : List (Member × ℕ)  -- members at which a request had the number of an earlier one that was not served, with the place in the history
   pub learnt : List Member  -- members that learnt commit, in whatever incarnation
-
--- ---- classes of members
-
-abbrev pub class_of : ℕ → Class
-class_of server =
-    if server == 2 then Volatile
-    else if server == 3 then Immediate
-    else if server == 4 then Standard
-    else if server == 5 then Delayed
-    else if nat_lt 31 server then Activity
-    else Recoverable
-
--- a member that votes
-abbrev pub is_two_phase : Class → Bool
-is_two_phase Recoverable = true
-is_two_phase Volatile = true
-is_two_phase _ = false
-
--- a member that is told the outcome itself
-abbrev pub learns_outcome : Class → Bool
-learns_outcome Immediate = false
-learns_outcome Activity = false
-learns_outcome _ = true
 
 -- ---- cells
 
@@ -179,7 +157,7 @@ abbrev pub with_part : TransactionValue → Member → ℕ → Part → Transact
 with_part tx member inc part = record tx { parts = insert_entry life_cmp tx.parts (life member inc) part }
 
 abbrev pub is_crossed : TransactionValue → Member → Bool
-is_crossed tx member = list_any (same_member member) tx.crossed
+is_crossed tx member = is_some (lookup (is_at (member_cmp member)) tx.crossed)
 
 abbrev pub has_learnt : TransactionValue → Member → Bool
 has_learnt tx member = list_any (same_member member) tx.learnt
@@ -249,27 +227,35 @@ reached_by request inc peer = record {
   reached = inc;
 }
 
+-- from this place in the history on, or from an earlier one
+abbrev pub crossed_from : ℕ → Member → List (Member × ℕ) → List (Member × ℕ)
+crossed_from place member crossed = elim (lookup (is_at (member_cmp member)) crossed) [
+  | Some earlier ↦ crossed
+  | None ↦ insert_entry member_cmp crossed member place
+]
+
 -- a request to a member that has an earlier one of that number standing crosses the transaction there, for good
-abbrev pub crossed_by : Option Request → Member → List Member → List Member
-crossed_by None member crossed = crossed
-crossed_by (Some earlier) member crossed = insert_key member_cmp crossed member
+abbrev pub crossed_by : Option Request → ℕ → Member → List (Member × ℕ) → List (Member × ℕ)
+crossed_by None place member crossed = crossed
+crossed_by (Some earlier) place member crossed = crossed_from place member crossed
 
 -- a request stands under its number, with that sent on its link and that open towards its member's node
-abbrev pub with_request : RequestNo → Request → Sent → Peer → TransactionValue → TransactionValue
-with_request at request sent peer tx = record tx {
+abbrev pub with_request : RequestNo → Request → Sent → Peer → ℕ → TransactionValue → TransactionValue
+with_request at request sent peer place tx = record tx {
   requests = insert_entry request_cmp tx.requests at (requests_at tx at ++ request ∷ []);
   sent = insert_entry link_cmp tx.sent at.link sent;
   peers = insert_entry node_cmp tx.peers at.link.to peer;
-  crossed = crossed_by (standing_request tx at request.member) request.member tx.crossed;
+  crossed = crossed_by (standing_request tx at request.member) place request.member tx.crossed;
 }
 
--- a request is issued on a link under a number; the member's node is in incarnation `peer_inc`
-abbrev pub issued : RequestNo → Request → ℕ → TransactionValue → TransactionValue
-issued at request peer_inc tx =
+-- a request is issued on a link under a number, at this place in the history; the member's node is in incarnation
+-- `peer_inc`
+abbrev pub issued : RequestNo → Request → ℕ → ℕ → TransactionValue → TransactionValue
+issued at request peer_inc place tx =
     with_request at request
     (sent_more request (sent_on tx at.link))
     (reached_by request peer_inc (peer_of tx at.link.to))
-    tx
+    place tx
 
 -- the earliest standing request to that member is served
 abbrev pub mark_served : Member → List Request → List Request
@@ -486,6 +472,10 @@ decided_at place outcome cause tx = record tx { cell = cell_of outcome; cause = 
 abbrev pub is_before : ℕ → Option ℕ → Bool
 is_before place None = false
 is_before place (Some at) = nat_lt at place
+
+-- it was crossed at the member before that place
+abbrev pub was_crossed : ℕ → TransactionValue → Member → Bool
+was_crossed place tx member = is_before place (lookup (is_at (member_cmp member)) tx.crossed)
 
 -- commit was decided before that place, or stood at the opening
 abbrev pub was_committed : ℕ → TransactionValue → Bool

@@ -1,7 +1,7 @@
 //! What the reference machine keeps of one transaction.
 #![tactic(auto)]
 
-mod class;
+mod cells;
 mod part;
 mod requests;
 mod sending;
@@ -10,6 +10,6 @@ mod state;
 mod tests;
 mod transaction;
 
-pub use class::{cell_of, class_of, is_two_phase, learns_outcome};
+pub use cells::cell_of;
 pub use state::{Cell, Life, Link, Noted, Part, Peer, Refusal, Request, RequestNo, Sent, Start};
 pub use transaction::Transaction;

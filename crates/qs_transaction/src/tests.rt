@@ -1,10 +1,7 @@
 //! Short lives of a transaction, with values that were reckoned by hand.
-use crate::{
-    Cell, Link, Noted, Part, Request, RequestNo, Transaction, cell_of, class_of, is_two_phase,
-    learns_outcome,
-};
+use crate::{Cell, Link, Noted, Part, Request, RequestNo, Transaction, cell_of};
 use qs_base::{Bytes, Class, ClientNo, Copied, Member, NoMemory, NodeNo, Outcome, ServerNo};
-use qs_ops::{Cause, Op, Reason, Vote};
+use qs_ops::{Cause, Op, Reason, Vote, class_of, is_two_phase, learns_outcome};
 use std::alloc::Global;
 use std::test::Fail;
 

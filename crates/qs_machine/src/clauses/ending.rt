@@ -3,7 +3,7 @@ ghost use Rattle.std.specs.Prelude.{◌≡◌};
 ghost use Rattle.std.specs.List.{list_any};
 ghost use Rattle.std.specs.Option.{option_copied};
 ghost use Rattle.qs_ops.specs.Alike.{same_cause};
-ghost use Rattle.qs_transaction.specs.Transaction.{class_of};
+ghost use Rattle.qs_ops.specs.Members.{class_of};
 ghost use Rattle.qs_machine.specs.Clauses.{is_known, broken_answer, borrower_at, may_lend, may_yield, broken_loan, broken_yield, may_end, broken_ending, may_learn, waits_for, earlier_servers, broken_learn, is_crash, broken_crash};
 
 use crate::clauses::{
@@ -14,8 +14,8 @@ use crate::node::NodeState;
 use crate::state::Owner;
 use qs_base::{Class, ClientNo, Member, NodeNo, Outcome, ServerNo, Stamp};
 use qs_book::CrashCause;
-use qs_ops::{Answer, Cause};
-use qs_transaction::{Cell, Part, Transaction, cell_of, class_of, learns_outcome};
+use qs_ops::{Answer, Cause, class_of, learns_outcome};
+use qs_transaction::{Cell, Part, Transaction, cell_of};
 
 /// The first clause that an answer to a client breaks.
 pub fn broken_answer(owner: Option<&Owner>, line: u32, answer: &Answer) -> Option<u16>

@@ -7,9 +7,9 @@ ghost use Rattle.qs_transaction.specs.Transaction.{part_of};
 use crate::clauses::{VOTE_BY_THE_RULES, VOTE_COVERS, VOTE_IS_DUE};
 use crate::node::NodeState;
 use qs_base::{Bytes, Member, NoMemory, NodeNo, ServerNo, Tid};
-use qs_ops::{Reason, Vote};
+use qs_ops::{Reason, Vote, class_of, is_two_phase};
 use qs_servers::Table;
-use qs_transaction::{Cell, Transaction, class_of, is_two_phase};
+use qs_transaction::{Cell, Transaction};
 
 /// How a member votes, for so many requests.
 #[derive(Clone, Copy, Debug)]

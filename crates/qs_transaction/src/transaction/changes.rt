@@ -3,7 +3,7 @@ ghost use Rattle.std.specs.Prelude.{◌≡◌, OnOk, OnErr};
 ghost use Rattle.std.specs.BTreeMap.{is_at};
 ghost use Rattle.qs_transaction.specs.Transaction.{changed_value, link_cmp, node_cmp, with_counted, with_reached};
 
-use crate::class::cell_of;
+use crate::cells::cell_of;
 use crate::state::{Life, Link, Part, Peer, Refusal, Sent, Start};
 use crate::transaction::Transaction;
 use qs_base::{Copied, Member, NoMemory, NodeNo, Outcome};

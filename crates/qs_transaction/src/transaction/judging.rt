@@ -3,11 +3,10 @@ ghost use Rattle.std.specs.Prelude.{◌≡◌, is_some};
 ghost use Rattle.std.specs.List.{list_all, list_any};
 ghost use Rattle.qs_transaction.specs.Transaction.{is_empty, is_open_link, is_refusal, is_start, is_before, agrees, peer_of};
 
-use crate::class::class_of;
 use crate::state::{Cell, Life, Link, Part, Peer, Refusal, Sent, Start};
 use crate::transaction::Transaction;
 use qs_base::{List, Member, NodeNo, ServerNo};
-use qs_ops::Reason;
+use qs_ops::{Reason, class_of};
 use std::collections::BTreeSet;
 
 impl Transaction {

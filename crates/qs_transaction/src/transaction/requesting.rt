@@ -7,12 +7,12 @@ ghost use Rattle.std.specs.BTreeSet.{insert_key};
 ghost use Rattle.qs_base.specs.Order.{member_cmp};
 ghost use Rattle.qs_transaction.specs.Transaction.{requests_in, life_cmp, node_cmp, request_cmp, crossed_by, is_standing, with_note_of, changed_value, mark_served};
 
-use crate::class::class_of;
 use crate::requests::Requests;
 use crate::sending::{note_of, reached_by, sent_more};
 use crate::state::{Life, Noted, Part, Peer, Request, RequestNo, Sent};
 use crate::transaction::Transaction;
 use qs_base::{Member, NoMemory, NodeNo};
+use qs_ops::class_of;
 use std::alloc::Global;
 use std::collections::btree_map::Entry;
 use std::collections::{BTreeMap, BTreeSet};

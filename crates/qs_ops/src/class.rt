@@ -1,9 +1,8 @@
 //! How members take part in a commit.
 ghost use Rattle.std.specs.Prelude.{◌≡◌};
-ghost use Rattle.qs_transaction.specs.Transaction.{class_of, is_two_phase, learns_outcome, cell_of};
+ghost use Rattle.qs_ops.specs.Members.{class_of, is_two_phase, learns_outcome};
 
-use crate::state::Cell;
-use qs_base::{Class, Outcome, ServerNo};
+use qs_base::{Class, ServerNo};
 
 /// The class of the members of that server number.
 pub fn class_of(server: ServerNo) -> Class
@@ -31,14 +30,4 @@ pub fn learns_outcome(class: Class) -> bool
     ensures { result ≡ learns_outcome class }
 {
     class != Class::Immediate && class != Class::Activity
-}
-
-/// The cell of an outcome.
-pub fn cell_of(outcome: Outcome) -> Cell
-    ensures { result ≡ cell_of outcome }
-{
-    match outcome {
-        Outcome::Commit => Cell::Commit,
-        Outcome::Abort => Cell::Abort,
-    }
 }
