@@ -20,10 +20,10 @@ use Rattle.qs_ops.specs.Places.{IsBelowAll, IsInOrder, one_further, place_of, wi
 
 -- ---- the order
 
-bytes_total : IsTotalOrder bytes_cmp
+pub bytes_total : IsTotalOrder bytes_cmp
 bytes_total = nat_list_cmp_total
 
-greater_from_less : (x y : List ℕ) → bytes_cmp x y ≡ Less → bytes_cmp y x ≡ Greater
+pub greater_from_less : (x y : List ℕ) → bytes_cmp x y ≡ Less → bytes_cmp y x ≡ Greater
 greater_from_less x y lt = bytes_total.antisymm y x ∙ ap ordering_reverse lt
 
 -- names that are the same byte by byte are those that compare equal
@@ -33,7 +33,7 @@ same_bytes-cmp = texts_ties
 same_bytes-apart : (x y : List ℕ) → bytes_cmp x y ≡ Greater → same_bytes x y ≡ false
 same_bytes-apart x y gt = same_bytes-cmp x y ∙ ap is_eq gt
 
-same_bytes-less : (x y : List ℕ) → bytes_cmp x y ≡ Less → same_bytes x y ≡ false
+pub same_bytes-less : (x y : List ℕ) → bytes_cmp x y ≡ Less → same_bytes x y ≡ false
 same_bytes-less x y lt = same_bytes-cmp x y ∙ ap is_eq lt
 
 same_bytes-alike : (x y : List ℕ) → bytes_cmp x y ≡ Equal → same_bytes x y ≡ true

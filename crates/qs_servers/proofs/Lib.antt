@@ -6,3 +6,4 @@ pub mod ShareSteps
 pub mod Staging
 pub mod Taken
 pub mod Texts
+pub mod Written

@@ -3,6 +3,7 @@ pub mod Held
 pub mod Index
 pub mod Refusals
 pub mod Restarts
+pub mod Server
 pub mod Staged
 pub mod Table
 pub mod Timers

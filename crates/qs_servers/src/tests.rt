@@ -1,7 +1,7 @@
 //! Tables that serve a few transactions, with answers worked out by hand.
-use crate::{Kept, Table, TimerTable};
+use crate::{Kept, NoServer, Server, Table, TimerTable};
 use qs_base::{Bytes, List, NoMemory, NodeNo, Tid};
-use qs_ops::{Op, Reply};
+use qs_ops::{Op, Reply, Vote};
 use std::alloc::Global;
 use std::test::Fail;
 
@@ -349,4 +349,18 @@ fn serves_1024_operations_of_timers(rt: HostRuntime) -> Result<(), Fail> {
     timed(&mut table, tid(1), left(rt.alloc())?, Reply::TooMany)?;
     table.clear();
     timed(&mut table, tid(1), left(rt.alloc())?, Reply::Absent)
+}
+
+#[test]
+fn a_server_that_has_nothing_is_absent_and_keeps_no_commit_back(
+    rt: HostRuntime,
+) -> Result<(), Fail> {
+    let alloc = rt.alloc();
+    let mut server = NoServer::new(alloc);
+    let text = bytes(alloc, "x")?;
+    let push = Op::Extra { code: 1, text };
+    assert_eq!(rt; server.serve(tid(1), &push)?, Reply::Absent);
+    assert_eq!(rt; server.vote(tid(1), 0, 169)?, Vote::ReadOnly);
+    assert!(rt; server.contents()?.is_empty());
+    Ok(())
 }
