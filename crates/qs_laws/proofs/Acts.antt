@@ -17,7 +17,7 @@ use Rattle.qs_transaction.specs.Transaction.{TransactionValue, issued, learnt, a
 use Rattle.qs_transaction.specs.declared.state.Request.{Request}
 use Rattle.qs_transaction.specs.declared.state.RequestNo.{RequestNo}
 use Rattle.qs_machine.specs.Clauses.{link_to, borrower_at}
-use Rattle.qs_machine.specs.Nodes.{NodeValue, with_table, crossed_node, crossed_names, crossed_table}
+use Rattle.qs_machine.specs.Nodes.{NodeValue, with_table, crossed_node, crossed_server, crossed_names, crossed_table}
 use Rattle.qs_machine.specs.Book.{BookValue, find_transaction, with_node, with_transaction, with_waiting, with_crossing, crosses, issue, serve, serve_node, server_serve, crossed_serve, is_done, vote, vote_node, crossed_in, learn, learn_node, doubts_after, hear, answer, waiting_of, tick_node, crash_node, count, end, end_node, loan, loan_to, give_back, give_back_from, inc_at}
 use Rattle.qs_machine.specs.declared.state.Asking.{Asking}
 use Rattle.qs_laws.proofs.Faces.{face, age, Alike, alike_self, alike_then, transaction_alike, node_alike, owner_alike, either_way, either_alike}
@@ -32,14 +32,17 @@ with_table_age server f node =
     (either_way age (server == 4) _ _ _ refl
     (either_way age (server == 5) _ _ _ refl refl))))
 
-crossed_age : (tid : Tid) (server : ℕ) (node : NodeValue) → age (crossed_node tid server node) ≡ age node
-crossed_age tid server node =
+crossed_server_age : (tid : Tid) (server : ℕ) (node : NodeValue) → age (crossed_server tid server node) ≡ age node
+crossed_server_age tid server node =
     either_way age (server == 2) (crossed_names tid node) other (age node) refl
     (either_way age (server == 3) (record node { timers = timers_ended node.timers tid }) (crossed_table tid server node) (age node) refl
     (with_table_age server (λ table. released table tid) node))
   where
     other : NodeValue
     other = if server == 3 then record node { timers = timers_ended node.timers tid } else crossed_table tid server node
+
+crossed_age : (tid : Tid) (server : ℕ) (node : NodeValue) → age (crossed_node tid server node) ≡ age node
+crossed_age tid server node = either_way age node.up (crossed_server tid server node) node (age node) (crossed_server_age tid server node) refl
 
 server_serve_age : (server : ℕ) (tid : Tid) (op : Op) (reply : Reply) (node : NodeValue) → age (server_serve server tid op reply node) ≡ age node
 server_serve_age server tid op reply node =
@@ -95,7 +98,7 @@ pub by_issue : (here : ℕ) (tid : Tid) (issuer member : Member) (number : ℕ) 
 by_issue here tid issuer member number op book =
     let at : RequestNo = record { link = link_to here member; number = number } in
     let request : Request = record { issuer = issuer; member = member; op = op; inc = inc_at book (record { 0 = here }); served = false } in
-    let f : TransactionValue → TransactionValue = issued at request (inc_at book member.node) in
+    let f : TransactionValue → TransactionValue = issued at request (inc_at book member.node) book.place in
     let one : BookValue = with_transaction tid f book in
     let two : BookValue = with_waiting tid issuer member one in
     alike_then book two _ (alike_then book one two (transaction_alike tid f (λ tx. refl) book) (waiting_alike tid issuer member one))

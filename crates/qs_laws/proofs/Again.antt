@@ -23,7 +23,7 @@ use Rattle.qs_laws.specs.Laws.{IsCommitted}
 use Rattle.qs_laws.specs.Served.{crossed_at, keeps_contents, logged_at, IsLogged, PendsAgain, CommitsOnce}
 use Rattle.qs_laws.proofs.Alikes.{voter_exact, voter_equal, voter_itself}
 use Rattle.qs_laws.proofs.Ends.{held_there}
-use Rattle.qs_laws.proofs.Found.{found_in, forgot_others, pending_again}
+use Rattle.qs_laws.proofs.Found.{found_in, not_lost, forgot_others, pending_again}
 use Rattle.qs_laws.proofs.Holding.{which, restart_nodes}
 use Rattle.qs_laws.proofs.Maps.{changed_at_here, lookup_put, lookup_put_apart}
 use Rattle.qs_laws.proofs.Reopens.{restarted_is, forgot_files, forgot_audit}
@@ -39,30 +39,30 @@ at_down : (book : BookValue) (stamp here : ℕ) (o : Option NodeValue) (inc : �
 at_down book stamp here None inc pend done h = absurd (cc h)
 at_down book stamp here (Some node) inc pend done h = (node, refl, unheld node.up 2 (broken_restart here book node inc pend done) h)
 
-restart_node : (book : BookValue) (entry : Entry) (here inc : ℕ) (pend : List Found) (done : List Tid) → broken book entry ≡ None → entry.act ≡ acts.Restart inc pend done → entry.node.0 ≡ here
+pub restart_node : (book : BookValue) (entry : Entry) (here inc : ℕ) (pend : List Found) (done : List Tid) → broken book entry ≡ None → entry.act ≡ acts.Restart inc pend done → entry.node.0 ≡ here
     → (node : NodeValue) × (slice_get book.nodes here ≡ Some node) × (broken_restart here book node inc pend done ≡ None)
 restart_node book entry here inc pend done h is e =
     at_down book entry.stamp here (slice_get book.nodes here) inc pend done
     (subst (λ (a : Act). broken_at book entry.stamp here (slice_get book.nodes here) a ≡ None) is
     (subst (λ (n : ℕ). broken_at book entry.stamp n (slice_get book.nodes n) entry.act ≡ None) e (held (is_in_order book entry) 1 _ h).1))
 
-effect_nodes : (book : BookValue) (entry : Entry) (here inc : ℕ) (pend : List Found) (done : List Tid) → entry.act ≡ acts.Restart inc pend done → entry.node.0 ≡ here → (effect book entry).nodes ≡ (restart here inc pend done book).nodes
+pub effect_nodes : (book : BookValue) (entry : Entry) (here inc : ℕ) (pend : List Found) (done : List Tid) → entry.act ≡ acts.Restart inc pend done → entry.node.0 ≡ here → (effect book entry).nodes ≡ (restart here inc pend done book).nodes
 effect_nodes book entry here inc pend done is e =
     ap (λ (a : Act). (effect_act entry.stamp entry.node.0 a book).nodes) is ∙ ap (λ (n : ℕ). (restart n inc pend done book).nodes) e
 
 -- ---- what the log holds
 
-votes_new : (book : BookValue) (here : ℕ) (node : NodeValue) (pend : List Found) → slice_get book.nodes here ≡ Some node → AllByRecursion (IsNew book node) (new_votes here book pend)
+pub votes_new : (book : BookValue) (here : ℕ) (node : NodeValue) (pend : List Found) → slice_get book.nodes here ≡ Some node → AllByRecursion (IsNew book node) (new_votes here book pend)
 votes_new book here node pend at = subst (AllByRecursion (IsNew book node)) (ap (λ (o : Option NodeValue). new_votes_at here book o pend) (sym at)) (votes_made book here node pend)
 
-logged_there : (book : BookValue) (pend : List Found) (tid : Tid) (member : Member) (node : NodeValue) → slice_get book.nodes member.node.0 ≡ Some node
+pub logged_there : (book : BookValue) (pend : List Found) (tid : Tid) (member : Member) (node : NodeValue) → slice_get book.nodes member.node.0 ≡ Some node
     → logged_at book pend tid member ≡ record_of (with_votes (new_votes member.node.0 book pend) node) tid member.server.0
 logged_there book pend tid member node at = ap on_record (changed_at_here (with_votes (new_votes member.node.0 book pend)) book.nodes member.node.0 node at)
   where
     on_record : Option NodeValue → Option OnRecord
     on_record o = elim o [ None ↦ None | Some v ↦ record_of v tid member.server.0 ]
 
-record_there : (book : BookValue) (tid : Tid) (here s : ℕ) (node : NodeValue) → slice_get book.nodes here ≡ Some node → record_at here book tid s ≡ record_of node tid s
+pub record_there : (book : BookValue) (tid : Tid) (here s : ℕ) (node : NodeValue) → slice_get book.nodes here ≡ Some node → record_at here book tid s ≡ record_of node tid s
 record_there book tid here s node at = ap on_record at
   where
     on_record : Option NodeValue → Option OnRecord
@@ -98,7 +98,7 @@ some_is : (o : Option OnRecord) → is_some o ≡ true → (rec : OnRecord) × (
 some_is None h = absurd (cc h)
 some_is (Some rec) h = (rec, refl)
 
-kept_rule : (here inc : ℕ) (pend : List Found) (done : List Tid) (book : BookValue) (node : NodeValue) → broken_restart here book node inc pend done ≡ None → list_all (is_kept here book pend done) node.records ≡ true
+pub kept_rule : (here inc : ℕ) (pend : List Found) (done : List Tid) (book : BookValue) (node : NodeValue) → broken_restart here book node inc pend done ≡ None → list_all (is_kept here book pend done) node.records ≡ true
 kept_rule here inc pend done book node h =
     passed (list_all (is_kept here book pend done) node.records) 112 _
     (past (list_all (is_found_vote here book node done) pend && votes_once pend) 111 _ (past (nat_lt node.inc inc) 110 _ h))
@@ -123,14 +123,14 @@ module _ (here inc : ℕ) (pend : List Found) (done : List Tid) (book : BookValu
   pends true tid rec h committed plain on_record apart =
       pending_again here mid 0 done tid rec.covers apart plain pend
       (record (applied (fold without v done).files (reopened here inc pend done mid).files) { shares = [] })
-      (inl (found_in here book node pend done tid 0 rec committed on_record apart (kept_rule here inc pend done book node h)))
+      (inl (found_in here book node pend done tid 0 rec (not_lost here tid (find_transaction book tid) committed) on_record apart (kept_rule here inc pend done book node h)))
     where
       without : NodeValue → Tid → NodeValue
       without w t = without_records w t
   pends false tid rec h committed plain on_record apart =
       pending_again here mid 1 done tid rec.covers apart plain pend
       (record (applied (fold without v done).audit (reopened here inc pend done mid).audit) { shares = [] })
-      (inl (found_in here book node pend done tid 1 rec committed on_record apart (kept_rule here inc pend done book node h)))
+      (inl (found_in here book node pend done tid 1 rec (not_lost here tid (find_transaction book tid) committed) on_record apart (kept_rule here inc pend done book node h)))
     where
       without : NodeValue → Tid → NodeValue
       without w t = without_records w t

@@ -1,13 +1,14 @@
 -- What a test for the same cause or the same transaction tells.
-use Rattle.std.proofs.Common.{ℕ, ◌≡◌, true, refl, ap, arith}
+use Rattle.std.proofs.Common.{ℕ, ◌≡◌, Bool, true, false, ◌||◌, List, [], ◌∷◌, refl, sym, ap, subst, arith}
+use Rattle.std.specs.List.{AllByRecursion, list_any}
 use Rattle.std.proofs.lemmas.Bool.Decides.{nat_tests}
 use Rattle.std.specs.Ordering.{nat_cmp}
 use Rattle.std.specs.BTreeMap.{is_at}
 use Rattle.std.specs.declared.cmp.Ordering.{Ordering}
 use Rattle.std.specs.declared.cmp.Ordering.TheVariants.{Less, Equal, Greater}
-use Rattle.qs_base.specs.Order.{tid_cmp}
+use Rattle.qs_base.specs.Order.{tid_cmp, same_tid}
 use Rattle.qs_base.specs.declared.identifiers.Tid.{Tid}
-use Rattle.qs_base.proofs.Same.{same_bytes-true, same_member-true}
+use Rattle.qs_base.proofs.Same.{same_bytes-true, same_member-true, same_tid-true}
 use Rattle.qs_ops.specs.Alike.{same_reason, same_cause}
 use Rattle.qs_ops.specs.declared.answer.Cause.{Cause}
 use Rattle.qs_ops.specs.declared.answer.Cause.TheVariants.{Asked, Voted, Gone, Home, Room, Old}
@@ -66,3 +67,12 @@ voter_exact v w = by (voter_cmp v w) refl
 
 pub voter_itself : (v : Voter) → voter_cmp v v ≡ Equal
 voter_itself v = rw (tid_itself v.tid) (tied_itself nat_cmp_total v.server.0)
+
+-- what holds of all of them holds of one that is among them
+pub all_among : (P : Tid → Type 0) (tids : List Tid) (tid : Tid) → AllByRecursion P tids → list_any (same_tid tid) tids ≡ true → P tid
+all_among P [] tid all h = absurd (cc h)
+all_among P (t ∷ tids) tid all h = by (same_tid tid t) refl h (all_among P tids tid all.1)
+  where
+    by : (b : Bool) → same_tid tid t ≡ b → (b || list_any (same_tid tid) tids) ≡ true → (list_any (same_tid tid) tids ≡ true → P tid) → P tid
+    by true is h more = subst P (sym (same_tid-true tid t is)) all.0
+    by false is h more = more h

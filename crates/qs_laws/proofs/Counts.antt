@@ -1,5 +1,6 @@
 -- What a member served of a transaction, and what its votes cover, after each act.
-use Rattle.std.proofs.Common.{◌≡◌, ℕ, ◌+◌, Bool, true, false, List, [], ◌∷◌, ◌==◌, Option, Some, None, refl, sym, ap, subst, ◌∙◌, fold, if◌then◌else◌}
+use Rattle.std.proofs.Common.{◌≡◌, ℕ, ◌+◌, Bool, true, false, List, [], ◌∷◌, ◌==◌, Option, Some, None, refl, sym, ap, subst, ◌∙◌, fold, if◌then◌else◌, arith}
+use Rattle.std.proofs.lemmas.Bool.Decides.{nat_tests}
 use Rattle.std.specs.Prelude.{unwrap_or, is_some, length}
 use Rattle.std.specs.Option.{option_map}
 use Rattle.std.specs.Map.{lookup}
@@ -17,6 +18,7 @@ use Rattle.qs_base.specs.declared.identifiers.Tid.{Tid}
 use Rattle.qs_base.proofs.Same.{same_member-true, same_member-self}
 use Rattle.qs_ops.specs.declared.answer.Cause.{Cause}
 use Rattle.qs_ops.specs.declared.vote.Vote.{Vote}
+use Rattle.qs_ops.specs.declared.vote.Vote.TheVariants as votes
 use Rattle.qs_book.specs.declared.entry.Found.{Found}
 use Rattle.qs_ops.specs.Members.{class_of}
 use Rattle.qs_transaction.specs.Transaction.{TransactionValue, changed_value, part_of, no_part, life, life_cmp, learnt, learnt_part, lent, made_part, given_back, yielded_part, voted, voted_part, served_in, serving_part, found_at, found_part, with_learnt, decided_at, heard}
@@ -28,7 +30,7 @@ use Rattle.qs_ops.specs.declared.answer.Cause.TheVariants as causes
 use Rattle.qs_machine.specs.Restart.{changes_at, up_to, begun_at, abort_begun, vote_found, commit_found, learn_found, decide_found, is_among, is_open_here, begun_tid, record_at, member_at}
 use Rattle.qs_machine.specs.declared.state.Asking.{Asking}
 use Rattle.qs_laws.proofs.Holding.{member_equal, clash, settled}
-use Rattle.qs_laws.proofs.Maps.{changed_alike, changed_apart, lookup_put, lookup_put_apart}
+use Rattle.qs_laws.proofs.Maps.{changed_alike, changed_apart, changed_none, lookup_changed, lookup_put, lookup_put_apart}
 
 pub record Count : Type 0 where
   pub served : ℕ
@@ -76,6 +78,17 @@ life_other member other inc k h = by (is_at (life_cmp (life member inc)) (life o
         let e : member ≡ other = ap (λ (l : Life). l.member) (life_exact (life member inc) (life other k) is) in
         let self : same_member other member ≡ true = subst (λ (x : Member). same_member other x ≡ true) (sym e) (same_member-self other) in
         absurd (clash self h)
+
+-- another incarnation is another life
+pub life_later : (member other : Member) (k inc : ℕ) → (k == inc) ≡ false → is_at (life_cmp (life member k)) (life other inc) ≡ false
+life_later member other k inc far = by (is_at (life_cmp (life member k)) (life other inc)) refl
+  where
+    differ : k ≡ inc → (k == inc) ≡ false → ⊥
+    differ e far_off = grind (arith, nat_tests)
+
+    by : (b : Bool) → is_at (life_cmp (life member k)) (life other inc) ≡ b → b ≡ false
+    by false is = refl
+    by true is = absurd (differ (ap (λ (l : Life). l.inc) (life_exact (life member k) (life other inc) is)) far)
 
 -- ---- transactions
 
@@ -128,6 +141,54 @@ served_count member inc stamp at done tx more =
     ap part_count (lookup_put life_cmp (life member inc) (serving_part (class_of member.server.0) stamp done (part_of tx member inc)) (life_itself (life member inc)) tx.parts)
     ∙ more (part_of tx member inc)
 
+pub served_later : (member : Member) (k inc stamp : ℕ) (at : RequestNo) (done : Bool) (tx : TransactionValue) → (k == inc) ≡ false → count_in member k (served_in at member inc stamp done tx) ≡ count_in member k tx
+served_later member k inc stamp at done tx far =
+    ap part_count
+    (lookup_put_apart life_cmp (life member inc) (serving_part (class_of member.server.0) stamp done (part_of tx member inc)) (λ x. life_equal (life member inc) x)
+    (is_at (life_cmp (life member k))) (life_later member member k inc far) tx.parts)
+
+-- a vote that a restart found covers nothing yet
+pub found_count : (member : Member) (inc covers changes : ℕ) (tx : TransactionValue) → count_in member inc (found_at member inc covers changes tx) ≡ no_count
+found_count member inc covers changes tx = ap part_count (lookup_put life_cmp (life member inc) (found_part covers changes) (life_itself (life member inc)) tx.parts)
+
+pub found_later : (member : Member) (k inc covers changes : ℕ) (tx : TransactionValue) → (k == inc) ≡ false → count_in member k (found_at member inc covers changes tx) ≡ count_in member k tx
+found_later member k inc covers changes tx far =
+    ap part_count
+    (lookup_put_apart life_cmp (life member inc) (found_part covers changes) (λ x. life_equal (life member inc) x) (is_at (life_cmp (life member k))) (life_later member member k inc far) tx.parts)
+
+-- a vote to commit covers all that was served
+abbrev pub is_for_commit : Vote → Bool
+is_for_commit (votes.Abort reason) = false
+is_for_commit votes.ReadOnly = true
+is_for_commit votes.Volatile = true
+is_for_commit votes.Recoverable = true
+
+voted_even : (ballot : Vote) (part : Part) → is_for_commit ballot ≡ true → (voted_part ballot part).covered ≡ (voted_part ballot part).served
+voted_even (votes.Abort reason) part h = absurd (cc h)
+voted_even votes.ReadOnly part h = refl
+voted_even votes.Volatile part h = refl
+voted_even votes.Recoverable part h = refl
+
+pub voted_count : (member : Member) (inc : ℕ) (ballot : Vote) (tx : TransactionValue) → is_for_commit ballot ≡ true
+    → (count_in member inc (voted member inc ballot tx)).covered ≡ (count_in member inc (voted member inc ballot tx)).served
+voted_count member inc ballot tx h = by (lookup (is_at (life_cmp (life member inc))) tx.parts) refl
+  where
+    even : Option Part → Type 0
+    even o = (part_count o).covered ≡ (part_count o).served
+
+    by : (o : Option Part) → lookup (is_at (life_cmp (life member inc))) tx.parts ≡ o → even (lookup (is_at (life_cmp (life member inc))) (voted member inc ballot tx).parts)
+    by None is = subst even (sym (changed_none (is_at (life_cmp (life member inc))) (voted_part ballot) tx.parts is)) refl
+    by (Some part) is = subst even (sym (lookup_changed (is_at (life_cmp (life member inc))) (voted_part ballot) tx.parts part is)) (voted_even ballot part h)
+
+pub voted_later : (member : Member) (k inc : ℕ) (ballot : Vote) (tx : TransactionValue) → (k == inc) ≡ false → count_in member k (voted member inc ballot tx) ≡ count_in member k tx
+voted_later member k inc ballot tx far = ap part_count (changed_apart (is_at (life_cmp (life member inc))) (is_at (life_cmp (life member k))) apart (voted_part ballot) tx.parts)
+  where
+    swapped : (k == inc) ≡ false → (inc == k) ≡ false
+    swapped h = grind (arith, nat_tests)
+
+    apart : (l : Life) → is_at (life_cmp (life member k)) l ≡ true → is_at (life_cmp (life member inc)) l ≡ false
+    apart l is = subst (λ (x : Life). is_at (life_cmp (life member inc)) x ≡ false) (life_exact (life member k) l is) (life_later member member inc k (swapped far))
+
 -- ---- books
 
 module _ (tid : Tid) (member : Member) where
@@ -142,7 +203,7 @@ module _ (tid : Tid) (member : Member) where
   counted_if true old x y p q = p
   counted_if false old x y p q = q
 
-  counted_all : {A : Type 0} (f : BookValue → A → BookValue) → ((book : BookValue) (x : A) → Counted book (f book x)) → (xs : List A) (book : BookValue) → Counted book (fold f book xs)
+  pub counted_all : {A : Type 0} (f : BookValue → A → BookValue) → ((book : BookValue) (x : A) → Counted book (f book x)) → (xs : List A) (book : BookValue) → Counted book (fold f book xs)
   counted_all f each [] book inc = refl
   counted_all f each (x ∷ xs) book inc = counted_all f each xs (f book x) inc ∙ each book x inc
 
@@ -170,7 +231,7 @@ module _ (tid : Tid) (member : Member) where
       counted_if (is_some (record_at here book t s)) book (with_transaction t (with_learnt (member_at here s)) book) book
       (of_transaction t (with_learnt (member_at here s)) (λ k tx. refl) book) (λ k. refl)
 
-  commit_counted : (here : ℕ) (book : BookValue) (t : Tid) → Counted book (commit_found here book t)
+  pub commit_counted : (here : ℕ) (book : BookValue) (t : Tid) → Counted book (commit_found here book t)
   commit_counted here book t inc =
       decided (learn_found here t 6 (learn_found here t 1 (learn_found here t 0 book))) inc
       ∙ (learn_counted here t 6 (learn_found here t 1 (learn_found here t 0 book)) inc ∙ (learn_counted here t 1 (learn_found here t 0 book) inc ∙ learn_counted here t 0 book inc))
@@ -184,7 +245,7 @@ module _ (tid : Tid) (member : Member) where
       (of_transaction f.tid (found_at (member_at here f.server.0) inc f.covers (length (changes_at here book f.server.0 f.tid)))
       (λ k tx. put_apart member (member_at here f.server.0) k inc (found_part f.covers (length (changes_at here book f.server.0 f.tid))) tx (rw far refl)) book)
 
-  abort_counted : (here inc : ℕ) (book : BookValue) (seq : ℕ) → Counted book (abort_begun here inc book seq)
+  pub abort_counted : (here inc : ℕ) (book : BookValue) (seq : ℕ) → Counted book (abort_begun here inc book seq)
   abort_counted here inc book seq =
       counted_if (is_open_here here (begun_tid here inc seq) (find_transaction book (begun_tid here inc seq))) book (decide (begun_tid here inc seq) outcomes.Abort (Some (causes.Home inc)) book) book
       (of_decide (begun_tid here inc seq) outcomes.Abort (Some (causes.Home inc)) book) (λ k. refl)

@@ -3,7 +3,7 @@ use Rattle.std.proofs.Common.{◌≡◌, ℕ, ◌≤◌, Bool, true, false, List
 use Rattle.std.specs.Prelude.{unwrap_or, slice_get}
 use Rattle.std.specs.Option.{option_map}
 use Rattle.std.specs.List.{list_all}
-use Rattle.std.specs.Map.{lookup, set_value}
+use Rattle.std.specs.Map.{lookup}
 use Rattle.std.specs.BTreeMap.{is_at}
 use Rattle.std.proofs.lemmas.List.{append-nil}
 use Rattle.qs_base.specs.Order.{tid_cmp}
@@ -16,10 +16,10 @@ use Rattle.qs_book.specs.declared.entry.Act.{Act}
 use Rattle.qs_book.specs.declared.entry.Act.TheVariants as acts
 use Rattle.qs_book.specs.declared.entry.Entry.{Entry}
 use Rattle.qs_ops.specs.Members.{class_of}
-use Rattle.qs_transaction.specs.Transaction.{TransactionValue, changed_value, life, life_cmp, no_part, voted, voted_part, is_unanimous, agrees, agrees_in, is_empty}
+use Rattle.qs_transaction.specs.Transaction.{TransactionValue, changed_value, life, life_cmp, no_part, voted, is_unanimous, agrees, agrees_in, is_empty}
 use Rattle.qs_transaction.specs.declared.state.Life.{Life}
 use Rattle.qs_transaction.specs.declared.state.Part.{Part}
-use Rattle.qs_machine.specs.Book.{BookValue, find_transaction, changed_at, crossed_in, vote_node, inc_at}
+use Rattle.qs_machine.specs.Book.{BookValue, find_transaction, changed_at, crossed_in, vote_node}
 use Rattle.qs_machine.specs.Clauses.{broken_decide, broken_outcome, may_decide}
 use Rattle.qs_machine.specs.Lawful.{broken_act, broken, effect_act, effect, IsLawful, book_after}
 use Rattle.qs_machine.specs.Nodes.{NodeValue, pending_at, record_of, changes_of, voter, voter_cmp}
@@ -30,13 +30,14 @@ use Rattle.qs_machine.specs.declared.state.OnRecord.{OnRecord}
 use Rattle.qs_laws.specs.Laws.{IsCoherent}
 use Rattle.qs_laws.specs.Served.{change_served, crossed_at, held_at, keeps_contents, lets_go, NeverVotes, IsHolding}
 use Rattle.qs_laws.proofs.Alikes.{voter_itself}
-use Rattle.qs_laws.proofs.Counts.{Count, counts, count_in, count_of, no_count, life_exact}
+use Rattle.qs_laws.proofs.Counts.{Count, counts, count_in, voted_count, count_of, no_count, life_exact}
 use Rattle.qs_laws.proofs.Covering.{Covers, step_covers}
 use Rattle.qs_laws.proofs.Covers.{Mark, mark_in}
+use Rattle.qs_laws.proofs.Serves.{inc_there}
 use Rattle.qs_laws.proofs.Ends.{lawful_node, held_there}
 use Rattle.qs_laws.proofs.Found.{entry_passes}
 use Rattle.qs_laws.proofs.Holding.{left_of, right_of, same_number, which, vote_here, holds_what_it_served}
-use Rattle.qs_laws.proofs.Maps.{lookup_changed, lookup_put, changed_at_here}
+use Rattle.qs_laws.proofs.Maps.{changed_none, lookup_changed, lookup_put, changed_at_here}
 use Rattle.qs_laws.proofs.Openings.{opening_holds}
 use Rattle.qs_laws.proofs.Outcomes.{Inv, Moves}
 use Rattle.qs_laws.proofs.Shares.{number}
@@ -44,42 +45,21 @@ use Rattle.qs_laws.proofs.Steps.{held, stepped, ran, after_both, lawful_front, l
 
 -- ---- the vote
 
--- where there is nothing, nothing is changed
-none_changed : {K X : Type 0} (p : K → Bool) (f : X → X) (es : List (K × X)) → lookup p es ≡ None → lookup p (changed_value p f es) ≡ None
-none_changed {K} {X} p f es is = subst (λ (o : Option X). lookup p (elim o [ None ↦ es | Some u ↦ set_value p es (f u) ]) ≡ None) (sym is) is
-
-parts_most : (p : Life → Bool) (es : List (Life × Part))
-    → (counts (unwrap_or (lookup p (changed_value p (voted_part votes.Recoverable) es)) no_part)).covered ≤ (counts (unwrap_or (lookup p (changed_value p (voted_part votes.Recoverable) es)) no_part)).served
-parts_most p es = by (lookup p es) refl
-  where
-    itself : (n : ℕ) → n ≤ n
-    itself n = omega arith
-
-    by : (o : Option Part) → lookup p es ≡ o
-        → (counts (unwrap_or (lookup p (changed_value p (voted_part votes.Recoverable) es)) no_part)).covered ≤ (counts (unwrap_or (lookup p (changed_value p (voted_part votes.Recoverable) es)) no_part)).served
-    by None is =
-        subst (λ (o : Option Part). (counts (unwrap_or o no_part)).covered ≤ (counts (unwrap_or o no_part)).served) (sym (none_changed p (voted_part votes.Recoverable) es is)) (itself 0)
-    by (Some v) is =
-        subst (λ (o : Option Part). (counts (unwrap_or o no_part)).covered ≤ (counts (unwrap_or o no_part)).served) (sym (lookup_changed p (voted_part votes.Recoverable) es v is)) (itself v.served)
-
 count_most : (tid : Tid) (member : Member) (inc : ℕ) (es : List (Tid × TransactionValue)) → (o : Option TransactionValue) → lookup (is_at (tid_cmp tid)) es ≡ o
     → (unwrap_or (option_map (count_in member inc) (lookup (is_at (tid_cmp tid)) (changed_value (is_at (tid_cmp tid)) (voted member inc votes.Recoverable) es))) no_count).covered
     ≤ (unwrap_or (option_map (count_in member inc) (lookup (is_at (tid_cmp tid)) (changed_value (is_at (tid_cmp tid)) (voted member inc votes.Recoverable) es))) no_count).served
 count_most tid member inc es None is =
     subst (λ (o : Option TransactionValue). (unwrap_or (option_map (count_in member inc) o) no_count).covered ≤ (unwrap_or (option_map (count_in member inc) o) no_count).served)
-    (sym (none_changed (is_at (tid_cmp tid)) (voted member inc votes.Recoverable) es is)) (none 0)
+    (sym (changed_none (is_at (tid_cmp tid)) (voted member inc votes.Recoverable) es is)) (none 0)
   where
     none : (n : ℕ) → n ≤ n
     none n = omega arith
 count_most tid member inc es (Some tx) is =
     subst (λ (o : Option TransactionValue). (unwrap_or (option_map (count_in member inc) o) no_count).covered ≤ (unwrap_or (option_map (count_in member inc) o) no_count).served)
-    (sym (lookup_changed (is_at (tid_cmp tid)) (voted member inc votes.Recoverable) es tx is)) (parts_most (is_at (life_cmp (life member inc))) tx.parts)
-
-inc_there : (book : BookValue) (here : ℕ) (node : NodeValue) → slice_get book.nodes here ≡ Some node → inc_at book (record { 0 = here }) ≡ node.inc
-inc_there book here node at = ap inc_in at
+    (sym (lookup_changed (is_at (tid_cmp tid)) (voted member inc votes.Recoverable) es tx is)) (most _ _ (voted_count member inc votes.Recoverable tx refl))
   where
-    inc_in : Option NodeValue → ℕ
-    inc_in o = elim o [ None ↦ 0 | Some state ↦ state.inc ]
+    most : (m n : ℕ) → m ≡ n → m ≤ n
+    most m n e = omega arith
 
 first_covers : (book : BookValue) (entry : Entry) (tid : Tid) (member : Member) (covers : ℕ) → broken book entry ≡ None → entry.act ≡ acts.Vote tid member votes.Recoverable covers
     → held_at (effect book entry) tid member ≡ held_at book tid member → Covers tid member (effect book entry)
@@ -108,7 +88,7 @@ first_covers book entry tid member covers h is same =
 
 -- ---- the history between
 
-one_more : (book : BookValue) (entry : Entry) (tid : Tid) (member : Member) → keeps_contents member.server.0 ≡ true → broken book entry ≡ None → crossed_at book tid member ≡ false → lets_go tid member entry.node.0 entry.act ≡ false
+pub one_more : (book : BookValue) (entry : Entry) (tid : Tid) (member : Member) → keeps_contents member.server.0 ≡ true → broken book entry ≡ None → crossed_at book tid member ≡ false → lets_go tid member entry.node.0 entry.act ≡ false
     → crossed_at (effect book entry) tid member ≡ false → held_at (effect book entry) tid member ≡ held_at book tid member ++ change_served book tid member entry.act
 one_more book entry tid member keeps h plain holds then_plain =
     holds_what_it_served book (entry ∷ []) tid member keeps (h, tt) (plain, (holds, then_plain))
@@ -129,7 +109,7 @@ ran_covers (entry ∷ entries) book tid member keeps i lawful holding never c =
 
 -- ---- the decision
 
-agrees_all : (b : Bool) (member : Member) (inc : ℕ) (tx : TransactionValue) → member.server.0 ≡ number b → list_all agrees tx.parts ≡ true → (count_in member inc tx).covered ≡ (count_in member inc tx).served
+pub agrees_all : (b : Bool) (member : Member) (inc : ℕ) (tx : TransactionValue) → member.server.0 ≡ number b → list_all agrees tx.parts ≡ true → (count_in member inc tx).covered ≡ (count_in member inc tx).served
 agrees_all b member inc tx is all = by (lookup (is_at (life_cmp (life member inc))) tx.parts) refl
   where
     class : (c : Bool) (s : ℕ) (part : Part) → s ≡ number c → agrees_in (class_of s) part ≡ true → part.covered ≡ part.served
@@ -150,6 +130,15 @@ all_agree here node nodes tid (Some tx) stamp h =
     let two : is_unanimous tx ≡ true = (held (is_unanimous tx) 71 None one).0 in
     (tx, refl, left_of (list_all agrees tx.parts) (is_empty tx.refusals && is_empty tx.crossed) (right_of _ _ two))
 
+-- what is on record there, of the mark
+pub marked : (tid : Tid) (member : Member) (o : Option NodeValue) (mark : Mark) → option_map (mark_in tid member.server.0) o ≡ Some mark → (elim o [ None ↦ None | Some v ↦ record_of v tid member.server.0 ]) ≡ mark.rec
+marked tid member None mark e = absurd (cc e)
+marked tid member (Some v) mark e = ap rec_in e
+  where
+    rec_in : Option Mark → Option OnRecord
+    rec_in None = None
+    rec_in (Some m) = m.rec
+
 last_covers : (book : BookValue) (entry : Entry) (tid : Tid) (member : Member) → keeps_contents member.server.0 ≡ true → broken book entry ≡ None → entry.act ≡ acts.Decide tid outcomes.Commit None → Covers tid member book
     → changes_of (record_at member.node.0 book tid member.server.0) ≡ held_at book tid member
 last_covers book entry tid member keeps h is c =
@@ -160,15 +149,7 @@ last_covers book entry tid member keeps h is c =
     let count : count_of book tid member c.mark.inc ≡ count_in member c.mark.inc agree.0 = ap (λ (o : Option TransactionValue). unwrap_or (option_map (count_in member c.mark.inc) o) no_count) agree.1 in
     let equal : (count_of book tid member c.mark.inc).covered ≡ (count_of book tid member c.mark.inc).served =
     subst (λ (k : Count). k.covered ≡ k.served) (sym count) (agrees_all w.0 member c.mark.inc agree.0 w.1 agree.2) in
-    ap changes_of (marked (slice_get book.nodes member.node.0) c.mark c.at) ∙ sym (c.all equal)
-  where
-    marked : (o : Option NodeValue) (mark : Mark) → option_map (mark_in tid member.server.0) o ≡ Some mark → (elim o [ None ↦ None | Some v ↦ record_of v tid member.server.0 ]) ≡ mark.rec
-    marked None mark e = absurd (cc e)
-    marked (Some v) mark e = ap rec_in e
-      where
-        rec_in : Option Mark → Option OnRecord
-        rec_in None = None
-        rec_in (Some m) = m.rec
+    ap changes_of (marked tid member (slice_get book.nodes member.node.0) c.mark c.at) ∙ sym (c.all equal)
 
 pub record_covers : (opened : List Opened) (before between after : List Entry) (vote decision : Entry) (tid : Tid) (member : Member) (covers : ℕ) → IsCoherent opened → keeps_contents member.server.0 ≡ true
     → IsLawful (opening opened) (before ++ (vote ∷ (between ++ (decision ∷ after)))) → vote.act ≡ acts.Vote tid member votes.Recoverable covers → decision.act ≡ acts.Decide tid outcomes.Commit None

@@ -55,10 +55,10 @@ learn_alike here tid server book = by (is_some (record_at here book tid server))
     by true = transaction_alike tid (with_learnt (member_at here server)) (λ tx. refl) book
     by false = alike_self book
 
-abbrev learnt_all : ℕ → Tid → BookValue → BookValue
+abbrev pub learnt_all : ℕ → Tid → BookValue → BookValue
 learnt_all here tid book = learn_found here tid 6 (learn_found here tid 1 (learn_found here tid 0 book))
 
-all_alike : (here : ℕ) (tid : Tid) (book : BookValue) → Alike book (learnt_all here tid book)
+pub all_alike : (here : ℕ) (tid : Tid) (book : BookValue) → Alike book (learnt_all here tid book)
 all_alike here tid book =
     let a : BookValue = learn_found here tid 0 book in
     let b : BookValue = learn_found here tid 1 a in

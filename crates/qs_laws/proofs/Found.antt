@@ -20,7 +20,6 @@ use Rattle.qs_machine.specs.Nodes.{NodeValue, record_of, voter, voter_cmp, witho
 use Rattle.qs_machine.specs.Restart.{changes_at, keep_found, is_kept_at, is_found_as, is_kept, may_be_lost, is_among, without_records, member_at}
 use Rattle.qs_machine.specs.declared.state.OnRecord.{OnRecord}
 use Rattle.qs_machine.specs.declared.state.Voter.{Voter}
-use Rattle.qs_laws.specs.Laws.{IsCommitted}
 use Rattle.qs_laws.proofs.Alikes.{voter_exact}
 use Rattle.qs_laws.proofs.Holding.{clash, left_of, right_of}
 use Rattle.qs_laws.proofs.Shares.{removed_apart, share_put, share_put_other}
@@ -77,18 +76,18 @@ entry_passes {K} {X} test p (e ∷ es) x h all = by (test e.0) refl (entry_passe
         (e.0, is, subst (λ (y : X). p (e.0, y) ≡ true) same (left_of (p e) (list_all p es) all))
     by false is more = more (rw is at h) (right_of (p e) (list_all p es) all)
 
-not_lost : (here : ℕ) (tid : Tid) (o : Option TransactionValue) → cell_of_transaction o ≡ Some cells.Commit → may_be_lost here tid o ≡ false
+pub not_lost : (here : ℕ) (tid : Tid) (o : Option TransactionValue) → cell_of_transaction o ≡ Some cells.Commit → may_be_lost here tid o ≡ false
 not_lost here tid None h = absurd (cc h)
 not_lost here tid (Some tx) h = let e : tx.cell ≡ cells.Commit = some_same tx.cell cells.Commit h in rw e refl
 
-pub found_in : (here : ℕ) (book : BookValue) (node : NodeValue) (pend : List Found) (done : List Tid) (tid : Tid) (s : ℕ) (rec : OnRecord) → IsCommitted book tid → record_of node tid s ≡ Some rec → is_among done tid ≡ false
+pub found_in : (here : ℕ) (book : BookValue) (node : NodeValue) (pend : List Found) (done : List Tid) (tid : Tid) (s : ℕ) (rec : OnRecord) → may_be_lost here tid (find_transaction book tid) ≡ false → record_of node tid s ≡ Some rec → is_among done tid ≡ false
     → list_all (is_kept here book pend done) node.records ≡ true → list_any (is_found_as (voter tid s) rec.covers) pend ≡ true
-found_in here book node pend done tid s rec committed on_record apart all =
+found_in here book node pend done tid s rec kept on_record apart all =
     let at : (k : Voter) × (is_at (voter_cmp (voter tid s)) k ≡ true) × (is_kept here book pend done (k, rec) ≡ true) = entry_passes (is_at (voter_cmp (voter tid s))) (is_kept here book pend done) node.records rec on_record all in
     let same : voter tid s ≡ at.0 = voter_exact (voter tid s) at.0 at.1 in
     let kept_so : is_kept here book pend done (voter tid s, rec) ≡ true = subst (λ (k : Voter). is_kept here book pend done (k, rec) ≡ true) (sym same) at.2 in
     or_rest (is_among done tid) (list_any (is_found_as (voter tid s) rec.covers) pend)
-    (or_rest (may_be_lost here tid (find_transaction book tid)) (is_among done tid || list_any (is_found_as (voter tid s) rec.covers) pend) kept_so (not_lost here tid (find_transaction book tid) committed))
+    (or_rest (may_be_lost here tid (find_transaction book tid)) (is_among done tid || list_any (is_found_as (voter tid s) rec.covers) pend) kept_so kept)
     apart
 
 -- ---- what is pending again

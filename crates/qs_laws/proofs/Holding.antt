@@ -3,21 +3,19 @@ use Rattle.std.proofs.Common.{◌≡◌, ℕ, Bool, true, false, List, [], ◌�
 use Rattle.std.proofs.lemmas.Bool.Decides.{nat_tests}
 use Rattle.std.specs.Prelude.{unwrap_or, slice_get, is_some}
 use Rattle.std.specs.Option.{option_map}
-use Rattle.std.specs.List.{list_any}
 use Rattle.std.specs.Map.{lookup}
-use Rattle.std.specs.BTreeMap.{is_at}
-use Rattle.std.specs.BTreeSet.{insert_key}
-use Rattle.std.specs.declared.cmp.Ordering.{Ordering}
-use Rattle.std.specs.declared.cmp.Ordering.TheVariants.{Less, Equal, Greater}
+use Rattle.std.specs.BTreeMap.{insert_entry, is_at}
+use Rattle.std.specs.declared.cmp.Ordering.TheVariants.{Equal}
 use Rattle.std.proofs.lemmas.List.{append-nil, append_assoc}
 use Rattle.std.proofs.lemmas.Map.Lookups.{exact_unsigned, exact_pairs}
+use Rattle.std.proofs.lemmas.Cmp.{tied_itself, nat_cmp_total}
 use Rattle.std.specs.Ordering.{nat_cmp}
-use Rattle.qs_base.specs.Order.{tid_cmp, member_cmp, same_member}
+use Rattle.qs_base.specs.Order.{tid_cmp, member_cmp}
 use Rattle.qs_base.specs.declared.identifiers.Member.{Member}
 use Rattle.qs_base.specs.declared.identifiers.NodeNo.{NodeNo}
 use Rattle.qs_base.specs.declared.identifiers.Outcome.{Outcome}
 use Rattle.qs_base.specs.declared.identifiers.Tid.{Tid}
-use Rattle.qs_base.proofs.Same.{same_tid-true, same_member-true, same_member-self}
+use Rattle.qs_base.proofs.Same.{same_tid-true, same_member-true}
 use Rattle.qs_ops.specs.declared.operation.Op.{Op}
 use Rattle.qs_ops.specs.declared.reply.Reply.{Reply}
 use Rattle.qs_ops.specs.declared.vote.Vote.{Vote}
@@ -28,7 +26,7 @@ use Rattle.qs_book.specs.declared.entry.Act.TheVariants as acts
 use Rattle.qs_book.specs.declared.entry.Entry.{Entry}
 use Rattle.qs_book.specs.declared.entry.Found.{Found}
 use Rattle.qs_ops.specs.Members.{class_of, is_two_phase}
-use Rattle.qs_transaction.specs.Transaction.{TransactionValue, standing_request, part_of, issued, crossed_by, is_outcome}
+use Rattle.qs_transaction.specs.Transaction.{TransactionValue, standing_request, part_of, issued, crossed_by, crossed_from, is_outcome}
 use Rattle.qs_transaction.specs.declared.state.Request.{Request}
 use Rattle.qs_transaction.specs.declared.state.RequestNo.{RequestNo}
 use Rattle.qs_machine.specs.Book.{BookValue, find_transaction, changed_at, with_owner, with_transaction, with_waiting, with_crossing, crosses, issue, serve_node, vote_node, crossed_in, learn_node, doubts_after, hear, answer, waiting_of, loan_to, give_back_from, inc_at, end_node, tick_node, crash_node}
@@ -39,7 +37,7 @@ use Rattle.qs_machine.specs.Restart.{restart, put_new_votes, new_votes, with_vot
 use Rattle.qs_machine.specs.declared.state.Owner.{Owner}
 use Rattle.qs_laws.specs.Served.{is_share, change_of_request, standing_at, change_served, changes_served, lets_go, IsHolding, held_at, crossed_at, keeps_contents}
 use Rattle.qs_laws.proofs.Faces.{either_way}
-use Rattle.qs_laws.proofs.Maps.{lookup_changed}
+use Rattle.qs_laws.proofs.Maps.{lookup_changed, lookup_put}
 use Rattle.qs_laws.proofs.Shares.{number}
 use Rattle.qs_laws.proofs.Steps.{passed, held}
 use Rattle.qs_laws.proofs.Holds.{changes_in, held_in, holds_same, holds_far, holds_more, at_share, crossing_holds, serve_holds, serve_gives, vote_holds, learn_holds}
@@ -89,11 +87,11 @@ pub fold_nodes : {A : Type 0} (f : BookValue → A → BookValue) → ((book : B
 fold_nodes f each [] book = refl
 fold_nodes f each (x ∷ xs) book = fold_nodes f each xs (f book x) ∙ each book x
 
-loan_nodes : (inc : ℕ) (tid : Tid) (o : Option Member) (book : BookValue) → (loan_to inc tid o book).nodes ≡ book.nodes
+pub loan_nodes : (inc : ℕ) (tid : Tid) (o : Option Member) (book : BookValue) → (loan_to inc tid o book).nodes ≡ book.nodes
 loan_nodes inc tid None book = refl
 loan_nodes inc tid (Some member) book = refl
 
-yield_nodes : (inc : ℕ) (tid : Tid) (o : Option Member) (book : BookValue) → (give_back_from inc tid o book).nodes ≡ book.nodes
+pub yield_nodes : (inc : ℕ) (tid : Tid) (o : Option Member) (book : BookValue) → (give_back_from inc tid o book).nodes ≡ book.nodes
 yield_nodes inc tid None book = refl
 yield_nodes inc tid (Some member) book = refl
 
@@ -145,32 +143,28 @@ member_equal m n e =
     made : ℕ × ℕ → Member
     made p = record { node = record { 0 = p.0 }; server = record { 0 = p.1 } }
 
-keys_any : (member : Member) (xs : List Member) → list_any (same_member member) (insert_key member_cmp xs member) ≡ true
-keys_any member [] = rw (same_member-self member) refl
-keys_any member (x ∷ xs) = by (member_cmp member x) refl (keys_any member xs)
-  where
-    last : (p q : Bool) → q ≡ true → (p || q) ≡ true
-    last true q h = refl
-    last false q h = h
+pub member_itself : (member : Member) → member_cmp member member ≡ Equal
+member_itself member = rw (tied_itself nat_cmp_total member.node.0, tied_itself nat_cmp_total member.server.0) refl
 
-    by : (r : Ordering) → member_cmp member x ≡ r → list_any (same_member member) (insert_key member_cmp xs member) ≡ true → list_any (same_member member) (insert_key member_cmp (x ∷ xs) member) ≡ true
-    by Less e more = rw (e, same_member-self member) refl
-    by Equal e more =
-        let self : same_member member x ≡ true = subst (λ (y : Member). same_member member y ≡ true) (member_equal member x e) (same_member-self member) in
-        rw (e, self) refl
-    by Greater e more = rw e (last (same_member member x) (list_any (same_member member) (insert_key member_cmp xs member)) more)
-
-issue_crosses : (tid : Tid) (member : Member) (at : RequestNo) (request : Request) (peer_inc : ℕ) (book : BookValue) → request.member ≡ member → crosses (find_transaction book tid) at member ≡ true
-    → crossed_at (with_transaction tid (issued at request peer_inc) book) tid member ≡ true
-issue_crosses tid member at request peer_inc book is h = of (find_transaction book tid) refl h
+-- once crossed, from whatever place on
+crossed_put : (place : ℕ) (member : Member) (xs : List (Member × ℕ)) → is_some (lookup (is_at (member_cmp member)) (crossed_from place member xs)) ≡ true
+crossed_put place member xs = by (lookup (is_at (member_cmp member)) xs) refl
   where
-    more : (tx : TransactionValue) (o : Option Request) → standing_request tx at member ≡ o → (elim o [ None ↦ false | Some r ↦ true ]) ≡ true → list_any (same_member member) (crossed_by (standing_request tx at request.member) request.member tx.crossed) ≡ true
+    by : (o : Option ℕ) → lookup (is_at (member_cmp member)) xs ≡ o → is_some (lookup (is_at (member_cmp member)) (elim o [ Some earlier ↦ xs | None ↦ insert_entry member_cmp xs member place ])) ≡ true
+    by None found = ap (λ (o : Option ℕ). is_some o) (lookup_put member_cmp member place (member_itself member) xs)
+    by (Some earlier) found = ap (λ (o : Option ℕ). is_some o) found
+
+issue_crosses : (tid : Tid) (member : Member) (at : RequestNo) (request : Request) (peer_inc place : ℕ) (book : BookValue) → request.member ≡ member → crosses (find_transaction book tid) at member ≡ true
+    → crossed_at (with_transaction tid (issued at request peer_inc place) book) tid member ≡ true
+issue_crosses tid member at request peer_inc place book is h = of (find_transaction book tid) refl h
+  where
+    more : (tx : TransactionValue) (o : Option Request) → standing_request tx at member ≡ o → (elim o [ None ↦ false | Some r ↦ true ]) ≡ true → is_some (lookup (is_at (member_cmp member)) (crossed_by (standing_request tx at request.member) place request.member tx.crossed)) ≡ true
     more tx None found say = absurd (cc say)
-    more tx (Some r) found say = rw (is, found) (keys_any member tx.crossed)
+    more tx (Some r) found say = rw (is, found) (crossed_put place member tx.crossed)
 
-    of : (o : Option TransactionValue) → find_transaction book tid ≡ o → crosses o at member ≡ true → crossed_at (with_transaction tid (issued at request peer_inc) book) tid member ≡ true
+    of : (o : Option TransactionValue) → find_transaction book tid ≡ o → crosses o at member ≡ true → crossed_at (with_transaction tid (issued at request peer_inc place) book) tid member ≡ true
     of None found say = absurd (cc say)
-    of (Some tx) found say = rw (lookup_changed (is_at (tid_cmp tid)) (issued at request peer_inc) book.transactions tx found) (more tx (standing_request tx at member) refl say)
+    of (Some tx) found say = rw (lookup_changed (is_at (tid_cmp tid)) (issued at request peer_inc place) book.transactions tx found) (more tx (standing_request tx at member) refl say)
 
 pub crossing_transactions : (c : Bool) (tid : Tid) (member : Member) (book : BookValue) → (with_crossing c tid member book).transactions ≡ book.transactions
 crossing_transactions true tid member book = refl
@@ -188,7 +182,7 @@ issue_apart tid member here t issuer other number op book plain say = by (is_sha
     request = record { issuer = issuer; member = other; op = op; inc = inc_at book (record { 0 = here }); served = false }
 
     one : BookValue
-    one = with_transaction t (issued (record { link = link_to here other; number = number }) request (inc_at book other.node)) book
+    one = with_transaction t (issued (record { link = link_to here other; number = number }) request (inc_at book other.node) book.place) book
 
     same : (issue here t issuer other number op book).transactions ≡ one.transactions
     same =
@@ -196,7 +190,7 @@ issue_apart tid member here t issuer other number op book plain say = by (is_sha
         ∙ waiting_transactions t issuer other one
 
     crossed : crossed_at one t other ≡ true
-    crossed = issue_crosses t other (record { link = link_to here other; number = number }) request (inc_at book other.node) book refl say
+    crossed = issue_crosses t other (record { link = link_to here other; number = number }) request (inc_at book other.node) book.place book refl say
 
     by : (c : Bool) → is_share tid member t other ≡ c → is_share tid member t other ≡ false
     by false apart = apart
@@ -286,7 +280,7 @@ module _ (b : Bool) (tid : Tid) (member : Member) (is : member.server.0 ≡ numb
       (waiting_nodes t issuer other one) (issue_apart tid member here t issuer other number op book after)
     where
       one : BookValue
-      one = with_transaction t (issued (record { link = link_to here other; number = number }) (record { issuer = issuer; member = other; op = op; inc = inc_at book (record { 0 = here }); served = false }) (inc_at book other.node)) book
+      one = with_transaction t (issued (record { link = link_to here other; number = number }) (record { issuer = issuer; member = other; op = op; inc = inc_at book (record { 0 = here }); served = false }) (inc_at book other.node) book.place) book
   acted_holds book stamp here node (Serve t other from number reply) at h keeps was after =
       let e : other.node.0 ≡ here = serve_here book here node t (find_transaction book t) other from.0 number reply h in
       subst (λ (n : ℕ). here_as book n (serve_node (find_transaction book t) (request_no from number other) t other reply) (change_served book tid member (Serve t other from number reply))) e

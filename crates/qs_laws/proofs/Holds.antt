@@ -20,7 +20,7 @@ use Rattle.qs_transaction.specs.Transaction.{TransactionValue, is_crossed, stand
 use Rattle.qs_transaction.specs.declared.state.Request.{Request}
 use Rattle.qs_transaction.specs.declared.state.RequestNo.{RequestNo}
 use Rattle.qs_machine.specs.Book.{changed_at, serve_node, server_serve, crossed_serve, is_done, vote_node, crossed_in, learn_node, doubts_after}
-use Rattle.qs_machine.specs.Nodes.{NodeValue, with_table, crossed_node, crossed_names, crossed_table, with_doubts, bound_names, pending_at}
+use Rattle.qs_machine.specs.Nodes.{NodeValue, with_table, crossed_node, crossed_server, crossed_names, crossed_table, with_doubts, bound_names, pending_at}
 use Rattle.qs_laws.specs.Served.{is_share, change_of_request, standing_at}
 use Rattle.qs_laws.proofs.Faces.{either_way}
 use Rattle.qs_laws.proofs.Maps.{set_at_either, changed_at_alike, changed_at_here}
@@ -54,8 +54,8 @@ with_table_gives b tid s f e v =
     subst (λ (n : ℕ). changes_in b tid (with_table n f v) ≡ (share_of (f (table b v)) tid).changes) (sym e)
     (ap (λ (t : TableValue). (share_of t tid).changes) (table_mine b f v))
 
-crossed_holds : (b : Bool) (tid t : Tid) (s : ℕ) → ((s ≡ number b) → same_tid t tid ≡ false) → (v : NodeValue) → changes_in b tid (crossed_node t s v) ≡ changes_in b tid v
-crossed_holds b tid t s other v = at (s == 2) (s == 3) refl
+crossed_server_holds : (b : Bool) (tid t : Tid) (s : ℕ) → ((s ≡ number b) → same_tid t tid ≡ false) → (v : NodeValue) → changes_in b tid (crossed_server t s v) ≡ changes_in b tid v
+crossed_server_holds b tid t s other v = at (s == 2) (s == 3) refl
   where
     keeps : (n : ℕ) → (n ≡ number b → same_tid t tid ≡ false) → (u : NodeValue) → changes_in b tid (crossed_table t n u) ≡ changes_in b tid u
     keeps n apart u = with_table_holds b tid n (λ table. released table t) (λ e x. ap (λ (share : Share). share.changes) (share_released_other x t tid (apart e))) u
@@ -76,6 +76,9 @@ crossed_holds b tid t s other v = at (s == 2) (s == 3) refl
     at true y is = keeps 2 (no_names b) (with_doubts t (bound_names (pending_at v t 2)) v) ∙ doubts (bound_names (pending_at v t 2)) b
     at false true is = timers b
     at false false is = keeps s other v
+
+crossed_holds : (b : Bool) (tid t : Tid) (s : ℕ) → ((s ≡ number b) → same_tid t tid ≡ false) → (v : NodeValue) → changes_in b tid (crossed_node t s v) ≡ changes_in b tid v
+crossed_holds b tid t s other v = either_way (changes_in b tid) v.up (crossed_server t s v) v (changes_in b tid v) (crossed_server_holds b tid t s other v) refl
 
 -- ---- the nodes of a book
 

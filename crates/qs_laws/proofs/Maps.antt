@@ -1,6 +1,6 @@
 -- What is found in a map or at a place of a list after a change.
 use Rattle.std.proofs.Common.{◌≡◌, ℕ, Bool, true, false, List, [], ◌∷◌, Option, Some, None, zero, suc, refl, sym, ap, subst, inl, inr, ◌⊎◌}
-use Rattle.std.specs.Prelude.{slice_get, slice_set}
+use Rattle.std.specs.Prelude.{slice_get, slice_set, is_some}
 use Rattle.std.specs.Option.{option_map}
 use Rattle.std.specs.Map.{lookup, set_value, remove_entry}
 use Rattle.std.specs.BTreeMap.{insert_entry, is_at}
@@ -41,6 +41,10 @@ module _ {K X : Type 0} (p : K → Bool) where
   pub changed_either : (test : K → Bool) (f : X → X) (es : List (K × X)) (v : X) → lookup p es ≡ Some v → Either (lookup test es) (lookup test (changed_value p f es)) v (f v)
   changed_either test f es v h =
       subst (λ (o : Option X). Either (lookup test es) (lookup test (elim o [ None ↦ es | Some u ↦ set_value p es (f u) ])) v (f v)) (sym h) (set_either test es v (f v) h)
+
+  -- where there is nothing, nothing is changed
+  pub changed_none : (f : X → X) (es : List (K × X)) → lookup p es ≡ None → lookup p (changed_value p f es) ≡ None
+  changed_none f es is = subst (λ (o : Option X). lookup p (elim o [ None ↦ es | Some u ↦ set_value p es (f u) ]) ≡ None) (sym is) is
 
   set_apart : (q : K → Bool) → ((k : K) → q k ≡ true → p k ≡ false) → (es : List (K × X)) (w : X) → lookup q (set_value p es w) ≡ lookup q es
   set_apart q apart [] w = refl
@@ -105,6 +109,20 @@ module _ {K X : Type 0} (cmp : K → K → Ordering) (k : K) (v : X) where
       by Less is more = rw (is, other) refl
       by Equal is more = let no : p e.0 ≡ false = subst (λ x. p x ≡ false) (exact e.0 is) other in rw (is, no) refl
       by Greater is more = rw (is, more) refl
+
+  -- what is found is found with one more
+  pub put_known : (p : K → Bool) (es : List (K × X)) → is_some (lookup p es) ≡ true → is_some (lookup p (insert_entry cmp es k v)) ≡ true
+  put_known p [] h = absurd (cc h)
+  put_known p (e ∷ es) h = by (cmp k e.0) (p k) (p e.0) refl refl refl (put_known p es)
+    where
+      by : (r : Ordering) (a b : Bool) → cmp k e.0 ≡ r → p k ≡ a → p e.0 ≡ b → (is_some (lookup p es) ≡ true → is_some (lookup p (insert_entry cmp es k v)) ≡ true) → is_some (lookup p (insert_entry cmp (e ∷ es) k v)) ≡ true
+      by Less true b is at has more = rw (is, at) refl
+      by Less false true is at has more = rw (is, at, has) refl
+      by Less false false is at has more = rw (is, at, has) (rw has at h)
+      by Equal a true is at has more = rw (is, has) refl
+      by Equal a false is at has more = rw (is, has) (rw has at h)
+      by Greater a true is at has more = rw (is, has) refl
+      by Greater a false is at has more = rw (is, has) (more (rw has at h))
 
 module _ {X : Type 0} where
   pub set_at_either : (xs : List X) (i j : ℕ) (v w : X) → slice_get xs i ≡ Some v → ((j ≡ i) × (slice_get xs j ≡ Some v) × (slice_get (slice_set xs i w) j ≡ Some w)) ⊎ (slice_get (slice_set xs i w) j ≡ slice_get xs j)

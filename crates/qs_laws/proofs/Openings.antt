@@ -51,11 +51,11 @@ module _ (opened : List Opened) where
       let one : Names opened book (f book x) = each book x (all_head P x xs all) early in
       names_then book (f book x) (fold f (f book x) xs) one (names_all P f each xs (f book x) (all_rest P x xs all) one.earlier)
 
-  name_names : (book : BookValue) (tid : Tid) → IsEarlier opened tid → ((q : Tid) (seen : Face) → face_at book q ≡ Some seen → IsEarlier opened q) → Names opened book (name_transaction opened book tid)
+  name_names : (book : BookValue) (tid : Tid) → IsEarlier opened tid → ((q : Tid) (seen : Face) → face_at book q ≡ Some seen → IsEarlier opened q) → Names opened book (name_transaction book tid)
   name_names book tid is early = by (find_transaction book tid)
     where
       put : BookValue
-      put = record book { transactions = insert_entry tid_cmp book.transactions tid (opened_transaction opened tid) }
+      put = record book { transactions = insert_entry tid_cmp book.transactions tid (opened_transaction book.nodes tid) }
 
       exact : (x : Tid) → tid_cmp tid x ≡ Equal → tid ≡ x
       exact x same = at_exact tid x (rw same refl)
@@ -65,17 +65,17 @@ module _ (opened : List Opened) where
         where
           at : (b : Bool) → is_at (tid_cmp q) tid ≡ b → IsEarlier opened q
           at true same = subst (IsEarlier opened) (sym (at_exact q tid same)) is
-          at false other = early q seen (sym (ap (option_map face) (lookup_put_apart tid_cmp tid (opened_transaction opened tid) exact (is_at (tid_cmp q)) other book.transactions)) ∙ h)
+          at false other = early q seen (sym (ap (option_map face) (lookup_put_apart tid_cmp tid (opened_transaction book.nodes tid) exact (is_at (tid_cmp q)) other book.transactions)) ∙ h)
 
       by : (o : Option TransactionValue) → Names opened book (elim o [ Some tx ↦ book | None ↦ put ])
       by None = record { earlier = put_early; nodes = refl; owners = refl }
       by (Some tx) = record { earlier = early; nodes = refl; owners = refl }
 
-  pending_names : (here inc : ℕ) (book : BookValue) (pending : Pending) → IsVoteEarlier opened pending → ((q : Tid) (seen : Face) → face_at book q ≡ Some seen → IsEarlier opened q) → Names opened book (name_pending opened here inc book pending)
+  pending_names : (here inc : ℕ) (book : BookValue) (pending : Pending) → IsVoteEarlier opened pending → ((q : Tid) (seen : Face) → face_at book q ≡ Some seen → IsEarlier opened q) → Names opened book (name_pending here inc book pending)
   pending_names here inc book pending is early =
-      let named : Names opened book (name_transaction opened book pending.tid) = name_names book pending.tid is early in
-      names_then book (name_transaction opened book pending.tid) (name_pending opened here inc book pending) named
-      (found_names (name_transaction opened book pending.tid) named.earlier)
+      let named : Names opened book (name_transaction book pending.tid) = name_names book pending.tid is early in
+      names_then book (name_transaction book pending.tid) (name_pending here inc book pending) named
+      (found_names (name_transaction book pending.tid) named.earlier)
     where
       f : TransactionValue → TransactionValue
       f = found_at (member_at here pending.server.0) inc pending.covers (length pending.changes)
@@ -87,18 +87,18 @@ module _ (opened : List Opened) where
         owners = refl;
       }
 
-  log_names : (here : ℕ) (one : Opened) (book : BookValue) → IsSound opened one → ((q : Tid) (seen : Face) → face_at book q ≡ Some seen → IsEarlier opened q) → Names opened book (name_all opened here one book)
+  log_names : (here : ℕ) (one : Opened) (book : BookValue) → IsSound opened one → ((q : Tid) (seen : Face) → face_at book q ≡ Some seen → IsEarlier opened q) → Names opened book (name_all here one book)
   log_names here one book sound early =
-      let named : Names opened book (fold (name_transaction opened) book one.committed) = names_all (IsEarlier opened) (name_transaction opened) name_names one.committed book sound.committed early in
-      names_then book (fold (name_transaction opened) book one.committed) (name_all opened here one book) named
-      (names_all (IsVoteEarlier opened) (name_pending opened here one.inc) (pending_names here one.inc) one.pending (fold (name_transaction opened) book one.committed) sound.pending named.earlier)
+      let named : Names opened book (fold name_transaction book one.committed) = names_all (IsEarlier opened) name_transaction name_names one.committed book sound.committed early in
+      names_then book (fold name_transaction book one.committed) (name_all here one book) named
+      (names_all (IsVoteEarlier opened) (name_pending here one.inc) (pending_names here one.inc) one.pending (fold name_transaction book one.committed) sound.pending named.earlier)
 
-  logs_name : (here : ℕ) (logs : List Opened) (book : BookValue) → All (IsSound opened) logs → ((q : Tid) (seen : Face) → face_at book q ≡ Some seen → IsEarlier opened q) → Names opened book (name_from opened here logs book)
+  logs_name : (here : ℕ) (logs : List Opened) (book : BookValue) → All (IsSound opened) logs → ((q : Tid) (seen : Face) → face_at book q ≡ Some seen → IsEarlier opened q) → Names opened book (name_from here logs book)
   logs_name here [] book sound early = record { earlier = early; nodes = refl; owners = refl }
   logs_name here (one ∷ more) book sound early =
-      let named : Names opened book (name_all opened here one book) = log_names here one book (all_head (IsSound opened) one more sound) early in
-      names_then book (name_all opened here one book) (name_from opened (suc here) more (name_all opened here one book)) named
-      (logs_name (suc here) more (name_all opened here one book) (all_rest (IsSound opened) one more sound) named.earlier)
+      let named : Names opened book (name_all here one book) = log_names here one book (all_head (IsSound opened) one more sound) early in
+      names_then book (name_all here one book) (name_from (suc here) more (name_all here one book)) named
+      (logs_name (suc here) more (name_all here one book) (all_rest (IsSound opened) one more sound) named.earlier)
 
 -- ---- the whole
 

@@ -243,7 +243,7 @@ module _ (book : BookValue) (tid : Tid) (tx : TransactionValue) (outcome : Outco
 
 -- ---- begin
 
-next_is : (here : ℕ) (node : NodeValue) (tid : Tid) → is_next_tid here node tid ≡ true → (tid.home.0 ≡ here) × (tid.inc ≡ node.inc) × (tid.seq ≡ node.begun + 1)
+pub next_is : (here : ℕ) (node : NodeValue) (tid : Tid) → is_next_tid here node tid ≡ true → (tid.home.0 ≡ here) × (tid.inc ≡ node.inc) × (tid.seq ≡ node.begun + 1)
 next_is here node tid h = grind (arith, nat_tests)
 
 not_begun : (inc begun : ℕ) (tid : Tid) → tid.inc ≡ inc → tid.seq ≡ begun + 1 → IsBegun tid (record { inc = inc; begun = begun }) → ⊥

@@ -222,7 +222,7 @@ module _ (here inc : ℕ) (pend : List Found) (done : List Tid) (book : BookValu
   abbrev InLog : Tid → Type 0
   InLog tid = is_among node.committed tid ≡ true
 
-  did : AllDid InLog last done
+  pub did : AllDid InLog last done
   did =
       did_over InLog aborted_book last done (λ tid seen is closed. is)
       (did_over InLog committed_book aborted_book done rest_settles.moves.kept (did_all here InLog done mid mid_inv (all_may here book node done lawful)))

@@ -1,5 +1,5 @@
--- A transaction whose Commit the log of a node held as the run began: commit is never asked for in the run, and nothing
--- of it is on record at that node.
+-- A transaction whose Commit the log of a node held as the run began: its cell is commit, commit is never asked for in the
+-- run, and nothing of it is on record at that node.
 use Rattle.std.proofs.Common.{◌≡◌, ◌⊎◌, ℕ, ◌==◌, ◌&&◌, Bool, true, false, List, Option, Some, None, inl, inr, refl, sym, ap, subst, ◌∙◌, arith}
 use Rattle.std.proofs.lemmas.Bool.Decides.{nat_tests}
 use Rattle.std.specs.Prelude.{slice_get, is_none}
@@ -10,7 +10,9 @@ use Rattle.std.specs.declared.cmp.Ordering.TheVariants.{Equal}
 use Rattle.qs_base.specs.Order.{tid_cmp}
 use Rattle.qs_base.specs.declared.identifiers.ClientNo.{ClientNo}
 use Rattle.qs_base.specs.declared.identifiers.Tid.{Tid}
-use Rattle.qs_transaction.specs.Transaction.{TransactionValue, is_open, asked_at, begun}
+use Rattle.qs_transaction.specs.Transaction.{TransactionValue, is_open, is_commit, asked_at, begun}
+use Rattle.qs_transaction.specs.declared.state.Cell.{Cell}
+use Rattle.qs_transaction.specs.declared.state.Cell.TheVariants as cells
 use Rattle.qs_machine.specs.Book.{BookValue, find_transaction, with_transaction, begin, changed_at, ticks_at}
 use Rattle.qs_machine.specs.Clauses.{may_ask}
 use Rattle.qs_machine.specs.Nodes.{NodeValue, voter, voter_cmp}
@@ -25,7 +27,7 @@ use Rattle.qs_laws.proofs.Stills.{Facet, facet, asked_of, facet_at, asks_at, Sti
 
 pub record IsShut (book : BookValue) (at : Facet) (tid : Tid) : Type 0 where
   pub asks : asks_at book tid ≡ Some None
-  pub closed : (home : Facet) (seen : Face) → facet_at book tid.home.0 ≡ Some home → face_at book tid ≡ Some seen → is_open seen.cell ≡ false
+  pub committed : (seen : Face) → face_at book tid ≡ Some seen → is_commit seen.cell ≡ true
   pub records : (server : ℕ) → lookup (is_at (voter_cmp (voter tid server))) at.records ≡ None
 
 abbrev pub Shut : BookValue → Type 0
@@ -48,22 +50,26 @@ face_of : (o : Option TransactionValue) → option_map asked_of o ≡ Some None 
 face_of None h = absurd (cc h)
 face_of (Some tx) h = (face tx, refl)
 
+pub commit_closed : (cell : Cell) → is_commit cell ≡ true → is_open cell ≡ false
+commit_closed cells.Commit h = refl
+commit_closed cells.Open h = absurd (cc h)
+commit_closed cells.Abort h = refl
+
 pub shut_step : (old new : BookValue) → Shut old → Kept old new
     → ((tid : Tid) (at : Facet) → IsShut old at tid → asks_at new tid ≡ Some None)
     → ((n : ℕ) (at : Facet) → facet_at new n ≡ Some at → Before old n at) → Shut new
 shut_step old new shut kept asks before n at tid is among =
     let b : Before old n at = before n at is in
     let s : IsShut old b.was tid = shut n b.was tid b.stood (ap (λ (tids : List Tid). is_among tids tid) (sym b.changes.committed) ∙ among) in
-    record { asks = asks tid b.was s; closed = closed s; records = b.changes.records tid s }
+    record { asks = asks tid b.was s; committed = committed s; records = b.changes.records tid s }
   where
-    closed : {was : Facet} → IsShut old was tid → (home : Facet) (seen : Face) → facet_at new tid.home.0 ≡ Some home → face_at new tid ≡ Some seen → is_open seen.cell ≡ false
-    closed s home seen home_is found =
-        let h : Before old tid.home.0 home = before tid.home.0 home home_is in
+    committed : {was : Facet} → IsShut old was tid → (seen : Face) → face_at new tid ≡ Some seen → is_commit seen.cell ≡ true
+    committed s seen found =
         let f : (f : Face) × (face_at old tid ≡ Some f) = face_of (find_transaction old tid) s.asks in
-        let shut_cell : is_open f.0.cell ≡ false = s.closed h.was f.0 h.stood f.1 in
-        let now : face_at new tid ≡ Some f.0 = kept tid f.0 f.1 shut_cell in
+        let shut_cell : is_commit f.0.cell ≡ true = s.committed f.0 f.1 in
+        let now : face_at new tid ≡ Some f.0 = kept tid f.0 f.1 (commit_closed f.0.cell shut_cell) in
         let same : seen ≡ f.0 = cc (now, found) in
-        ap (λ (g : Face). is_open g.cell) same ∙ shut_cell
+        ap (λ (g : Face). is_commit g.cell) same ∙ shut_cell
 
 pub by_still : (old new : BookValue) → Shut old → Kept old new → Still old new → Shut new
 by_still old new shut kept still =
@@ -126,9 +132,8 @@ by_ask book here node tid tx at_here found may shut kept =
     asks : (q : Tid) (at : Facet) → IsShut book at q → (b : Bool) → is_at (tid_cmp tid) q ≡ b → asks_at later q ≡ Some None
     asks q at s true same =
         let q_is : tid ≡ q = at_exact tid q same in
-        let home : facet_at book q.home.0 ≡ Some (facet node) = ap (λ (t : Tid). facet_at book t.home.0) (sym q_is) ∙ (ap (facet_at book) may_is.0 ∙ ap (option_map facet) at_here) in
         let seen : face_at book q ≡ Some (face tx) = ap (face_at book) (sym q_is) ∙ ap (option_map face) found in
-        let shut_cell : is_open tx.cell ≡ false = s.closed (facet node) (face tx) home seen in
+        let shut_cell : is_open tx.cell ≡ false = commit_closed tx.cell (s.committed (face tx) seen) in
         absurd (cc (may_is.1, shut_cell))
     asks q at s false other = ap (option_map asked_of) (changed_apart (is_at (tid_cmp tid)) (is_at (tid_cmp q)) (apart q other) (asked_at book.place) book.transactions) ∙ s.asks
 

@@ -1,7 +1,7 @@
 -- As a run begins, from coherent logs, the transactions of their Commits are shut.
 use Rattle.std.proofs.Common.{◌≡◌, ◌⊎◌, ℕ, zero, suc, [], ◌∷◌, ◌||◌, Bool, true, false, List, Option, Some, None, fold, length, inl, inr, refl, sym, ap, subst, ◌∙◌, if◌then◌else◌}
 use Rattle.std.proofs.lemmas.Option.{slice_get-map}
-use Rattle.std.specs.Prelude.{slice_get}
+use Rattle.std.specs.Prelude.{slice_get, nat_lt}
 use Rattle.std.specs.List.{All, AllByRecursion, list_any}
 use Rattle.std.specs.Map.{lookup}
 use Rattle.std.specs.Option.{option_map}
@@ -12,20 +12,19 @@ use Rattle.std.specs.declared.cmp.Ordering.{Ordering}
 use Rattle.std.specs.declared.cmp.Ordering.TheVariants.{Less, Equal, Greater}
 use Rattle.qs_base.specs.Order.{tid_cmp, same_tid}
 use Rattle.qs_base.specs.declared.identifiers.Tid.{Tid}
-use Rattle.qs_base.proofs.Same.{same_tid-true}
 use Rattle.qs_ops.specs.declared.answer.Cause.TheVariants as causes
-use Rattle.qs_transaction.specs.Transaction.{TransactionValue, is_open, found_at, opened_as}
+use Rattle.qs_transaction.specs.Transaction.{TransactionValue, is_open, is_commit, found_at, opened_as}
 use Rattle.qs_transaction.specs.declared.state.Cell.TheVariants as cells
 use Rattle.qs_machine.specs.Book.{BookValue, find_transaction, with_transaction}
 use Rattle.qs_machine.specs.Nodes.{NodeValue, voter, voter_cmp}
-use Rattle.qs_machine.specs.Opening.{opened_node, opened_transaction, name_transaction, name_pending, name_all, name_from, put_record, put_tid, opening}
+use Rattle.qs_machine.specs.Opening.{opened_node, has_commit, opened_transaction, name_transaction, name_pending, name_all, name_from, put_record, put_tid, opening}
 use Rattle.qs_machine.specs.Restart.{is_among, member_at}
 use Rattle.qs_machine.specs.declared.opened.Opened.{Opened}
 use Rattle.qs_machine.specs.declared.opened.Pending.{Pending}
 use Rattle.qs_machine.specs.declared.state.OnRecord.{OnRecord}
 use Rattle.qs_machine.specs.declared.state.Voter.{Voter}
 use Rattle.qs_laws.specs.Laws.{IsSound, IsCoherent, HasNoCommit}
-use Rattle.qs_laws.proofs.Alikes.{tid_itself, at_exact, voter_exact, voter_equal}
+use Rattle.qs_laws.proofs.Alikes.{all_among, tid_itself, at_exact, voter_exact, voter_equal}
 use Rattle.qs_laws.proofs.Faces.{Face, face, face_at, transaction_alike}
 use Rattle.qs_laws.proofs.Maps.{lookup_put, lookup_put_apart}
 use Rattle.qs_laws.proofs.Openings.{all_head, all_rest, first_book, opening_names}
@@ -38,169 +37,189 @@ or_cases false b h = inr h
 
 -- ---- transactions
 
--- commit was asked for of none; the cell is not open where the home is in the run
-pub record Fresh (opened : List Opened) (book : BookValue) : Type 0 where
+-- Commit was asked for of none. The cell is commit where a log of the run has the Commit, and not open where the home is
+-- in the run.
+pub record Fresh (book : BookValue) : Type 0 where
   pub unasked : (tid : Tid) (asked : Option ℕ) → asks_at book tid ≡ Some asked → asked ≡ None
-  pub closed : (tid : Tid) (seen : Face) (home : Opened) → face_at book tid ≡ Some seen → slice_get opened tid.home.0 ≡ Some home → is_open seen.cell ≡ false
+  pub committed : (tid : Tid) (seen : Face) → face_at book tid ≡ Some seen → list_any (has_commit tid) book.nodes ≡ true → is_commit seen.cell ≡ true
+  pub closed : (tid : Tid) (seen : Face) → face_at book tid ≡ Some seen → nat_lt tid.home.0 (length book.nodes) ≡ true → is_open seen.cell ≡ false
 
--- and what stood in the book stands there still
-record Opens (opened : List Opened) (old new : BookValue) : Type 0 where
-  fresh : Fresh opened new
-  found : (tid : Tid) → asks_at old tid ≡ Some None → asks_at new tid ≡ Some None
+-- and what stood in the book stands there still, on the same nodes
+pub record Opens (old new : BookValue) : Type 0 where
+  pub fresh : Fresh new
+  pub found : (tid : Tid) → asks_at old tid ≡ Some None → asks_at new tid ≡ Some None
+  pub nodes : new.nodes ≡ old.nodes
 
 abbrev pub AllFound : BookValue → List Tid → Type 0
 AllFound book tids = AllByRecursion (λ tid. asks_at book tid ≡ Some None) tids
 
-abbrev opened_by : Tid → Option Opened → TransactionValue
-opened_by tid None = opened_as cells.Open None
-opened_by tid (Some home) = if is_among home.committed tid then opened_as cells.Commit None else opened_as cells.Abort (Some (causes.Home tid.inc))
+opens_then : (old mid new : BookValue) → Opens old mid → Opens mid new → Opens old new
+opens_then old mid new a b = record { fresh = b.fresh; found = λ tid is. b.found tid (a.found tid is); nodes = b.nodes ∙ a.nodes }
 
-module _ (opened : List Opened) where
-  opens_then : (old mid new : BookValue) → Opens opened old mid → Opens opened mid new → Opens opened old new
-  opens_then old mid new a b = record { fresh = b.fresh; found = λ tid is. b.found tid (a.found tid is) }
+opens_self : (book : BookValue) → Fresh book → Opens book book
+opens_self book fresh = record { fresh = fresh; found = λ tid is. is; nodes = refl }
 
-  opens_self : (book : BookValue) → Fresh opened book → Opens opened book book
-  opens_self book fresh = record { fresh = fresh; found = λ tid is. is }
+pub opens_all : {A : Type 0} (f : BookValue → A → BookValue) → ((book : BookValue) (x : A) → Fresh book → Opens book (f book x)) → (xs : List A) (book : BookValue) → Fresh book → Opens book (fold f book xs)
+opens_all f each [] book fresh = opens_self book fresh
+opens_all f each (x ∷ xs) book fresh =
+    let one : Opens book (f book x) = each book x fresh in
+    opens_then book (f book x) (fold f (f book x) xs) one (opens_all f each xs (f book x) one.fresh)
 
-  opens_all : {A : Type 0} (f : BookValue → A → BookValue) → ((book : BookValue) (x : A) → Fresh opened book → Opens opened book (f book x)) → (xs : List A) (book : BookValue) → Fresh opened book → Opens opened book (fold f book xs)
-  opens_all f each [] book fresh = opens_self book fresh
-  opens_all f each (x ∷ xs) book fresh =
-      let one : Opens opened book (f book x) = each book x fresh in
-      opens_then book (f book x) (fold f (f book x) xs) one (opens_all f each xs (f book x) one.fresh)
+-- none of them was asked for, and each has its outcome where the run knows it
+abbrev opened_by : Tid → Bool → Bool → TransactionValue
+opened_by tid found known =
+    if found then opened_as cells.Commit None
+    else if known then opened_as cells.Abort (Some (causes.Home tid.inc))
+    else opened_as cells.Open None
 
-  -- none of them was asked for, and each whose home is in the run has its outcome
-  opened_closed : (tid : Tid) (home : Opened) → slice_get opened tid.home.0 ≡ Some home → is_open (opened_transaction opened tid).cell ≡ false
-  opened_closed tid home is =
-      subst (λ (o : Option Opened). is_open (opened_by tid o).cell ≡ false) (sym is)
-      (by (is_among home.committed tid))
+opened_closed : (nodes : List NodeValue) (tid : Tid) → nat_lt tid.home.0 (length nodes) ≡ true → is_open (opened_transaction nodes tid).cell ≡ false
+opened_closed nodes tid is = rw is (by (list_any (has_commit tid) nodes))
+  where
+    by : (b : Bool) → is_open (opened_by tid b true).cell ≡ false
+    by true = refl
+    by false = refl
+
+opened_commit : (nodes : List NodeValue) (tid : Tid) → list_any (has_commit tid) nodes ≡ true → is_commit (opened_transaction nodes tid).cell ≡ true
+opened_commit nodes tid is = rw is refl
+
+opened_unasked : (nodes : List NodeValue) (tid : Tid) → (opened_transaction nodes tid).asked ≡ None
+opened_unasked nodes tid = by (list_any (has_commit tid) nodes) (nat_lt tid.home.0 (length nodes))
+  where
+    by : (a b : Bool) → (opened_by tid a b).asked ≡ None
+    by true b = refl
+    by false true = refl
+    by false false = refl
+
+module _ (book : BookValue) (tid : Tid) (fresh : Fresh book) where
+  abbrev one_tx : TransactionValue
+  one_tx = opened_transaction book.nodes tid
+
+  abbrev put : BookValue
+  put = record book { transactions = insert_entry tid_cmp book.transactions tid one_tx }
+
+  exact : (x : Tid) → tid_cmp tid x ≡ Equal → tid ≡ x
+  exact x same = at_exact tid x (rw same refl)
+
+  put_here : find_transaction put tid ≡ Some one_tx
+  put_here = lookup_put tid_cmp tid one_tx (tid_itself tid) book.transactions
+
+  put_other : (q : Tid) → is_at (tid_cmp q) tid ≡ false → find_transaction put q ≡ find_transaction book q
+  put_other q other = lookup_put_apart tid_cmp tid one_tx exact (is_at (tid_cmp q)) other book.transactions
+
+  put_asks : asks_at put tid ≡ Some None
+  put_asks = ap (option_map asked_of) put_here ∙ ap Some (opened_unasked book.nodes tid)
+
+  put_unasked : (q : Tid) (asked : Option ℕ) → asks_at put q ≡ Some asked → asked ≡ None
+  put_unasked q asked is = by (is_at (tid_cmp q) tid) refl
     where
-      by : (b : Bool) → is_open (if b then opened_as cells.Commit None else opened_as cells.Abort (Some (causes.Home tid.inc))).cell ≡ false
-      by true = refl
-      by false = refl
+      by : (b : Bool) → is_at (tid_cmp q) tid ≡ b → asked ≡ None
+      by true same = let here : asks_at put q ≡ Some None = ap (asks_at put) (at_exact q tid same) ∙ put_asks in cc (here, is)
+      by false other = fresh.unasked q asked (ap (option_map asked_of) (sym (put_other q other)) ∙ is)
 
-  opened_unasked : (tid : Tid) → (opened_transaction opened tid).asked ≡ None
-  opened_unasked tid = by (slice_get opened tid.home.0)
+  -- what is seen of it is what the opening gave
+  put_seen : (q : Tid) (seen : Face) → face_at put q ≡ Some seen → q ≡ tid → face one_tx ≡ seen
+  put_seen q seen is q_is =
+      let here : Some (face one_tx) ≡ Some seen = ap (option_map face) (sym put_here) ∙ (ap (face_at put) (sym q_is) ∙ is) in
+      cc
+
+  put_committed : (q : Tid) (seen : Face) → face_at put q ≡ Some seen → list_any (has_commit q) book.nodes ≡ true → is_commit seen.cell ≡ true
+  put_committed q seen is among = by (is_at (tid_cmp q) tid) refl
     where
-      at : (h : Opened) (b : Bool) → (if b then opened_as cells.Commit None else opened_as cells.Abort (Some (causes.Home tid.inc))).asked ≡ None
-      at h true = refl
-      at h false = refl
+      by : (b : Bool) → is_at (tid_cmp q) tid ≡ b → is_commit seen.cell ≡ true
+      by true same =
+          let q_is : q ≡ tid = at_exact q tid same in
+          ap (λ (f : Face). is_commit f.cell) (sym (put_seen q seen is q_is)) ∙ opened_commit book.nodes tid (ap (λ (t : Tid). list_any (has_commit t) book.nodes) (sym q_is) ∙ among)
+      by false other = fresh.committed q seen (ap (option_map face) (sym (put_other q other)) ∙ is) among
 
-      by : (o : Option Opened) → (opened_by tid o).asked ≡ None
-      by None = refl
-      by (Some h) = at h (is_among h.committed tid)
-
-  module _ (book : BookValue) (tid : Tid) (fresh : Fresh opened book) where
-    abbrev put : BookValue
-    put = record book { transactions = insert_entry tid_cmp book.transactions tid (opened_transaction opened tid) }
-
-    exact : (x : Tid) → tid_cmp tid x ≡ Equal → tid ≡ x
-    exact x same = at_exact tid x (rw same refl)
-
-    put_here : find_transaction put tid ≡ Some (opened_transaction opened tid)
-    put_here = lookup_put tid_cmp tid (opened_transaction opened tid) (tid_itself tid) book.transactions
-
-    put_other : (q : Tid) → is_at (tid_cmp q) tid ≡ false → find_transaction put q ≡ find_transaction book q
-    put_other q other = lookup_put_apart tid_cmp tid (opened_transaction opened tid) exact (is_at (tid_cmp q)) other book.transactions
-
-    put_asks : asks_at put tid ≡ Some None
-    put_asks = ap (option_map asked_of) put_here ∙ ap Some (opened_unasked tid)
-
-    put_unasked : (q : Tid) (asked : Option ℕ) → asks_at put q ≡ Some asked → asked ≡ None
-    put_unasked q asked is = by (is_at (tid_cmp q) tid) refl
-      where
-        by : (b : Bool) → is_at (tid_cmp q) tid ≡ b → asked ≡ None
-        by true same = let here : asks_at put q ≡ Some None = ap (asks_at put) (at_exact q tid same) ∙ put_asks in cc (here, is)
-        by false other = fresh.unasked q asked (ap (option_map asked_of) (sym (put_other q other)) ∙ is)
-
-    put_closed : (q : Tid) (seen : Face) (home : Opened) → face_at put q ≡ Some seen → slice_get opened q.home.0 ≡ Some home → is_open seen.cell ≡ false
-    put_closed q seen home is in_run = by (is_at (tid_cmp q) tid) refl
-      where
-        by : (b : Bool) → is_at (tid_cmp q) tid ≡ b → is_open seen.cell ≡ false
-        by true same =
-            let q_is : q ≡ tid = at_exact q tid same in
-            let here : Some (face (opened_transaction opened tid)) ≡ Some seen = ap (option_map face) (sym put_here) ∙ (ap (face_at put) (sym q_is) ∙ is) in
-            let seen_is : face (opened_transaction opened tid) ≡ seen = cc in
-            ap (λ (f : Face). is_open f.cell) (sym seen_is) ∙ opened_closed tid home (ap (λ (t : Tid). slice_get opened t.home.0) (sym q_is) ∙ in_run)
-        by false other = fresh.closed q seen home (ap (option_map face) (sym (put_other q other)) ∙ is) in_run
-
-    put_found : (q : Tid) → asks_at book q ≡ Some None → asks_at put q ≡ Some None
-    put_found q is = by (is_at (tid_cmp q) tid) refl
-      where
-        by : (b : Bool) → is_at (tid_cmp q) tid ≡ b → asks_at put q ≡ Some None
-        by true same = ap (asks_at put) (at_exact q tid same) ∙ put_asks
-        by false other = ap (option_map asked_of) (put_other q other) ∙ is
-
-    name_opens : Opens opened book (name_transaction opened book tid)
-    name_opens = by (find_transaction book tid)
-      where
-        by : (o : Option TransactionValue) → Opens opened book (elim o [ Some tx ↦ book | None ↦ put ])
-        by None = record { fresh = record { unasked = put_unasked; closed = put_closed }; found = put_found }
-        by (Some tx) = opens_self book fresh
-
-    -- it stands in the book then
-    named : asks_at (name_transaction opened book tid) tid ≡ Some None
-    named = by (find_transaction book tid) refl
-      where
-        by : (o : Option TransactionValue) → find_transaction book tid ≡ o → asks_at (elim o [ Some tx ↦ book | None ↦ put ]) tid ≡ Some None
-        by None is = put_asks
-        by (Some tx) is =
-            let asks : asks_at book tid ≡ Some tx.asked = ap (option_map asked_of) is in
-            asks ∙ ap Some (fresh.unasked tid tx.asked asks)
-
-  all_named : (tids : List Tid) (book : BookValue) → Fresh opened book → AllFound (fold (name_transaction opened) book tids) tids
-  all_named [] book fresh = tt
-  all_named (tid ∷ tids) book fresh =
-      let one : Opens opened book (name_transaction opened book tid) = name_opens book tid fresh in
-      let rest : Opens opened (name_transaction opened book tid) (fold (name_transaction opened) (name_transaction opened book tid) tids) = opens_all (name_transaction opened) (λ b t f. name_opens b t f) tids (name_transaction opened book tid) one.fresh in
-      (rest.found tid (named book tid fresh), all_named tids (name_transaction opened book tid) one.fresh)
-
-  pending_opens : (here inc : ℕ) (book : BookValue) (pending : Pending) → Fresh opened book → Opens opened book (name_pending opened here inc book pending)
-  pending_opens here inc book pending fresh =
-      let one : Opens opened book (name_transaction opened book pending.tid) = name_opens book pending.tid fresh in
-      opens_then book (name_transaction opened book pending.tid) (name_pending opened here inc book pending) one (at (name_transaction opened book pending.tid) one.fresh)
+  put_closed : (q : Tid) (seen : Face) → face_at put q ≡ Some seen → nat_lt q.home.0 (length book.nodes) ≡ true → is_open seen.cell ≡ false
+  put_closed q seen is in_run = by (is_at (tid_cmp q) tid) refl
     where
-      f : TransactionValue → TransactionValue
-      f = found_at (member_at here pending.server.0) inc pending.covers (length pending.changes)
+      by : (b : Bool) → is_at (tid_cmp q) tid ≡ b → is_open seen.cell ≡ false
+      by true same =
+          let q_is : q ≡ tid = at_exact q tid same in
+          ap (λ (f : Face). is_open f.cell) (sym (put_seen q seen is q_is)) ∙ opened_closed book.nodes tid (ap (λ (t : Tid). nat_lt t.home.0 (length book.nodes)) (sym q_is) ∙ in_run)
+      by false other = fresh.closed q seen (ap (option_map face) (sym (put_other q other)) ∙ is) in_run
 
-      at : (b : BookValue) → Fresh opened b → Opens opened b (with_transaction pending.tid f b)
-      at b fresh = record {
-        fresh = record {
-          unasked = λ q asked is. fresh.unasked q asked (sym ((transaction_still pending.tid f (λ tx. refl) b).asks q) ∙ is);
-          closed = λ q seen home is in_run. fresh.closed q seen home (sym ((transaction_alike pending.tid f (λ tx. refl) b).faces q) ∙ is) in_run;
-        };
-        found = λ q is. (transaction_still pending.tid f (λ tx. refl) b).asks q ∙ is;
-      }
+  put_found : (q : Tid) → asks_at book q ≡ Some None → asks_at put q ≡ Some None
+  put_found q is = by (is_at (tid_cmp q) tid) refl
+    where
+      by : (b : Bool) → is_at (tid_cmp q) tid ≡ b → asks_at put q ≡ Some None
+      by true same = ap (asks_at put) (at_exact q tid same) ∙ put_asks
+      by false other = ap (option_map asked_of) (put_other q other) ∙ is
 
-  found_over : (old new : BookValue) (tids : List Tid) → Opens opened old new → AllFound old tids → AllFound new tids
-  found_over old new [] o all = tt
-  found_over old new (tid ∷ tids) o all = (o.found tid all.0, found_over old new tids o all.1)
+  pub name_opens : Opens book (name_transaction book tid)
+  name_opens = by (find_transaction book tid)
+    where
+      by : (o : Option TransactionValue) → Opens book (elim o [ Some tx ↦ book | None ↦ put ])
+      by None = record { fresh = record { unasked = put_unasked; committed = put_committed; closed = put_closed }; found = put_found; nodes = refl }
+      by (Some tx) = opens_self book fresh
 
-  log_opens : (here : ℕ) (one : Opened) (book : BookValue) → Fresh opened book → Opens opened book (name_all opened here one book)
-  log_opens here one book fresh =
-      let first : Opens opened book (fold (name_transaction opened) book one.committed) = opens_all (name_transaction opened) (λ b t f. name_opens b t f) one.committed book fresh in
-      opens_then book (fold (name_transaction opened) book one.committed) (name_all opened here one book) first
-      (opens_all (name_pending opened here one.inc) (λ b p f. pending_opens here one.inc b p f) one.pending (fold (name_transaction opened) book one.committed) first.fresh)
+  -- it stands in the book then
+  pub named : asks_at (name_transaction book tid) tid ≡ Some None
+  named = by (find_transaction book tid) refl
+    where
+      by : (o : Option TransactionValue) → find_transaction book tid ≡ o → asks_at (elim o [ Some tx ↦ book | None ↦ put ]) tid ≡ Some None
+      by None is = put_asks
+      by (Some tx) is =
+          let asks : asks_at book tid ≡ Some tx.asked = ap (option_map asked_of) is in
+          asks ∙ ap Some (fresh.unasked tid tx.asked asks)
 
-  log_found : (here : ℕ) (one : Opened) (book : BookValue) → Fresh opened book → AllFound (name_all opened here one book) one.committed
-  log_found here one book fresh =
-      let first : Opens opened book (fold (name_transaction opened) book one.committed) = opens_all (name_transaction opened) (λ b t f. name_opens b t f) one.committed book fresh in
-      found_over (fold (name_transaction opened) book one.committed) (name_all opened here one book) one.committed
-      (opens_all (name_pending opened here one.inc) (λ b p f. pending_opens here one.inc b p f) one.pending (fold (name_transaction opened) book one.committed) first.fresh)
-      (all_named one.committed book fresh)
+all_named : (tids : List Tid) (book : BookValue) → Fresh book → AllFound (fold name_transaction book tids) tids
+all_named [] book fresh = tt
+all_named (tid ∷ tids) book fresh =
+    let one : Opens book (name_transaction book tid) = name_opens book tid fresh in
+    let rest : Opens (name_transaction book tid) (fold name_transaction (name_transaction book tid) tids) = opens_all name_transaction (λ b t f. name_opens b t f) tids (name_transaction book tid) one.fresh in
+    (rest.found tid (named book tid fresh), all_named tids (name_transaction book tid) one.fresh)
 
-  logs_open : (here : ℕ) (logs : List Opened) (book : BookValue) → Fresh opened book → Opens opened book (name_from opened here logs book)
-  logs_open here [] book fresh = opens_self book fresh
-  logs_open here (one ∷ more) book fresh =
-      let first : Opens opened book (name_all opened here one book) = log_opens here one book fresh in
-      opens_then book (name_all opened here one book) (name_from opened (suc here) more (name_all opened here one book)) first (logs_open (suc here) more (name_all opened here one book) first.fresh)
+pub pending_opens : (here inc : ℕ) (book : BookValue) (pending : Pending) → Fresh book → Opens book (name_pending here inc book pending)
+pending_opens here inc book pending fresh =
+    let one : Opens book (name_transaction book pending.tid) = name_opens book pending.tid fresh in
+    opens_then book (name_transaction book pending.tid) (name_pending here inc book pending) one (at (name_transaction book pending.tid) one.fresh)
+  where
+    f : TransactionValue → TransactionValue
+    f = found_at (member_at here pending.server.0) inc pending.covers (length pending.changes)
 
-  logs_found : (here : ℕ) (logs : List Opened) (book : BookValue) → Fresh opened book → AllByRecursion (λ one. AllFound (name_from opened here logs book) one.committed) logs
-  logs_found here [] book fresh = tt
-  logs_found here (one ∷ more) book fresh =
-      let first : Opens opened book (name_all opened here one book) = log_opens here one book fresh in (
-        found_over (name_all opened here one book) (name_from opened (suc here) more (name_all opened here one book)) one.committed (logs_open (suc here) more (name_all opened here one book) first.fresh) (log_found here one book fresh),
-        logs_found (suc here) more (name_all opened here one book) first.fresh,
-      )
+    at : (b : BookValue) → Fresh b → Opens b (with_transaction pending.tid f b)
+    at b fresh = record {
+      fresh = record {
+        unasked = λ q asked is. fresh.unasked q asked (sym ((transaction_still pending.tid f (λ tx. refl) b).asks q) ∙ is);
+        committed = λ q seen is among. fresh.committed q seen (sym ((transaction_alike pending.tid f (λ tx. refl) b).faces q) ∙ is) among;
+        closed = λ q seen is in_run. fresh.closed q seen (sym ((transaction_alike pending.tid f (λ tx. refl) b).faces q) ∙ is) in_run;
+      };
+      found = λ q is. (transaction_still pending.tid f (λ tx. refl) b).asks q ∙ is;
+      nodes = refl;
+    }
+
+found_over : (old new : BookValue) (tids : List Tid) → Opens old new → AllFound old tids → AllFound new tids
+found_over old new [] o all = tt
+found_over old new (tid ∷ tids) o all = (o.found tid all.0, found_over old new tids o all.1)
+
+pub log_opens : (here : ℕ) (one : Opened) (book : BookValue) → Fresh book → Opens book (name_all here one book)
+log_opens here one book fresh =
+    let first : Opens book (fold name_transaction book one.committed) = opens_all name_transaction (λ b t f. name_opens b t f) one.committed book fresh in
+    opens_then book (fold name_transaction book one.committed) (name_all here one book) first
+    (opens_all (name_pending here one.inc) (λ b p f. pending_opens here one.inc b p f) one.pending (fold name_transaction book one.committed) first.fresh)
+
+log_found : (here : ℕ) (one : Opened) (book : BookValue) → Fresh book → AllFound (name_all here one book) one.committed
+log_found here one book fresh =
+    let first : Opens book (fold name_transaction book one.committed) = opens_all name_transaction (λ b t f. name_opens b t f) one.committed book fresh in
+    found_over (fold name_transaction book one.committed) (name_all here one book) one.committed
+    (opens_all (name_pending here one.inc) (λ b p f. pending_opens here one.inc b p f) one.pending (fold name_transaction book one.committed) first.fresh)
+    (all_named one.committed book fresh)
+
+pub logs_open : (here : ℕ) (logs : List Opened) (book : BookValue) → Fresh book → Opens book (name_from here logs book)
+logs_open here [] book fresh = opens_self book fresh
+logs_open here (one ∷ more) book fresh =
+    let first : Opens book (name_all here one book) = log_opens here one book fresh in
+    opens_then book (name_all here one book) (name_from (suc here) more (name_all here one book)) first (logs_open (suc here) more (name_all here one book) first.fresh)
+
+logs_found : (here : ℕ) (logs : List Opened) (book : BookValue) → Fresh book → AllByRecursion (λ one. AllFound (name_from here logs book) one.committed) logs
+logs_found here [] book fresh = tt
+logs_found here (one ∷ more) book fresh =
+    let first : Opens book (name_all here one book) = log_opens here one book fresh in (
+      found_over (name_all here one book) (name_from (suc here) more (name_all here one book)) one.committed (logs_open (suc here) more (name_all here one book) first.fresh) (log_found here one book fresh),
+      logs_found (suc here) more (name_all here one book) first.fresh,
+    )
 
 -- ---- nodes
 
@@ -255,10 +274,27 @@ none_pending one tid among server (p ∷ pending) all es none =
 
 -- ---- the whole
 
-first_fresh : (opened : List Opened) → Fresh opened (first_book opened)
-first_fresh opened = record { unasked = λ tid asked is. absurd (cc is); closed = λ tid seen home is in_run. absurd (cc is) }
+pub first_fresh : (opened : List Opened) → Fresh (first_book opened)
+first_fresh opened = record { unasked = λ tid asked is. absurd (cc is); committed = λ tid seen is among. absurd (cc is); closed = λ tid seen is in_run. absurd (cc is) }
 
-of_logs : (P : Opened → Type 0) (logs : List Opened) (n : ℕ) (one : Opened) → AllByRecursion P logs → slice_get logs n ≡ Some one → P one
+pub opening_opens : (opened : List Opened) → Opens (first_book opened) (opening opened)
+opening_opens opened = logs_open 0 opened (first_book opened) (first_fresh opened)
+
+-- the log of one of the nodes has it
+any_node : (nodes : List NodeValue) (n : ℕ) (tid : Tid) (node : NodeValue) → slice_get nodes n ≡ Some node → is_among node.committed tid ≡ true → list_any (has_commit tid) nodes ≡ true
+any_node [] n tid node is among = absurd (cc is)
+any_node (x ∷ nodes) zero tid node is among = let same : x ≡ node = cc in rw (same, among) refl
+any_node (x ∷ nodes) (suc n) tid node is among = by (has_commit tid x) (any_node nodes n tid node is among)
+  where
+    by : (b : Bool) → list_any (has_commit tid) nodes ≡ true → (b || list_any (has_commit tid) nodes) ≡ true
+    by true h = refl
+    by false h = h
+
+node_of : (o : Option NodeValue) (at : Facet) → option_map facet o ≡ Some at → (node : NodeValue) × (o ≡ Some node) × (facet node ≡ at)
+node_of None at h = absurd (cc h)
+node_of (Some node) at h = (node, refl, cc h)
+
+pub of_logs : (P : Opened → Type 0) (logs : List Opened) (n : ℕ) (one : Opened) → AllByRecursion P logs → slice_get logs n ≡ Some one → P one
 of_logs P [] n one all is = absurd (cc is)
 of_logs P (x ∷ logs) zero one all is = let same : x ≡ one = cc in subst P same all.0
 of_logs P (x ∷ logs) (suc n) one all is = of_logs P logs n one all.1 is
@@ -267,14 +303,6 @@ of_sound : (P : Opened → Type 0) (logs : List Opened) (n : ℕ) (one : Opened)
 of_sound P [] n one all is = absurd (cc is)
 of_sound P (x ∷ logs) zero one all is = let same : x ≡ one = cc in subst P same (all_head P x logs all)
 of_sound P (x ∷ logs) (suc n) one all is = of_sound P logs n one (all_rest P x logs all) is
-
-of_among : (book : BookValue) (tids : List Tid) (tid : Tid) → AllFound book tids → is_among tids tid ≡ true → asks_at book tid ≡ Some None
-of_among book [] tid all h = absurd (cc h)
-of_among book (t ∷ tids) tid all h = by (or_cases (same_tid tid t) (is_among tids tid) h) (of_among book tids tid all.1)
-  where
-    by : (same_tid tid t ≡ true) ⊎ (is_among tids tid ≡ true) → (is_among tids tid ≡ true → asks_at book tid ≡ Some None) → asks_at book tid ≡ Some None
-    by (inl is) more = ap (asks_at book) (same_tid-true tid t is) ∙ all.0
-    by (inr is) more = more is
 
 log_of : (o : Option Opened) (at : Facet) → option_map facet (option_map opened_node o) ≡ Some at → (one : Opened) × (o ≡ Some one) × (facet (opened_node one) ≡ at)
 log_of None at h = absurd (cc h)
@@ -285,10 +313,11 @@ opening_shut opened coherent n at tid is among =
     let l : (one : Opened) × (slice_get opened n ≡ Some one) × (facet (opened_node one) ≡ at) = log_at n at is in
     let in_log : is_among l.0.committed tid ≡ true = in_one l.0 (ap (λ (f : Facet). is_among f.committed tid) l.2 ∙ among) in
     record {
-      asks = of_among (opening opened) l.0.committed tid (of_logs (λ one. AllFound (opening opened) one.committed) opened n l.0 (logs_found opened 0 opened (first_book opened) (first_fresh opened)) l.1) in_log;
-      closed = λ home seen home_is found.
-          let h : (one : Opened) × (slice_get opened tid.home.0 ≡ Some one) × (facet (opened_node one) ≡ home) = log_at tid.home.0 home home_is in
-          (logs_open opened 0 opened (first_book opened) (first_fresh opened)).fresh.closed tid seen h.0 found h.1;
+      asks = all_among (λ t. asks_at (opening opened) t ≡ Some None) l.0.committed tid (of_logs (λ one. AllFound (opening opened) one.committed) opened n l.0 (logs_found 0 opened (first_book opened) (first_fresh opened)) l.1) in_log;
+      committed = λ seen found.
+          let v : (node : NodeValue) × (slice_get (opening opened).nodes n ≡ Some node) × (facet node ≡ at) = node_of (slice_get (opening opened).nodes n) at is in
+          (opening_opens opened).fresh.committed tid seen found
+          (any_node (opening opened).nodes n tid v.0 v.1 (ap (λ (f : Facet). is_among f.committed tid) v.2 ∙ among));
       records = λ server. ap (λ (f : Facet). lookup (is_at (voter_cmp (voter tid server))) f.records) (sym l.2)
           ∙ none_pending l.0 tid in_log server l.0.pending (of_sound (IsSound opened) opened n l.0 coherent l.1).apart [] refl;
     }

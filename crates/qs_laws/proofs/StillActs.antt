@@ -19,7 +19,7 @@ use Rattle.qs_transaction.specs.Transaction.{TransactionValue, issued, learnt, i
 use Rattle.qs_transaction.specs.declared.state.Request.{Request}
 use Rattle.qs_transaction.specs.declared.state.RequestNo.{RequestNo}
 use Rattle.qs_machine.specs.Clauses.{link_to, borrower_at}
-use Rattle.qs_machine.specs.Nodes.{NodeValue, with_table, crossed_node, crossed_names, crossed_table}
+use Rattle.qs_machine.specs.Nodes.{NodeValue, with_table, crossed_node, crossed_server, crossed_names, crossed_table}
 use Rattle.qs_machine.specs.Book.{BookValue, find_transaction, with_node, with_transaction, with_waiting, with_crossing, crosses, issue, serve, serve_node, server_serve, crossed_serve, is_done, vote, vote_node, crossed_in, learn, learn_node, doubts_after, hear, answer, waiting_of, tick_node, crash_node, count, end, end_node, loan, loan_to, give_back, give_back_from, inc_at}
 use Rattle.qs_machine.specs.declared.state.Asking.{Asking}
 use Rattle.qs_laws.proofs.Faces.{either_way}
@@ -49,14 +49,17 @@ served_leaves tid op reply = record { contents = λ table. refl; notes = λ tabl
 vote_leaves : (tid : Tid) (voted : Bool) → Leaves (λ table. with_vote table tid voted)
 vote_leaves tid voted = record { contents = λ table. refl; notes = λ table. refl }
 
-crossed_facet : (tid : Tid) (server : ℕ) (node : NodeValue) → facet (crossed_node tid server node) ≡ facet node
-crossed_facet tid server node =
+crossed_server_facet : (tid : Tid) (server : ℕ) (node : NodeValue) → facet (crossed_server tid server node) ≡ facet node
+crossed_server_facet tid server node =
     either_way facet (server == 2) (crossed_names tid node) other (facet node) refl
     (either_way facet (server == 3) (record node { timers = timers_ended node.timers tid }) (crossed_table tid server node) (facet node) refl
     (with_table_facet server (λ table. released table tid) (released_leaves tid) node))
   where
     other : NodeValue
     other = if server == 3 then record node { timers = timers_ended node.timers tid } else crossed_table tid server node
+
+crossed_facet : (tid : Tid) (server : ℕ) (node : NodeValue) → facet (crossed_node tid server node) ≡ facet node
+crossed_facet tid server node = either_way facet node.up (crossed_server tid server node) node (facet node) (crossed_server_facet tid server node) refl
 
 server_serve_facet : (server : ℕ) (tid : Tid) (op : Op) (reply : Reply) (node : NodeValue) → facet (server_serve server tid op reply node) ≡ facet node
 server_serve_facet server tid op reply node =
@@ -113,7 +116,7 @@ pub by_issue : (here : ℕ) (tid : Tid) (issuer member : Member) (number : ℕ) 
 by_issue here tid issuer member number op book =
     let at : RequestNo = record { link = link_to here member; number = number } in
     let request : Request = record { issuer = issuer; member = member; op = op; inc = inc_at book (record { 0 = here }); served = false } in
-    let f : TransactionValue → TransactionValue = issued at request (inc_at book member.node) in
+    let f : TransactionValue → TransactionValue = issued at request (inc_at book member.node) book.place in
     let one : BookValue = with_transaction tid f book in
     let two : BookValue = with_waiting tid issuer member one in
     still_then book two _ (still_then book one two (transaction_still tid f (λ tx. refl) book) (waiting_still tid issuer member one))

@@ -13,7 +13,7 @@ use Rattle.qs_ops.specs.Members.{class_of, is_two_phase}
 use Rattle.qs_transaction.specs.Transaction.{TransactionValue, is_commit, part_of, was_in_commit, was_committed, is_before}
 use Rattle.qs_machine.specs.Book.{BookValue, find_transaction}
 use Rattle.qs_machine.specs.Clauses.{broken_vote, is_vote_due}
-use Rattle.qs_machine.specs.Nodes.{NodeValue, voter, voter_cmp, record_of, pending_at, changes_of, is_recoverable}
+use Rattle.qs_machine.specs.Nodes.{NodeValue, voter, voter_cmp, record_of, pending_at, changes_of}
 use Rattle.qs_machine.specs.Restart.{new_vote, is_new_vote, is_on_record, could_vote, with_votes, with_vote}
 use Rattle.qs_machine.specs.declared.state.OnRecord.{OnRecord}
 use Rattle.qs_machine.specs.declared.state.Voter.{Voter}
@@ -70,7 +70,7 @@ asked_new : (here : ℕ) (node : NodeValue) (o : Option TransactionValue) (found
 asked_new here node None found h asks = absurd (cc h)
 asked_new here node (Some tx) found h asks =
     let could : could_vote here node tx found ≡ true = right_of (not (is_on_record node found)) (could_vote here node tx found) h in
-    let was : was_in_commit node.stopped tx ≡ true = right_of (is_recoverable found.server.0) (was_in_commit node.stopped tx) (left_of _ _ could) in
+    let was : was_in_commit node.stopped tx ≡ true = left_of (was_in_commit node.stopped tx) _ could in
     let before : is_before node.stopped tx.asked ≡ true = left_of (is_before node.stopped tx.asked) (not (was_committed node.stopped tx)) was in
     not_before node.stopped tx.asked before (none_of tx.asked asks)
 

@@ -1,5 +1,5 @@
 //! What holds of every lawful history of the reference machine, from logs as nodes leave them.
-ghost use Rattle.std.specs.Prelude.{◌≡◌, ℕ, true, false, None, Some, is_some, slice_get, List, [], ◌∷◌, ◌++◌};
+ghost use Rattle.std.specs.Prelude.{◌≡◌, ℕ, true, false, None, Some, is_some, slice_get, List, [], ◌∷◌, ◌++◌, length, nat_lt};
 ghost use Rattle.qs_base.specs.declared.identifiers.ClientNo.{ClientNo};
 ghost use Rattle.qs_base.specs.declared.identifiers.Member.{Member};
 ghost use Rattle.qs_base.specs.declared.identifiers.Outcome.{Outcome};
@@ -12,12 +12,14 @@ ghost use Rattle.qs_book.specs.declared.entry.Entry.{Entry};
 ghost use Rattle.qs_book.specs.declared.entry.Found.{Found};
 ghost use Rattle.qs_transaction.specs.Transaction.{cell_of};
 ghost use Rattle.qs_transaction.specs.declared.state.Cell.{Cell};
-ghost use Rattle.qs_machine.specs.Book.{BookValue};
+ghost use Rattle.qs_transaction.specs.declared.state.Cell.TheVariants as cells;
+ghost use Rattle.qs_machine.specs.Book.{BookValue, find_transaction, cell_of_transaction};
 ghost use Rattle.qs_machine.specs.Lawful.{IsLawful, broken, book_after, effect};
 ghost use Rattle.qs_machine.specs.Nodes.{NodeValue, changes_of};
 ghost use Rattle.qs_machine.specs.Opening.{opening};
 ghost use Rattle.qs_machine.specs.Restart.{record_at, is_among};
 ghost use Rattle.qs_machine.specs.declared.opened.Opened.{Opened};
+ghost use Rattle.qs_laws.specs.Durable.{IsDurable};
 ghost use Rattle.qs_laws.specs.Served.{held_at, crossed_at, changes_served, keeps_contents, IsHolding, NeverVotes, HasApplied, IsLogged, PendsAgain, CommitsOnce};
 ghost use Rattle.qs_laws.specs.Laws.{IsCoherent, IsCommitted, IsDecided, IsTrueAnswer, TakesCommitted, LeavesCommitted, may_take};
 
@@ -64,4 +66,12 @@ pub fn a_restart_keeps_what_is_on_record()
 /// commit is decided, what it has on record is all that it has pending.
 pub fn a_commit_covers_what_was_served()
     ensures { (opened : List Opened) (before between after : List Entry) (vote decision : Entry) (tid : Tid) (member : Member) (covers : ℕ) → IsCoherent opened → keeps_contents member.server.0 ≡ true → IsLawful (opening opened) (before ++ (vote ∷ (between ++ (decision ∷ after)))) → vote.act ≡ acts.Vote tid member votes.Recoverable covers → decision.act ≡ acts.Decide tid outcomes.Commit None → IsHolding (book_after (opening opened) before) tid member (vote ∷ between) → NeverVotes tid member between → changes_of (record_at member.node.0 (book_after (opening opened) (before ++ (vote ∷ between))) tid member.server.0) ≡ held_at (book_after (opening opened) (before ++ (vote ∷ between))) tid member }
+{}
+
+/// What is committed lasts. As an entry makes the cell of a transaction commit, files and audit of each node of the run have
+/// all changes that they served for it pending and on record. They keep them so, through crashes and restarts, until an entry
+/// applies them, in order: the member learns commit, or its node restarts and finds the Commit. From there on nothing of the
+/// transaction is pending there, or on record, so that nothing applies them again.
+pub fn committed_changes_are_durable()
+    ensures { (opened : List Opened) (before after : List Entry) (entry : Entry) (tid : Tid) (member : Member) → IsCoherent opened → keeps_contents member.server.0 ≡ true → nat_lt member.node.0 (length opened) ≡ true → IsLawful (opening opened) (before ++ (entry ∷ after)) → cell_of_transaction (find_transaction (book_after (opening opened) before) tid) ≡ Some cells.Open → IsCommitted (effect (book_after (opening opened) before) entry) tid → IsDurable (book_after (opening opened) before) tid member (changes_served (opening opened) tid member before) (entry ∷ after) }
 {}

@@ -5,5 +5,6 @@ mod laws;
 
 pub use laws::{
     a_commit_covers_what_was_served, a_restart_keeps_what_is_on_record,
-    nothing_of_an_aborted_transaction, one_outcome, served_changes_are_kept,
+    committed_changes_are_durable, nothing_of_an_aborted_transaction, one_outcome,
+    served_changes_are_kept,
 };
