@@ -44,3 +44,4 @@ pub mod Resuming
 pub mod Living
 pub mod LiveOpenings
 pub mod AtCommit
+pub mod Serving

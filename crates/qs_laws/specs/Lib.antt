@@ -1,3 +1,4 @@
 pub mod Durable
 pub mod Laws
 pub mod Served
+pub mod Standing
