@@ -29,7 +29,7 @@ use Rattle.qs_laws.proofs.Maps.{changed_at_here, lookup_put, lookup_put_apart}
 use Rattle.qs_laws.proofs.Reopens.{restarted_is, forgot_files, forgot_audit}
 use Rattle.qs_laws.proofs.Shares.{number}
 use Rattle.qs_laws.proofs.Steps.{held, unheld, passed, past}
-use Rattle.qs_laws.proofs.Takes.{some_same}
+use Rattle.qs_laws.proofs.Takes.{some_same, some_of}
 use Rattle.qs_laws.proofs.Votes.{IsNew, IsHeld, votes_made, votes_held, votes_leave}
 
 -- ---- the node of a lawful restart
@@ -94,10 +94,6 @@ votes_add (vote ∷ votes) v tid s h = votes_add votes (with_vote v vote) tid s 
 
 -- ---- pending again
 
-some_is : (o : Option OnRecord) → is_some o ≡ true → (rec : OnRecord) × (o ≡ Some rec)
-some_is None h = absurd (cc h)
-some_is (Some rec) h = (rec, refl)
-
 pub kept_rule : (here inc : ℕ) (pend : List Found) (done : List Tid) (book : BookValue) (node : NodeValue) → broken_restart here book node inc pend done ≡ None → list_all (is_kept here book pend done) node.records ≡ true
 kept_rule here inc pend done book node h =
     passed (list_all (is_kept here book pend done) node.records) 112 _
@@ -141,7 +137,7 @@ pub pends_again : (book : BookValue) (entry : Entry) (inc : ℕ) (pend : List Fo
 pends_again book entry inc pend done tid member keeps h is e committed plain recorded apart =
     let there : (node : NodeValue) × (slice_get book.nodes member.node.0 ≡ Some node) × (broken_restart member.node.0 book node inc pend done ≡ None) = restart_node book entry member.node.0 inc pend done h is e in
     let w : (b : Bool) × (member.server.0 ≡ number b) = which member.server.0 keeps in
-    let r : (rec : OnRecord) × (record_at member.node.0 book tid member.server.0 ≡ Some rec) = some_is (record_at member.node.0 book tid member.server.0) recorded in
+    let r : (rec : OnRecord) × (record_at member.node.0 book tid member.server.0 ≡ Some rec) = some_of (record_at member.node.0 book tid member.server.0) recorded in
     let last : NodeValue = restarted_node (reopened member.node.0 inc pend done (put_new_votes member.node.0 pend book)) done (with_votes (new_votes member.node.0 book pend) there.0) in
     let last_there : slice_get (effect book entry).nodes member.node.0 ≡ Some last =
     ap (λ (nodes : List NodeValue). slice_get nodes member.node.0) (effect_nodes book entry member.node.0 inc pend done is e) ∙ reopened_there member.node.0 inc pend done book there.0 there.1 in

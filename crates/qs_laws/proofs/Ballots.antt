@@ -24,7 +24,7 @@ use Rattle.qs_machine.specs.declared.state.OnRecord.{OnRecord}
 use Rattle.qs_laws.specs.Served.{held_at, crossed_at}
 use Rattle.qs_laws.proofs.Acts as alike
 use Rattle.qs_laws.proofs.Alikes.{at_exact, voter_itself}
-use Rattle.qs_laws.proofs.Counts.{Count, count_of, count_in, no_count, of_transaction, abort_counts, is_for_commit, voted_count, voted_later}
+use Rattle.qs_laws.proofs.Counts.{Count, count_of, of_transaction, abort_counts, is_for_commit, voted_count, voted_later}
 use Rattle.qs_laws.proofs.Covers.{Mark, mark_in, mark_of, SameMark, still_mark}
 use Rattle.qs_laws.proofs.Ends.{lawful_node, held_there}
 use Rattle.qs_laws.proofs.Holding.{vote_here}
@@ -32,7 +32,7 @@ use Rattle.qs_laws.proofs.Holds.{changes_in, with_table_gives}
 use Rattle.qs_laws.proofs.Leaves.{Leaves}
 use Rattle.qs_laws.proofs.Maps.{lookup_changed, lookup_put, changed_at_here}
 use Rattle.qs_laws.proofs.Rising.{removed}
-use Rattle.qs_laws.proofs.Serves.{inc_marked, inc_there}
+use Rattle.qs_laws.proofs.Serves.{inc_marked, inc_there, count_for}
 use Rattle.qs_laws.proofs.Shares.{number, table}
 use Rattle.qs_laws.proofs.StillActs as still
 use Rattle.qs_laws.proofs.Steps.{passed, past}
@@ -71,9 +71,6 @@ module _ (tid : Tid) (member : Member) where
     pub here : (mark : Mark) → mark_of old tid member ≡ Some mark → IsEven (count_of new tid member mark.inc)
     pub others : (mark : Mark) → mark_of old tid member ≡ Some mark → (k : ℕ) → (k == mark.inc) ≡ false → count_of new tid member k ≡ count_of old tid member k
 
-  count_for : (book : BookValue) (tx : TransactionValue) → find_transaction book tid ≡ Some tx → (k : ℕ) → count_of book tid member k ≡ count_in member k tx
-  count_for book tx is k = ap (λ (o : Option TransactionValue). unwrap_or (option_map (count_in member k) o) no_count) is
-
   module _ (book : BookValue) (entry : Entry) (ballot : Vote) (covers : ℕ) (h : broken book entry ≡ None) (act_is : entry.act ≡ acts.Vote tid member ballot covers) where
     at_node : (node : NodeValue) × (slice_get book.nodes entry.node.0 ≡ Some node) × (broken_act book entry.stamp entry.node.0 node (acts.Vote tid member ballot covers) ≡ None)
     at_node = lawful_node book entry (acts.Vote tid member ballot covers) act_is (λ node. refl) h
@@ -106,11 +103,11 @@ module _ (tid : Tid) (member : Member) where
     ballot_evens commits = record {
       here = λ mark marked.
           subst (λ (k : ℕ). IsEven (count_of (effect book entry) tid member k)) (sym (inc_is mark marked))
-          (subst IsEven (sym (count_for (effect book entry) _ found at_node.0.inc)) (voted_count member at_node.0.inc ballot says.transaction commits));
+          (subst IsEven (sym (count_for tid member (effect book entry) _ found at_node.0.inc)) (voted_count member at_node.0.inc ballot says.transaction commits));
       others = λ mark marked k far.
-          count_for (effect book entry) _ found k
+          count_for tid member (effect book entry) _ found k
           ∙ (voted_later member k at_node.0.inc ballot says.transaction (subst (λ (n : ℕ). (k == n) ≡ false) (inc_is mark marked) far)
-          ∙ sym (count_for book says.transaction says.found k));
+          ∙ sym (count_for tid member book says.transaction says.found k));
     }
 
     -- what is on record stays where the vote does not go there

@@ -31,6 +31,7 @@ use Rattle.qs_laws.proofs.Maps.{lookup_changed, changed_at_here, changed_at_alik
 use Rattle.qs_laws.proofs.Outcomes.{Inv, IsBegun, Kept, by_alike}
 use Rattle.qs_laws.proofs.Restarts.{Settles, settles_all, commit_settles, vote_settles, abort_settles, votes_age}
 use Rattle.qs_laws.proofs.Steps.{held}
+use Rattle.qs_laws.proofs.Takes.{some_of}
 
 -- ---- incarnations
 
@@ -100,10 +101,6 @@ closed_over old new tid kept c = record { seen = c.seen; found = kept tid c.seen
 -- the transaction began in the incarnation in which its home is
 abbrev pub IsNative : Tid → BookValue → Type 0
 IsNative tid book = (inc : ℕ) → inc_in book tid.home.0 ≡ Some inc → is_some (find_transaction book tid) ≡ true → (tid.inc ≡ inc) × (0 < tid.seq)
-
-some_of : {X : Type 0} (o : Option X) → is_some o ≡ true → (x : X) × (o ≡ Some x)
-some_of None h = absurd (cc h)
-some_of (Some x) h = (x, refl)
 
 -- it was begun there, or is closed by the abort of all that were
 abort_one : (here : ℕ) (tid : Tid) (book : BookValue) → tid.home.0 ≡ here → is_some (find_transaction book tid) ≡ true → IsClosed (abort_begun here tid.inc book tid.seq) tid

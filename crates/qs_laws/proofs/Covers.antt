@@ -37,7 +37,8 @@ mark_in tid s v = record { inc = v.inc; rec = record_of v tid s }
 abbrev pub mark_of : BookValue → Tid → Member → Option Mark
 mark_of book tid member = option_map (mark_in tid member.server.0) (slice_get book.nodes member.node.0)
 
-voter_apart : (tid t : Tid) (s k : ℕ) → (k ≡ s → same_tid t tid ≡ false) → is_at (voter_cmp (voter tid s)) (voter t k) ≡ false
+-- votes of other transactions, or of other servers
+pub voter_apart : (tid t : Tid) (s k : ℕ) → (k ≡ s → same_tid t tid ≡ false) → is_at (voter_cmp (voter tid s)) (voter t k) ≡ false
 voter_apart tid t s k apart = by (is_at (voter_cmp (voter tid s)) (voter t k)) refl
   where
     by : (b : Bool) → is_at (voter_cmp (voter tid s)) (voter t k) ≡ b → b ≡ false

@@ -10,7 +10,7 @@ use Rattle.std.specs.BTreeMap.{is_at}
 use Rattle.qs_base.specs.Order.{same_tid}
 use Rattle.qs_base.specs.declared.identifiers.Member.{Member}
 use Rattle.qs_base.specs.declared.identifiers.Tid.{Tid}
-use Rattle.qs_base.proofs.Same.{same_tid-true, same_tid-self}
+use Rattle.qs_base.proofs.Same.{same_tid-true}
 use Rattle.qs_servers.specs.Table.{TableValue, share_of, kept, applied, no_table}
 use Rattle.qs_servers.specs.declared.share.Share.{Share}
 use Rattle.qs_transaction.specs.Transaction.{TransactionValue, found_at}
@@ -23,9 +23,9 @@ use Rattle.qs_machine.specs.declared.opened.Pending.{Pending}
 use Rattle.qs_machine.specs.declared.state.OnRecord.{OnRecord}
 use Rattle.qs_machine.specs.declared.state.Voter.{Voter}
 use Rattle.qs_laws.specs.Served.{held_at, keeps_contents}
-use Rattle.qs_laws.proofs.Alikes.{voter_exact, voter_equal}
+use Rattle.qs_laws.proofs.Alikes.{voter_equal}
 use Rattle.qs_laws.proofs.Counts.{Count, count_of, count_in, no_count}
-use Rattle.qs_laws.proofs.Covers.{mark_in}
+use Rattle.qs_laws.proofs.Covers.{mark_in, voter_apart}
 use Rattle.qs_laws.proofs.Ends.{held_there}
 use Rattle.qs_laws.proofs.Faces.{face}
 use Rattle.qs_laws.proofs.Holding.{clash, which}
@@ -89,20 +89,11 @@ module _ (tid : Tid) where
           let no : asks_at book tid ≡ None = ap (λ (o : Option TransactionValue). option_map asked_of o) none in
           absurd (cc (e, no))
 
-  voter_off : (t : Tid) (k s : ℕ) → same_tid t tid ≡ false → is_at (voter_cmp (voter tid s)) (voter t k) ≡ false
-  voter_off t k s apart = by (is_at (voter_cmp (voter tid s)) (voter t k)) refl
-    where
-      by : (b : Bool) → is_at (voter_cmp (voter tid s)) (voter t k) ≡ b → b ≡ false
-      by false is = refl
-      by true is =
-          let e : tid ≡ t = ap (λ (v : Voter). v.tid) (voter_exact (voter tid s) (voter t k) is) in
-          absurd (clash (subst (λ (x : Tid). same_tid t x ≡ true) (sym e) (same_tid-self t)) apart)
-
   no_record : (s : ℕ) (pending : List Pending) → AllApart pending → (es : List (Voter × OnRecord)) → lookup (is_at (voter_cmp (voter tid s))) es ≡ None → lookup (is_at (voter_cmp (voter tid s))) (fold put_record es pending) ≡ None
   no_record s [] all es none = none
   no_record s (p ∷ pending) all es none =
       no_record s pending all.1 (put_record es p)
-      (lookup_put_apart voter_cmp (voter p.tid p.server.0) (record { changes = p.changes; covers = p.covers }) (λ x. voter_equal (voter p.tid p.server.0) x) (is_at (voter_cmp (voter tid s))) (voter_off p.tid p.server.0 s all.0) es ∙ none)
+      (lookup_put_apart voter_cmp (voter p.tid p.server.0) (record { changes = p.changes; covers = p.covers }) (λ x. voter_equal (voter p.tid p.server.0) x) (is_at (voter_cmp (voter tid s))) (voter_apart tid p.tid s p.server.0 (λ same. all.0)) es ∙ none)
 
   no_share : (s : ℕ) (pending : List Pending) → AllApart pending → (t : TableValue) → (share_of t tid).changes ≡ [] → (share_of (fold kept t (flat_map (keep_pending s) pending)) tid).changes ≡ []
   no_share s [] all t none = none

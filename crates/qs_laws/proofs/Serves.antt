@@ -55,7 +55,8 @@ module _ (tid : Tid) (member : Member) where
   has_transaction book here node None from number reply h = absurd (cc h)
   has_transaction book here node (Some tx) from number reply h = (tx, refl)
 
-  count_for : (book : BookValue) (tx : TransactionValue) → find_transaction book tid ≡ Some tx → (k : ℕ) → count_of book tid member k ≡ count_in member k tx
+  -- the counts of the transaction that is found
+  pub count_for : (book : BookValue) (tx : TransactionValue) → find_transaction book tid ≡ Some tx → (k : ℕ) → count_of book tid member k ≡ count_in member k tx
   count_for book tx is k = ap (λ (o : Option TransactionValue). unwrap_or (option_map (count_in member k) o) no_count) is
 
   serving : (b : Bool) (n stamp : ℕ) (done : Bool) → n ≡ number b → (part : Part) → counts (serving_part (class_of n) stamp done part) ≡ record { served = part.served + 1; covered = part.covered }
