@@ -58,11 +58,10 @@ fn could_vote(here: NodeNo, node: &NodeState, tx: &Transaction, found: Found) ->
 {
     let member = member_at(here, found.server);
     let part = tx.part(member, node.inc());
-    is_recoverable(found.server)
-        && tx.was_in_commit(node.stopped())
+    tx.was_in_commit(node.stopped())
         && part.voted < part.served
         && tx.is_covering(member, node.inc(), u64::from(found.covers))
-        && (tx.is_crossed(member) || has_pending(node, found))
+        && (tx.was_crossed(node.stopped(), member) || has_pending(node, found))
 }
 
 pub fn is_new_vote(here: NodeNo, node: &NodeState, tx: Option<&Transaction>, found: Found) -> bool
@@ -165,9 +164,10 @@ impl Book {
         ensures { result ≡ is_found_vote here.0 self.now node.now done.now found }
     {
         let tx = self.transaction(found.tid);
-        is_on_record(node, found)
-            || is_new_vote(here, node, tx, found)
-            || was_applied(here, node, done, tx, found)
+        is_recoverable(found.server)
+            && (is_on_record(node, found)
+                || is_new_vote(here, node, tx, found)
+                || was_applied(here, node, done, tx, found))
     }
 
     fn is_kept(&self, here: NodeNo, pend: &[Found], done: &[Tid], at: Voter, covers: u32) -> bool
