@@ -56,6 +56,10 @@ abbrev pub notes_of : Option NodeValue → Option (List (List ℕ))
 notes_of None = None
 notes_of (Some node) = Some node.audit.notes
 
+abbrev pub extra_of_node : Option NodeValue → Option (List (List ℕ))
+extra_of_node None = None
+extra_of_node (Some node) = Some node.extra
+
 abbrev pub cell_of_transaction : Option TransactionValue → Option Cell
 cell_of_transaction None = None
 cell_of_transaction (Some tx) = Some tx.cell

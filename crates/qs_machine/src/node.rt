@@ -38,6 +38,7 @@ pub struct NodeState {
     windows: Table,
     scratch: Table,
     timers: TimerTable,
+    extra: List<Bytes>,
     records: BTreeMap<Voter, OnRecord>,
     committed: BTreeSet<Tid>,
     doubts: BTreeMap<Tid, List<Bytes>>,
@@ -62,6 +63,7 @@ impl Model for NodeState {
       windows = n.windows;
       scratch = n.scratch;
       timers = n.timers;
+      extra = n.extra;
       records = n.records.entries;
       committed = n.committed.keys;
       doubts = n.doubts.entries;
@@ -98,6 +100,7 @@ impl NodeState {
             windows: Table::new(alloc),
             scratch: Table::new(alloc),
             timers: TimerTable::new(alloc),
+            extra: opened.extra.copy()?,
             records: opened_records(alloc, opened.pending.as_slice())?,
             committed: opened_commits(alloc, opened.committed.as_slice())?,
             doubts: BTreeMap::new(alloc),
@@ -172,6 +175,13 @@ impl NodeState {
         ensures { result.now ≡ self.now.timers }
     {
         &self.timers
+    }
+
+    /// The committed texts of its further server, in order.
+    pub fn extra_texts(&self) -> &List<Bytes>
+        ensures { result.now ≡ self.now.extra }
+    {
+        &self.extra
     }
 
     /// The table of a server; `None` where it has none.
