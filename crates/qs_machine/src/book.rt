@@ -217,14 +217,7 @@ impl Book {
                 if node.is_up() {
                     return Ok(Some(NODE_IS_UP));
                 }
-                let clause = self.broken_restart(
-                    here,
-                    node,
-                    *inc,
-                    pend.as_slice(),
-                    done.as_slice(),
-                );
-                Ok(clause)
+                self.broken_restart(here, node, *inc, pend.as_slice(), done.as_slice())
             }
             _ if node.is_up() => self.broken_act(stamp, here, node, act),
             _ => Ok(Some(NODE_IS_UP)),

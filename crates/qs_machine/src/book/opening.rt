@@ -103,12 +103,7 @@ fn name_commits(book: &mut Book, committed: &[Tid]) -> Result<(), NoMemory>
     Ok(())
 }
 
-fn name_votes(
-    book: &mut Book,
-    here: NodeNo,
-    inc: u64,
-    pending: &[Pending],
-) -> Result<(), NoMemory>
+fn name_votes(book: &mut Book, here: NodeNo, inc: u64, pending: &[Pending]) -> Result<(), NoMemory>
     ensures { OnOk result (book.new ≡ fold (name_pending here.0 inc) book.old pending.now) }
 {
     for vote in pending {
