@@ -1,7 +1,7 @@
 //! Lawful histories in which a restart finds commits, or numbers begin anew.
 use crate::rows::Row;
 
-pub static RESTARTS: [Row; 5] = [
+pub static RESTARTS: [Row; 7] = [
     Row {
         name: "a home crashes as it decides, and finds the commit",
         lines: &[
@@ -275,6 +275,54 @@ pub static RESTARTS: [Row; 5] = [
             (25, Some("20 0 vote 0.1.1 files@0 volatile 2"), 25, 42),
             (26, Some("21 0 decide 0.1.1 commit"), 26, 71),
             (26, Some("21 0 decide 0.1.1 abort gone 1 2"), 26, 72),
+        ],
+    },
+    Row {
+        name: "a request crosses another at the further server",
+        lines: &[
+            "nodes 3",
+            "node 0 inc 1 format 2",
+            "node 1 inc 1 format 2",
+            "node 2 inc 1 format 2",
+            "1 0 begin 0.1.1 a 0",
+            "2 0 issue 0.1.1 client0@0 client1@1 1 lend 1",
+            "3 1 serve 0.1.1 client1@1 0 1 ok",
+            "3 1 loan 0.1.1 1",
+            "4 1 issue 0.1.1 client1@1 extra@2 1 extra 7 t",
+            "5 1 crash plan",
+            "6 1 restart 2",
+            "7 0 issue 0.1.1 client0@0 client1@1 2 lend 1",
+            "8 1 serve 0.1.1 client1@1 0 2 ok",
+            "8 1 loan 0.1.1 1",
+            "9 1 issue 0.1.1 client1@1 extra@2 1 extra 7 u",
+            "10 2 serve 0.1.1 extra@2 1 1 absent",
+            "11 0 ask 0.1.1",
+            "12 2 vote 0.1.1 extra@2 readonly 1",
+        ],
+        neighbours: &[
+            (16, Some("10 2 serve 0.1.1 extra@2 1 1 ok"), 16, 31),
+            (18, Some("12 2 vote 0.1.1 extra@2 recoverable 1"), 18, 42),
+            (18, Some("12 2 vote 0.1.1 extra@2 volatile 1"), 18, 42),
+            (18, Some("12 2 vote 0.1.1 extra@2 abort code 1 1"), 18, 42),
+            (18, Some("12 2 vote 0.1.1 extra@2 readonly 2"), 18, 41),
+        ],
+    },
+    Row {
+        name: "the log of another node has the Commit",
+        lines: &[
+            "nodes 2",
+            "node 0 inc 2 format 2",
+            "node 1 inc 2 format 1",
+            "commit 0.1.1",
+            "1 1 crash plan",
+            "2 1 restart 3 done:0.1.1",
+            "3 0 crash plan",
+            "4 0 restart 3 done:0.1.1",
+        ],
+        neighbours: &[
+            (6, Some("2 1 restart 3 done:0.1.2"), 6, 113),
+            (8, Some("4 0 restart 3 done:0.1.2"), 8, 113),
+            (4, None, 5, 113),
         ],
     },
     Row {

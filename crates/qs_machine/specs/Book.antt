@@ -2,6 +2,7 @@
 use Rattle.std.specs.Prelude.{ℕ, ◌-◌, ◌==◌, Bool, true, false, ◌&&◌, List, [], ◌∷◌, ◌++◌, fold, Option, Some, None, nat_lt, slice_get, slice_set, map, if◌then◌else◌}
 use Rattle.std.specs.Map.{lookup}
 use Rattle.std.specs.BTreeMap.{insert_entry, is_at}
+use Rattle.std.specs.BTreeSet.{insert_key}
 use Rattle.qs_base.specs.Order.{bytes_cmp, tid_cmp}
 use Rattle.qs_base.specs.declared.identifiers.ClientNo.{ClientNo}
 use Rattle.qs_base.specs.declared.identifiers.Member.{Member}
@@ -22,6 +23,7 @@ use Rattle.qs_transaction.specs.Transaction.{TransactionValue, changed_value, be
 use Rattle.qs_transaction.specs.declared.state.Cell.{Cell}
 use Rattle.qs_transaction.specs.declared.state.Request.{Request}
 use Rattle.qs_transaction.specs.declared.state.RequestNo.{RequestNo}
+use Rattle.qs_machine.specs.Causes.{cause_cmp}
 use Rattle.qs_machine.specs.Clauses.{link_to, borrower_at}
 use Rattle.qs_machine.specs.Nodes.{NodeValue, with_table, crossed_node, bound_names, with_doubts, without_doubts, pending_at, voter, voter_cmp, without_record}
 use Rattle.qs_machine.specs.declared.state.Asking.{Asking}
@@ -56,6 +58,10 @@ abbrev pub notes_of : Option NodeValue → Option (List (List ℕ))
 notes_of None = None
 notes_of (Some node) = Some node.audit.notes
 
+abbrev pub extra_of_node : Option NodeValue → Option (List (List ℕ))
+extra_of_node None = None
+extra_of_node (Some node) = Some node.extra
+
 abbrev pub cell_of_transaction : Option TransactionValue → Option Cell
 cell_of_transaction None = None
 cell_of_transaction (Some tx) = Some tx.cell
@@ -83,7 +89,7 @@ with_owner client f book = record book { owners = changed_at client f book.owner
 abbrev pub told : Outcome → Option Cause → Owner → Owner
 told outcomes.Commit cause owner = record owner { committed = true }
 told outcomes.Abort None owner = owner
-told outcomes.Abort (Some cause) owner = record owner { causes = owner.causes ++ cause ∷ [] }
+told outcomes.Abort (Some cause) owner = record owner { causes = insert_key cause_cmp owner.causes cause }
 
 abbrev pub owner_of : Option TransactionValue → Option ClientNo
 owner_of None = None

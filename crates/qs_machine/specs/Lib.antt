@@ -1,4 +1,5 @@
 pub mod Book
+pub mod Causes
 pub mod Clauses
 pub mod Lawful
 pub mod Nodes

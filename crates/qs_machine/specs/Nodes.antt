@@ -28,6 +28,7 @@ pub record NodeValue : Type 0 where
   pub windows : TableValue
   pub scratch : TableValue
   pub timers : TimersValue
+  pub extra : List (List ℕ)  -- the committed texts of the further server
   pub records : List (Voter × OnRecord)  -- what its log holds of each recoverable member that can still be committed
   pub committed : List Tid  -- the Commits that its log held at the opening
   pub doubts : List (Tid × List (List ℕ))  -- names that crossed transactions may have bound here

@@ -60,6 +60,7 @@ opened_node opened = record {
   windows = no_table;
   scratch = no_table;
   timers = no_timers;
+  extra = opened.extra;
   records = fold put_record [] opened.pending;
   committed = fold put_tid [] opened.committed;
   doubts = [];

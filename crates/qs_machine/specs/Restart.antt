@@ -1,7 +1,7 @@
 -- A restart: what its found lists have to be, and what it does.
 use Rattle.std.specs.Prelude.{ℕ, ◌==◌, Bool, true, false, not, ◌&&◌, ◌||◌, List, [], ◌∷◌, ◌++◌, length, fold, Option, Some, None, is_some, nat_lt, nat_le, suc, zero, slice_get, if◌then◌else◌}
 use Rattle.std.specs.List.{list_any, list_all, flat_map}
-use Rattle.std.specs.BTreeMap.{insert_entry}
+use Rattle.std.specs.BTreeMap.{insert_entry, is_at}
 use Rattle.std.specs.BTreeSet.{insert_key}
 use Rattle.std.specs.Ordering.{nat_cmp}
 use Rattle.qs_base.specs.Order.{same_tid}
@@ -67,6 +67,13 @@ is_found_vote here book node done found =
 -- a vote of the same member for the same transaction
 abbrev pub is_same_vote : Found → Found → Bool
 is_same_vote found other = same_tid other.tid found.tid && (other.server.0 == found.server.0)
+
+abbrev pub voter_of : Found → Voter
+voter_of found = voter found.tid found.server.0
+
+-- a vote of the same member for the same transaction was seen
+abbrev pub is_seen : List Voter → Found → Bool
+is_seen seen found = list_any (is_at (voter_cmp (voter_of found))) seen
 
 -- each member's vote for a transaction is found once
 abbrev pub votes_once : List Found → Bool

@@ -76,7 +76,7 @@ impl Model for Book {
 }
 
 impl Book {
-    ghost use Rattle.qs_machine.specs.Book.{find_transaction, find_label, inc_of, files_of, notes_of, cell_of_transaction, inc_at};
+    ghost use Rattle.qs_machine.specs.Book.{find_transaction, find_label, inc_of, files_of, notes_of, extra_of_node, cell_of_transaction, inc_at};
     ghost use Rattle.qs_machine.specs.Lawful.{broken, broken_at, broken_node, broken_act, broken_end, is_in_order, effect, effect_act};
 
     /// The stamp of the last entry; 0 before the first.
@@ -120,6 +120,14 @@ impl Book {
         ensures { option_copied result ≡ notes_of (slice_get self.now.nodes node.0) }
     {
         Some(self.nodes.get(usize::from(node.0))?.audit().notes())
+    }
+
+    /// The node's committed texts of the further server, in order; `None` exactly where the node is
+    /// none of the run's.
+    pub fn extra(&self, node: NodeNo) -> Option<&List<Bytes>>
+        ensures { option_copied result ≡ extra_of_node (slice_get self.now.nodes node.0) }
+    {
+        Some(self.nodes.get(usize::from(node.0))?.extra_texts())
     }
 
     /// The transaction's outcome cell; `None` exactly where the transaction is unknown.
@@ -209,14 +217,7 @@ impl Book {
                 if node.is_up() {
                     return Ok(Some(NODE_IS_UP));
                 }
-                let clause = self.broken_restart(
-                    here,
-                    node,
-                    *inc,
-                    pend.as_slice(),
-                    done.as_slice(),
-                );
-                Ok(clause)
+                self.broken_restart(here, node, *inc, pend.as_slice(), done.as_slice())
             }
             _ if node.is_up() => self.broken_act(stamp, here, node, act),
             _ => Ok(Some(NODE_IS_UP)),

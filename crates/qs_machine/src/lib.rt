@@ -2,6 +2,7 @@
 #![tactic(auto)]
 
 mod book;
+mod causes;
 mod clauses;
 mod node;
 mod opened;
@@ -9,6 +10,7 @@ mod opening;
 mod state;
 
 pub use book::{Book, BookFault};
+pub use causes::Causes;
 pub use node::NodeState;
 pub use opened::{Opened, Pending};
 pub use state::{Asking, OnRecord, Owner, Reopened, Voter};

@@ -38,6 +38,7 @@ pub struct NodeState {
     windows: Table,
     scratch: Table,
     timers: TimerTable,
+    extra: List<Bytes>,
     records: BTreeMap<Voter, OnRecord>,
     committed: BTreeSet<Tid>,
     doubts: BTreeMap<Tid, List<Bytes>>,
@@ -62,6 +63,7 @@ impl Model for NodeState {
       windows = n.windows;
       scratch = n.scratch;
       timers = n.timers;
+      extra = n.extra;
       records = n.records.entries;
       committed = n.committed.keys;
       doubts = n.doubts.entries;
@@ -77,7 +79,7 @@ impl NodeState {
     ghost use Rattle.qs_servers.specs.Table.{with_vote as with_ballot};
     ghost use Rattle.qs_servers.specs.Timers.{timers_ended};
     ghost use Rattle.qs_machine.specs.Book.{tick_node, crash_node, server_serve, vote_node, learn_node};
-    ghost use Rattle.qs_machine.specs.Nodes.{table_of, with_table, record_of, voter, voter_cmp, pending_at, extra_of, keep_of, is_doubtful, with_doubts, crossed_node, crossed_names, without_doubts, without_record};
+    ghost use Rattle.qs_machine.specs.Nodes.{table_of, with_table, record_of, voter, voter_cmp, pending_at, extra_of, keep_of, is_doubtful, with_doubts, crossed_node, crossed_server, crossed_names, without_doubts, without_record};
 
     /// The node as a run begins: up, with what its log holds.
     pub fn opened(alloc: Global, opened: &Opened) -> Result<NodeState, NoMemory>
@@ -98,6 +100,7 @@ impl NodeState {
             windows: Table::new(alloc),
             scratch: Table::new(alloc),
             timers: TimerTable::new(alloc),
+            extra: opened.extra.copy()?,
             records: opened_records(alloc, opened.pending.as_slice())?,
             committed: opened_commits(alloc, opened.committed.as_slice())?,
             doubts: BTreeMap::new(alloc),
@@ -172,6 +175,13 @@ impl NodeState {
         ensures { result.now ≡ self.now.timers }
     {
         &self.timers
+    }
+
+    /// The committed texts of its further server, in order.
+    pub fn extra_texts(&self) -> &List<Bytes>
+        ensures { result.now ≡ self.now.extra }
+    {
+        &self.extra
     }
 
     /// The table of a server; `None` where it has none.
@@ -412,10 +422,20 @@ impl NodeState {
         Ok(())
     }
 
-    /// From now on what the transaction holds at that server is not known, for good. After a
-    /// refusal all is as it was.
+    /// From now on what the transaction holds at that server is not known, for good; while the node
+    /// is down, the server stays as it stopped. After a refusal all is as it was.
     pub fn cross(&mut self, tid: Tid, server: ServerNo) -> Result<(), NoMemory>
         ensures ok { OnOk result (self.new ≡ crossed_node tid server.0 self.old) }
+        ensures err { OnErr result (self.new ≡ self.old) }
+    {
+        if self.up {
+            self.cross_server(tid, server)?;
+        }
+        Ok(())
+    }
+
+    fn cross_server(&mut self, tid: Tid, server: ServerNo) -> Result<(), NoMemory>
+        ensures ok { OnOk result (self.new ≡ crossed_server tid server.0 self.old) }
         ensures err { OnErr result (self.new ≡ self.old) }
     {
         match server.0 {

@@ -4,6 +4,7 @@ ghost use Rattle.std.specs.List.{flat_map, fold};
 ghost use Rattle.qs_servers.specs.Table.{no_table, restarted};
 ghost use Rattle.qs_machine.specs.Opening.{keep_pending, put_of, note_of, put_record, put_tid, opened_node, no_owner};
 
+use crate::causes::Causes;
 use crate::node::NodeState;
 use crate::opened::{Opened, Pending};
 use crate::state::{OnRecord, Owner, Voter};
@@ -33,7 +34,7 @@ pub fn no_owners(alloc: Global) -> Result<Vec<Owner>, NoMemory>
         owners.push(Owner {
             line: 0,
             committed: false,
-            causes: List::new(alloc),
+            causes: Causes::new(alloc),
             waiting: List::new(alloc),
         })?;
     }

@@ -1,7 +1,8 @@
 //! What the machine keeps of each client, and what is on record.
 
+use crate::causes::Causes;
 use qs_base::{List, NodeNo, ServerNo, Tid};
-use qs_ops::{Cause, Changes};
+use qs_ops::Changes;
 use qs_servers::Kept;
 
 /// A transaction at a server of a node.
@@ -40,7 +41,7 @@ pub struct Owner {
     /// Whether a transaction of its was committed.
     pub committed: bool,
     /// Why its transactions were aborted.
-    pub causes: List<Cause>,
+    pub causes: Causes,
     /// Its requests since its last answer, by transaction and member's node.
     pub waiting: List<Asking>,
 }

@@ -4,26 +4,26 @@ use Rattle.std.specs.Prelude.{slice_get}
 use Rattle.std.proofs.Math.Seq.{drop-nil}
 use Rattle.std.proofs.lemmas.Bool.{lt-ltb, le-ltb}
 use Rattle.std.proofs.lemmas.List.{append-nil}
-use Rattle.qs_book.specs.declared.state.NodeState.{NodeState}
 use Rattle.std.specs.Prelude.{Bool}
 use Rattle.std.specs.List.{flat_map}
-use Rattle.qs_book.specs.Book.{BookValue}
+use Rattle.qs_machine.specs.Book.{BookValue}
+use Rattle.qs_machine.specs.Nodes.{NodeValue}
 use Rattle.qs_book.specs.declared.entry.Entry.{Entry}
 use Rattle.qs_text.specs.Output.{client_text, nodes_text, node_text, totals_text, shown_journal, out_of}
 use Rattle.qs_text.specs.declared.script.Script.{Script}
 use Rattle.qs_text.specs.declared.script.Seat.{Seat}
 
-at_node : (nodes : List NodeState) (number : ℕ) (node : NodeState) → slice_get nodes number ≡ Some node → drop number nodes ≡ node ∷ drop (suc number) nodes
+at_node : (nodes : List NodeValue) (number : ℕ) (node : NodeValue) → slice_get nodes number ≡ Some node → drop number nodes ≡ node ∷ drop (suc number) nodes
 at_node [] number node e = cc
 at_node (first ∷ nodes) zero node e = let same : first ≡ node = cc in rw same refl
 at_node (first ∷ nodes) (suc number) node e = at_node nodes number node e
 
-at_end : (nodes : List NodeState) (number : ℕ) → slice_get nodes number ≡ None → drop number nodes ≡ []
+at_end : (nodes : List NodeValue) (number : ℕ) → slice_get nodes number ≡ None → drop number nodes ≡ []
 at_end [] number e = drop-nil number
 at_end (first ∷ nodes) zero e = cc
 at_end (first ∷ nodes) (suc number) e = at_end nodes number e
 
-pub node_more : (out new start : List ℕ) (number next : ℕ) (node : NodeState) (nodes : List NodeState) → number + 1 < 256 → number + 1 ≡ next
+pub node_more : (out new start : List ℕ) (number next : ℕ) (node : NodeValue) (nodes : List NodeValue) → number + 1 < 256 → number + 1 ≡ next
     → Some node ≡ slice_get nodes number → new ≡ out ++ node_text number node
     → out ++ nodes_text number (drop number nodes) ≡ start → new ++ nodes_text next (drop next nodes) ≡ start
 node_more out new start number next node nodes small next_is found is whole =
@@ -32,14 +32,14 @@ node_more out new start number next node nodes small next_is found is whole =
     let h = rw (cut, lt-ltb number 255 below) at whole in
     rw (← next_is, is) (append_assoc out (node_text number node) (nodes_text (number + 1) (drop (number + 1) nodes)) ∙ h)
 
-pub node_last : (out new start : List ℕ) (number : ℕ) (node : NodeState) (nodes : List NodeState) → 255 ≤ number
+pub node_last : (out new start : List ℕ) (number : ℕ) (node : NodeValue) (nodes : List NodeValue) → 255 ≤ number
     → Some node ≡ slice_get nodes number → new ≡ out ++ node_text number node
     → out ++ nodes_text number (drop number nodes) ≡ start → new ≡ start
 node_last out new start number node nodes great found is whole =
     let h = rw (at_node nodes number node (sym found), le-ltb number 255 great, append-nil (node_text number node)) at whole in
     is ∙ h
 
-pub no_node : (out start : List ℕ) (number : ℕ) (nodes : List NodeState) → None ≡ slice_get nodes number
+pub no_node : (out start : List ℕ) (number : ℕ) (nodes : List NodeValue) → None ≡ slice_get nodes number
     → out ++ nodes_text number (drop number nodes) ≡ start → out ≡ start
 no_node out start number nodes none whole = sym (append-nil out) ∙ (rw (at_end nodes number (sym none)) at whole)
 

@@ -5,14 +5,12 @@ use Rattle.qs_base.specs.declared.identifiers.ClientNo.{ClientNo}
 use Rattle.qs_base.specs.declared.identifiers.Tid.{Tid}
 use Rattle.qs_ops.specs.declared.answer.Answer.{Answer}
 use Rattle.qs_ops.specs.declared.file.File.{File}
-use Rattle.qs_book.specs.Book.{BookValue, find_transaction}
-use Rattle.qs_book.specs.Transaction.{TransactionValue}
 use Rattle.qs_book.specs.declared.entry.Act.{Act}
 use Rattle.qs_book.specs.declared.entry.Act.TheVariants as acts
 use Rattle.qs_book.specs.declared.entry.Entry.{Entry}
-use Rattle.qs_book.specs.declared.state.NodeState.{NodeState}
-use Rattle.qs_book.specs.declared.transaction.Cell.{Cell}
-use Rattle.qs_book.specs.declared.transaction.Cell.TheVariants as cells
+use Rattle.qs_machine.specs.Book.{BookValue, find_transaction}
+use Rattle.qs_machine.specs.Nodes.{NodeValue}
+use Rattle.qs_transaction.specs.Transaction.{TransactionValue, is_commit, is_abort}
 use Rattle.qs_text.specs.Answers.{told_text}
 use Rattle.qs_text.specs.Journal.{journal_text}
 use Rattle.qs_text.specs.declared.script.Script.{Script}
@@ -52,12 +50,12 @@ abbrev pub file_text : File → List ℕ
 file_text file = codes "file " ++ (file.name ++ (codes " " ++ (file.content ++ codes "\n")))
 
 -- node N inc I, and its files in byte order of their names
-abbrev pub node_text : ℕ → NodeState → List ℕ
+abbrev pub node_text : ℕ → NodeValue → List ℕ
 node_text number node =
     (codes "node " ++ (decimal number ++ (codes " inc " ++ (decimal node.inc ++ codes "\n")))) ++ flat_map file_text node.files.contents
 
 -- the nodes from a number on; the last number is 255
-abbrev pub nodes_text : ℕ → List NodeState → List ℕ
+abbrev pub nodes_text : ℕ → List NodeValue → List ℕ
 nodes_text number [] = []
 nodes_text number (node ∷ nodes) = node_text number node ++ (if nat_lt number 255 then nodes_text (number + 1) nodes else [])
 
@@ -69,14 +67,6 @@ transactions_of book = map (λ (entry : Tid × TransactionValue). entry.1) book.
 -- a transaction has a label where it was begun in this run
 abbrev pub is_begun : TransactionValue → Bool
 is_begun tx = is_some tx.label
-
-abbrev pub is_commit : Cell → Bool
-is_commit cells.Commit = true
-is_commit _ = false
-
-abbrev pub is_abort : Cell → Bool
-is_abort cells.Abort = true
-is_abort _ = false
 
 abbrev pub is_committed : TransactionValue → Bool
 is_committed tx = is_begun tx && is_commit tx.cell

@@ -2,8 +2,9 @@
 use crate::journal::journal_text;
 use crate::output::out_text;
 use crate::reading::read_script;
+use crate::tests::fresh_book;
 use qs_base::{Bytes, ClientNo, List, Member, NoMemory, NodeNo, Outcome, ServerNo, Tid};
-use qs_book::{Act, Book, CrashCause, Entry, Found};
+use qs_book::{Act, CrashCause, Entry, Found};
 use qs_ops::{Answer, Cause, Op, Reason, Reply, Vote};
 use std::alloc::Global;
 use std::test::Fail;
@@ -103,7 +104,7 @@ fn crash(cause: CrashCause) -> Entry {
 
 // Whether the entries have these lines, where transaction 0.1.1 was begun under the label a.
 fn have_lines(alloc: Global, entries: Vec<Entry>, lines: &str) -> Result<bool, Fail> {
-    let mut book = Book::over_empty_logs(alloc, &[1])?;
+    let mut book = fresh_book(alloc)?;
     book.apply(&begin(bytes(alloc, "a")?))?;
     let text = journal_text(alloc, &List::from_vec(entries), &book)?;
     Ok(text.as_slice() == lines.as_bytes())
@@ -272,7 +273,7 @@ fn the_history_stands_last(rt: HostRuntime) -> Result<(), Fail> {
     let alloc = rt.alloc();
     let script = read_script(alloc, b"client 0 0\n0 begin a\n0 commit a\n", 1)?;
     let entries = vec![in alloc; begin(bytes(alloc, "a")?)]?;
-    let book = Book::over_empty_logs(alloc, &[1])?;
+    let book = fresh_book(alloc)?;
     let out = out_text(alloc, &script, &List::from_vec(entries), &book, true)?;
     let text =
         "client 0\nnode 0 inc 1\ntotals begun 0 committed 0 aborted 0 restarts 0\n7 0 begin 0.1.1 a 0\n";

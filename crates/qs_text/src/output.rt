@@ -9,7 +9,8 @@ use crate::labels::put_told;
 use crate::script::{Script, Seat};
 use crate::totals::{aborted, begun, committed, restarts};
 use qs_base::{Bytes, ClientNo, List, NoMemory, NodeNo};
-use qs_book::{Act, Book, Entry, NodeState};
+use qs_book::{Act, Entry};
+use qs_machine::{Book, NodeState};
 use qs_ops::{Answer, File};
 use std::alloc::{AllocError, Global};
 
@@ -142,9 +143,9 @@ fn put_node(alloc: Global, out: &mut Bytes, number: u8, node: &NodeState) -> Res
 {
     put(
         out,
-        format!(in alloc; "node {} inc {}\n", number, node.inc)?,
+        format!(in alloc; "node {} inc {}\n", number, node.inc())?,
     )?;
-    put_files(out, node.files.contents().as_slice())
+    put_files(out, node.files().contents().as_slice())
 }
 
 /// Adds files.

@@ -7,7 +7,8 @@ use crate::script::Script;
 use crate::status::{ScriptFault, Status, Waiting};
 use crate::words::read_words;
 use qs_base::{Bytes, ClientNo, List, Member, NoMemory, NodeNo, Outcome, ServerNo, Tid};
-use qs_book::{Act, Book, Command, Entry};
+use qs_book::{Act, Command, Entry};
+use qs_machine::{Book, Opened};
 use qs_ops::{Answer, Op, Reply, Vote};
 use std::alloc::{AllocError, Global};
 use std::test::Fail;
@@ -126,12 +127,26 @@ fn committed_history(alloc: Global) -> Result<List<Entry>, NoMemory> {
     Ok(history)
 }
 
+/// One node in its first incarnation, over a log that holds nothing.
+pub fn fresh_book(alloc: Global) -> Result<Book, NoMemory> {
+    let node = Opened {
+        inc: 1,
+        format: 1,
+        files: List::new(alloc),
+        audit: List::new(alloc),
+        extra: List::new(alloc),
+        pending: List::new(alloc),
+        committed: List::new(alloc),
+    };
+    Book::opening(alloc, &[node])
+}
+
 #[test]
 fn a_committed_put_is_printed(rt: HostRuntime) -> Result<(), Fail> {
     let alloc = rt.alloc();
     let script = read(alloc, COMMITS)?;
     let history = committed_history(alloc)?;
-    let mut book = Book::over_empty_logs(alloc, &[1])?;
+    let mut book = fresh_book(alloc)?;
     for entry in history.as_slice() {
         book.apply(entry)?;
     }

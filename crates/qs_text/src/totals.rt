@@ -3,7 +3,9 @@ ghost use Rattle.std.specs.Prelude.{◌≡◌};
 ghost use Rattle.std.specs.List.{count_by};
 ghost use Rattle.qs_text.specs.Output.{transactions_of, is_begun, is_committed, is_aborted, is_restart};
 
-use qs_book::{Act, Book, Cell, Entry, Transaction};
+use qs_book::{Act, Entry};
+use qs_machine::Book;
+use qs_transaction::{Cell, Transaction};
 
 /// How many transactions were begun.
 pub fn begun(book: &Book) -> usize

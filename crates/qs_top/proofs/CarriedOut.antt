@@ -6,24 +6,25 @@ use Rattle.qs_base.specs.Order.{same_member}
 use Rattle.qs_base.proofs.Same.{same_member-true}
 use Rattle.qs_base.specs.declared.identifiers.Member.{Member}
 use Rattle.qs_base.specs.declared.identifiers.Tid.{Tid}
-use Rattle.qs_ops.specs.Files.{reply_to, share_of, has_changes}
 use Rattle.qs_ops.specs.declared.answer.Answer.TheVariants as answers
 use Rattle.qs_ops.specs.declared.answer.Cause.TheVariants as causes
 use Rattle.qs_ops.specs.declared.operation.Op.{Op}
 use Rattle.qs_ops.specs.declared.operation.Op.TheVariants as ops
 use Rattle.qs_ops.specs.declared.reply.Reply.{Reply}
-use Rattle.qs_book.specs.Book.{BookValue, find_label, find_transaction}
-use Rattle.qs_book.specs.Clauses.{is_for}
-use Rattle.qs_book.specs.Transaction.{TransactionValue, next_number, part_of}
 use Rattle.qs_book.specs.declared.entry.Entry.{Entry}
 use Rattle.qs_book.specs.declared.script_line.Command.{Command}
 use Rattle.qs_book.specs.declared.script_line.Command.TheVariants as commands
 use Rattle.qs_book.specs.declared.script_line.ScriptLine.{ScriptLine}
-use Rattle.qs_book.specs.declared.state.NodeState.{NodeState}
-use Rattle.qs_book.specs.declared.state.Owner.{Owner}
-use Rattle.qs_book.specs.declared.transaction.Cell.{Cell}
-use Rattle.qs_book.specs.declared.transaction.Cell.TheVariants as cells
-use Rattle.qs_book.specs.declared.transaction.Part.{Part}
+use Rattle.qs_machine.specs.Book.{BookValue, find_label, find_transaction}
+use Rattle.qs_machine.specs.Clauses.{is_for}
+use Rattle.qs_machine.specs.Nodes.{NodeValue}
+use Rattle.qs_machine.specs.declared.state.Owner.{Owner}
+use Rattle.qs_servers.specs.Table.{reply_to, has_changes}
+use Rattle.qs_transaction.specs.Transaction.{TransactionValue, next_number, part_of}
+use Rattle.qs_transaction.specs.declared.state.Cell.{Cell}
+use Rattle.qs_transaction.specs.declared.state.Cell.TheVariants as cells
+use Rattle.qs_transaction.specs.declared.state.Life.{Life}
+use Rattle.qs_transaction.specs.declared.state.Part.{Part}
 use Rattle.qs_text.specs.Fits.{FitsLine, is_plain, is_plain_op}
 use Rattle.qs_text.specs.Lines.{files_of_node_0}
 use Rattle.qs_text.specs.Script.{may_name}
@@ -34,88 +35,93 @@ use Rattle.qs_top.proofs.Chain.{Turn, Carried, labelled_is, committed_answer, en
 use Rattle.qs_top.proofs.Chain as chain
 use Rattle.qs_top.proofs.Flows.{Given, only_answered, empty_commit, read_commit, commit, empty_abort, abort}
 use Rattle.qs_top.proofs.MoreFlows.{request, begin}
-use Rattle.qs_top.specs.Rest.{Resting, AtRest, IsTold, PartAtRest, no_part, one_part}
+use Rattle.qs_top.proofs.Parts.{part_is}
+use Rattle.qs_top.specs.Rest.{Resting, AtRest, IsTold, PartAtRest, no_part, one_part, unvoted}
 
 -- a command on a transaction that was begun
-record Asked (script : Script) (node : NodeState) (owner : Owner) (book : BookValue) (progress : Progresses) (line : ScriptLine) : Type 0 where
+record Asked (script : Script) (node : NodeValue) (owner : Owner) (book : BookValue) (progress : Progresses) (line : ScriptLine) : Type 0 where
   rest : Resting node owner book
   turn : Turn script progress line
   low : book.stamp + 3 < 2 ^ 62
   rises : nat_lt owner.line line.line ≡ true
 
-given : (script : Script) (node : NodeState) (owner : Owner) (book : BookValue) (progress : Progresses) (line : ScriptLine) (tid : Tid) (tx : TransactionValue) → Asked script node owner book progress line
-    → find_label book line.label ≡ Some tid → find_transaction book tid ≡ Some tx → tx.cell ≡ cells.Open → tx.asked ≡ false → Given script node owner book progress line tid tx
+given : (script : Script) (node : NodeValue) (owner : Owner) (book : BookValue) (progress : Progresses) (line : ScriptLine) (tid : Tid) (tx : TransactionValue) → Asked script node owner book progress line
+    → find_label book line.label ≡ Some tid → find_transaction book tid ≡ Some tx → tx.cell ≡ cells.Open → tx.asked ≡ None → Given script node owner book progress line tid tx
 given script node owner book progress line tid tx a begun found cell fresh =
     record { rest = a.rest; turn = a.turn; low = a.low; rises = a.rises; begun = begun; found = found; is_open = cell; fresh = fresh }
 
 -- ---- the cell tells what is known of it
 
-told_open : (owner : Owner) (tx : TransactionValue) (c : Cell) → c ≡ cells.Open → IsTold owner tx c → IsTold owner tx cells.Open
-told_open owner tx c is told = subst (λ x. IsTold owner tx x) is told
+told_open : (inc : ℕ) (owner : Owner) (tx : TransactionValue) (c : Cell) → c ≡ cells.Open → IsTold inc owner tx c → IsTold inc owner tx cells.Open
+told_open inc owner tx c is told = subst (λ x. IsTold inc owner tx x) is told
 
-told_commit : (owner : Owner) (tx : TransactionValue) (c : Cell) → c ≡ cells.Commit → IsTold owner tx c → IsTold owner tx cells.Commit
-told_commit owner tx c is told = subst (λ x. IsTold owner tx x) is told
+told_commit : (inc : ℕ) (owner : Owner) (tx : TransactionValue) (c : Cell) → c ≡ cells.Commit → IsTold inc owner tx c → IsTold inc owner tx cells.Commit
+told_commit inc owner tx c is told = subst (λ x. IsTold inc owner tx x) is told
 
-told_abort : (owner : Owner) (tx : TransactionValue) (c : Cell) → c ≡ cells.Abort → IsTold owner tx c → IsTold owner tx cells.Abort
-told_abort owner tx c is told = subst (λ x. IsTold owner tx x) is told
+told_abort : (inc : ℕ) (owner : Owner) (tx : TransactionValue) (c : Cell) → c ≡ cells.Abort → IsTold inc owner tx c → IsTold inc owner tx cells.Abort
+told_abort inc owner tx c is told = subst (λ x. IsTold inc owner tx x) is told
 
 -- ---- commit and abort
 
-committed : (script : Script) (node : NodeState) (owner : Owner) (book : BookValue) (progress : Progresses) (line : ScriptLine) (tid : Tid) (tx : TransactionValue) → Asked script node owner book progress line
+committed : (script : Script) (node : NodeValue) (owner : Owner) (book : BookValue) (progress : Progresses) (line : ScriptLine) (tid : Tid) (tx : TransactionValue) → Asked script node owner book progress line
     → find_label book line.label ≡ Some tid → find_transaction book tid ≡ Some tx → line.command ≡ commands.Commit → (c : Cell) → tx.cell ≡ c
-    → Carried script book progress line (elim c [ cells.Open ↦ committing book.stamp tid line.line (part_of tx files_0) (has_changes (share_of node.files tid)) | cells.Commit ↦ answer_entries book.stamp line.line answers.Committed | cells.Abort ↦ answer_entries book.stamp line.line (aborted_answer tx.cause) ])
+    → Carried script book progress line (elim c [ cells.Open ↦ committing book.stamp tid line.line (part_of tx files_0 node.inc) (has_changes node.files tid) | cells.Commit ↦ answer_entries book.stamp line.line answers.Committed | cells.Abort ↦ answer_entries book.stamp line.line (aborted_answer tx.cause) ])
 committed script node owner book progress line tid tx a begun found is cells.Open cell =
-    let mine : AtRest owner tid tx = a.rest.all tid tx found in
-    let told : IsTold owner tx cells.Open = told_open owner tx tx.cell cell mine.told in
+    let mine : AtRest node.inc owner tid tx = a.rest.all tid tx found in
+    let told : IsTold node.inc owner tx cells.Open = told_open node.inc owner tx tx.cell cell mine.told in
     let g : Given script node owner book progress line tid tx = given script node owner book progress line tid tx a begun found cell told.0 in
-    by tx.parts refl told.2 (has_changes (share_of node.files tid)) refl g
+    by tx.parts refl told.2 (has_changes node.files tid) refl g
   where
-    by : (ps : List (Member × Part)) → tx.parts ≡ ps → PartAtRest ps → (b : Bool) → has_changes (share_of node.files tid) ≡ b → Given script node owner book progress line tid tx
-        → Carried script book progress line (committing book.stamp tid line.line (part_of tx files_0) b)
+    by : (ps : List (Life × Part)) → tx.parts ≡ ps → PartAtRest node.inc ps → (b : Bool) → has_changes node.files tid ≡ b → Given script node owner book progress line tid tx
+        → Carried script book progress line (committing book.stamp tid line.line (part_of tx files_0 node.inc) b)
     by _ parts no_part b pending g = rw parts (empty_commit script node owner book progress line tid tx g is parts)
-    by _ parts (one_part n) true pending g = rw parts (rw parts at (commit script node owner book progress line tid tx n g is parts pending))
-    by _ parts (one_part n) false pending g = rw parts (rw parts at (read_commit script node owner book progress line tid tx n g is parts pending))
+    by _ parts (one_part n pending step) true has g =
+        let part : part_of tx files_0 node.inc ≡ unvoted n pending step = part_is tx node.inc (unvoted n pending step) parts in
+        rw part (rw part at (commit script node owner book progress line tid tx n pending step g is parts has))
+    by _ parts (one_part n pending step) false has g =
+        let part : part_of tx files_0 node.inc ≡ unvoted n pending step = part_is tx node.inc (unvoted n pending step) parts in
+        rw part (rw part at (read_commit script node owner book progress line tid tx n pending step g is parts has))
 committed script node owner book progress line tid tx a begun found is cells.Commit cell =
-    let mine : AtRest owner tid tx = a.rest.all tid tx found in
-    only_answered script node owner book progress line answers.Committed a.rest a.turn (rw is refl) a.low a.rises (told_commit owner tx tx.cell cell mine.told)
+    let mine : AtRest node.inc owner tid tx = a.rest.all tid tx found in
+    only_answered script node owner book progress line answers.Committed a.rest a.turn (rw is refl) a.low a.rises (told_commit node.inc owner tx tx.cell cell mine.told)
     (rw is (committed_answer (labelled book line.label) tx (labelled_is book line.label tid tx begun found) cell))
 committed script node owner book progress line tid tx a begun found is cells.Abort cell =
-    let mine : AtRest owner tid tx = a.rest.all tid tx found in
-    let told : IsTold owner tx cells.Abort = told_abort owner tx tx.cell cell mine.told in
+    let mine : AtRest node.inc owner tid tx = a.rest.all tid tx found in
+    let told : IsTold node.inc owner tx cells.Abort = told_abort node.inc owner tx tx.cell cell mine.told in
     rw told.0 (only_answered script node owner book progress line (answers.Aborted causes.Asked) a.rest a.turn (rw is refl) a.low a.rises told.1
     (rw is (chain.aborted_answer (labelled book line.label) tx (labelled_is book line.label tid tx begun found) cell told.0)))
 
-aborted : (script : Script) (node : NodeState) (owner : Owner) (book : BookValue) (progress : Progresses) (line : ScriptLine) (tid : Tid) (tx : TransactionValue) → Asked script node owner book progress line
+aborted : (script : Script) (node : NodeValue) (owner : Owner) (book : BookValue) (progress : Progresses) (line : ScriptLine) (tid : Tid) (tx : TransactionValue) → Asked script node owner book progress line
     → find_label book line.label ≡ Some tid → find_transaction book tid ≡ Some tx → line.command ≡ commands.Abort → (c : Cell) → tx.cell ≡ c
-    → Carried script book progress line (elim c [ cells.Open ↦ aborting book.stamp tid line.line (part_of tx files_0) | cells.Commit ↦ answer_entries book.stamp line.line answers.Committed | cells.Abort ↦ answer_entries book.stamp line.line (aborted_answer tx.cause) ])
+    → Carried script book progress line (elim c [ cells.Open ↦ aborting book.stamp tid line.line (part_of tx files_0 node.inc) | cells.Commit ↦ answer_entries book.stamp line.line answers.Committed | cells.Abort ↦ answer_entries book.stamp line.line (aborted_answer tx.cause) ])
 aborted script node owner book progress line tid tx a begun found is cells.Open cell =
-    let mine : AtRest owner tid tx = a.rest.all tid tx found in
-    let told : IsTold owner tx cells.Open = told_open owner tx tx.cell cell mine.told in
+    let mine : AtRest node.inc owner tid tx = a.rest.all tid tx found in
+    let told : IsTold node.inc owner tx cells.Open = told_open node.inc owner tx tx.cell cell mine.told in
     let g : Given script node owner book progress line tid tx = given script node owner book progress line tid tx a begun found cell told.0 in
     by tx.parts refl told.2 g
   where
-    by : (ps : List (Member × Part)) → tx.parts ≡ ps → PartAtRest ps → Given script node owner book progress line tid tx
-        → Carried script book progress line (aborting book.stamp tid line.line (part_of tx files_0))
+    by : (ps : List (Life × Part)) → tx.parts ≡ ps → PartAtRest node.inc ps → Given script node owner book progress line tid tx
+        → Carried script book progress line (aborting book.stamp tid line.line (part_of tx files_0 node.inc))
     by _ parts no_part g = rw parts (empty_abort script node owner book progress line tid tx g is)
-    by _ parts (one_part n) g = rw parts (abort script node owner book progress line tid tx n g is parts)
+    by _ parts (one_part n pending step) g = rw (part_is tx node.inc (unvoted n pending step) parts) (abort script node owner book progress line tid tx n pending step g is parts)
 aborted script node owner book progress line tid tx a begun found is cells.Commit cell =
-    let mine : AtRest owner tid tx = a.rest.all tid tx found in
-    only_answered script node owner book progress line answers.Committed a.rest a.turn (rw is refl) a.low a.rises (told_commit owner tx tx.cell cell mine.told)
+    let mine : AtRest node.inc owner tid tx = a.rest.all tid tx found in
+    only_answered script node owner book progress line answers.Committed a.rest a.turn (rw is refl) a.low a.rises (told_commit node.inc owner tx tx.cell cell mine.told)
     (rw is (committed_answer (labelled book line.label) tx (labelled_is book line.label tid tx begun found) cell))
 aborted script node owner book progress line tid tx a begun found is cells.Abort cell =
-    let mine : AtRest owner tid tx = a.rest.all tid tx found in
-    let told : IsTold owner tx cells.Abort = told_abort owner tx tx.cell cell mine.told in
+    let mine : AtRest node.inc owner tid tx = a.rest.all tid tx found in
+    let told : IsTold node.inc owner tx cells.Abort = told_abort node.inc owner tx tx.cell cell mine.told in
     rw told.0 (only_answered script node owner book progress line (answers.Aborted causes.Asked) a.rest a.turn (rw is refl) a.low a.rises told.1
     (rw is (chain.aborted_answer (labelled book line.label) tx (labelled_is book line.label tid tx begun found) cell told.0)))
 
 -- ---- requests
 
-requested : (script : Script) (node : NodeState) (owner : Owner) (book : BookValue) (progress : Progresses) (line : ScriptLine) (tid : Tid) (tx : TransactionValue) (op : Op) (reply : Reply) → Asked script node owner book progress line
+requested : (script : Script) (node : NodeValue) (owner : Owner) (book : BookValue) (progress : Progresses) (line : ScriptLine) (tid : Tid) (tx : TransactionValue) (op : Op) (reply : Reply) → Asked script node owner book progress line
     → find_label book line.label ≡ Some tid → find_transaction book tid ≡ Some tx → line.command ≡ commands.Request files_0 op → is_for op files_0 ≡ true → reply_to node.files tid op ≡ Some reply → (c : Cell) → tx.cell ≡ c
-    → Carried script book progress line (elim c [ cells.Open ↦ requesting book.stamp tid line.line (next_number tx link_0) op (Some reply) | cells.Commit ↦ answer_entries book.stamp line.line answers.Ended | cells.Abort ↦ answer_entries book.stamp line.line answers.Ended ])
+    → Carried script book progress line (elim c [ cells.Open ↦ requesting book.stamp tid line.line (next_number tx link_0 node.inc) op (Some reply) | cells.Commit ↦ answer_entries book.stamp line.line answers.Ended | cells.Abort ↦ answer_entries book.stamp line.line answers.Ended ])
 requested script node owner book progress line tid tx op reply a begun found is for_files due cells.Open cell =
-    let mine : AtRest owner tid tx = a.rest.all tid tx found in
-    let told : IsTold owner tx cells.Open = told_open owner tx tx.cell cell mine.told in
+    let mine : AtRest node.inc owner tid tx = a.rest.all tid tx found in
+    let told : IsTold node.inc owner tx cells.Open = told_open node.inc owner tx tx.cell cell mine.told in
     request script node owner book progress line tid tx op reply (given script node owner book progress line tid tx a begun found cell told.0) is for_files due
 requested script node owner book progress line tid tx op reply a begun found is for_files due cells.Commit cell =
     only_answered script node owner book progress line answers.Ended a.rest a.turn (rw is refl) a.low a.rises refl
@@ -125,7 +131,7 @@ requested script node owner book progress line tid tx op reply a begun found is 
     (rw is (ended_answer (labelled book line.label) tx (progress 0).made (labelled_is book line.label tid tx begun found) (inr cell)))
 
 -- an operation of this stage has a reply
-has_reply : (node : NodeState) (tid : Tid) (op : Op) → is_plain_op op ≡ true → (reply : Reply) × ((reply_to node.files tid op ≡ Some reply) × (is_for op files_0 ≡ true))
+has_reply : (node : NodeValue) (tid : Tid) (op : Op) → is_plain_op op ≡ true → (reply : Reply) × ((reply_to node.files tid op ≡ Some reply) × (is_for op files_0 ≡ true))
 has_reply node tid (ops.Put name text) plain = (_, (refl, refl))
 has_reply node tid (ops.Get name) plain = (_, (refl, refl))
 has_reply node tid _ plain = absurd (false≢true plain)
@@ -147,19 +153,19 @@ pub record Labelled (book : BookValue) (label : List ℕ) : Type 0 where
   pub begun : find_label book label ≡ Some tid
   pub found : find_transaction book tid ≡ Some tx
 
-labelled_tx : (node : NodeState) (owner : Owner) (book : BookValue) (label : List ℕ) → Resting node owner book → is_some (find_label book label) ≡ true → Labelled book label
+labelled_tx : (node : NodeValue) (owner : Owner) (book : BookValue) (label : List ℕ) → Resting node owner book → is_some (find_label book label) ≡ true → Labelled book label
 labelled_tx node owner book label r is =
     let l : (t : Tid) × (find_label book label ≡ Some t) = found_some (find_label book label) is in
     let f : (t : TransactionValue) × (find_transaction book l.0 ≡ Some t) = found_some (find_transaction book l.0) (r.known label l.0 l.1) in
     record { tid = l.0; tx = f.0; begun = l.1; found = f.1 }
 
-of_labelled_is : (book : BookValue) (node : NodeState) (line : ScriptLine) (l : Labelled book line.label) → of_labelled book node line (find_label book line.label) ≡ of_known book.stamp node l.tid l.tx line.line line.command
+of_labelled_is : (book : BookValue) (node : NodeValue) (line : ScriptLine) (l : Labelled book line.label) → of_labelled book node line (find_label book line.label) ≡ of_known book.stamp node l.tid l.tx line.line line.command
 of_labelled_is book node line l =
     ap (λ (o : Option Tid). of_labelled book node line o) l.begun
     ∙ subst (λ (o : Option TransactionValue). (elim o [ None ↦ [] | Some tx ↦ of_known book.stamp node l.tid tx line.line line.command ]) ≡ of_known book.stamp node l.tid l.tx line.line line.command) (sym l.found) refl
 
 -- the entries of the command that the line has
-of_command : (book : BookValue) (node : NodeState) (line : ScriptLine) (l : Labelled book line.label) (c : Command) → line.command ≡ c → of_labelled book node line (find_label book line.label) ≡ of_known book.stamp node l.tid l.tx line.line c
+of_command : (book : BookValue) (node : NodeValue) (line : ScriptLine) (l : Labelled book line.label) (c : Command) → line.command ≡ c → of_labelled book node line (find_label book line.label) ≡ of_known book.stamp node l.tid l.tx line.line c
 of_command book node line l c is = of_labelled_is book node line l ∙ ap (λ (d : Command). of_known book.stamp node l.tid l.tx line.line d) is
 
 plain_member : (m : Member) (op : Op) (b : Bool) → (same_member m files_of_node_0 && b) ≡ true → m ≡ files_0
@@ -178,13 +184,13 @@ abbrev by_cell : Cell → List Entry → List Entry → List Entry
 by_cell c going ended = elim c [ cells.Open ↦ going | cells.Commit ↦ ended | cells.Abort ↦ ended ]
 
 -- a request with a reply
-of_reply : (book : BookValue) (node : NodeState) (line : ScriptLine) (l : Labelled book line.label) (op : Op) (reply : Reply) → reply_to node.files l.tid op ≡ Some reply
+of_reply : (book : BookValue) (node : NodeValue) (line : ScriptLine) (l : Labelled book line.label) (op : Op) (reply : Reply) → reply_to node.files l.tid op ≡ Some reply
     → of_request book.stamp node l.tid l.tx line.line op
-    ≡ by_cell l.tx.cell (requesting book.stamp l.tid line.line (next_number l.tx link_0) op (Some reply)) (answer_entries book.stamp line.line answers.Ended)
+    ≡ by_cell l.tx.cell (requesting book.stamp l.tid line.line (next_number l.tx link_0 node.inc) op (Some reply)) (answer_entries book.stamp line.line answers.Ended)
 of_reply book node line l op reply due =
-    ap (λ (o : Option Reply). by_cell l.tx.cell (requesting book.stamp l.tid line.line (next_number l.tx link_0) op o) (answer_entries book.stamp line.line answers.Ended)) due
+    ap (λ (o : Option Reply). by_cell l.tx.cell (requesting book.stamp l.tid line.line (next_number l.tx link_0 node.inc) op o) (answer_entries book.stamp line.line answers.Ended)) due
 
-pub carried_out : (script : Script) (node : NodeState) (owner : Owner) (book : BookValue) (progress : Progresses) (line : ScriptLine)
+pub carried_out : (script : Script) (node : NodeValue) (owner : Owner) (book : BookValue) (progress : Progresses) (line : ScriptLine)
     → Resting node owner book → Turn script progress line → book.stamp + 3 < 2 ^ 62
     → FitsLine (λ label. is_some (find_label book label)) owner.line line
     → Carried script book progress line (entries_of book node line)

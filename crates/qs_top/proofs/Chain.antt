@@ -7,13 +7,14 @@ use Rattle.qs_ops.specs.Operations.{answer_of}
 use Rattle.qs_ops.specs.declared.answer.Answer.TheVariants as answers
 use Rattle.qs_ops.specs.declared.answer.Cause.TheVariants as causes
 use Rattle.qs_ops.specs.declared.reply.Reply.{Reply}
-use Rattle.qs_book.specs.Book.{BookValue, broken, effect, find_label, find_transaction}
-use Rattle.qs_book.specs.Transaction.{TransactionValue}
 use Rattle.qs_book.specs.declared.entry.Entry.{Entry}
 use Rattle.qs_book.specs.declared.script_line.ScriptLine.{ScriptLine}
-use Rattle.qs_book.specs.declared.state.NodeState.{NodeState}
-use Rattle.qs_book.specs.declared.state.Owner.{Owner}
-use Rattle.qs_book.specs.declared.transaction.Cell.TheVariants as cells
+use Rattle.qs_machine.specs.Book.{BookValue, find_label, find_transaction}
+use Rattle.qs_machine.specs.Lawful.{broken, effect}
+use Rattle.qs_machine.specs.Nodes.{NodeValue}
+use Rattle.qs_machine.specs.declared.state.Owner.{Owner}
+use Rattle.qs_transaction.specs.Transaction.{TransactionValue}
+use Rattle.qs_transaction.specs.declared.state.Cell.TheVariants as cells
 use Rattle.qs_text.specs.Fits.{begins_line}
 use Rattle.qs_text.specs.Kept.{Made, nothing, issued, Progress, Progresses, with_progress, makes, owner_makes, owner_of, progress_after, progress_of, Keeps, IsKept, current, seat_of, CarriesOut, CarriesOutFor, OwnerCarriesOut, outcome_answer, request_answer, labelled}
 use Rattle.qs_text.specs.declared.script.Script.{Script}
@@ -45,7 +46,7 @@ pub record Turn (script : Script) (progress : Progresses) (line : ScriptLine) : 
 pub record Carried (script : Script) (book : BookValue) (progress : Progresses) (line : ScriptLine) (entries : List Entry) : Type 0 where
   pub after : BookValue
   pub later : Progresses
-  pub node : NodeState
+  pub node : NodeValue
   pub owner : Owner
   pub chain : Chain script book after progress later entries
   pub rest : Resting node owner after

@@ -1,9 +1,11 @@
 pub mod CarriedOut
 pub mod Chain
 pub mod Flows
+pub mod Hearing
 pub mod MapSteps
 pub mod MoreFlows
 pub mod OpeningLemmas
+pub mod Parts
 pub mod Ready
 pub mod Requests
 pub mod Steps

@@ -5,7 +5,7 @@ use Rattle.std.specs.BTreeMap.{insert_entry, is_at}
 use Rattle.std.specs.Map.{lookup, set_value}
 use Rattle.std.specs.declared.cmp.Ordering.{Ordering}
 use Rattle.std.specs.declared.cmp.Ordering.TheVariants.{Less, Equal, Greater}
-use Rattle.qs_book.specs.Maps.{changed_value}
+use Rattle.qs_transaction.specs.Transaction.{changed_value}
 
 module _ {K X : Type 0} (test : K → Bool) where
   pub lookup_set : (es : List (K × X)) (v w : X) → lookup test es ≡ Some v → lookup test (set_value test es w) ≡ Some w
@@ -20,6 +20,20 @@ module _ {K X : Type 0} (test : K → Bool) where
   pub lookup_changed : (f : X → X) (es : List (K × X)) (v : X) → lookup test es ≡ Some v → lookup test (changed_value test f es) ≡ Some (f v)
   lookup_changed f es v h =
       subst (λ (o : Option X). lookup test (elim o [ None ↦ es | Some u ↦ set_value test es (f u) ]) ≡ Some (f v)) (sym h) (lookup_set es v (f v) h)
+
+  -- where none is found nothing is changed
+  pub unchanged : (f : X → X) (es : List (K × X)) → lookup test es ≡ None → changed_value test f es ≡ es
+  unchanged f es h = subst (λ (o : Option X). (elim o [ None ↦ es | Some v ↦ set_value test es (f v) ]) ≡ es) (sym h) refl
+
+  -- the only value is changed
+  pub only_changed : (f : X → X) (k : K) (v : X) → test k ≡ true → changed_value test f ((k, v) ∷ []) ≡ (k, f v) ∷ []
+  only_changed f k v is = subst (λ (o : Option X). ◌≡◌ {A = List (K × X)} (elim o [ None ↦ (k, v) ∷ [] | Some u ↦ set_value test ((k, v) ∷ []) (f u) ]) ((k, f v) ∷ [])) (sym found) set
+    where
+      found : lookup test ((k, v) ∷ []) ≡ Some v
+      found = rw is refl
+
+      set : set_value test ((k, v) ∷ []) (f v) ≡ (k, f v) ∷ []
+      set = rw is refl
 
   lookup_set_apart : (p : K → Bool) → ((k : K) → p k ≡ true → test k ≡ false) → (es : List (K × X)) (w : X) → lookup p (set_value test es w) ≡ lookup p es
   lookup_set_apart p apart [] w = refl

@@ -2,16 +2,18 @@
 use Rattle.std.proofs.Common.{zero, suc, ◌≡◌, ◌<◌, ◌^◌, ℕ, ◌+◌, ◌==◌, Bool, true, false, ◌||◌, List, [], ◌∷◌, ◌++◌, length, drop, filter, Some, refl, sym, ap, ◌∙◌, subst, arith, inl, inr, slice_get, if◌then◌else◌}
 use Rattle.std.proofs.lemmas.Bool.Decides.{nat_tests}
 use Rattle.std.specs.Option.{is_some}
-use Rattle.qs_book.specs.Book.{BookValue, book_after, effect, find_label, fresh_node, no_owner, IsLawful}
 use Rattle.qs_book.specs.declared.entry.Entry.{Entry}
 use Rattle.qs_book.specs.declared.script_line.ScriptLine.{ScriptLine}
+use Rattle.qs_machine.specs.Book.{BookValue, find_label}
+use Rattle.qs_machine.specs.Lawful.{IsLawful, book_after, effect}
+use Rattle.qs_machine.specs.Opening.{opened_node, no_owner}
 use Rattle.qs_text.specs.Fits.{Fits, IsSeated, begins_line}
 use Rattle.qs_text.specs.Kept.{Progress, Progresses, at_start, commands_of, IsAnswered, IsKept, progress_after, progress_of}
 use Rattle.qs_text.specs.declared.script.Script.{Script}
 use Rattle.qs_top.specs.Node.{entries_of}
 use Rattle.qs_top.proofs.CarriedOut.{carried_out}
 use Rattle.qs_top.proofs.Chain.{Carried, Turn, no_more}
-use Rattle.qs_top.specs.Carrying.{Chain, Makes, Ready, opening}
+use Rattle.qs_top.specs.Carrying.{Chain, Makes, Ready, opening, empty_log}
 use Rattle.qs_top.specs.Rest.{Resting}
 
 -- ---- entries in a row
@@ -139,7 +141,7 @@ ready_start inc script fits seated =
     let mine : commands_of script 0 ≡ script.lines = all_mine (λ label. false) 0 script.lines fits in
     record {
       progress = at_start;
-      node = fresh_node inc;
+      node = opened_node (empty_log inc);
       owner = no_owner;
       chain = no_more script (opening inc) at_start;
       resting = record { nodes = refl; up = refl; last = refl; owners = refl; all = λ q t found. absurd (cc found); known = λ label q found. absurd (cc found) };

@@ -1,54 +1,85 @@
 -- A request of one transaction at the only node: issued, and then served.
-use Rattle.std.proofs.Common.{◌≡◌, ◌≤◌, ◌<◌, ◌^◌, ℕ, ◌+◌, ◌-◌, ◌==◌, Bool, true, false, not, ◌&&◌, ◌||◌, List, [], ◌∷◌, ◌++◌, length, Option, Some, None, refl, sym, ap, subst, arith, slice_get, slice_set}
+use Rattle.std.proofs.Common.{◌≡◌, ◌≤◌, ◌<◌, ◌^◌, ℕ, ◌+◌, ◌==◌, Bool, true, false, not, ◌&&◌, ◌||◌, List, [], ◌∷◌, ◌++◌, Option, Some, None, is_none, refl, sym, ap, ◌∙◌, subst, arith, slice_get}
 use Rattle.std.proofs.lemmas.Bool.{false≢true}
-use Rattle.std.proofs.lemmas.Bool.Decides.{nat_tests}
-use Rattle.std.specs.List.{list_all}
+use Rattle.std.proofs.lemmas.Cmp.{nat_cmp_total, tied_itself}
+use Rattle.std.specs.List.{list_all, find}
 use Rattle.std.specs.BTreeMap.{insert_entry, is_at}
 use Rattle.std.specs.Map.{lookup, set_value}
 use Rattle.std.specs.declared.cmp.Ordering.{Ordering}
 use Rattle.std.specs.declared.cmp.Ordering.TheVariants.{Less, Equal, Greater}
 use Rattle.std.specs.Prelude.{unwrap_or, if◌then◌else◌}
+use Rattle.qs_base.specs.Order.{same_member, tid_cmp}
+use Rattle.qs_base.specs.declared.identifiers.Class.TheVariants.{Recoverable}
+use Rattle.qs_base.specs.declared.identifiers.ClientNo.{ClientNo}
 use Rattle.qs_base.specs.declared.identifiers.Member.{Member}
 use Rattle.qs_base.specs.declared.identifiers.Tid.{Tid}
 use Rattle.qs_base.proofs.Same.{same_bytes-self, same_lists-self, same_tid-self}
 use Rattle.qs_ops.specs.Alike.{same_reply}
-use Rattle.qs_ops.specs.Files.{reply_to, served}
 use Rattle.qs_ops.specs.declared.operation.Op.{Op}
 use Rattle.qs_ops.specs.declared.reply.Reply.{Reply}
 use Rattle.qs_ops.specs.declared.reply.Reply.TheVariants.{Done, Value, Left, Names, Notes, Busy, Absent, TooMany, TooLong}
-use Rattle.qs_book.specs.Book.{BookValue, broken, effect, with_files}
-use Rattle.qs_book.specs.Clauses.{is_for, broken_request, is_standing_at, is_numbered, may_issue, may_issue_as_borrower, is_owner_of}
-use Rattle.qs_book.specs.Maps.{changed_at, changed_value}
-use Rattle.qs_book.specs.Transaction.{TransactionValue, is_served, issued, link_cmp, marked, next_number, request_at, request_in, served_in, with_request, learnt_abort, is_open, is_commit, served_once, no_part as no_part_yet}
 use Rattle.qs_book.specs.declared.entry.Act.TheVariants as acts
 use Rattle.qs_book.specs.declared.entry.Entry.{Entry}
-use Rattle.qs_book.specs.declared.state.NodeState.{NodeState}
-use Rattle.qs_book.specs.declared.state.Owner.{Owner}
-use Rattle.qs_base.specs.declared.identifiers.ClientNo.{ClientNo}
-use Rattle.qs_base.specs.Order.{member_cmp}
-use Rattle.qs_book.specs.declared.transaction.Cell.{Cell}
-use Rattle.qs_book.specs.declared.transaction.Cell.TheVariants as cells
-use Rattle.qs_book.specs.declared.transaction.Link.{Link}
-use Rattle.qs_book.specs.declared.transaction.Part.{Part}
-use Rattle.qs_book.specs.declared.transaction.Request.{Request}
+use Rattle.qs_machine.specs.Book.{BookValue, find_transaction, inc_at, issue, with_crossing, with_waiting, with_transaction, crosses, serve_node, is_done}
+use Rattle.qs_machine.specs.Clauses.{is_for, is_numbered, is_owner_of, may_issue, may_issue_as_borrower, broken_request, is_crossed_busy, is_reply}
+use Rattle.qs_machine.specs.Lawful.{broken, effect}
+use Rattle.qs_machine.specs.Nodes.{NodeValue, with_table}
+use Rattle.qs_machine.specs.declared.state.Owner.{Owner}
+use Rattle.qs_servers.specs.Table.{reply_to, served}
+use Rattle.qs_transaction.proofs.Present.{request_total}
+use Rattle.qs_transaction.specs.Transaction.{TransactionValue, changed_value, is_served, is_standing, issued, mark_served, next_number, request_cmp, requests_at, requests_in, served_in, standing_request, learnt_abort, is_open, is_commit, is_crossed, all_served, life, life_cmp, serving_part, no_part as no_part_yet}
+use Rattle.qs_transaction.specs.declared.state.Cell.{Cell}
+use Rattle.qs_transaction.specs.declared.state.Cell.TheVariants as cells
+use Rattle.qs_transaction.specs.declared.state.Life.{Life}
+use Rattle.qs_transaction.specs.declared.state.Part.{Part}
+use Rattle.qs_transaction.specs.declared.state.Request.{Request}
+use Rattle.qs_transaction.specs.declared.state.RequestNo.{RequestNo}
 use Rattle.qs_top.specs.Node.{entry, client_0, files_0, issuer_0, link_0, node_0}
-use Rattle.qs_top.proofs.MapSteps.{lookup_put, lookup_set}
-use Rattle.qs_top.proofs.Steps.{Working, lawful_here, in_order, after_change, same_rest, eq_self}
-use Rattle.qs_top.specs.Rest.{AtRest, IsTold, PartAtRest, no_part, one_part}
+use Rattle.qs_top.proofs.MapSteps.{lookup_put}
+use Rattle.qs_top.proofs.Parts.{same_life, put_part}
+use Rattle.qs_top.proofs.Steps.{Working, lawful_here, in_order, inc_here, nodes_after, owner_after_change, after_change, same_rest, told_more, not_crossed, eq_self}
+use Rattle.qs_top.specs.Rest.{AtRest, IsTold, PartAtRest, no_part, one_part, unvoted}
 
 -- ---- lists of requests
 
-last_item : {A : Type 0} (xs : List A) (x : A) → slice_get (xs ++ x ∷ []) (length xs) ≡ Some x
-last_item [] x = refl
-last_item (y ∷ ys) x = last_item ys x
+and-true : (b c : Bool) → b ≡ true → c ≡ true → (b && c) ≡ true
+and-true true c h g = g
+and-true false c h g = absurd (false≢true h)
 
-marks_last : (xs : List Request) (x : Request) → changed_at (length xs) marked (xs ++ x ∷ []) ≡ xs ++ marked x ∷ []
-marks_last xs x =
-    subst (λ (o : Option Request). (elim o [ None ↦ xs ++ x ∷ [] | Some r ↦ slice_set (xs ++ x ∷ []) (length xs) (marked r) ]) ≡ xs ++ marked x ∷ []) (sym (last_item xs x)) (sets_last xs x (marked x))
-  where
-    sets_last : {A : Type 0} (xs : List A) (x y : A) → slice_set (xs ++ x ∷ []) (length xs) y ≡ xs ++ y ∷ []
-    sets_last [] x y = refl
-    sets_last (z ∷ zs) x y = ap (λ l. z ∷ l) (sets_last zs x y)
+and-first : (b c : Bool) → (b && c) ≡ true → b ≡ true
+and-first true c h = refl
+and-first false c h = absurd (false≢true h)
+
+and-second : (b c : Bool) → (b && c) ≡ true → c ≡ true
+and-second true c h = h
+and-second false c h = absurd (false≢true h)
+
+and_false : (b : Bool) → (b && false) ≡ false
+and_false true = refl
+and_false false = refl
+
+-- what was served stands no more
+not_standing : (m : Member) (r : Request) → r.served ≡ true → is_standing m r ≡ false
+not_standing m r is = rw is (and_false (same_member r.member m))
+
+-- behind requests that were served stands the last one alone
+finds_last : (m : Member) (rs : List Request) (x : Request) → list_all is_served rs ≡ true → is_standing m x ≡ true → find (is_standing m) (rs ++ x ∷ []) ≡ Some x
+finds_last m [] x all is = rw is refl
+finds_last m (r ∷ rs) x all is =
+    rw (not_standing m r (and-first r.served (list_all is_served rs) all)) (finds_last m rs x (and-second r.served (list_all is_served rs) all) is)
+
+finds_none : (m : Member) (rs : List Request) → list_all is_served rs ≡ true → find (is_standing m) rs ≡ None
+finds_none m [] all = refl
+finds_none m (r ∷ rs) all =
+    rw (not_standing m r (and-first r.served (list_all is_served rs) all)) (finds_none m rs (and-second r.served (list_all is_served rs) all))
+
+abbrev marked : Request → Request
+marked request = record request { served = true }
+
+marks_last : (m : Member) (rs : List Request) (x : Request) → list_all is_served rs ≡ true → is_standing m x ≡ true → mark_served m (rs ++ x ∷ []) ≡ rs ++ marked x ∷ []
+marks_last m [] x all is = rw is refl
+marks_last m (r ∷ rs) x all is =
+    rw (not_standing m r (and-first r.served (list_all is_served rs) all)) (ap (λ (l : List Request). r ∷ l) (marks_last m rs x (and-second r.served (list_all is_served rs) all) is))
 
 all_with : (xs : List Request) (x : Request) → list_all is_served xs ≡ true → x.served ≡ true → list_all is_served (xs ++ x ∷ []) ≡ true
 all_with [] x h is = rw is refl
@@ -81,18 +112,6 @@ set_put {K} {X} cmp k v w self (e ∷ es) = by (cmp k e.0) refl (set_put cmp k v
 abbrev all_values : {K X : Type 0} → (X → Bool) → List (K × X) → Bool
 all_values {K} {X} q es = list_all (λ (e : K × X). q e.1) es
 
-and-true : (b c : Bool) → b ≡ true → c ≡ true → (b && c) ≡ true
-and-true true c h g = g
-and-true false c h g = absurd (false≢true h)
-
-and-first : (b c : Bool) → (b && c) ≡ true → b ≡ true
-and-first true c h = refl
-and-first false c h = absurd (false≢true h)
-
-and-second : (b c : Bool) → (b && c) ≡ true → c ≡ true
-and-second true c h = h
-and-second false c h = absurd (false≢true h)
-
 all_found : {K X : Type 0} (q : X → Bool) (test : K → Bool) (es : List (K × X)) (v : X) → all_values q es ≡ true → lookup test es ≡ Some v → q v ≡ true
 all_found q test [] v all h = absurd (cc h)
 all_found {K} {X} q test (e ∷ es) v all h = by (test e.0) refl (all_found q test es v (and-second (q e.1) (all_values q es) all))
@@ -100,14 +119,6 @@ all_found {K} {X} q test (e ∷ es) v all h = by (test e.0) refl (all_found q te
     by : (b : Bool) → test e.0 ≡ b → (lookup test es ≡ Some v → q v ≡ true) → q v ≡ true
     by true is more = let same : Some e.1 ≡ Some v = rw is at h in let equal : e.1 ≡ v = cc in subst (λ x. q x ≡ true) equal (and-first (q e.1) (all_values q es) all)
     by false is more = more (rw is at h)
-
-all_set : {K X : Type 0} (q : X → Bool) (test : K → Bool) (es : List (K × X)) (w : X) → all_values q es ≡ true → q w ≡ true → all_values q (set_value test es w) ≡ true
-all_set q test [] w all h = refl
-all_set {K} {X} q test (e ∷ es) w all h = by (test e.0) refl (all_set q test es w (and-second (q e.1) (all_values q es) all) h)
-  where
-    by : (b : Bool) → test e.0 ≡ b → all_values q (set_value test es w) ≡ true → all_values q (set_value test (e ∷ es) w) ≡ true
-    by true is more = rw is (and-true (q w) (all_values q es) h (and-second (q e.1) (all_values q es) all))
-    by false is more = rw is (and-true (q e.1) (all_values q (set_value test es w)) (and-first (q e.1) (all_values q es) all) more)
 
 all_put : {K X : Type 0} (q : X → Bool) (cmp : K → K → Ordering) (k : K) (w : X) → q w ≡ true → (es : List (K × X)) → all_values q es ≡ true → all_values q (insert_entry cmp es k w) ≡ true
 all_put q cmp k w h [] all = and-true (q w) true h refl
@@ -120,42 +131,66 @@ all_put {K} {X} q cmp k w h (e ∷ es) all = by (cmp k e.0) refl (all_put q cmp 
 
 -- ---- the request that was issued last
 
--- a request put on its link, by what stands there
-abbrev put_on : List (Link × List Request) → Request → Option (List Request) → List (Link × List Request)
-put_on es x o = elim o [ None ↦ insert_entry link_cmp es link_0 (x ∷ []) | Some xs ↦ set_value (is_at (link_cmp link_0)) es (xs ++ x ∷ []) ]
+-- the place of a request of that number from the node to itself
+abbrev pub at_0 : ℕ → RequestNo
+at_0 number = record { link = link_0; number = number }
 
--- a request marked on its link, by what stands there
-abbrev mark_on : ℕ → Option (List Request) → List (Link × List Request) → List (Link × List Request)
-mark_on n o fs = elim o [ None ↦ fs | Some v ↦ set_value (is_at (link_cmp link_0)) fs (changed_at n marked v) ]
+-- a request of client 0 to the files, in that incarnation of the node
+abbrev pub request_of_0 : Op → ℕ → Request
+request_of_0 op inc = record { issuer = issuer_0; member = files_0; op = op; inc = inc; served = false }
 
--- the item of the next number
-next_item : (xs : List Request) (r : Request) → (if (length xs + 1) == 0 then None else slice_get (xs ++ r ∷ []) (length xs + 1 - 1)) ≡ Some r
-next_item xs r = let one : (length xs + 1 == 0) ≡ false = grind (arith, nat_tests) in let back : length xs + 1 - 1 ≡ length xs = omega arith in rw (one, back) (last_item xs r)
+-- the transaction once it was issued, and once it was served
+abbrev pub once_issued : ℕ → Op → ℕ → ℕ → TransactionValue → TransactionValue
+once_issued number op inc place tx = issued (at_0 number) (request_of_0 op inc) inc place tx
 
-pub request_found : (es : List (Link × List Request)) (r : Request) → request_in (with_request link_0 r es) link_0 (length (unwrap_or (lookup (is_at (link_cmp link_0)) es) []) + 1) ≡ Some r
-request_found es r = by (lookup (is_at (link_cmp link_0)) es) refl
+abbrev pub once_served : ℕ → Op → Reply → ℕ → ℕ → ℕ → TransactionValue → TransactionValue
+once_served number op reply inc place stamp tx = served_in (at_0 number) files_0 inc stamp (is_done reply) (once_issued number op inc place tx)
+
+-- all that stands under a number was served
+served_at : (tx : TransactionValue) (at : RequestNo) → all_served tx ≡ true → list_all is_served (requests_at tx at) ≡ true
+served_at tx at all = by (lookup (is_at (request_cmp at)) tx.requests) refl
   where
-    by : (o : Option (List Request)) → lookup (is_at (link_cmp link_0)) es ≡ o → request_in (put_on es r o) link_0 (length (unwrap_or o []) + 1) ≡ Some r
-    by None is = rw (lookup_put link_cmp link_0 (r ∷ []) refl es) refl
-    by (Some xs) is = rw (lookup_set (is_at (link_cmp link_0)) es xs (xs ++ r ∷ []) is) (next_item xs r)
+    by : (o : Option (List Request)) → lookup (is_at (request_cmp at)) tx.requests ≡ o → list_all is_served (unwrap_or o []) ≡ true
+    by None found = refl
+    by (Some rs) found = all_found (list_all is_served) (is_at (request_cmp at)) tx.requests rs all found
 
--- marking it is issuing it marked
-pub marks_issued : (es : List (Link × List Request)) (r : Request) → changed_value (is_at (link_cmp link_0)) (changed_at (length (unwrap_or (lookup (is_at (link_cmp link_0)) es) []) + 1 - 1) marked) (with_request link_0 r es) ≡ with_request link_0 (marked r) es
-marks_issued es r = by (lookup (is_at (link_cmp link_0)) es) refl
-  where
-    by : (o : Option (List Request)) → lookup (is_at (link_cmp link_0)) es ≡ o → mark_on (length (unwrap_or o []) + 1 - 1) (lookup (is_at (link_cmp link_0)) (put_on es r o)) (put_on es r o) ≡ put_on es (marked r) o
-    by None is = rw (lookup_put link_cmp link_0 (r ∷ []) refl es) (set_put link_cmp link_0 (r ∷ []) (marked r ∷ []) refl es)
-    by (Some xs) is =
-        let back : length xs + 1 - 1 ≡ length xs = omega arith in
-        rw (lookup_set (is_at (link_cmp link_0)) es xs (xs ++ r ∷ []) is, back, marks_last xs r) (set_set (is_at (link_cmp link_0)) es (xs ++ r ∷ []) (xs ++ marked r ∷ []))
+none_standing : (tx : TransactionValue) (at : RequestNo) (m : Member) → all_served tx ≡ true → standing_request tx at m ≡ None
+none_standing tx at m all = finds_none m (requests_at tx at) (served_at tx at all)
 
--- with it every request is served
-pub all_marked : (es : List (Link × List Request)) (r : Request) → all_values (list_all is_served) es ≡ true → r.served ≡ true → all_values (list_all is_served) (with_request link_0 r es) ≡ true
-all_marked es r all is = by (lookup (is_at (link_cmp link_0)) es) refl
+crosses_not : (tx : TransactionValue) (number : ℕ) → all_served tx ≡ true → crosses (Some tx) (at_0 number) files_0 ≡ false
+crosses_not tx number all = subst (λ (o : Option Request). (elim o [ None ↦ false | Some r ↦ true ]) ≡ false) (sym (none_standing tx (at_0 number) files_0 all)) refl
+
+self_at : (at : RequestNo) → request_cmp at at ≡ Equal
+self_at at = tied_itself request_total at
+
+-- the request stands under its number
+request_found : (tx : TransactionValue) (number : ℕ) (op : Op) (inc place : ℕ) → all_served tx ≡ true → standing_request (once_issued number op inc place tx) (at_0 number) files_0 ≡ Some (request_of_0 op inc)
+request_found tx number op inc place all =
+    let put : lookup (is_at (request_cmp (at_0 number))) (insert_entry request_cmp tx.requests (at_0 number) (requests_at tx (at_0 number) ++ request_of_0 op inc ∷ [])) ≡ Some (requests_at tx (at_0 number) ++ request_of_0 op inc ∷ []) =
+    lookup_put request_cmp (at_0 number) (requests_at tx (at_0 number) ++ request_of_0 op inc ∷ []) (self_at (at_0 number)) tx.requests in
+    subst (λ (o : Option (List Request)). find (is_standing files_0) (unwrap_or o []) ≡ Some (request_of_0 op inc)) (sym put)
+    (finds_last files_0 (requests_at tx (at_0 number)) (request_of_0 op inc) (served_at tx (at_0 number) all) refl)
+
+-- with it every request is served, once it is
+all_marked : (tx : TransactionValue) (number : ℕ) (op : Op) (reply : Reply) (inc place stamp : ℕ) → all_served tx ≡ true → all_served (once_served number op reply inc place stamp tx) ≡ true
+all_marked tx number op reply inc place stamp all =
+    let put : lookup (is_at (request_cmp (at_0 number))) (insert_entry request_cmp tx.requests (at_0 number) with_it) ≡ Some with_it =
+    lookup_put request_cmp (at_0 number) with_it (self_at (at_0 number)) tx.requests in
+    subst (λ (o : Option (List Request)). all_values (list_all is_served) (elim o [
+      | None ↦ insert_entry request_cmp tx.requests (at_0 number) with_it
+      | Some rs ↦ set_value (is_at (request_cmp (at_0 number))) (insert_entry request_cmp tx.requests (at_0 number) with_it) (mark_served files_0 rs)
+    ]) ≡ true) (sym put)
+    (rw (marks_last files_0 (requests_at tx (at_0 number)) (request_of_0 op inc) (served_at tx (at_0 number) all) refl)
+    (rw (set_put request_cmp (at_0 number) with_it (requests_at tx (at_0 number) ++ marked (request_of_0 op inc) ∷ []) (self_at (at_0 number)) tx.requests)
+    (all_put (list_all is_served) request_cmp (at_0 number) (requests_at tx (at_0 number) ++ marked (request_of_0 op inc) ∷ [])
+    (all_with (requests_at tx (at_0 number)) (marked (request_of_0 op inc)) (served_at tx (at_0 number) all) refl) tx.requests all)))
   where
-    by : (o : Option (List Request)) → lookup (is_at (link_cmp link_0)) es ≡ o → all_values (list_all is_served) (put_on es r o) ≡ true
-    by None found = all_put (list_all is_served) link_cmp link_0 (r ∷ []) (and-true r.served true is refl) es all
-    by (Some xs) found = all_set (list_all is_served) (is_at (link_cmp link_0)) es (xs ++ r ∷ []) all (all_with xs r (all_found (list_all is_served) (is_at (link_cmp link_0)) es xs all found) is)
+    with_it : List Request
+    with_it = requests_at tx (at_0 number) ++ request_of_0 op inc ∷ []
+
+-- no member is crossed by it
+issued_crossed : (tx : TransactionValue) (number : ℕ) (op : Op) (inc place : ℕ) → all_served tx ≡ true → (once_issued number op inc place tx).crossed ≡ tx.crossed
+issued_crossed tx number op inc place all = rw (none_standing tx (at_0 number) files_0 all) refl
 
 -- ---- steps
 
@@ -170,81 +205,114 @@ same_reply-self Absent = refl
 same_reply-self TooMany = refl
 same_reply-self TooLong = refl
 
--- a request of client 0 to the files
-abbrev pub request_of_0 : Op → Request
-request_of_0 op = record { issuer = issuer_0; member = files_0; op = op; served = false }
-
-abbrev pub owner_is_0 : TransactionValue → Type 0
-owner_is_0 tx = tx.owner ≡ Some client_0
-
-numbered : (tx : TransactionValue) (op : Op) → tx.cell ≡ cells.Open → is_for op files_0 ≡ true → is_numbered 0 1 tx files_0 (next_number tx link_0) op ≡ true
-numbered tx op open_now for_files = by tx.cell open_now (is_for op files_0) for_files
+numbered : (node : NodeValue) (tx : TransactionValue) (op : Op) → tx.cell ≡ cells.Open → is_for op files_0 ≡ true → is_numbered 0 node 1 tx files_0 (next_number tx link_0 node.inc) op ≡ true
+numbered node tx op open_now for_files = by tx.cell open_now (is_for op files_0) for_files
   where
-    by : (c : Cell) → c ≡ cells.Open → (b : Bool) → b ≡ true → (not (is_commit c) && ((next_number tx link_0 == next_number tx link_0) && (b && true))) ≡ true
-    by cells.Open h true g = rw (eq_self (next_number tx link_0)) refl
+    by : (c : Cell) → c ≡ cells.Open → (b : Bool) → b ≡ true → (not (is_commit c) && ((next_number tx link_0 node.inc == next_number tx link_0 node.inc) && (b && true))) ≡ true
+    by cells.Open h true g = rw (eq_self (next_number tx link_0 node.inc)) refl
     by cells.Open h false g = absurd (false≢true g)
     by cells.Commit h b g = absurd (cc)
     by cells.Abort h b g = absurd (cc)
 
-may : (node : NodeState) (tid : Tid) (tx : TransactionValue) → tid.home.0 ≡ 0 → tx.owner ≡ Some client_0 → tx.cell ≡ cells.Open → tx.asked ≡ false → may_issue 0 node tid tx issuer_0 ≡ true
+may : (node : NodeValue) (tid : Tid) (tx : TransactionValue) → tid.home.0 ≡ 0 → tx.owner ≡ Some client_0 → tx.cell ≡ cells.Open → tx.asked ≡ None → may_issue 0 node tid tx issuer_0 ≡ true
 may node tid tx home owned open_now fresh = by tx.owner owned tid.home.0 home tx.cell open_now tx.asked fresh
   where
-    by : (o : Option ClientNo) → o ≡ Some client_0 → (h : ℕ) → h ≡ 0 → (c : Cell) → c ≡ cells.Open → (a : Bool) → a ≡ false
-        → (((is_owner_of 32 o && (h == 0)) && (is_open c && not a)) || may_issue_as_borrower 0 node tx issuer_0) ≡ true
+    by : (o : Option ClientNo) → o ≡ Some client_0 → (h : ℕ) → h ≡ 0 → (c : Cell) → c ≡ cells.Open → (a : Option ℕ) → a ≡ None
+        → (((is_owner_of 32 o && (h == 0)) && (is_open c && is_none a)) || may_issue_as_borrower node tx issuer_0) ≡ true
     by o oh h hh c ch a ah = rw (oh, hh, ch, ah) refl
 
-pub issue_lawful : (node : NodeState) (owner : Owner) (tid : Tid) (tx : TransactionValue) (book : BookValue) (stamp : ℕ) (op : Op) → Working node owner tid tx book → book.stamp ≤ stamp → stamp < 2 ^ 62
-    → AtRest owner tid tx → tx.cell ≡ cells.Open → tx.asked ≡ false → is_for op files_0 ≡ true
-    → broken book (entry stamp (acts.Issue tid issuer_0 files_0 (next_number tx link_0) op)) ≡ None
+pub issue_lawful : (node : NodeValue) (owner : Owner) (tid : Tid) (tx : TransactionValue) (book : BookValue) (stamp : ℕ) (op : Op) → Working node owner tid tx book → book.stamp ≤ stamp → stamp < 2 ^ 62
+    → AtRest node.inc owner tid tx → tx.cell ≡ cells.Open → tx.asked ≡ None → is_for op files_0 ≡ true
+    → broken book (entry stamp (acts.Issue tid issuer_0 files_0 (next_number tx link_0 node.inc) op)) ≡ None
 issue_lawful node owner tid tx book stamp op w later low rest open_now fresh for_files =
-    let e : Entry = entry stamp (acts.Issue tid issuer_0 files_0 (next_number tx link_0) op) in
-    lawful_here book node e (in_order book e w.last later low) (rw w.nodes refl) w.up
-    (rw (w.found, w.nodes, numbered tx op open_now for_files, may node tid tx rest.home rest.owned open_now fresh) refl)
+    let e : Entry = entry stamp (acts.Issue tid issuer_0 files_0 (next_number tx link_0 node.inc) op) in
+    lawful_here book node e (in_order book e w.last later low) (rw w.nodes refl)
+    (rw (w.up, w.found, w.nodes, numbered node tx op open_now for_files, may node tid tx rest.home rest.owned open_now fresh) refl)
 
-pub issue_after : (node : NodeState) (owner : Owner) (tid : Tid) (tx : TransactionValue) (book : BookValue) (stamp number : ℕ) (op : Op) → Working node owner tid tx book
-    → Working node owner tid (issued link_0 (request_of_0 op) tx) (effect book (entry stamp (acts.Issue tid issuer_0 files_0 number op)))
-issue_after node owner tid tx book stamp number op w =
-    after_change node node owner owner tid tx (issued link_0 (request_of_0 op)) book (effect book (entry stamp (acts.Issue tid issuer_0 files_0 number op))) w
-    w.nodes w.up refl w.owners refl refl (same_rest owner)
+-- the client waits for its answer
+abbrev pub waiting : Tid → Owner → Owner
+waiting tid owner = record owner { waiting = owner.waiting ++ record { tid = tid; node = node_0 } ∷ [] }
 
-serves : (node : NodeState) (tid : Tid) (tx : TransactionValue) (op : Op) (reply : Reply) (q : Option Request) → q ≡ Some (request_of_0 op) → reply_to node.files tid op ≡ Some reply → learnt_abort 0 tx ≡ false
-    → broken_request 0 node tid tx files_0 (elim q [ None ↦ None | Some r ↦ if is_standing_at 0 files_0 r then Some r else None ]) reply ≡ None
-serves node tid tx op reply q is due no_abort = rw (is, due, same_reply-self reply, no_abort) refl
+pub issue_after : (node : NodeValue) (owner : Owner) (tid : Tid) (tx : TransactionValue) (book : BookValue) (stamp number : ℕ) (op : Op) → Working node owner tid tx book → all_served tx ≡ true
+    → Working node (waiting tid owner) tid (once_issued number op node.inc book.place tx) (effect book (entry stamp (acts.Issue tid issuer_0 files_0 number op)))
+issue_after node owner tid tx book stamp number op w all =
+    subst (λ (c : Bool). Working node (waiting tid owner) tid (once_issued number op node.inc book.place tx)
+    (record (with_crossing c tid files_0 changed) { stamp = stamp; node = 0; place = book.place + 1 })) (sym crosses_none)
+    (after_change node node owner (waiting tid owner) tid tx (once_issued number op node.inc book.place) book (record changed { stamp = stamp; node = 0; place = book.place + 1 }) w
+    w.nodes w.up refl (owner_after_change book.owners owner (waiting tid) w.owners) refl
+    (ap (λ inc. changed_value (is_at (tid_cmp tid)) (issued (at_0 number) (request_of_0 op inc) inc book.place) book.transactions) (inc_here book node w.nodes))
+    (told_more node.inc owner (waiting tid owner) (record { committed = λ h. h; aborted = λ h. h })))
+  where
+    changed : BookValue
+    changed = with_waiting tid issuer_0 files_0 (with_transaction tid (issued (at_0 number) (request_of_0 op (inc_at book node_0)) (inc_at book node_0) book.place) book)
+
+    crosses_none : crosses (find_transaction book tid) (at_0 number) files_0 ≡ false
+    crosses_none = rw w.found (crosses_not tx number all)
+
+-- and begins nothing
+pub issue_labels : (book : BookValue) (tid : Tid) (tx : TransactionValue) (stamp number : ℕ) (op : Op) → find_transaction book tid ≡ Some tx → all_served tx ≡ true
+    → (effect book (entry stamp (acts.Issue tid issuer_0 files_0 number op))).labels ≡ book.labels
+issue_labels book tid tx stamp number op found all = ap (λ c. (with_crossing c tid files_0 changed).labels) crosses_none
+  where
+    changed : BookValue
+    changed = with_waiting tid issuer_0 files_0 (with_transaction tid (issued (at_0 number) (request_of_0 op (inc_at book node_0)) (inc_at book node_0) book.place) book)
+
+    crosses_none : crosses (find_transaction book tid) (at_0 number) files_0 ≡ false
+    crosses_none = rw found (crosses_not tx number all)
+
+-- the reply is the table's
+replies : (node : NodeValue) (transactions : List (Tid × TransactionValue)) (tid : Tid) (tx : TransactionValue) (op : Op) (reply : Reply) → tx.crossed ≡ [] → reply_to node.files tid op ≡ Some reply
+    → is_reply 0 node transactions tid tx files_0 op reply ≡ true
+replies node transactions tid tx op reply none due = rw (not_crossed tx none, due, same_reply-self reply) refl
 
 -- the files may serve the request that was issued last
-pub serve_lawful : (node : NodeState) (owner : Owner) (tid : Tid) (tx : TransactionValue) (book : BookValue) (stamp : ℕ) (op : Op) (reply : Reply)
-    → Working node owner tid (issued link_0 (request_of_0 op) tx) book → book.stamp ≤ stamp → stamp < 2 ^ 62
-    → reply_to node.files tid op ≡ Some reply → learnt_abort 0 tx ≡ false
-    → broken book (entry stamp (acts.Serve tid files_0 node_0 (next_number tx link_0) reply)) ≡ None
-serve_lawful node owner tid tx book stamp op reply w later low due no_abort =
-    let e : Entry = entry stamp (acts.Serve tid files_0 node_0 (next_number tx link_0) reply) in
-    lawful_here book node e (in_order book e w.last later low) (rw w.nodes refl) w.up
-    (rw w.found (serves node tid (issued link_0 (request_of_0 op) tx) op reply (request_at (issued link_0 (request_of_0 op) tx) link_0 (next_number tx link_0)) (request_found tx.requests (request_of_0 op)) due no_abort))
+pub serve_lawful : (node : NodeValue) (owner : Owner) (tid : Tid) (tx : TransactionValue) (number : ℕ) (op : Op) (reply : Reply) (place : ℕ) (book : BookValue) (stamp : ℕ)
+    → Working node owner tid (once_issued number op node.inc place tx) book → book.stamp ≤ stamp → stamp < 2 ^ 62
+    → all_served tx ≡ true → tx.crossed ≡ [] → reply_to node.files tid op ≡ Some reply → learnt_abort (once_issued number op node.inc place tx) node_0 node.inc ≡ false
+    → broken book (entry stamp (acts.Serve tid files_0 node_0 number reply)) ≡ None
+serve_lawful node owner tid tx number op reply place book stamp w later low all none due no_abort =
+    let e : Entry = entry stamp (acts.Serve tid files_0 node_0 number reply) in
+    let same : (once_issued number op node.inc place tx).crossed ≡ [] = issued_crossed tx number op node.inc place all ∙ none in
+    let found : standing_request (once_issued number op node.inc place tx) (at_0 number) files_0 ≡ Some (request_of_0 op node.inc) = request_found tx number op node.inc place all in
+    let is : is_reply 0 node book.transactions tid (once_issued number op node.inc place tx) files_0 op reply ≡ true = replies node book.transactions tid (once_issued number op node.inc place tx) op reply same due in
+    lawful_here book node e (in_order book e w.last later low) (rw w.nodes refl)
+    (rw (w.up, w.found, found, is, no_abort) refl)
 
-pub serve_after : (node : NodeState) (owner : Owner) (tid : Tid) (tx : TransactionValue) (book : BookValue) (stamp : ℕ) (op : Op) (reply : Reply)
-    → Working node owner tid (issued link_0 (request_of_0 op) tx) book
-    → Working (with_files (λ files. served files tid op reply) node) owner tid (served_in files_0 link_0 (next_number tx link_0) (issued link_0 (request_of_0 op) tx)) (effect book (entry stamp (acts.Serve tid files_0 node_0 (next_number tx link_0) reply)))
-serve_after node owner tid tx book stamp op reply w =
-    after_change node (with_files (λ files. served files tid op reply) node) owner owner tid (issued link_0 (request_of_0 op) tx) (served_in files_0 link_0 (next_number tx link_0)) book (effect book (entry stamp (acts.Serve tid files_0 node_0 (next_number tx link_0) reply))) w
-    (rw (w.nodes, w.found, request_found tx.requests (request_of_0 op)) refl) w.up refl w.owners refl refl (same_rest owner)
+pub serve_after : (node : NodeValue) (owner : Owner) (tid : Tid) (tx : TransactionValue) (number : ℕ) (op : Op) (reply : Reply) (place : ℕ) (book : BookValue) (stamp : ℕ)
+    → Working node owner tid (once_issued number op node.inc place tx) book → all_served tx ≡ true → tx.crossed ≡ []
+    → Working (with_table 0 (λ table. served table tid op reply) node) owner tid (once_served number op reply node.inc place stamp tx) (effect book (entry stamp (acts.Serve tid files_0 node_0 number reply)))
+serve_after node owner tid tx number op reply place book stamp w all none =
+    let same : (once_issued number op node.inc place tx).crossed ≡ [] = issued_crossed tx number op node.inc place all ∙ none in
+    let found : standing_request (once_issued number op node.inc place tx) (at_0 number) files_0 ≡ Some (request_of_0 op node.inc) = request_found tx number op node.inc place all in
+    let serves : serve_node (find_transaction book tid) (at_0 number) tid files_0 reply node ≡ after =
+    rw (w.found, not_crossed (once_issued number op node.inc place tx) same, found) refl in
+    after_change node after owner owner tid (once_issued number op node.inc place tx) (served_in (at_0 number) files_0 node.inc stamp (is_done reply)) book (effect book (entry stamp (acts.Serve tid files_0 node_0 number reply))) w
+    (nodes_after book node (serve_node (find_transaction book tid) (at_0 number) tid files_0 reply) w.nodes ∙ ap (λ n. n ∷ []) serves)
+    w.up refl w.owners refl
+    (ap (λ inc. changed_value (is_at (tid_cmp tid)) (served_in (at_0 number) files_0 inc stamp (is_done reply)) book.transactions) (inc_here book node w.nodes))
+    (same_rest node.inc node.inc owner refl)
+  where
+    after : NodeValue
+    after = with_table 0 (λ table. served table tid op reply) node
 
 -- what a transaction is once its request was served
-pub rest_after_serve : (owner : Owner) (tid : Tid) (tx : TransactionValue) (op : Op) → AtRest owner tid tx → tx.cell ≡ cells.Open → AtRest owner tid (served_in files_0 link_0 (next_number tx link_0) (issued link_0 (request_of_0 op) tx))
-rest_after_serve owner tid tx op rest open_now = record {
+pub rest_after_serve : (inc : ℕ) (owner later : Owner) (tid : Tid) (tx : TransactionValue) (number : ℕ) (op : Op) (reply : Reply) (place stamp : ℕ) → AtRest inc owner tid tx → tx.cell ≡ cells.Open
+    → AtRest inc later tid (once_served number op reply inc place stamp tx)
+rest_after_serve inc owner later tid tx number op reply place stamp rest open_now = record {
   home = rest.home;
   owned = rest.owned;
-  loans = rest.loans;
-  crossed = rest.crossed;
+  crossed = issued_crossed tx number op inc place rest.served ∙ rest.crossed;
   refusals = rest.refusals;
-  served = rw (marks_issued tx.requests (request_of_0 op)) (all_marked tx.requests (marked (request_of_0 op)) rest.served refl);
+  served = all_marked tx number op reply inc place stamp rest.served;
   told = by tx.cell open_now rest.told;
 }
   where
-    parts : (ps : List (Member × Part)) → PartAtRest ps → PartAtRest (insert_entry member_cmp ps files_0 (served_once (unwrap_or (lookup (is_at (member_cmp files_0)) ps) no_part_yet)))
-    parts _ no_part = one_part 0
-    parts _ (one_part n) = one_part (n + 1)
+    parts : (ps : List (Life × Part)) → PartAtRest inc ps → PartAtRest inc (insert_entry life_cmp ps (life files_0 inc) (serving_part Recoverable stamp (is_done reply) (unwrap_or (lookup (is_at (life_cmp (life files_0 inc))) ps) no_part_yet)))
+    parts _ no_part = one_part 0 (if is_done reply then 0 + 1 else 0) stamp
+    parts _ (one_part n pending step) =
+        rw (put_part inc (unvoted n pending step) _, same_life inc) (one_part (n + 1) (if is_done reply then pending + 1 else pending) stamp)
 
-    by : (c : Cell) → c ≡ cells.Open → IsTold owner tx c → IsTold owner (served_in files_0 link_0 (next_number tx link_0) (issued link_0 (request_of_0 op) tx)) c
+    by : (c : Cell) → c ≡ cells.Open → IsTold inc owner tx c → IsTold inc later (once_served number op reply inc place stamp tx) c
     by cells.Open h told = (told.0, told.1, parts tx.parts told.2)
     by cells.Commit h told = absurd (cc)
     by cells.Abort h told = absurd (cc)

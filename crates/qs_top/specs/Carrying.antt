@@ -1,10 +1,13 @@
 -- A script that is carried out command by command: what holds of the journal, the book and the script so far.
 use Rattle.std.specs.Prelude.{◌≡◌, ℕ, ◌+◌, ◌==◌, false, List, [], ◌∷◌, length, drop, is_some, slice_get, Some, ◌<◌, ◌^◌}
-use Rattle.qs_book.specs.Book.{BookValue, book_after, find_label, first_book, IsLawful}
 use Rattle.qs_book.specs.declared.entry.Entry.{Entry}
 use Rattle.qs_book.specs.declared.script_line.ScriptLine.{ScriptLine}
-use Rattle.qs_book.specs.declared.state.NodeState.{NodeState}
-use Rattle.qs_book.specs.declared.state.Owner.{Owner}
+use Rattle.qs_machine.specs.Book.{BookValue, find_label}
+use Rattle.qs_machine.specs.Lawful.{IsLawful, book_after}
+use Rattle.qs_machine.specs.Nodes.{NodeValue}
+use Rattle.qs_machine.specs.Opening.{opening as opening_over}
+use Rattle.qs_machine.specs.declared.opened.Opened.{Opened}
+use Rattle.qs_machine.specs.declared.state.Owner.{Owner}
 use Rattle.qs_text.specs.Fits.{Fits, IsSeated}
 use Rattle.qs_text.specs.Kept.{nothing, Progresses, at_start, commands_of, IsKept, progress_of}
 use Rattle.qs_text.specs.declared.script.Script.{Script}
@@ -20,13 +23,17 @@ pub record Chain (script : Script) (book after : BookValue) (progress later : Pr
 
 -- ---- between two commands
 
+-- a node in this incarnation, whose log holds nothing
+abbrev pub empty_log : ℕ → Opened
+empty_log inc = record { inc = inc; format = 1; files = []; audit = []; extra = []; pending = []; committed = [] }
+
 -- one node, in its incarnation, over a log that holds nothing
 abbrev pub opening : ℕ → BookValue
-opening inc = first_book (inc ∷ [])
+opening inc = opening_over (empty_log inc ∷ [])
 
 pub record Ready (inc : ℕ) (script : Script) (journal : List Entry) (book : BookValue) (rest : List ScriptLine) : Type 0 where
   pub progress : Progresses
-  pub node : NodeState
+  pub node : NodeValue
   pub owner : Owner
   pub chain : Chain script (opening inc) book at_start progress journal
   pub resting : Resting node owner book
@@ -41,7 +48,7 @@ pub record Ready (inc : ℕ) (script : Script) (journal : List Entry) (book : Bo
 
 -- the entries are those that the command makes, with stamps that are left
 pub record Makes (book : BookValue) (line : ScriptLine) (entries : List Entry) : Type 0 where
-  pub node : NodeState
+  pub node : NodeValue
   pub here : slice_get book.nodes 0 ≡ Some node
   pub low : book.stamp + 3 < 2 ^ 62
   pub made : entries ≡ entries_of book node line

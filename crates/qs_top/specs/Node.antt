@@ -5,7 +5,6 @@ use Rattle.qs_base.specs.declared.identifiers.Member.{Member}
 use Rattle.qs_base.specs.declared.identifiers.NodeNo.{NodeNo}
 use Rattle.qs_base.specs.declared.identifiers.Outcome.TheVariants as outcomes
 use Rattle.qs_base.specs.declared.identifiers.Tid.{Tid}
-use Rattle.qs_ops.specs.Files.{reply_to, share_of, has_changes}
 use Rattle.qs_ops.specs.Operations.{answer_of}
 use Rattle.qs_ops.specs.declared.answer.Answer.{Answer}
 use Rattle.qs_ops.specs.declared.answer.Answer.TheVariants as answers
@@ -14,18 +13,19 @@ use Rattle.qs_ops.specs.declared.answer.Cause.TheVariants as causes
 use Rattle.qs_ops.specs.declared.operation.Op.{Op}
 use Rattle.qs_ops.specs.declared.reply.Reply.{Reply}
 use Rattle.qs_ops.specs.declared.vote.Vote.TheVariants as votes
-use Rattle.qs_book.specs.Book.{BookValue, find_transaction, find_label}
-use Rattle.qs_book.specs.Transaction.{TransactionValue, next_number, part_of}
 use Rattle.qs_book.specs.declared.entry.Act.{Act}
 use Rattle.qs_book.specs.declared.entry.Act.TheVariants as acts
 use Rattle.qs_book.specs.declared.entry.Entry.{Entry}
 use Rattle.qs_book.specs.declared.script_line.Command.{Command}
 use Rattle.qs_book.specs.declared.script_line.Command.TheVariants as commands
 use Rattle.qs_book.specs.declared.script_line.ScriptLine.{ScriptLine}
-use Rattle.qs_book.specs.declared.state.NodeState.{NodeState}
-use Rattle.qs_book.specs.declared.transaction.Cell.TheVariants as cells
-use Rattle.qs_book.specs.declared.transaction.Link.{Link}
-use Rattle.qs_book.specs.declared.transaction.Part.{Part}
+use Rattle.qs_machine.specs.Book.{BookValue, find_transaction, find_label}
+use Rattle.qs_machine.specs.Nodes.{NodeValue}
+use Rattle.qs_servers.specs.Table.{reply_to, has_changes}
+use Rattle.qs_transaction.specs.Transaction.{TransactionValue, next_number, part_of}
+use Rattle.qs_transaction.specs.declared.state.Cell.TheVariants as cells
+use Rattle.qs_transaction.specs.declared.state.Link.{Link}
+use Rattle.qs_transaction.specs.declared.state.Part.{Part}
 
 -- ---- the node, its client, its files
 
@@ -128,17 +128,17 @@ aborted_answer None = answers.Ended
 aborted_answer (Some cause) = answers.Aborted cause
 
 -- the owner's commit
-abbrev pub of_commit : ℕ → NodeState → Tid → TransactionValue → ℕ → List Entry
+abbrev pub of_commit : ℕ → NodeValue → Tid → TransactionValue → ℕ → List Entry
 of_commit stamp node tid tx line = elim tx.cell [
-  | cells.Open ↦ committing stamp tid line (part_of tx files_0) (has_changes (share_of node.files tid))
+  | cells.Open ↦ committing stamp tid line (part_of tx files_0 node.inc) (has_changes node.files tid)
   | cells.Commit ↦ answer_entries stamp line answers.Committed
   | cells.Abort ↦ answer_entries stamp line (aborted_answer tx.cause)
 ]
 
 -- the owner's abort
-abbrev pub of_abort : ℕ → Tid → TransactionValue → ℕ → List Entry
-of_abort stamp tid tx line = elim tx.cell [
-  | cells.Open ↦ aborting stamp tid line (part_of tx files_0)
+abbrev pub of_abort : ℕ → NodeValue → Tid → TransactionValue → ℕ → List Entry
+of_abort stamp node tid tx line = elim tx.cell [
+  | cells.Open ↦ aborting stamp tid line (part_of tx files_0 node.inc)
   | cells.Commit ↦ answer_entries stamp line answers.Committed
   | cells.Abort ↦ answer_entries stamp line (aborted_answer tx.cause)
 ]
@@ -148,24 +148,24 @@ abbrev pub requesting : ℕ → Tid → ℕ → ℕ → Op → Option Reply → 
 requesting stamp tid line number op None = []
 requesting stamp tid line number op (Some reply) = request_entries stamp tid line number op reply
 
-abbrev pub of_request : ℕ → NodeState → Tid → TransactionValue → ℕ → Op → List Entry
+abbrev pub of_request : ℕ → NodeValue → Tid → TransactionValue → ℕ → Op → List Entry
 of_request stamp node tid tx line op = elim tx.cell [
-  | cells.Open ↦ requesting stamp tid line (next_number tx link_0) op (reply_to node.files tid op)
+  | cells.Open ↦ requesting stamp tid line (next_number tx link_0 node.inc) op (reply_to node.files tid op)
   | cells.Commit ↦ answer_entries stamp line answers.Ended
   | cells.Abort ↦ answer_entries stamp line answers.Ended
 ]
 
-abbrev pub next_tid : NodeState → Tid
+abbrev pub next_tid : NodeValue → Tid
 next_tid node = record { home = node_0; inc = node.inc; seq = node.begun + 1 }
 
 -- a command on a transaction that was begun
-abbrev pub of_known : ℕ → NodeState → Tid → TransactionValue → ℕ → Command → List Entry
+abbrev pub of_known : ℕ → NodeValue → Tid → TransactionValue → ℕ → Command → List Entry
 of_known stamp node tid tx line commands.Commit = of_commit stamp node tid tx line
-of_known stamp node tid tx line commands.Abort = of_abort stamp tid tx line
+of_known stamp node tid tx line commands.Abort = of_abort stamp node tid tx line
 of_known stamp node tid tx line (commands.Request member op) = of_request stamp node tid tx line op
 of_known stamp node tid tx line _ = []
 
-abbrev pub of_labelled : BookValue → NodeState → ScriptLine → Option Tid → List Entry
+abbrev pub of_labelled : BookValue → NodeValue → ScriptLine → Option Tid → List Entry
 of_labelled book node line None = []
 of_labelled book node line (Some tid) = elim (find_transaction book tid) [
   | None ↦ []
@@ -173,7 +173,7 @@ of_labelled book node line (Some tid) = elim (find_transaction book tid) [
 ]
 
 -- the entries that a command makes
-abbrev pub entries_of : BookValue → NodeState → ScriptLine → List Entry
+abbrev pub entries_of : BookValue → NodeValue → ScriptLine → List Entry
 entries_of book node line = elim line.command [
   | commands.Begin ↦ begin_entries book.stamp (next_tid node) line.label line.line
   | commands.Commit ↦ of_labelled book node line (find_label book line.label)

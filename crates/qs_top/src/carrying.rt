@@ -1,12 +1,13 @@
 //! A script is carried out command by command, and every entry is taken into the book.
 ghost use Rattle.std.specs.Prelude.{◌≡◌, [], ◌∷◌, false, None, OnOk, IfOk};
-ghost use Rattle.qs_book.specs.Book.{IsLawful, book_after, broken, effect};
+ghost use Rattle.qs_machine.specs.Lawful.{IsLawful, book_after, broken, effect};
 ghost use Rattle.qs_text.specs.Fits.{Fits, IsSeated};
-ghost use Rattle.qs_top.specs.Carrying.{Makes, Ready};
+ghost use Rattle.qs_top.specs.Carrying.{Makes, Ready, empty_log};
 
 use crate::node::{NODE, entries_of};
 use qs_base::{List, NoMemory};
-use qs_book::{Book, Entry, ScriptLine};
+use qs_book::{Entry, ScriptLine};
+use qs_machine::{Book, Opened};
 use qs_text::Script;
 use std::alloc::Global;
 
@@ -80,6 +81,21 @@ fn carry_out(
     Ok(())
 }
 
+/// A log that holds nothing, of a node in this incarnation.
+fn empty_log(alloc: Global, inc: u64) -> Opened
+    ensures { result ≡ empty_log inc }
+{
+    Opened {
+        inc,
+        format: 1,
+        files: List::new(alloc),
+        audit: List::new(alloc),
+        extra: List::new(alloc),
+        pending: List::new(alloc),
+        committed: List::new(alloc),
+    }
+}
+
 /// Carries out all commands of a script that was read, on a node in this incarnation, over a log that
 /// holds nothing.
 pub fn carry_out_all(alloc: Global, inc: u64, script: &Script) -> Result<Course, NoMemory>
@@ -88,7 +104,7 @@ pub fn carry_out_all(alloc: Global, inc: u64, script: &Script) -> Result<Course,
     ensures inc { IfOk result (λ course. course.inc ≡ inc) }
     ensures ready { IfOk result (λ course. Ready inc script.now course.journal.items course.book []) }
 {
-    let book = Book::over_empty_logs(alloc, &[inc])?;
+    let book = Book::opening(alloc, &[empty_log(alloc, inc)])?;
     let mut course = Course {
         inc,
         book,

@@ -1,7 +1,7 @@
 //! What the only node makes of a command: the entries of the steps in which it is carried out.
 ghost use Rattle.std.specs.Prelude.{◌≡◌, ◌+◌, ◌<◌, ◌^◌, IfOk, Some, None};
 ghost use Rattle.qs_base.specs.declared.identifiers.Outcome.TheVariants as outcomes;
-ghost use Rattle.qs_book.specs.Transaction.{next_number};
+ghost use Rattle.qs_transaction.specs.Transaction.{next_number};
 ghost use Rattle.qs_book.specs.declared.entry.Act.TheVariants as acts;
 ghost use Rattle.qs_ops.specs.declared.answer.Cause.TheVariants as causes;
 ghost use Rattle.std.specs.Option.{option_copied};
@@ -10,8 +10,10 @@ ghost use Rattle.qs_top.specs.Node.{entry, answered, begin_entries, request_entr
 use qs_base::{
     Bytes, ClientNo, Copied, List, Member, NoMemory, NodeNo, Outcome, ServerNo, Stamp, Tid,
 };
-use qs_book::{Act, Book, Cell, Command, Entry, Link, NodeState, Part, ScriptLine, Transaction};
+use qs_book::{Act, Command, Entry, ScriptLine};
+use qs_machine::{Book, NodeState};
 use qs_ops::{Answer, Cause, Op, Reply, Vote, answer_of};
+use qs_transaction::{Cell, Link, Part, Transaction};
 use std::alloc::Global;
 
 /// The only node.
@@ -177,6 +179,16 @@ fn vote(tid: Tid, vote: Vote, covers: u32) -> Act
     }
 }
 
+/// A count of requests, as entries hold it. Want of memory stands for one that is too large.
+fn counted(count: u64) -> Result<u32, NoMemory>
+    ensures { IfOk result (λ number. number ≡ count) }
+{
+    match u32::try_from(count) {
+        Ok(number) => Ok(number),
+        Err(_) => Err(NoMemory),
+    }
+}
+
 /// A commit: asked, voted in the next step where files served something, and decided, learnt and
 /// answered in the step after it.
 fn committing(
@@ -193,10 +205,11 @@ fn committing(
     if !part.due {
         return empty_commit(alloc, stamp, tid, line);
     }
+    let served = counted(part.served)?;
     if has_pending {
-        commit(alloc, stamp, tid, line, part.served)
+        commit(alloc, stamp, tid, line, served)
     } else {
-        read_commit(alloc, stamp, tid, line, part.served)
+        read_commit(alloc, stamp, tid, line, served)
     }
 }
 
@@ -333,8 +346,8 @@ fn of_commit(
 {
     match tx.cell() {
         Cell::Open => {
-            let has_pending = node.files.has_changes(tid);
-            committing(alloc, stamp, tid, line, tx.part(FILES), has_pending)
+            let part = tx.part(FILES, node.inc());
+            committing(alloc, stamp, tid, line, part, node.files().has_changes(tid))
         }
         Cell::Commit => answer_entries(alloc, stamp, line, Answer::Committed),
         Cell::Abort => answer_entries(alloc, stamp, line, aborted_answer(tx.cause())?),
@@ -345,28 +358,26 @@ fn of_commit(
 fn of_abort(
     alloc: Global,
     stamp: Stamp,
+    node: &NodeState,
     tid: Tid,
     tx: &Transaction,
     line: u32,
 ) -> Result<List<Entry>, NoMemory>
     requires { stamp + 3 < 2 ^ 62 }
-    ensures { IfOk result (λ list. list ≡ of_abort stamp tid tx.now line) }
+    ensures { IfOk result (λ list. list ≡ of_abort stamp node.now tid tx.now line) }
 {
     match tx.cell() {
-        Cell::Open => aborting(alloc, stamp, tid, line, tx.part(FILES)),
+        Cell::Open => aborting(alloc, stamp, tid, line, tx.part(FILES, node.inc())),
         Cell::Commit => answer_entries(alloc, stamp, line, Answer::Committed),
         Cell::Abort => answer_entries(alloc, stamp, line, aborted_answer(tx.cause())?),
     }
 }
 
 /// The number of the next request. Want of memory stands for a count at its end.
-fn next_number(tx: &Transaction) -> Result<u32, NoMemory>
-    ensures { IfOk result (λ number. number ≡ next_number tx.now link_0) }
+fn next_number(tx: &Transaction, inc: u64) -> Result<u32, NoMemory>
+    ensures { IfOk result (λ number. number ≡ next_number tx.now link_0 inc) }
 {
-    match u32::try_from(tx.next_number(LINK)) {
-        Ok(number) => Ok(number),
-        Err(_) => Err(NoMemory),
-    }
+    counted(tx.next_number(LINK, inc))
 }
 
 /// A request of the owner. Once the transaction is decided it is answered that it ended.
@@ -385,8 +396,8 @@ fn of_request(
     if tx.cell() != Cell::Open {
         return answer_entries(alloc, stamp, line, Answer::Ended);
     }
-    let number = next_number(tx)?;
-    match node.files.reply(tid, op)? {
+    let number = next_number(tx, node.inc())?;
+    match node.files().reply(tid, op)? {
         Some(reply) => request_entries(alloc, stamp, tid, line, number, op, reply),
         None => Ok(List::new(alloc)),
     }
@@ -396,12 +407,12 @@ fn of_request(
 fn next_tid(node: &NodeState) -> Result<Tid, NoMemory>
     ensures { IfOk result (λ tid. tid ≡ next_tid node.now) }
 {
-    let Some(seq) = node.begun.checked_add(1) else {
+    let Some(seq) = node.begun().checked_add(1) else {
         return Err(NoMemory);
     };
     Ok(Tid {
         home: NodeNo(0),
-        inc: node.inc,
+        inc: node.inc(),
         seq,
     })
 }
@@ -421,7 +432,7 @@ fn of_known(
 {
     match command {
         Command::Commit => of_commit(alloc, stamp, node, tid, tx, line),
-        Command::Abort => of_abort(alloc, stamp, tid, tx, line),
+        Command::Abort => of_abort(alloc, stamp, node, tid, tx, line),
         Command::Request { op, .. } => of_request(alloc, stamp, node, tid, tx, line, op),
         Command::Begin | Command::Take | Command::Yield => Ok(List::new(alloc)),
     }

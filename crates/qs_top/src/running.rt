@@ -1,7 +1,7 @@
 //! The top call.
 ghost use Rattle.std.specs.Prelude.{◌≡◌, ◌≢◌, ◌↔◌, ◌≤◌, ℕ, [], Ok, Err, None, IfOk, length};
 ghost use Rattle.qs_base.specs.declared.identifiers.NodeNo.{NodeNo};
-ghost use Rattle.qs_book.specs.Book.{IsLawful, book_after};
+ghost use Rattle.qs_machine.specs.Lawful.{IsLawful, book_after};
 ghost use Rattle.qs_base.specs.Causes.{Rose};
 ghost use Rattle.qs_io.specs.Streams.{TakesAtMost};
 ghost use Rattle.std.specs.Prelude.{false};

@@ -75,7 +75,7 @@ fn request(issuer: Member, member: Member, inc: u64) -> Request {
 
 // The owner issues a request in that incarnation of the home; its peer is in incarnation 1.
 fn issue(tx: &mut Transaction, number: u32, member: Member, inc: u64) -> Result<(), NoMemory> {
-    tx.issue(numbered(number), request(OWNER, member, inc), 1)
+    tx.issue(numbered(number), request(OWNER, member, inc), 1, 0)
 }
 
 // One that the owner issues in incarnation 1, and that a member of the peer serves in that
@@ -87,7 +87,7 @@ fn serve_one(
     inc: u64,
     stamp: u64,
 ) -> Result<(), NoMemory> {
-    tx.issue(numbered(number), request(OWNER, member, 1), inc)?;
+    tx.issue(numbered(number), request(OWNER, member, 1), inc, 0)?;
     tx.serve(numbered(number), member, inc, stamp, true)
 }
 
@@ -142,6 +142,24 @@ fn the_earliest_of_two_crossed_requests_is_served_first(rt: HostRuntime) -> Resu
     let mut tx = begun(rt.alloc())?;
     assert_eq!(rt; crossing(&mut tx), Ok([false, true, false, false]));
     assert_eq!(rt; serving(&mut tx), Ok([4, 6, 0, 5]));
+    Ok(())
+}
+
+// Two more requests cross files, at places 3 and 5: before which places were they crossed?
+fn crossing_again(tx: &mut Transaction) -> Result<[bool; 4], NoMemory> {
+    issue(tx, 1, FILES, 4)?;
+    tx.issue(numbered(1), request(OWNER, FILES, 5), 1, 3)?;
+    let before = tx.was_crossed(3, FILES);
+    let after = tx.was_crossed(4, FILES);
+    tx.issue(numbered(1), request(OWNER, FILES, 6), 1, 5)?;
+    let still = tx.was_crossed(4, FILES);
+    Ok([before, after, still, tx.was_crossed(4, SCRATCH)])
+}
+
+#[test]
+fn a_later_crossing_keeps_the_first_place(rt: HostRuntime) -> Result<(), Fail> {
+    let mut tx = begun(rt.alloc())?;
+    assert_eq!(rt; crossing_again(&mut tx), Ok([false, true, true, false]));
     Ok(())
 }
 
@@ -237,7 +255,7 @@ fn a_vote_against_commit_is_never_taken_back(rt: HostRuntime) -> Result<(), Fail
 // incarnation voted.
 fn vote_twice(tx: &mut Transaction) -> Result<[bool; 3], NoMemory> {
     serve_one(tx, 1, FILES, 1, 5)?;
-    tx.issue(numbered(2), request(OWNER, FILES, 1), 2)?;
+    tx.issue(numbered(2), request(OWNER, FILES, 1), 2, 0)?;
     tx.vote(FILES, 1, &Vote::Recoverable)?;
     tx.ask(6);
     let standing = tx.is_unanimous();
@@ -344,7 +362,7 @@ fn gone(tx: &Transaction, inc: u64) -> [bool; 2] {
 // The request goes to incarnation 3, and its answer comes from incarnation 4: what is open in 5 once
 // it was issued, once it was counted, and once the client heard of it.
 fn answered(tx: &mut Transaction) -> Result<[[bool; 2]; 3], NoMemory> {
-    tx.issue(numbered(1), request(OWNER, FILES, 1), 3)?;
+    tx.issue(numbered(1), request(OWNER, FILES, 1), 3, 0)?;
     let issued = gone(tx, 5);
     tx.count(link(), 1, 1, 4);
     let counted = gone(tx, 5);
@@ -355,7 +373,7 @@ fn answered(tx: &mut Transaction) -> Result<[[bool; 2]; 3], NoMemory> {
 // The same for a request to incarnation 5, the count of another incarnation of the home being none,
 // and no count falling.
 fn counted_twice(tx: &mut Transaction) -> Result<[[bool; 2]; 2], NoMemory> {
-    tx.issue(numbered(2), request(OWNER, FILES, 1), 5)?;
+    tx.issue(numbered(2), request(OWNER, FILES, 1), 5, 0)?;
     tx.hear(PEER, 5);
     tx.count(link(), 2, 2, 5);
     let other = gone(tx, 6);
@@ -366,7 +384,7 @@ fn counted_twice(tx: &mut Transaction) -> Result<[[bool; 2]; 2], NoMemory> {
 
 // What files sent stays open.
 fn sent_by_files(tx: &mut Transaction) -> Result<[bool; 2], NoMemory> {
-    tx.issue(numbered(3), request(member(HOME, 0), FILES, 1), 5)?;
+    tx.issue(numbered(3), request(member(HOME, 0), FILES, 1), 5, 0)?;
     tx.count(link(), 1, 3, 5);
     Ok(gone(tx, 6))
 }
@@ -401,7 +419,7 @@ fn note(
         inc: 4,
         served: false,
     };
-    tx.issue(numbered(number), asked, 1)?;
+    tx.issue(numbered(number), asked, 1, 0)?;
     let issued = tx.has_note(note);
     tx.serve(numbered(number), AUDIT, 1, 5, true)?;
     Ok([issued, tx.has_note(note)])

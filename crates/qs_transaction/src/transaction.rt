@@ -31,7 +31,7 @@ pub struct Transaction {
     parts: BTreeMap<Life, Part>,
     starts: BTreeSet<Start>,
     refusals: List<Refusal>,
-    crossed: BTreeSet<Member>,
+    crossed: BTreeMap<Member, u64>,
     learnt: BTreeSet<Member>,
     alloc: Global,
 }
@@ -56,7 +56,7 @@ impl Model for Transaction {
       parts = t.parts.entries;
       starts = t.starts.keys;
       refusals = t.refusals;
-      crossed = t.crossed.keys;
+      crossed = t.crossed.entries;
       learnt = t.learnt.keys;
     } };
 }
@@ -107,7 +107,7 @@ impl Transaction {
             parts: BTreeMap::new(alloc),
             starts: BTreeSet::new(alloc),
             refusals: List::new(alloc),
-            crossed: BTreeSet::new(alloc),
+            crossed: BTreeMap::new(alloc),
             learnt: BTreeSet::new(alloc),
             alloc,
         }
@@ -210,7 +210,7 @@ impl Transaction {
     pub fn is_crossed(&self, member: Member) -> bool
         ensures { result ≡ is_crossed self.now member }
     {
-        self.crossed.contains(&member)
+        self.crossed.contains_key(&member)
     }
 
     /// Whether that member learnt commit, in whatever incarnation.

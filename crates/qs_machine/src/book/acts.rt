@@ -104,7 +104,14 @@ impl Book {
         };
         let peer_inc = self.inc_at(member.node);
         let crossed = self.crosses(tid, at, member);
-        transactions::issue(&mut self.transactions, tid, at, request, peer_inc)?;
+        transactions::issue(
+            &mut self.transactions,
+            tid,
+            at,
+            request,
+            peer_inc,
+            self.place,
+        )?;
         self.wait(tid, issuer, member)?;
         self.cross(crossed, tid, member)
     }

@@ -1,13 +1,14 @@
 //! The opening of the machine: what the logs name stands in it.
 ghost use Rattle.std.specs.Prelude.{◌≡◌, IfOk, OnOk, length};
-ghost use Rattle.std.specs.List.{fold};
+ghost use Rattle.std.specs.List.{fold, list_any};
 ghost use Rattle.qs_machine.specs.Restart.{member_at};
 ghost use Rattle.qs_transaction.specs.Transaction.{found_at};
 ghost use Rattle.qs_machine.specs.Book.{with_transaction};
-ghost use Rattle.qs_machine.specs.Opening.{opening, name_all, name_from, name_pending, name_transaction, opened_transaction};
+ghost use Rattle.qs_machine.specs.Opening.{opening, has_commit, name_all, name_from, name_pending, name_transaction, opened_transaction};
 
-use super::restarting::{is_among, member_at};
+use super::restarting::member_at;
 use super::{Book, transactions};
+use crate::node::NodeState;
 use crate::opened::{Opened, Pending};
 use crate::opening::{no_owners, opened_nodes};
 use qs_base::{NoMemory, NodeNo, Tid};
@@ -19,8 +20,8 @@ use std::collections::BTreeMap;
 impl Book {
     /// The machine as a run of these nodes begins: each is up in its incarnation, with what its log
     /// holds committed and what it holds pending. A transaction that a log names has the cell commit
-    /// where the log of its home has its Commit, abort where its home is in the run and has none, and
-    /// else open.
+    /// where any log of the run has its Commit, abort where its home is in the run and none has it,
+    /// and else open.
     pub fn opening(alloc: Global, opened: &[Opened]) -> Result<Book, NoMemory>
         ensures { IfOk result (λ book. book ≡ opening opened.now) }
     {
@@ -39,13 +40,13 @@ impl Book {
     }
 
     /// A transaction that a log names stands in the machine.
-    fn name_transaction(&mut self, opened: &[Opened], tid: &Tid) -> Result<(), NoMemory>
-        ensures { OnOk result (self.new ≡ name_transaction opened.now self.old tid.now) }
+    fn name_transaction(&mut self, tid: &Tid) -> Result<(), NoMemory>
+        ensures { OnOk result (self.new ≡ name_transaction self.old tid.now) }
     {
         if self.transactions.contains_key(tid) {
             return Ok(());
         }
-        let tx = opened_transaction(self.alloc, opened, *tid);
+        let tx = opened_transaction(self.alloc, self.nodes.as_slice(), *tid);
         transactions::put(&mut self.transactions, *tid, tx)
     }
 
@@ -66,72 +67,67 @@ impl Book {
     }
 
     /// A vote that a log holds was left to its member.
-    fn name_pending(
-        &mut self,
-        opened: &[Opened],
-        here: NodeNo,
-        inc: u64,
-        vote: &Pending,
-    ) -> Result<(), NoMemory>
-        ensures { OnOk result (self.new ≡ name_pending opened.now here.0 inc self.old vote.now) }
+    fn name_pending(&mut self, here: NodeNo, inc: u64, vote: &Pending) -> Result<(), NoMemory>
+        ensures { OnOk result (self.new ≡ name_pending here.0 inc self.old vote.now) }
     {
-        self.name_transaction(opened, &vote.tid)?;
+        self.name_transaction(&vote.tid)?;
         self.find_pending(here, inc, vote)
     }
 }
 
-fn opened_transaction(alloc: Global, opened: &[Opened], tid: Tid) -> Transaction
-    ensures { result ≡ opened_transaction opened.now tid }
+/// Whether the log of any node has the transaction's Commit.
+fn has_commit(nodes: &[NodeState], tid: Tid) -> bool
+    ensures { result ≡ list_any (has_commit tid) nodes.now }
 {
-    match opened.get(usize::from(tid.home.0)) {
-        Some(home) if is_among(home.committed.as_slice(), tid) => {
-            Transaction::opened(alloc, Cell::Commit, None)
-        }
-        Some(_) => Transaction::opened(alloc, Cell::Abort, Some(Cause::Home { inc: tid.inc })),
-        None => Transaction::opened(alloc, Cell::Open, None),
-    }
+    nodes.iter().any(|node| node.held_commit(tid))
 }
 
-fn name_commits(book: &mut Book, opened: &[Opened], committed: &[Tid]) -> Result<(), NoMemory>
-    ensures { OnOk result (book.new ≡ fold (name_transaction opened.now) book.old committed.now) }
+fn opened_transaction(alloc: Global, nodes: &[NodeState], tid: Tid) -> Transaction
+    ensures { result ≡ opened_transaction nodes.now tid }
+{
+    if has_commit(nodes, tid) {
+        return Transaction::opened(alloc, Cell::Commit, None);
+    }
+    if usize::from(tid.home.0) < nodes.len() {
+        return Transaction::opened(alloc, Cell::Abort, Some(Cause::Home { inc: tid.inc }));
+    }
+    Transaction::opened(alloc, Cell::Open, None)
+}
+
+fn name_commits(book: &mut Book, committed: &[Tid]) -> Result<(), NoMemory>
+    ensures { OnOk result (book.new ≡ fold name_transaction book.old committed.now) }
 {
     for tid in committed {
-        book.name_transaction(opened, tid)?;
+        book.name_transaction(tid)?;
     }
     Ok(())
 }
 
-fn name_votes(
-    book: &mut Book,
-    opened: &[Opened],
-    here: NodeNo,
-    inc: u64,
-    pending: &[Pending],
-) -> Result<(), NoMemory>
-    ensures { OnOk result (book.new ≡ fold (name_pending opened.now here.0 inc) book.old pending.now) }
+fn name_votes(book: &mut Book, here: NodeNo, inc: u64, pending: &[Pending]) -> Result<(), NoMemory>
+    ensures { OnOk result (book.new ≡ fold (name_pending here.0 inc) book.old pending.now) }
 {
     for vote in pending {
-        book.name_pending(opened, here, inc, vote)?;
+        book.name_pending(here, inc, vote)?;
     }
     Ok(())
 }
 
 /// All that the log of a node names.
-fn name_all(book: &mut Book, opened: &[Opened], here: NodeNo, one: &Opened) -> Result<(), NoMemory>
-    ensures { OnOk result (book.new ≡ name_all opened.now here.0 one.now book.old) }
+fn name_all(book: &mut Book, here: NodeNo, one: &Opened) -> Result<(), NoMemory>
+    ensures { OnOk result (book.new ≡ name_all here.0 one.now book.old) }
 {
-    name_commits(book, opened, one.committed.as_slice())?;
-    name_votes(book, opened, here, one.inc, one.pending.as_slice())
+    name_commits(book, one.committed.as_slice())?;
+    name_votes(book, here, one.inc, one.pending.as_slice())
 }
 
 /// All that the logs name, the first node's first. More than 255 nodes count as want of memory.
 fn name_from_first(book: &mut Book, opened: &[Opened]) -> Result<(), NoMemory>
-    ensures { OnOk result (book.new ≡ name_from opened.now 0 opened.now book.old) }
+    ensures { OnOk result (book.new ≡ name_from 0 opened.now book.old) }
 {
     let mut here = 0u8;
     let mut rest = opened;
     while let [one, more @ ..] = rest {
-        name_all(book, opened, NodeNo(here), one)?;
+        name_all(book, NodeNo(here), one)?;
         let Some(next) = here.checked_add(1) else {
             return Err(NoMemory);
         };

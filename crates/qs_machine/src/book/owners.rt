@@ -69,7 +69,7 @@ fn learn(owner: &mut Owner, outcome: Outcome, cause: Option<&Cause>) -> Result<(
 {
     match (outcome, cause) {
         (Outcome::Commit, _) => owner.committed = true,
-        (Outcome::Abort, Some(cause)) => owner.causes.push(cause.copy()?)?,
+        (Outcome::Abort, Some(cause)) => owner.causes.add(cause.copy()?)?,
         (Outcome::Abort, None) => {}
     }
     Ok(())

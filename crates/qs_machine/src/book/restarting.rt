@@ -1,10 +1,11 @@
 //! A restart: whether its found lists may be, and what it does.
-ghost use Rattle.std.specs.Prelude.{◌≡◌, not, IfOk, OnOk};
+ghost use Rattle.std.specs.Prelude.{◌≡◌, not, cond, true, IfOk, OnOk};
 ghost use Rattle.std.specs.List.{list_any, list_all};
+ghost use Rattle.std.specs.BTreeMap.{is_at};
 ghost use Rattle.std.specs.Option.{option_copied};
 ghost use Rattle.qs_transaction.specs.Transaction.{is_empty};
-ghost use Rattle.qs_machine.specs.Nodes.{is_recoverable, pending_at};
-ghost use Rattle.qs_machine.specs.Restart.{member_at, is_among, is_on_record, could_vote, is_new_vote, was_applied, is_same_vote, votes_once, may_be_lost, is_found_as, is_committed, is_open_here, is_found_vote, is_kept, is_found_commit, broken_restart};
+ghost use Rattle.qs_machine.specs.Nodes.{is_recoverable, pending_at, voter_cmp};
+ghost use Rattle.qs_machine.specs.Restart.{member_at, is_among, is_on_record, could_vote, is_new_vote, was_applied, is_seen, voter_of, votes_once, may_be_lost, is_found_as, is_committed, is_open_here, is_found_vote, is_kept, is_found_commit, broken_restart};
 ghost use Rattle.qs_machine.specs.declared.state.OnRecord.{OnRecord};
 
 use super::Book;
@@ -13,9 +14,11 @@ use crate::clauses::{
 };
 use crate::node::NodeState;
 use crate::state::Voter;
-use qs_base::{Member, NodeNo, ServerNo, Tid};
+use qs_base::{Member, NoMemory, NodeNo, ServerNo, Tid};
 use qs_book::Found;
 use qs_transaction::{Cell, Transaction};
+use std::alloc::Global;
+use std::collections::BTreeSet;
 
 pub fn member_at(here: NodeNo, server: ServerNo) -> Member
     ensures { result ≡ member_at here.0 server.0 }
@@ -58,11 +61,10 @@ fn could_vote(here: NodeNo, node: &NodeState, tx: &Transaction, found: Found) ->
 {
     let member = member_at(here, found.server);
     let part = tx.part(member, node.inc());
-    is_recoverable(found.server)
-        && tx.was_in_commit(node.stopped())
+    tx.was_in_commit(node.stopped())
         && part.voted < part.served
         && tx.is_covering(member, node.inc(), u64::from(found.covers))
-        && (tx.is_crossed(member) || has_pending(node, found))
+        && (tx.was_crossed(node.stopped(), member) || has_pending(node, found))
 }
 
 pub fn is_new_vote(here: NodeNo, node: &NodeState, tx: Option<&Transaction>, found: Found) -> bool
@@ -92,30 +94,29 @@ fn was_applied(
     }
 }
 
-fn is_same_vote(found: Found, other: Found) -> bool
-    ensures { result ≡ is_same_vote found other }
+/// Whether no vote of that member for that transaction was seen; from now on it is.
+fn is_first(seen: &mut BTreeSet<Voter>, found: Found) -> Result<bool, NoMemory>
+    ensures first { IfOk result (λ first. first ≡ not (is_seen seen.old.keys found)) }
+    ensures seen { OnOk result ((other : Found) → is_seen seen.new.keys other ≡ cond (is_at (voter_cmp (voter_of found)) (voter_of other)) true (is_seen seen.old.keys other)) }
 {
-    other.tid == found.tid && other.server == found.server
-}
-
-fn has_vote(votes: &[Found], found: Found) -> bool
-    ensures { result ≡ list_any (is_same_vote found) votes.now }
-{
-    votes.iter().any(|other| is_same_vote(found, *other))
+    let voter = Voter {
+        tid: found.tid,
+        server: found.server,
+    };
+    Ok(seen.insert(voter)?)
 }
 
 /// Whether each member's vote for a transaction is found once.
-fn votes_once(pend: &[Found]) -> bool
-    ensures { result ≡ votes_once pend.now }
+fn votes_once(alloc: Global, pend: &[Found]) -> Result<bool, NoMemory>
+    ensures { IfOk result (λ once. once ≡ votes_once pend.now) }
 {
-    let mut rest = pend;
-    while let [found, more @ ..] = rest {
-        if has_vote(more, *found) {
-            return false;
+    let mut seen = BTreeSet::new(alloc);
+    for found in pend {
+        if !is_first(&mut seen, *found)? {
+            return Ok(false);
         }
-        rest = more;
     }
-    true
+    Ok(true)
 }
 
 fn may_be_lost(here: NodeNo, tid: Tid, tx: Option<&Transaction>) -> bool
@@ -165,9 +166,10 @@ impl Book {
         ensures { result ≡ is_found_vote here.0 self.now node.now done.now found }
     {
         let tx = self.transaction(found.tid);
-        is_on_record(node, found)
-            || is_new_vote(here, node, tx, found)
-            || was_applied(here, node, done, tx, found)
+        is_recoverable(found.server)
+            && (is_on_record(node, found)
+                || is_new_vote(here, node, tx, found)
+                || was_applied(here, node, done, tx, found))
     }
 
     fn is_kept(&self, here: NodeNo, pend: &[Found], done: &[Tid], at: Voter, covers: u32) -> bool
@@ -212,21 +214,21 @@ impl Book {
         inc: u64,
         pend: &[Found],
         done: &[Tid],
-    ) -> Option<u16>
-        ensures { result ≡ broken_restart here.0 self.now node.now inc pend.now done.now }
+    ) -> Result<Option<u16>, NoMemory>
+        ensures { IfOk result (λ clause. clause ≡ broken_restart here.0 self.now node.now inc pend.now done.now) }
     {
         if inc <= node.inc() {
-            return Some(INCARNATION_RISES);
+            return Ok(Some(INCARNATION_RISES));
         }
-        if !self.are_found_votes(here, node, pend, done) || !votes_once(pend) {
-            return Some(FOUND_VOTES_ARE_VOTES);
+        if !self.are_found_votes(here, node, pend, done) || !votes_once(self.alloc, pend)? {
+            return Ok(Some(FOUND_VOTES_ARE_VOTES));
         }
         if !self.are_kept(here, node, pend, done) {
-            return Some(NO_VOTE_IS_LOST);
+            return Ok(Some(NO_VOTE_IS_LOST));
         }
         if !self.are_found_commits(here, node, done) {
-            return Some(FOUND_COMMITS_ARE_COMMITS);
+            return Ok(Some(FOUND_COMMITS_ARE_COMMITS));
         }
-        None
+        Ok(None)
     }
 }

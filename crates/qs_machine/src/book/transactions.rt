@@ -76,18 +76,19 @@ pub fn end(transactions: &mut BTreeMap<Tid, Transaction>, tid: Tid, member: Memb
     }
 }
 
-/// A request is issued.
+/// A request is issued, at this place in the history.
 pub fn issue(
     transactions: &mut BTreeMap<Tid, Transaction>,
     tid: Tid,
     at: RequestNo,
     request: Request,
     peer_inc: u64,
+    place: u64,
 ) -> Result<(), NoMemory>
-    ensures { OnOk result (transactions.new.entries ≡ changed_value (is_at (tid_cmp tid)) (issued at request peer_inc) transactions.old.entries) }
+    ensures { OnOk result (transactions.new.entries ≡ changed_value (is_at (tid_cmp tid)) (issued at request peer_inc place) transactions.old.entries) }
 {
     if let Some(tx) = transactions.get_mut(&tid) {
-        tx.issue(at, request, peer_inc)?;
+        tx.issue(at, request, peer_inc, place)?;
     }
     Ok(())
 }

@@ -2,7 +2,6 @@
 ghost use Rattle.std.specs.Prelude.{◌≡◌};
 ghost use Rattle.std.specs.List.{list_any};
 ghost use Rattle.std.specs.Option.{option_copied};
-ghost use Rattle.qs_ops.specs.Alike.{same_cause};
 ghost use Rattle.qs_ops.specs.Members.{class_of};
 ghost use Rattle.qs_machine.specs.Clauses.{is_known, broken_answer, borrower_at, may_lend, may_yield, broken_loan, broken_yield, may_end, broken_ending, may_learn, waits_for, earlier_servers, broken_learn, is_crash, broken_crash};
 
@@ -14,7 +13,7 @@ use crate::node::NodeState;
 use crate::state::Owner;
 use qs_base::{Class, ClientNo, Member, NodeNo, Outcome, ServerNo, Stamp};
 use qs_book::CrashCause;
-use qs_ops::{Answer, Cause, class_of, learns_outcome};
+use qs_ops::{Answer, class_of, learns_outcome};
 use qs_transaction::{Cell, Part, Transaction, cell_of};
 
 /// The first clause that an answer to a client breaks.
@@ -38,15 +37,9 @@ fn is_known(owner: &Owner, answer: &Answer) -> bool
 {
     match answer {
         Answer::Committed => owner.committed,
-        Answer::Aborted { cause } => has_cause(owner, cause),
+        Answer::Aborted { cause } => owner.causes.has(cause),
         _ => true,
     }
-}
-
-fn has_cause(owner: &Owner, cause: &Cause) -> bool
-    ensures { result ≡ list_any (same_cause cause.now) owner.now.causes }
-{
-    owner.causes.as_slice().iter().any(|c| cause.is(c))
 }
 
 /// The client as a member at `here`; `None` where no server number stands for it.

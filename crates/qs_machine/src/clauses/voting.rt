@@ -167,12 +167,12 @@ fn has_vote(server: ServerNo, vote: &Vote) -> bool
     match vote {
         Vote::ReadOnly => true,
         Vote::Volatile => server == 2,
-        Vote::Recoverable => server != 2,
+        Vote::Recoverable => server == 0 || server == 1,
         Vote::Abort { reason } => match reason {
             Reason::Quota { .. } => server == 0,
-            Reason::LogRoom { .. } => server != 2,
+            Reason::LogRoom { .. } => server == 0 || server == 1,
             Reason::Taken { .. } => server == 2,
-            Reason::Code { .. } => server == 6,
+            Reason::Code { .. } => false,
         },
     }
 }

@@ -10,7 +10,7 @@ use qs_ops::{Reason, class_of};
 use std::collections::BTreeSet;
 
 impl Transaction {
-    ghost use Rattle.qs_transaction.specs.Transaction.{is_covering, is_unanimous, has_refusal, is_gone, has_loan, is_loan_due, learnt_abort, was_committed, was_in_commit, all_served, is_open_to, reached, part_of};
+    ghost use Rattle.qs_transaction.specs.Transaction.{is_covering, is_unanimous, has_refusal, is_gone, has_loan, is_loan_due, learnt_abort, was_committed, was_in_commit, was_crossed, all_served, is_open_to, reached, part_of};
 
     /// Whether so many covers count what the member served since the restart, or since one of its
     /// read-only votes.
@@ -138,6 +138,13 @@ impl Transaction {
         ensures { result ≡ was_in_commit place self.now }
     {
         is_before(place, self.asked) && !self.was_committed(place)
+    }
+
+    /// Whether the transaction was crossed at that member before that place in the history.
+    pub fn was_crossed(&self, place: u64, member: Member) -> bool
+        ensures { result ≡ was_crossed place self.now member }
+    {
+        is_before(place, self.crossed.get(&member).copied())
     }
 
     fn was_committed(&self, place: u64) -> bool

@@ -3,9 +3,7 @@ ghost use Rattle.std.specs.Prelude.{◌≡◌, ◌++◌, ◌∷◌, [], OnOk, On
 ghost use Rattle.std.specs.Option.{option_copied};
 ghost use Rattle.std.specs.List.{find};
 ghost use Rattle.std.specs.BTreeMap.{insert_entry, is_at};
-ghost use Rattle.std.specs.BTreeSet.{insert_key};
-ghost use Rattle.qs_base.specs.Order.{member_cmp};
-ghost use Rattle.qs_transaction.specs.Transaction.{requests_in, life_cmp, node_cmp, request_cmp, crossed_by, is_standing, with_note_of, changed_value, mark_served};
+ghost use Rattle.qs_transaction.specs.Transaction.{requests_in, life_cmp, node_cmp, request_cmp, crossed_by, crossed_from, is_standing, with_note_of, changed_value, mark_served};
 
 use crate::requests::Requests;
 use crate::sending::{note_of, reached_by, sent_more};
@@ -20,16 +18,22 @@ use std::collections::{BTreeMap, BTreeSet};
 impl Transaction {
     ghost use Rattle.qs_transaction.specs.Transaction.{issued, served_in, with_request};
 
-    /// The issue of a request on a link under a number; the member's node is in incarnation
-    /// `peer_inc`. After a refusal, which comes for want of memory or a count at its end, all is as it
-    /// was.
-    pub fn issue(&mut self, at: RequestNo, request: Request, peer_inc: u64) -> Result<(), NoMemory>
-        ensures ok { OnOk result (self.new ≡ issued at request peer_inc self.old) }
+    /// The issue of a request on a link under a number, at that place in the history; the member's
+    /// node is in incarnation `peer_inc`. After a refusal, which comes for want of memory or a count
+    /// at its end, all is as it was.
+    pub fn issue(
+        &mut self,
+        at: RequestNo,
+        request: Request,
+        peer_inc: u64,
+        place: u64,
+    ) -> Result<(), NoMemory>
+        ensures ok { OnOk result (self.new ≡ issued at request peer_inc place self.old) }
         ensures err { OnErr result (self.new ≡ self.old) }
     {
         let sent = sent_more(&request, self.sent.get(&at.link).copied())?;
         let peer = reached_by(&request, peer_inc, self.peer(at.link.to))?;
-        self.put_request(at, request, sent, peer)
+        self.put_request(at, request, sent, peer, place)
     }
 
     /// The request stands under its number, with that sent on its link and that open towards its
@@ -40,12 +44,13 @@ impl Transaction {
         request: Request,
         sent: Sent,
         peer: Peer,
+        place: u64,
     ) -> Result<(), NoMemory>
-        ensures ok { OnOk result (self.new ≡ with_request at request sent peer self.old) }
+        ensures ok { OnOk result (self.new ≡ with_request at request sent peer place self.old) }
         ensures err { OnErr result (self.new ≡ self.old) }
     {
         match self.sent.entry(at.link)? {
-            Entry::Vacant(place) => {
+            Entry::Vacant(link) => {
                 file_towards(
                     self.alloc,
                     &mut self.peers,
@@ -54,10 +59,11 @@ impl Transaction {
                     at,
                     request,
                     peer,
+                    place,
                 )?;
-                place.insert(sent);
+                link.insert(sent);
             }
-            Entry::Occupied(mut place) => {
+            Entry::Occupied(mut link) => {
                 file_towards(
                     self.alloc,
                     &mut self.peers,
@@ -66,8 +72,9 @@ impl Transaction {
                     at,
                     request,
                     peer,
+                    place,
                 )?;
-                place.insert(sent);
+                link.insert(sent);
             }
         }
         Ok(())
@@ -165,52 +172,55 @@ fn keep_note(noted: &mut BTreeSet<Noted>, request: Option<&Request>) -> Result<(
 }
 
 /// The request stands under its number, with that open towards its member's node, and crosses its
-/// member where an earlier one to it stands there. After a refusal all three are as they were.
+/// member, from that place on, where an earlier one to it stands there. After a refusal all three are
+/// as they were.
 fn file_towards(
     alloc: Global,
     peers: &mut BTreeMap<NodeNo, Peer>,
     requests: &mut BTreeMap<RequestNo, Requests>,
-    crossed: &mut BTreeSet<Member>,
+    crossed: &mut BTreeMap<Member, u64>,
     at: RequestNo,
     request: Request,
     peer: Peer,
+    place: u64,
 ) -> Result<(), NoMemory>
     ensures peers { OnOk result (peers.new.entries ≡ insert_entry node_cmp peers.old.entries at.link.to peer) }
     ensures requests { OnOk result (requests.new.entries ≡ insert_entry request_cmp requests.old.entries at (requests_in requests.old.entries at ++ request ∷ [])) }
-    ensures crossed { OnOk result (crossed.new.keys ≡ crossed_by (find (is_standing request.member) (requests_in requests.old.entries at)) request.member crossed.old.keys) }
+    ensures crossed { OnOk result (crossed.new.entries ≡ crossed_by (find (is_standing request.member) (requests_in requests.old.entries at)) place request.member crossed.old.entries) }
     ensures peers_err { OnErr result (peers.new.entries ≡ peers.old.entries) }
     ensures requests_err { OnErr result (requests.new.entries ≡ requests.old.entries) }
-    ensures crossed_err { OnErr result (crossed.new.keys ≡ crossed.old.keys) }
+    ensures crossed_err { OnErr result (crossed.new.entries ≡ crossed.old.entries) }
 {
     match peers.entry(at.link.to)? {
-        Entry::Vacant(place) => {
-            file(alloc, requests, crossed, at, request)?;
-            place.insert(peer);
+        Entry::Vacant(towards) => {
+            file(alloc, requests, crossed, at, request, place)?;
+            towards.insert(peer);
         }
-        Entry::Occupied(mut place) => {
-            file(alloc, requests, crossed, at, request)?;
-            place.insert(peer);
+        Entry::Occupied(mut towards) => {
+            file(alloc, requests, crossed, at, request, place)?;
+            towards.insert(peer);
         }
     }
     Ok(())
 }
 
-/// The request stands under its number, and crosses its member where an earlier one to it stands
-/// there. After a refusal both are as they were.
+/// The request stands under its number, and crosses its member, from that place on, where an earlier
+/// one to it stands there. After a refusal both are as they were.
 fn file(
     alloc: Global,
     requests: &mut BTreeMap<RequestNo, Requests>,
-    crossed: &mut BTreeSet<Member>,
+    crossed: &mut BTreeMap<Member, u64>,
     at: RequestNo,
     request: Request,
+    place: u64,
 ) -> Result<(), NoMemory>
     ensures requests { OnOk result (requests.new.entries ≡ insert_entry request_cmp requests.old.entries at (requests_in requests.old.entries at ++ request ∷ [])) }
-    ensures crossed { OnOk result (crossed.new.keys ≡ crossed_by (find (is_standing request.member) (requests_in requests.old.entries at)) request.member crossed.old.keys) }
+    ensures crossed { OnOk result (crossed.new.entries ≡ crossed_by (find (is_standing request.member) (requests_in requests.old.entries at)) place request.member crossed.old.entries) }
     ensures requests_err { OnErr result (requests.new.entries ≡ requests.old.entries) }
-    ensures crossed_err { OnErr result (crossed.new.keys ≡ crossed.old.keys) }
+    ensures crossed_err { OnErr result (crossed.new.entries ≡ crossed.old.entries) }
 {
     match requests.get_mut(&at) {
-        Some(list) => follow(list, crossed, request),
+        Some(list) => follow(list, crossed, request, place),
         None => {
             requests.insert(at, Requests::one(alloc, request)?)?;
             Ok(())
@@ -218,36 +228,43 @@ fn file(
     }
 }
 
-/// The request follows those of its number, and crosses its member where an earlier one to it
-/// stands. After a refusal both are as they were.
+/// The request follows those of its number, and crosses its member, from that place on, where an
+/// earlier one to it stands. After a refusal both are as they were.
 fn follow(
     list: &mut Requests,
-    crossed: &mut BTreeSet<Member>,
+    crossed: &mut BTreeMap<Member, u64>,
     request: Request,
+    place: u64,
 ) -> Result<(), NoMemory>
     ensures list { OnOk result (list.new ≡ list.old ++ request ∷ []) }
-    ensures crossed { OnOk result (crossed.new.keys ≡ crossed_by (find (is_standing request.member) list.old) request.member crossed.old.keys) }
+    ensures crossed { OnOk result (crossed.new.entries ≡ crossed_by (find (is_standing request.member) list.old) place request.member crossed.old.entries) }
     ensures list_err { OnErr result (list.new ≡ list.old) }
-    ensures crossed_err { OnErr result (crossed.new.keys ≡ crossed.old.keys) }
+    ensures crossed_err { OnErr result (crossed.new.entries ≡ crossed.old.entries) }
 {
     let member = request.member;
     let before = list.len();
     let crosses = list.standing(member).is_some();
     list.push(request)?;
-    if cross(crossed, crosses, member).is_err() {
+    if cross(crossed, crosses, place, member).is_err() {
         list.truncate(before);
         return Err(NoMemory);
     }
     Ok(())
 }
 
-/// The member is crossed, if it `crosses`. After a refusal the members are as they were.
-fn cross(crossed: &mut BTreeSet<Member>, crosses: bool, member: Member) -> Result<(), NoMemory>
-    ensures ok { OnOk result (crossed.new.keys ≡ (if crosses then insert_key member_cmp crossed.old.keys member else crossed.old.keys)) }
-    ensures err { OnErr result (crossed.new.keys ≡ crossed.old.keys) }
+/// The member is crossed from that place on, or from an earlier one, if it `crosses`. After a refusal
+/// the members are as they were.
+fn cross(
+    crossed: &mut BTreeMap<Member, u64>,
+    crosses: bool,
+    place: u64,
+    member: Member,
+) -> Result<(), NoMemory>
+    ensures ok { OnOk result (crossed.new.entries ≡ (if crosses then crossed_from place member crossed.old.entries else crossed.old.entries)) }
+    ensures err { OnErr result (crossed.new.entries ≡ crossed.old.entries) }
 {
-    if crosses {
-        crossed.insert(member)?;
+    if crosses && !crossed.contains_key(&member) {
+        crossed.insert(member, place)?;
     }
     Ok(())
 }

@@ -11,5 +11,5 @@ no_tid = record { home = record { 0 = 0 }; inc = 0; seq = 0 }
 pub loop-tid-preserved : goal.loop-tid-preserved
 loop-tid-preserved c =
     c.in_ok-name_transaction.ensures
-    ∙ ap (λ (b : BookValue). name_transaction c.args.opened.now b (slice_index_or c.args.committed.now c.loop-tid.tid-index no_tid)) c.loop-tid.invariant
-    ∙ sym (fold_more (name_transaction c.args.opened.now) c.args.book.now c.args.committed.now c.loop-tid.tid-index no_tid c.loop-tid-test.true)
+    ∙ ap (λ (b : BookValue). name_transaction b (slice_index_or c.args.committed.now c.loop-tid.tid-index no_tid)) c.loop-tid.invariant
+    ∙ sym (fold_more name_transaction c.args.book.now c.args.committed.now c.loop-tid.tid-index no_tid c.loop-tid-test.true)

@@ -1,9 +1,8 @@
-use Rattle.std.proofs.Common.{◌≡◌, length}
+use Rattle.std.proofs.Common.{◌≡◌, drop}
+use Rattle.std.specs.Prelude.{◌&&◌}
 use Rattle.qs_machine.specs.Restart.{votes_once}
+use Rattle.qs_machine.proofs.Once.{all_new}
 use Rattle.qs_machine.proofs.book.restarting.votes_once.Given as goal
 
-abbrev pub invariant-loop-rest : goal.invariant-loop-rest
-invariant-loop-rest l = votes_once l.rest ≡ votes_once l.pend
-
-abbrev pub decreases-loop-rest : goal.decreases-loop-rest
-decreases-loop-rest l = length l.rest
+abbrev pub invariant-loop-found : goal.invariant-loop-found
+invariant-loop-found l = (all_new l.seen.keys (drop l.found-index l.pend) && votes_once (drop l.found-index l.pend)) ≡ votes_once l.pend

@@ -1,4 +1,0 @@
-pub mod Book
-pub mod Clauses
-pub mod Maps
-pub mod Transaction
