@@ -1,8 +1,12 @@
 -- The order of causes tells two of them apart exactly where they are not the same.
-use Rattle.std.proofs.Common.{◌≡◌, refl, sym, ap, List}
-use Rattle.std.specs.Prelude.{Bool}
+use Rattle.std.proofs.Common.{◌≡◌, ◌⊎◌, inl, inr, refl, sym, ap, List, [], ◌∷◌}
+use Rattle.std.specs.Prelude.{Bool, true, false, ◌||◌}
 use Rattle.std.specs.List.{list_any}
 use Rattle.std.specs.BTreeMap.{is_at}
+use Rattle.std.specs.BTreeSet.{insert_key}
+use Rattle.std.specs.Ordering.{match_ordering}
+use Rattle.std.specs.declared.cmp.Ordering.{Ordering}
+use Rattle.std.specs.declared.cmp.Ordering.TheVariants.{Less, Equal, Greater}
 use Rattle.std.specs.Cmp.{unsigned_ties, both_tied}
 use Rattle.std.specs.Cmp.Lexicographic.{texts_ties}
 use Rattle.qs_base.specs.Order.{member_cmp, same_member}
@@ -76,3 +80,30 @@ same_cause-cmp (Old a) (Old b) = sym (unsigned_ties a b)
 
 pub among_causes : (c : Cause) (causes : List Cause) → list_any (is_at (cause_cmp c)) causes ≡ list_any (same_cause c) causes
 among_causes c causes = ap (λ (test : Cause → Bool). list_any test causes) (λ i d. same_cause-cmp c d i)
+
+-- with one more, a cause is among them that was, or that is that one
+pub among_more : (c d : Cause) (causes : List Cause) → list_any (same_cause c) (insert_key cause_cmp causes d) ≡ true
+    → (list_any (same_cause c) causes ≡ true) ⊎ (same_cause c d ≡ true)
+among_more c d [] h = by (same_cause c d) h
+  where
+    by : (b : Bool) → (b || false) ≡ true → (false ≡ true) ⊎ (b ≡ true)
+    by true h = inr refl
+    by false h = inl h
+among_more c d (x ∷ causes) h = by (cause_cmp d x) h (among_more c d causes)
+  where
+    first : (b : Bool) → (b || (same_cause c x || list_any (same_cause c) causes)) ≡ true
+        → ((same_cause c x || list_any (same_cause c) causes) ≡ true) ⊎ (b ≡ true)
+    first true h = inr refl
+    first false h = inl h
+
+    later : (b : Bool) → (list_any (same_cause c) (insert_key cause_cmp causes d) ≡ true → (list_any (same_cause c) causes ≡ true) ⊎ (same_cause c d ≡ true))
+        → (b || list_any (same_cause c) (insert_key cause_cmp causes d)) ≡ true → ((b || list_any (same_cause c) causes) ≡ true) ⊎ (same_cause c d ≡ true)
+    later true more h = inl refl
+    later false more h = more h
+
+    by : (r : Ordering) → list_any (same_cause c) (match_ordering r (d ∷ x ∷ causes) (x ∷ causes) (x ∷ insert_key cause_cmp causes d)) ≡ true
+        → (list_any (same_cause c) (insert_key cause_cmp causes d) ≡ true → (list_any (same_cause c) causes ≡ true) ⊎ (same_cause c d ≡ true))
+        → ((same_cause c x || list_any (same_cause c) causes) ≡ true) ⊎ (same_cause c d ≡ true)
+    by Less h more = first (same_cause c d) h
+    by Equal h more = inl h
+    by Greater h more = later (same_cause c x) more h
