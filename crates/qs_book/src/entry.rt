@@ -1,6 +1,9 @@
 //! Entries of the journal: what happened, at which node, at which logical time.
 
-use qs_base::{Bytes, ClientNo, List, Member, NodeNo, Outcome, ServerNo, Stamp, Tid};
+use crate::effects::copied_cause;
+use qs_base::{
+    Bytes, ClientNo, Copied, List, Member, NoMemory, NodeNo, Outcome, ServerNo, Stamp, Tid,
+};
 use qs_ops::{Answer, Cause, Op, Reply, Vote};
 
 /// One entry of the journal. All entries of a step have its stamp.
@@ -120,4 +123,121 @@ pub struct Found {
     pub tid: Tid,
     pub server: ServerNo,
     pub covers: u32,
+}
+
+impl Copied for Entry {
+    fn copy(&self) -> Result<Self, NoMemory> {
+        Ok(Entry {
+            stamp: self.stamp,
+            node: self.node,
+            act: self.act.copy()?,
+        })
+    }
+}
+
+impl Copied for Act {
+    fn copy(&self) -> Result<Self, NoMemory> {
+        Ok(match self {
+            Act::Begin { tid, label, client } => Act::Begin {
+                tid: *tid,
+                label: label.copy()?,
+                client: *client,
+            },
+            Act::Issue {
+                tid,
+                issuer,
+                member,
+                number,
+                op,
+            } => Act::Issue {
+                tid: *tid,
+                issuer: *issuer,
+                member: *member,
+                number: *number,
+                op: op.copy()?,
+            },
+            Act::Serve {
+                tid,
+                member,
+                from,
+                number,
+                reply,
+            } => Act::Serve {
+                tid: *tid,
+                member: *member,
+                from: *from,
+                number: *number,
+                reply: reply.copy()?,
+            },
+            Act::Ask { tid } => Act::Ask { tid: *tid },
+            Act::Vote {
+                tid,
+                member,
+                vote,
+                covers,
+            } => Act::Vote {
+                tid: *tid,
+                member: *member,
+                vote: vote.copy()?,
+                covers: *covers,
+            },
+            Act::Counted { tid, peer, up_to } => Act::Counted {
+                tid: *tid,
+                peer: *peer,
+                up_to: *up_to,
+            },
+            Act::Decide {
+                tid,
+                outcome,
+                cause,
+            } => Act::Decide {
+                tid: *tid,
+                outcome: *outcome,
+                cause: copied_cause(cause.as_ref())?,
+            },
+            Act::Ending { tid, member } => Act::Ending {
+                tid: *tid,
+                member: *member,
+            },
+            Act::Learn {
+                tid,
+                member,
+                outcome,
+            } => Act::Learn {
+                tid: *tid,
+                member: *member,
+                outcome: *outcome,
+            },
+            Act::Answer {
+                client,
+                line,
+                answer,
+            } => Act::Answer {
+                client: *client,
+                line: *line,
+                answer: answer.copy()?,
+            },
+            Act::Loan { tid, client } => Act::Loan {
+                tid: *tid,
+                client: *client,
+            },
+            Act::Yield { tid, client } => Act::Yield {
+                tid: *tid,
+                client: *client,
+            },
+            Act::Tick => Act::Tick,
+            Act::Crash { cause } => Act::Crash { cause: *cause },
+            Act::Restart { inc, pend, done } => Act::Restart {
+                inc: *inc,
+                pend: pend.copy()?,
+                done: done.copy()?,
+            },
+        })
+    }
+}
+
+impl Copied for Found {
+    fn copy(&self) -> Result<Self, NoMemory> {
+        Ok(*self)
+    }
 }

@@ -2,7 +2,11 @@
 #![tactic(auto)]
 
 mod entry;
+mod merging;
 mod script_line;
+#[cfg(test)]
+mod tests;
 
 pub use entry::{Act, CrashCause, Entry, Found};
+pub use merging::merge;
 pub use script_line::{Command, Kind, LineAnswer, Point, ScriptLine};

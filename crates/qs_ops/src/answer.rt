@@ -98,6 +98,33 @@ impl Copied for Cause {
     }
 }
 
+impl Copied for Answer {
+    fn copy(&self) -> Result<Self, NoMemory> {
+        Ok(match self {
+            Answer::Done => Answer::Done,
+            Answer::Value { text } => Answer::Value { text: text.copy()? },
+            Answer::Left { ticks } => Answer::Left { ticks: *ticks },
+            Answer::Names { list } => Answer::Names { list: list.copy()? },
+            Answer::Notes { list } => Answer::Notes { list: list.copy()? },
+            Answer::Busy { holder } => Answer::Busy { holder: *holder },
+            Answer::Absent => Answer::Absent,
+            Answer::TooMany => Answer::TooMany,
+            Answer::TooLong => Answer::TooLong,
+            Answer::Committed => Answer::Committed,
+            Answer::Aborted { cause } => Answer::Aborted {
+                cause: cause.copy()?,
+            },
+            Answer::Ended => Answer::Ended,
+            Answer::NotYours => Answer::NotYours,
+            Answer::NotBegun => Answer::NotBegun,
+            Answer::LogFull { need, room } => Answer::LogFull {
+                need: *need,
+                room: *room,
+            },
+        })
+    }
+}
+
 /// The answer to a request that was served with this reply.
 pub fn answer_of(reply: Reply) -> Answer
     ensures { result ≡ answer_of reply }

@@ -74,3 +74,16 @@ impl Copied for Reason {
         })
     }
 }
+
+impl Copied for Vote {
+    fn copy(&self) -> Result<Self, NoMemory> {
+        Ok(match self {
+            Vote::Abort { reason } => Vote::Abort {
+                reason: reason.copy()?,
+            },
+            Vote::ReadOnly => Vote::ReadOnly,
+            Vote::Volatile => Vote::Volatile,
+            Vote::Recoverable => Vote::Recoverable,
+        })
+    }
+}
