@@ -8,5 +8,5 @@ mod script_line;
 mod tests;
 
 pub use entry::{Act, CrashCause, Entry, Found};
-pub use merging::merge;
+pub use merging::{merge, one_merge};
 pub use script_line::{Command, Kind, LineAnswer, Point, ScriptLine};

@@ -1,5 +1,6 @@
 //! The journals of the nodes of a run, merged into one.
-ghost use Rattle.std.specs.Prelude.{◌≡◌, ◌++◌, IfOk, OnOk};
+ghost use Rattle.std.specs.Prelude.{◌≡◌, ◌++◌, List, IfOk, OnOk};
+ghost use Rattle.qs_book.specs.declared.entry.Entry.{Entry};
 ghost use Rattle.qs_book.specs.Merge.{flat, IsMerged};
 
 use crate::entry::Entry;
@@ -36,3 +37,8 @@ fn append_copies(all: &mut List<Entry>, entries: &[Entry]) -> Result<(), NoMemor
     }
     Ok(())
 }
+
+/// No two lists are the merge of the same journals.
+pub fn one_merge()
+    ensures { (journals : List (List Entry)) (one other : List Entry) → IsMerged journals one → IsMerged journals other → one ≡ other }
+{}
