@@ -1,4 +1,4 @@
--- The line of each status, without the line feed at its end.
+-- The line of each status, without the line feed at its end, and the verdict on a lawful history.
 use Rattle.std.specs.Prelude.{ℕ, List, [], ◌∷◌, ◌++◌, codes, decimal}
 use Rattle.std.specs.List.{flat_map}
 use Rattle.qs_text.specs.declared.status.ScriptFault.{ScriptFault}
@@ -48,3 +48,7 @@ clients_text _ = []
 
 abbrev pub status_text : Status → List ℕ
 status_text status = status_words status ++ clients_text status
+
+-- what the form `check` gives of a lawful history of so many entries
+abbrev pub lawful_text : ℕ → List ℕ
+lawful_text entries = codes "lawful " ++ (decimal entries ++ codes "\n")

@@ -6,7 +6,7 @@ use Rattle.std.specs.Char.{is_ascii_digit}
 use Rattle.std.specs.Global.{Global}
 use Rattle.qs_base.specs.Order.{same_bytes}
 use Rattle.qs_text.specs.declared.form.Form.{Form}
-use Rattle.qs_text.specs.declared.form.Form.TheVariants.{Run}
+use Rattle.qs_text.specs.declared.form.Form.TheVariants.{Run, Check}
 
 -- ---- numbers
 
@@ -38,6 +38,11 @@ run_with seed = Run 1 (Some seed) false
 abbrev pub serial_form : List ℕ → List ℕ → List ℕ → List ℕ → Option Form
 serial_form run nodes option seed = if is_serial_run run nodes option then option_map run_with (number_of seed) else None
 
+-- check
+abbrev pub check_form : List ℕ → Option Form
+check_form word = if same_bytes word (codes "check") then Some Check else None
+
 abbrev pub form_of : List (String Global) → Option Form
+form_of (word ∷ []) = check_form (string_bytes word)
 form_of (run ∷ nodes ∷ option ∷ seed ∷ []) = serial_form (string_bytes run) (string_bytes nodes) (string_bytes option) (string_bytes seed)
 form_of _ = None

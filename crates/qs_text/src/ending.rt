@@ -1,6 +1,6 @@
-//! The line that tells how a run ended.
+//! The line that tells how a run ended, and the verdict on a lawful history.
 ghost use Rattle.std.specs.Prelude.{◌≡◌, ◌++◌, IfOk, OnOk, string_bytes};
-ghost use Rattle.qs_text.specs.StatusLine.{status_text, status_words, waiting_text, fault_text};
+ghost use Rattle.qs_text.specs.StatusLine.{status_text, status_words, waiting_text, fault_text, lawful_text};
 
 use crate::status::{ScriptFault, Status, Waiting};
 use qs_base::{Bytes, NoMemory};
@@ -16,6 +16,14 @@ pub fn status_line(alloc: Global, status: &Status) -> Result<Bytes, NoMemory>
         put_waiting(alloc, &mut out, waiting.as_slice())?;
     }
     Ok(out)
+}
+
+/// The verdict on a lawful history of so many entries, with the line feed at its end.
+pub fn lawful_text(alloc: Global, entries: usize) -> Result<Bytes, NoMemory>
+    ensures { IfOk result (λ text. text ≡ lawful_text entries) }
+{
+    let text = format!(in alloc; "lawful {entries}\n")?;
+    Bytes::from_slice(alloc, text.as_bytes())
 }
 
 /// Adds the clients that wait, each with its line.

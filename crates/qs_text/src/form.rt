@@ -10,6 +10,8 @@ pub enum Form {
         serial: Option<u64>,
         journal: bool,
     },
+    /// A history is read and judged.
+    Check,
 }
 
 /// Why words are refused.

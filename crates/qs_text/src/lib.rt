@@ -24,7 +24,7 @@ mod tests;
 mod totals;
 mod words;
 
-pub use ending::status_line;
+pub use ending::{lawful_text, status_line};
 pub use form::{Form, WordsFault};
 pub use journal::journal_text;
 pub use output::out_text;

@@ -158,7 +158,7 @@ fn a_committed_put_is_printed(rt: HostRuntime) -> Result<(), Fail> {
 }
 
 #[test]
-fn words_are_one_form(rt: HostRuntime) -> Result<(), Fail> {
+fn words_are_of_a_form(rt: HostRuntime) -> Result<(), Fail> {
     let alloc = rt.alloc();
     let form = Form::Run {
         nodes: 1,
@@ -167,7 +167,11 @@ fn words_are_one_form(rt: HostRuntime) -> Result<(), Fail> {
     };
     let good = words(alloc, "run 1 --serial 18446744073709551615")?;
     assert_eq!(rt; read_words(good.as_slice()), Ok(form));
+    let good = words(alloc, "check")?;
+    assert_eq!(rt; read_words(good.as_slice()), Ok(Form::Check));
     for text in [
+        "checks",
+        "check 1",
         "run",
         "run 1",
         "run 01 --serial 7",

@@ -4,18 +4,32 @@ ghost use Rattle.std.specs.Option.{ok_or};
 ghost use Rattle.std.specs.Char.{is_ascii_digit};
 ghost use Rattle.std.specs.List.{list_all};
 ghost use Rattle.qs_base.specs.Order.{same_bytes};
-ghost use Rattle.qs_text.specs.Words.{form_of, serial_form, number_of, is_decimal, is_serial_run};
+ghost use Rattle.qs_text.specs.Words.{form_of, check_form, serial_form, number_of, is_decimal, is_serial_run};
 
 use crate::form::{Form, WordsFault};
 
-/// The form that the words are of: so far `run 1 --serial SEED` alone. It takes no memory.
+/// The form that the words are of: so far `run 1 --serial SEED` or `check`. It takes no memory.
 pub fn read_words(words: &[String]) -> Result<Form, WordsFault>
     ensures { result ≡ ok_or (form_of words.now) WordsFault.Usage }
 {
-    if let [run, nodes, option, seed] = words {
-        return serial_form(run, nodes, option, seed).ok_or(WordsFault::Usage);
+    match words {
+        [word] => check_form(word).ok_or(WordsFault::Usage),
+        [run, nodes, option, seed] => {
+            serial_form(run, nodes, option, seed).ok_or(WordsFault::Usage)
+        }
+        _ => Err(WordsFault::Usage),
     }
-    Err(WordsFault::Usage)
+}
+
+/// The form of one word.
+fn check_form(word: &String) -> Option<Form>
+    ensures { result ≡ check_form (string_bytes word.now) }
+{
+    if word.as_str() == "check" {
+        Some(Form::Check)
+    } else {
+        None
+    }
 }
 
 /// The form of four words.
