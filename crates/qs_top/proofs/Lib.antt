@@ -9,3 +9,4 @@ pub mod Parts
 pub mod Ready
 pub mod Requests
 pub mod Steps
+pub mod VerdictLemmas

@@ -3,3 +3,4 @@ pub mod Node
 pub mod Opening
 pub mod Rest
 pub mod Run
+pub mod Verdict

@@ -22,10 +22,10 @@ use Rattle.qs_top.specs.Carrying.{opening}
 use Rattle.qs_top.specs.Opening.{IsRaised, IsTouched, OfFirst}
 
 -- the source was read to its end, or to the byte past the limit, and its text has P
-pub record ReadWhole (old new : Option (List ℕ)) (P : List ℕ → Type 0) : Type 0 where
+pub record ReadWhole (limit : ℕ) (old new : Option (List ℕ)) (P : List ℕ → Type 0) : Type 0 where
   pub text : List ℕ
   pub consumed : Consumes old new text
-  pub whole : IsWholeOrLonger new text 1048576
+  pub whole : IsWholeOrLonger new text limit
   pub holds : P text
 
 -- the journal is a run of the script that the text is: it keeps to the script, and answers every command
@@ -87,7 +87,7 @@ IsEarly (statuses.Script line fault) = ⊤
 IsEarly ReadFault = ⊤
 IsEarly _ = ⊥
 
--- the statuses of this stage
+-- the statuses of a run at this stage
 abbrev pub IsBuilt : Status → Type 0
 IsBuilt Finished = ⊤
 IsBuilt Usage = ⊤

@@ -1,7 +1,8 @@
-//! The top call: a script is read, run and printed.
+//! The top call: a script is read, run and printed, or a history is judged.
 #![tactic(auto)]
 
 mod carrying;
+mod checking;
 mod node;
 mod opening;
 mod outcome;

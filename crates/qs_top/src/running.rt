@@ -1,9 +1,10 @@
 //! The top call.
-ghost use Rattle.std.specs.Prelude.{◌≡◌, ◌≢◌, ◌↔◌, ◌≤◌, ℕ, [], Ok, Err, None, IfOk, length};
+ghost use Rattle.std.specs.Prelude.{◌≡◌, ◌≢◌, ◌↔◌, ◌≤◌, ℕ, [], Ok, Err, None, Some, IfOk, length};
+ghost use Rattle.std.specs.Io.KnownBytes.{Appends};
 ghost use Rattle.qs_base.specs.declared.identifiers.NodeNo.{NodeNo};
 ghost use Rattle.qs_machine.specs.Lawful.{IsLawful, book_after};
 ghost use Rattle.qs_base.specs.Causes.{Rose};
-ghost use Rattle.qs_io.specs.Streams.{TakesAtMost};
+ghost use Rattle.qs_io.specs.Streams.{TakesAtMost, GivesPart};
 ghost use Rattle.std.specs.Prelude.{false};
 ghost use Rattle.qs_text.specs.Fits.{Fits, IsSeated};
 ghost use Rattle.qs_text.specs.declared.reading.ScriptFailed.TheVariants.{Fault};
@@ -11,10 +12,13 @@ ghost use Rattle.qs_text.specs.Output.{out_of};
 ghost use Rattle.qs_text.specs.Script.{script_of};
 ghost use Rattle.qs_text.specs.Words.{form_of};
 ghost use Rattle.qs_text.specs.declared.status.ScriptFault.{ScriptFault};
+ghost use Rattle.qs_tools.specs.Journal.{IsFault};
 ghost use Rattle.qs_top.specs.Carrying.{opening};
 ghost use Rattle.qs_top.specs.Run.{ReadWhole, IsRunOf, HasLawful, IsFaultOf, IsDamageOf, IsGiven, IsCutOff, IsBuilt, IsEarly, AreTouched, not_opened};
+ghost use Rattle.qs_top.specs.Verdict.{IsUnlawfulText, IsVerdict, IsOfCheck};
 
 use crate::carrying::{Course, carry_out_all};
+use crate::checking::check_source;
 use crate::node::NODE;
 use crate::opening::raise_first;
 use crate::outcome::Run;
@@ -23,7 +27,7 @@ use qs_book::Entry;
 use qs_disk::Disk;
 use qs_io::{ReadFault, Sink, Source, give_all, read_text};
 use qs_log::OpenFault;
-use qs_text::{Script, ScriptFailed, Status, out_text, read_script, read_words};
+use qs_text::{Form, Script, ScriptFailed, Status, out_text, read_script, read_words};
 use std::alloc::Global;
 use std::thread::Threads;
 
@@ -74,20 +78,8 @@ fn not_opened(why: OpenFault) -> Status
 
 /// Reads a script from the source, runs it on one node over the log of the first disk, and gives the
 /// output to the sink.
-///
-/// The words are those after the program's name: exactly `run`, `1`, `--serial` and a number of 64
-/// bits. At most 1,048,577 bytes are taken of the source. After the script the log of the first disk
-/// is opened and its incarnation raised; nothing else is written to it yet, and the other disks are
-/// not used. There are at least 8 disks.
-///
-/// `ReadFault`, `WriteFault` and `DiskFault` come only where the count of faults of the source, the
-/// sink or the disk rose in this call; `Damaged` only where a slot or a batch of the disk that was
-/// handed in is damaged at that byte. The journal is empty but on `Finished` and `WriteFault`, and the
-/// disks are as they were on `Usage`, `Script` and `ReadFault`.
-pub fn run<R: Threads + Sync, S: Source, K: Sink, D: Disk>(
-    _rt: &R,
+fn run_source<S: Source, K: Sink, D: Disk>(
     alloc: Global,
-    words: &[String],
     source: &mut S,
     sink: &mut K,
     disks: &mut Vec<D>,
@@ -99,9 +91,8 @@ pub fn run<R: Threads + Sync, S: Source, K: Sink, D: Disk>(
     ensures lawful { HasLawful D.told D.state result.journal disks.old.items disks.new.items }
 
     // Each status has its cause.
-    ensures usage { (result.status ≡ Status.Usage) ↔ (form_of words.now ≡ None) }
     ensures script { (line : ℕ) (fault : ScriptFault) → result.status ≡ Status.Script line fault
-        → ReadWhole (S.left source.old) (S.left source.new) (λ text. script_of text ≡ Err (Fault line fault)) }
+        → ReadWhole 1048576 (S.left source.old) (S.left source.new) (λ text. script_of text ≡ Err (Fault line fault)) }
     ensures read_fault { result.status ≡ Status.ReadFault → Rose (S.faults source.old) (S.faults source.new) }
     ensures write_fault { result.status ≡ Status.WriteFault → Rose (K.faults sink.old) (K.faults sink.new) }
     ensures disk_fault { (node : NodeNo) → result.status ≡ Status.DiskFault node
@@ -109,29 +100,26 @@ pub fn run<R: Threads + Sync, S: Source, K: Sink, D: Disk>(
     ensures damaged { (node : NodeNo) (at : ℕ) → result.status ≡ Status.Damaged node at
         → IsDamageOf D.told D.state node at disks.old.items disks.new.items }
     ensures built { IsBuilt result.status }
+    ensures ran { result.status ≢ Status.Usage }
 
     // The journal is a run of the script that was read, every command was answered, and the output
     // was given whole; at a write fault a part of it was, and else nothing.
     ensures finished { result.status ≡ Status.Finished
-        → ReadWhole (S.left source.old) (S.left source.new)
+        → ReadWhole 1048576 (S.left source.old) (S.left source.new)
         (λ text. IsGiven D.told D.state text result.journal (K.given sink.old) (K.given sink.new) disks.old.items disks.new.items) }
     ensures cut_off { result.status ≡ Status.WriteFault
-        → ReadWhole (S.left source.old) (S.left source.new)
+        → ReadWhole 1048576 (S.left source.old) (S.left source.new)
         (λ text. IsCutOff D.told D.state text result.journal (K.given sink.old) (K.given sink.new) disks.old.items disks.new.items) }
     ensures silent { result.status ≢ Status.Finished → result.status ≢ Status.WriteFault → K.given sink.new ≡ K.given sink.old }
     ensures empty { result.status ≢ Status.Finished → result.status ≢ Status.WriteFault → result.journal ≡ [] }
 
-    // What was taken of the source: nothing on Usage, and never more than the limit and one byte.
-    ensures unread { result.status ≡ Status.Usage → S.left source.new ≡ S.left source.old }
+    // What was taken of the source: never more than the limit and one byte.
     ensures bound { TakesAtMost 1048577 (S.left source.old) (S.left source.new) }
 
     // The disks: as they were before the log is opened, and changed at most by its raise.
     ensures early { IsEarly result.status → disks.new.items ≡ disks.old.items }
     ensures touched { AreTouched D.told D.state disks.old.items disks.new.items }
 {
-    if read_words(words).is_err() {
-        return ended(alloc, Status::Usage);
-    }
     let text = match read_text(alloc, source, SCRIPT_LIMIT) {
         Ok(text) => text,
         Err(ReadFault::Failed) => return ended(alloc, Status::ReadFault),
@@ -156,4 +144,89 @@ pub fn run<R: Threads + Sync, S: Source, K: Sink, D: Disk>(
         Err(_) => Status::WriteFault,
     };
     Run { status, journal }
+}
+
+/// What the words ask for. They are those after the program's name: exactly `run`, `1`, `--serial`
+/// and a number of 64 bits, or exactly `check`.
+///
+/// `run` reads a script from the source, runs it on one node over the log of the first disk, and
+/// gives the output to the sink. At most 1,048,577 bytes are taken of the source. After the script the
+/// log of the first disk is opened and its incarnation raised; nothing else is written to it yet, and
+/// the other disks are not used. There are at least 8 disks.
+///
+/// `check` reads a history from the source and judges it: where it is lawful, `lawful E` and a line
+/// feed go to the sink, E the number of its entries, and else nothing. At most 67,108,865 bytes are
+/// taken of the source. No disk is opened, and the journal is empty.
+///
+/// `ReadFault`, `WriteFault` and `DiskFault` come only where the count of faults of the source, the
+/// sink or the disk rose in this call; `Damaged` only where a slot or a batch of the disk that was
+/// handed in is damaged at that byte. The journal is empty but on `Finished` and `WriteFault`, and the
+/// disks are as they were on `Usage`, `Script` and `ReadFault`.
+pub fn run<R: Threads + Sync, S: Source, K: Sink, D: Disk>(
+    _rt: &R,
+    alloc: Global,
+    words: &[String],
+    source: &mut S,
+    sink: &mut K,
+    disks: &mut Vec<D>,
+) -> Run
+    requires disks { 8 ≤ length disks.old.items }
+
+    // The journal is a lawful run of the machine with one outcome cell for each transaction,
+    // whatever the status; the machine opens in the incarnation that the log was raised to.
+    ensures lawful { HasLawful D.told D.state result.journal disks.old.items disks.new.items }
+
+    // Each status has its cause.
+    ensures usage { (result.status ≡ Status.Usage) ↔ (form_of words.now ≡ None) }
+    ensures script { (line : ℕ) (fault : ScriptFault) → result.status ≡ Status.Script line fault
+        → ReadWhole 1048576 (S.left source.old) (S.left source.new) (λ text. script_of text ≡ Err (Fault line fault)) }
+    ensures read_fault { result.status ≡ Status.ReadFault → Rose (S.faults source.old) (S.faults source.new) }
+    ensures write_fault { result.status ≡ Status.WriteFault → Rose (K.faults sink.old) (K.faults sink.new) }
+    ensures disk_fault { (node : NodeNo) → result.status ≡ Status.DiskFault node
+        → IsFaultOf D.fault_count node disks.old.items disks.new.items }
+    ensures damaged { (node : NodeNo) (at : ℕ) → result.status ≡ Status.Damaged node at
+        → IsDamageOf D.told D.state node at disks.old.items disks.new.items }
+    ensures built { form_of words.now ≢ Some Form.Check → IsBuilt result.status }
+
+    // Of a run: the journal is a run of the script that was read, every command was answered, and the output
+    // was given whole; at a write fault a part of it was, and else nothing.
+    ensures finished { form_of words.now ≢ Some Form.Check → result.status ≡ Status.Finished
+        → ReadWhole 1048576 (S.left source.old) (S.left source.new)
+        (λ text. IsGiven D.told D.state text result.journal (K.given sink.old) (K.given sink.new) disks.old.items disks.new.items) }
+    ensures cut_off { form_of words.now ≢ Some Form.Check → result.status ≡ Status.WriteFault
+        → ReadWhole 1048576 (S.left source.old) (S.left source.new)
+        (λ text. IsCutOff D.told D.state text result.journal (K.given sink.old) (K.given sink.new) disks.old.items disks.new.items) }
+    ensures silent { result.status ≢ Status.Finished → result.status ≢ Status.WriteFault → K.given sink.new ≡ K.given sink.old }
+    ensures empty { result.status ≢ Status.Finished → result.status ≢ Status.WriteFault → result.journal ≡ [] }
+
+    // What was taken of the source: nothing on Usage, and never more than the limit and one byte.
+    ensures unread { result.status ≡ Status.Usage → S.left source.new ≡ S.left source.old }
+    ensures bound { form_of words.now ≢ Some Form.Check → TakesAtMost 1048577 (S.left source.old) (S.left source.new) }
+
+    // The disks: as they were before the log is opened, and changed at most by its raise.
+    ensures early { IsEarly result.status → disks.new.items ≡ disks.old.items }
+    ensures touched { AreTouched D.told D.state disks.old.items disks.new.items }
+
+    // Of a check: the text that was read is a history, and the verdict on it is what was given; no
+    // disk is opened.
+    ensures unlawful { (line clause : ℕ) → result.status ≡ Status.Unlawful line clause
+        → ReadWhole 67108864 (S.left source.old) (S.left source.new) (λ text. IsUnlawfulText text line clause) }
+    ensures journal { (line : ℕ) → result.status ≡ Status.Journal line
+        → ReadWhole 67108864 (S.left source.old) (S.left source.new) (λ text. IsFault text line) }
+    ensures checked { form_of words.now ≡ Some Form.Check → result.status ≡ Status.Finished
+        → ReadWhole 67108864 (S.left source.old) (S.left source.new)
+        (λ text. IsVerdict text (Appends (K.given sink.old) (K.given sink.new))) }
+    ensures check_cut_off { form_of words.now ≡ Some Form.Check → result.status ≡ Status.WriteFault
+        → ReadWhole 67108864 (S.left source.old) (S.left source.new)
+        (λ text. IsVerdict text (GivesPart (K.given sink.old) (K.given sink.new))) }
+    ensures check_built { form_of words.now ≡ Some Form.Check → IsOfCheck result.status }
+    ensures check_bound { form_of words.now ≡ Some Form.Check → TakesAtMost 67108865 (S.left source.old) (S.left source.new) }
+    ensures check_journal { form_of words.now ≡ Some Form.Check → result.journal ≡ [] }
+    ensures check_disks { form_of words.now ≡ Some Form.Check → disks.new.items ≡ disks.old.items }
+{
+    match read_words(words) {
+        Ok(Form::Run { .. }) => run_source(alloc, source, sink, disks),
+        Ok(Form::Check) => ended(alloc, check_source(alloc, source, sink)),
+        Err(_) => ended(alloc, Status::Usage),
+    }
 }

@@ -124,6 +124,34 @@ fn bad_input_gives_nothing(rt: HostRuntime) -> Result<(), Fail> {
 }
 
 #[test]
+fn histories_are_judged(rt: HostRuntime) -> Result<(), Fail> {
+    let rows = [
+        (
+            "nodes 1\nnode 0 inc 1 format 2\n1 0 begin 0.1.1 a 0\n1 0 answer 0 2 ok\n2 0 issue 0.1.1 client0@0 files@0 1 put f hello\n",
+            0,
+            "lawful 3\n",
+        ),
+        ("nodes 1\nnode 0 inc 1 format 2\n", 0, "lawful 0\n"),
+        (
+            "nodes 1\nnode 0 inc 1 format 2\n1 0 begin 0.1.1 a 0\n1 0 begin 0.1.1 b 0\n",
+            11,
+            "",
+        ),
+        ("nodes 1\n", 12, ""),
+        ("client 0 0\n", 12, ""),
+    ];
+    for (history, number, output) in rows {
+        let mut sink = wide_sink(rt.alloc())?;
+        assert_eq!(rt;
+            ran(&rt, rt.alloc(), &["check"], history, &mut sink)?,
+            number
+        );
+        assert_eq!(rt; sink.given(), output.as_bytes());
+    }
+    Ok(())
+}
+
+#[test]
 fn faults_of_the_outside_are_told(rt: HostRuntime) -> Result<(), Fail> {
     let script = "client 0 0\n0 begin a\n0 put a 0 f hello\n0 commit a\n";
     let alloc = rt.alloc();

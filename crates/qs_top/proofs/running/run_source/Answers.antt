@@ -1,7 +1,7 @@
 use Rattle.std.proofs.Common.{◌∙◌, sym}
 use Rattle.qs_top.proofs.OpeningLemmas.{damage_first}
-use Rattle.qs_top.proofs.running.run.Goals as goal
-use Rattle.qs_top.proofs.running.run.Goals.{in-Ok-give_all, in-Err-give_all}
+use Rattle.qs_top.proofs.running.run_source.Goals as goal
+use Rattle.qs_top.proofs.running.run_source.Goals.{in-Ok-give_all, in-Err-give_all}
 
 -- src/running.rt:149:21
 pub returns-in-Err-clause-damaged : goal.returns-in-Err-clause-damaged
