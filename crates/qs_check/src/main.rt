@@ -1,13 +1,18 @@
-//! Judges a history on standard input: prints `lawful E`, E the number of its entries, or ends with the status of the
-//! first line that is not lawful, 11, or that is no line of a history, 12.
+//! The program once more, for its stored run of the form `check`: judges a history from standard
+//! input and ends with the number of its status.
 #![tactic(auto)]
 
-use qs_io::{ReadFault, StdSource, read_text};
+ghost use Rattle.std.specs.Prelude.{◌≡◌, length, IfOk};
+
+use qs_base::NoMemory;
+use qs_disk::MemDisk;
+use qs_io::{StdSink, StdSource};
 use qs_text::{Status, status_line};
-use qs_tools::{HISTORY_LIMIT, JournalFailed, check, read_journal};
+use qs_top::run;
 use std::alloc::Global;
-use std::io;
 use std::process::ExitCode;
+use std::rt::Env;
+use std::{env, io};
 
 #[cfg(test)]
 mod rows;
@@ -28,33 +33,16 @@ mod rows_of_requests;
 #[cfg(test)]
 mod rows_of_restarts;
 
-/// How many entries a lawful history has; else why it is none.
-fn judge(alloc: Global, text: &[u8]) -> Result<usize, Status> {
-    let journal = match read_journal(alloc, text) {
-        Ok(journal) => journal,
-        Err(JournalFailed::Fault { line }) => return Err(Status::Journal { line }),
-        Err(JournalFailed::NoMemory) => return Err(Status::NoMemory),
-    };
-    let entries = journal.entries.len();
-    // Past its limit a text is no history, so a line number always fits.
-    if entries > (u32::MAX - journal.first) as usize {
-        return Err(Status::NoMemory);
-    }
-    match check(alloc, &journal) {
-        Ok(None) => Ok(entries),
-        Ok(Some((line, clause))) => Err(Status::Unlawful { line, clause }),
-        Err(_) => Err(Status::NoMemory),
-    }
-}
+/// The bytes of each disk.
+const DISK_SIZE: u64 = 65_536;
 
-/// Reads the history and judges it.
-fn judge_source<R: io::Read + Drop>(alloc: Global, reader: R) -> Result<usize, Status> {
-    let mut source = StdSource::new(reader);
-    match read_text(alloc, &mut source, HISTORY_LIMIT) {
-        Ok(text) => judge(alloc, text.as_slice()),
-        Err(ReadFault::Failed) => Err(Status::ReadFault),
-        Err(ReadFault::NoMemory) => Err(Status::NoMemory),
+/// The words after the program's name.
+fn words_of<R: Env + AllocGlobal>(rt: &R) -> io::Result<Vec<String>> {
+    let mut words = Vec::new(rt.alloc());
+    for word in env::args(rt)?.skip(1) {
+        words.push(word)?;
     }
+    Ok(words)
 }
 
 /// Tells the status on standard error.
@@ -68,14 +56,34 @@ fn tell(rt: &impl Eprint, alloc: Global, status: &Status) -> io::Result<()> {
     }
 }
 
+/// Eight disks in memory, one for each node that a run may have.
+fn disks(alloc: Global) -> Result<Vec<MemDisk>, NoMemory>
+    ensures { IfOk result (λ disks. length disks.items ≡ 8) }
+{
+    let mut disks = Vec::new(alloc);
+    for seed in 0..8 {
+        disks.push(MemDisk::new(alloc, DISK_SIZE, seed, &[])?)?;
+    }
+    Ok(disks)
+}
+
 fn main(rt: HostRuntime) -> ExitCode {
     let alloc = rt.alloc();
-    let status = match judge_source(alloc, rt.reader()) {
-        Ok(entries) => match println!(rt; "lawful {entries}") {
-            Ok(()) => Status::Finished,
-            Err(_) => Status::WriteFault,
-        },
-        Err(status) => status,
+    let status = match (words_of(&rt), disks(alloc)) {
+        (Ok(words), Ok(mut disks)) => {
+            let mut source = StdSource::new(rt.reader());
+            let mut sink = StdSink::new(io::writer(&rt));
+            run(
+                &rt,
+                alloc,
+                words.as_slice(),
+                &mut source,
+                &mut sink,
+                &mut disks,
+            )
+            .status
+        }
+        _ => Status::NoMemory,
     };
     // Where standard error takes nothing, the number alone tells.
     let _ = tell(&rt, alloc, &status);
