@@ -1,2 +1,3 @@
-pub mod MergeLemmas
-pub mod OnceLemmas
+pub mod CauseOrder
+pub mod Loops
+pub mod Once

@@ -1,12 +1,16 @@
-//! The journal of a run: what happened, entry by entry, and the commands that clients gave.
+//! The reference machine: one outcome cell for each transaction, against which every run is judged.
 #![tactic(auto)]
 
-mod entry;
-mod merging;
-mod script_line;
-#[cfg(test)]
-mod tests;
+mod book;
+mod causes;
+mod clauses;
+mod node;
+mod opened;
+mod opening;
+mod state;
 
-pub use entry::{Act, CrashCause, Entry, Found};
-pub use merging::{merge, one_merge};
-pub use script_line::{Command, Kind, LineAnswer, Point, ScriptLine};
+pub use book::{Book, BookFault};
+pub use causes::Causes;
+pub use node::NodeState;
+pub use opened::{Opened, Pending};
+pub use state::{Asking, OnRecord, Owner, Reopened, Voter};

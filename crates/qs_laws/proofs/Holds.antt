@@ -19,8 +19,8 @@ use Rattle.qs_servers.specs.declared.share.Share.{Share}
 use Rattle.qs_transaction.specs.Transaction.{TransactionValue, is_crossed, standing_request, requests_at}
 use Rattle.qs_transaction.specs.declared.state.Request.{Request}
 use Rattle.qs_transaction.specs.declared.state.RequestNo.{RequestNo}
-use Rattle.qs_machine.specs.Book.{changed_at, serve_node, server_serve, crossed_serve, is_done, vote_node, crossed_in, learn_node, doubts_after}
-use Rattle.qs_machine.specs.Nodes.{NodeValue, with_table, crossed_node, crossed_server, crossed_names, crossed_table, with_doubts, bound_names, pending_at}
+use Rattle.qs_book.specs.Book.{changed_at, serve_node, server_serve, crossed_serve, is_done, vote_node, crossed_in, learn_node, doubts_after}
+use Rattle.qs_book.specs.Nodes.{NodeValue, with_table, crossed_node, crossed_server, crossed_names, crossed_table, with_doubts, bound_names, pending_at}
 use Rattle.qs_laws.specs.Served.{is_share, change_of_request, standing_at}
 use Rattle.qs_laws.proofs.Faces.{either_way}
 use Rattle.qs_laws.proofs.Maps.{set_at_either, changed_at_alike, changed_at_here}

@@ -1,9 +1,4 @@
 pub mod Alike
-pub mod Files
-pub mod Held
-pub mod Index
 pub mod Members
 pub mod Operations
-pub mod Places
-pub mod Refusals
 pub mod Spelled

@@ -14,9 +14,9 @@ use Rattle.std.proofs.lemmas.Map.Lookups.{exact_bytes}
 use Rattle.qs_base.specs.Order.{bytes_cmp, same_bytes}
 use Rattle.qs_base.proofs.Same.{same_bytes-true, same_bytes-self}
 use Rattle.qs_ops.specs.declared.file.File.{File}
-use Rattle.qs_ops.specs.Files.{file_text, put_file}
+use Rattle.qs_servers.specs.Files.{file_text, put_file}
 use Rattle.qs_servers.specs.Table.{remove_file}
-use Rattle.qs_ops.specs.Places.{IsBelowAll, IsInOrder, one_further, place_of, with_file}
+use Rattle.qs_servers.specs.Places.{IsBelowAll, IsInOrder, one_further, place_of, with_file}
 
 -- ---- the order
 

@@ -18,7 +18,7 @@ use Rattle.qs_servers.specs.declared.share.Share.{Share}
 use Rattle.qs_servers.specs.declared.share.Kept.{Kept}
 use Rattle.qs_servers.specs.Restarts.{kept_share, keep_share}
 use Rattle.qs_servers.specs.declared.locks.Locks.{Locks}
-use Rattle.qs_ops.specs.Files.{or_else}
+use Rattle.qs_servers.specs.Files.{or_else}
 use Rattle.qs_servers.specs.Table.{TableValue, nothing_held, holder, holder_of_name, least_other, is_change_of, changes_name, reads_name, change_by, after_serve}
 use Rattle.qs_servers.specs.Index.{Index, holders_of, first_other, with_tid, without_tid, ChangesHolders}
 use Rattle.qs_servers.specs.Held.{share_in, name_holder, changers, readers, makes_change, makes_read, lock_holder, ChangesLocks, SameLocks, IsFresh, FollowShares}

@@ -14,8 +14,8 @@ use Rattle.qs_base.proofs.Same.{same_bytes-true}
 use Rattle.qs_ops.specs.declared.operation.Op.{Op}
 use Rattle.qs_ops.specs.declared.operation.Op.TheVariants.{Put, Append, Del, Bind, Window, Keep, Note}
 use Rattle.qs_ops.specs.declared.file.File.{File}
-use Rattle.qs_ops.specs.Files.{file_text}
-use Rattle.qs_ops.specs.Places.{IsInOrder}
+use Rattle.qs_servers.specs.Files.{file_text}
+use Rattle.qs_servers.specs.Places.{IsInOrder}
 use Rattle.qs_servers.specs.Table.{is_change_of, apply_change, apply_note, text_or_empty}
 use Rattle.qs_servers.specs.Edits.{changed_name, text_by}
 use Rattle.qs_servers.specs.Views.{set_text}

@@ -13,11 +13,11 @@ use Rattle.qs_base.proofs.Same.{same_bytes-true, same_bytes-self}
 use Rattle.qs_ops.specs.declared.file.File.{File}
 use Rattle.qs_ops.specs.declared.operation.Op.{Op}
 use Rattle.qs_ops.specs.declared.operation.Op.TheVariants.{Put, Append, Del, Bind, Window, Keep}
-use Rattle.qs_ops.specs.Files.{file_text, put_file}
+use Rattle.qs_servers.specs.Files.{file_text, put_file}
 use Rattle.qs_servers.specs.Table.{apply_change, remove_file, text_or_empty}
 use Rattle.qs_servers.specs.Edits.{changed_at}
 use Rattle.qs_servers.specs.Views.{names_of, set_text, hollow_change}
-use Rattle.qs_ops.specs.Places.{IsBelowAll, IsInOrder}
+use Rattle.qs_servers.specs.Places.{IsBelowAll, IsInOrder}
 use Rattle.qs_servers.proofs.FileOrder.{new_file}
 
 -- ---- two tests, one after the other

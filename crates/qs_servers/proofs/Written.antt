@@ -12,8 +12,8 @@ use Rattle.qs_base.proofs.Same.{same_bytes-self}
 use Rattle.qs_ops.specs.declared.file.File.{File}
 use Rattle.qs_ops.specs.declared.operation.Op.{Op}
 use Rattle.qs_ops.specs.declared.operation.Op.TheVariants.{Put, Append}
-use Rattle.qs_ops.specs.Files.{file_text, put_file}
-use Rattle.qs_ops.specs.Places.{IsBelowAll, IsInOrder}
+use Rattle.qs_servers.specs.Files.{file_text, put_file}
+use Rattle.qs_servers.specs.Places.{IsBelowAll, IsInOrder}
 use Rattle.qs_servers.specs.Server.{AreAppends, IsFileWritten, AreFilesWritten, none, next, note_of}
 use Rattle.qs_servers.specs.Table.{apply_change, apply_note, text_or_empty}
 use Rattle.qs_servers.proofs.FileOrder.{new_file, bytes_total, greater_from_less, same_bytes-less}

@@ -12,10 +12,10 @@ use Rattle.qs_ops.specs.declared.reply.Reply.TheVariants.{Done, Value, Absent, T
 use Rattle.qs_ops.specs.declared.file.File.{File}
 use Rattle.qs_servers.specs.declared.share.Share.{Share}
 use Rattle.qs_servers.specs.declared.locks.Locks.{Locks}
-use Rattle.qs_ops.specs.Files.{or_else}
+use Rattle.qs_servers.specs.Files.{or_else}
 use Rattle.qs_servers.specs.Table.{nothing_held, is_change_of, changes_name, reads_name}
 use Rattle.qs_servers.specs.Index.{Index, holders_of, first_other, ChangesHolders, SameHolders, IsIndexOf}
-use Rattle.qs_ops.specs.Places.{IsInOrder}
+use Rattle.qs_servers.specs.Places.{IsInOrder}
 
 -- what a transaction holds
 abbrev pub share_in : List (Tid × Share) → Tid → Share

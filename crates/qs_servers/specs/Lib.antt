@@ -1,6 +1,8 @@
 pub mod Edits
+pub mod Files
 pub mod Held
 pub mod Index
+pub mod Places
 pub mod Refusals
 pub mod Restarts
 pub mod Server

@@ -6,7 +6,7 @@ use Rattle.std.specs.BTreeMap.{is_at}
 use Rattle.qs_base.specs.Order.{bytes_cmp}
 use Rattle.qs_ops.specs.declared.operation.Op.{Op}
 use Rattle.qs_ops.specs.declared.file.File.{File}
-use Rattle.qs_ops.specs.Files.{file_text}
+use Rattle.qs_servers.specs.Files.{file_text}
 use Rattle.qs_servers.specs.Edits.{changed_at}
 use Rattle.qs_servers.specs.Views.{set_text}
 

@@ -8,7 +8,7 @@ use Rattle.std.specs.Map.{lookup, remove_entry}
 use Rattle.std.specs.BTreeMap.{insert_entry, is_at}
 use Rattle.qs_base.specs.Order.{bytes_cmp, same_bytes, tid_cmp, same_tid}
 use Rattle.qs_base.specs.declared.identifiers.Tid.{Tid}
-use Rattle.qs_ops.specs.Files.{file_text, put_file, or_else, text_reply}
+use Rattle.qs_servers.specs.Files.{file_text, put_file, or_else, text_reply}
 use Rattle.qs_ops.specs.Alike.{same_reply}
 use Rattle.qs_ops.specs.Spelled.{is_change}
 use Rattle.qs_ops.specs.declared.operation.Op.{Op}

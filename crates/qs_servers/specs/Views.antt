@@ -1,6 +1,6 @@
 -- What is under names, seen through files in order, and the replies that come of it.
 use Rattle.std.specs.Prelude.{ℕ, ◌++◌, Bool, true, false, List, [], map, Option, Some, None}
-use Rattle.qs_ops.specs.Files.{file_text, put_file, text_reply}
+use Rattle.qs_servers.specs.Files.{file_text, put_file, text_reply}
 use Rattle.qs_ops.specs.declared.operation.Op.{Op}
 use Rattle.qs_ops.specs.declared.operation.Op.TheVariants.{Put, Append, Del, Get, Listing, Note, Notes, Bind, Find, Window, Title, Keep, Fetch}
 use Rattle.qs_ops.specs.declared.reply.Reply.{Reply}

@@ -2,7 +2,7 @@
 ghost use Rattle.std.specs.Prelude.{◌≡◌, ◌+◌, ◌≤◌, ◌++◌, [], OnOk, OnErr, IfOk, vec_len};
 ghost use Rattle.std.specs.List.{fold};
 ghost use Rattle.std.specs.Vec.{vec_capacity};
-ghost use Rattle.qs_ops.specs.Places.{IsInOrder};
+ghost use Rattle.qs_servers.specs.Places.{IsInOrder};
 ghost use Rattle.qs_servers.specs.Table.{apply_change, apply_note};
 
 use crate::staged::{apply_texts, stage};

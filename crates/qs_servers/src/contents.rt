@@ -4,8 +4,8 @@ ghost use Rattle.std.specs.List.Sorted.{IsSearchInRange};
 ghost use Rattle.std.specs.Option.{option_copied};
 ghost use Rattle.std.specs.Vec.{vec_capacity};
 ghost use Rattle.qs_base.specs.Order.{bytes_cmp};
-ghost use Rattle.qs_ops.specs.Files.{file_text, put_file};
-ghost use Rattle.qs_ops.specs.Places.{IsInOrder, place_of};
+ghost use Rattle.qs_servers.specs.Files.{file_text, put_file};
+ghost use Rattle.qs_servers.specs.Places.{IsInOrder, place_of};
 ghost use Rattle.qs_servers.specs.Table.{remove_file};
 ghost use Rattle.qs_servers.specs.Views.{set_text};
 

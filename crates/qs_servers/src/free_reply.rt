@@ -1,8 +1,8 @@
 //! The replies to operations that nothing refuses.
 ghost use Rattle.std.specs.Prelude.{◌≡◌, ◌++◌, Bool, IfOk, Option, Some, None, unwrap_or};
 ghost use Rattle.std.specs.List.{fold};
-ghost use Rattle.qs_ops.specs.Files.{text_reply};
-ghost use Rattle.qs_ops.specs.Places.{IsInOrder};
+ghost use Rattle.qs_servers.specs.Files.{text_reply};
+ghost use Rattle.qs_servers.specs.Places.{IsInOrder};
 ghost use Rattle.qs_servers.specs.Table.{apply_change, apply_note, size_reply, del_reply};
 ghost use Rattle.qs_servers.specs.Views.{is_served, viewed_reply};
 

@@ -1,7 +1,7 @@
 //! What the laws of servers come to.
 ghost use Rattle.std.specs.Prelude.{◌≡◌, ℕ, List, []};
 ghost use Rattle.std.specs.List.{fold};
-ghost use Rattle.qs_ops.specs.Places.{IsInOrder};
+ghost use Rattle.qs_servers.specs.Places.{IsInOrder};
 ghost use Rattle.qs_ops.specs.declared.operation.Op.{Op};
 ghost use Rattle.qs_servers.specs.Server.{AreContents};
 ghost use Rattle.qs_servers.specs.Table.{TableValue, apply_change, apply_note};

@@ -4,8 +4,8 @@ ghost use Rattle.std.specs.List.{fold};
 ghost use Rattle.std.specs.Vec.{vec_capacity};
 ghost use Rattle.std.specs.BTreeMap.{btree_map_len, IsOrdered};
 ghost use Rattle.qs_base.specs.Order.{bytes_cmp};
-ghost use Rattle.qs_ops.specs.Files.{file_text};
-ghost use Rattle.qs_ops.specs.Places.{IsInOrder};
+ghost use Rattle.qs_servers.specs.Files.{file_text};
+ghost use Rattle.qs_servers.specs.Places.{IsInOrder};
 ghost use Rattle.qs_servers.specs.Edits.{changed_name, text_by};
 ghost use Rattle.qs_servers.specs.Staged.{text_staged, IsWithoutName, IsStaged, AreStaged, set_entry};
 

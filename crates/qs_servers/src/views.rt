@@ -2,8 +2,8 @@
 ghost use Rattle.std.specs.Prelude.{◌≡◌, ◌+◌, ◌<◌, ◌≤◌, IfOk, OnOk, vec_len};
 ghost use Rattle.std.specs.List.{fold};
 ghost use Rattle.std.specs.Vec.{vec_capacity};
-ghost use Rattle.qs_ops.specs.Files.{file_text};
-ghost use Rattle.qs_ops.specs.Places.{IsInOrder};
+ghost use Rattle.qs_servers.specs.Files.{file_text};
+ghost use Rattle.qs_servers.specs.Places.{IsInOrder};
 ghost use Rattle.qs_servers.specs.Table.{apply_change, apply_note};
 ghost use Rattle.qs_servers.specs.Views.{names_of, hollow_text, hollow_change};
 

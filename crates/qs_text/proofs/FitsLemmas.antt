@@ -6,9 +6,9 @@ use Rattle.std.proofs.lemmas.Bool.{lt-ltb, le-leb, leb-true}
 use Rattle.std.proofs.lemmas.List.Folds.{list_any-append}
 use Rattle.qs_base.specs.Order.{same_bytes}
 use Rattle.qs_ops.specs.declared.operation.Op.TheVariants.{Put, Get}
-use Rattle.qs_book.specs.declared.script_line.Command.{Command}
-use Rattle.qs_book.specs.declared.script_line.Command.TheVariants.{Begin, Commit, Abort}
-use Rattle.qs_book.specs.declared.script_line.ScriptLine.{ScriptLine}
+use Rattle.qs_journal.specs.declared.script_line.Command.{Command}
+use Rattle.qs_journal.specs.declared.script_line.Command.TheVariants.{Begin, Commit, Abort}
+use Rattle.qs_journal.specs.declared.script_line.ScriptLine.{ScriptLine}
 use Rattle.qs_text.specs.declared.line.Said.{Said}
 use Rattle.qs_text.specs.declared.line.Said.TheVariants as saids
 use Rattle.qs_text.specs.declared.reading.ScriptFailed.{ScriptFailed}

@@ -12,7 +12,7 @@ use Rattle.qs_text.specs.declared.reading.ScriptFailed.TheVariants.{Fault}
 use Rattle.qs_text.specs.declared.status.ScriptFault.{ScriptFault}
 use Rattle.qs_text.specs.declared.status.ScriptFault.TheVariants.{TooLarge, BadWord, Open}
 use Rattle.qs_text.specs.declared.script.Script.{Script}
-use Rattle.qs_book.specs.declared.script_line.ScriptLine.{ScriptLine}
+use Rattle.qs_journal.specs.declared.script_line.ScriptLine.{ScriptLine}
 use Rattle.qs_text.specs.Labels.{has_label}
 use Rattle.qs_text.specs.Lines.{lines_of, line_says}
 use Rattle.qs_text.specs.Reads.{Reads}

@@ -3,9 +3,9 @@ use Rattle.std.specs.Prelude.{◌≡◌, ◌⊎◌, ℕ, Bool, true, false, ◌&
 use Rattle.qs_base.specs.Order.{same_bytes, same_member}
 use Rattle.qs_ops.specs.declared.operation.Op.{Op}
 use Rattle.qs_ops.specs.declared.operation.Op.TheVariants.{Put, Get}
-use Rattle.qs_book.specs.declared.script_line.Command.{Command}
-use Rattle.qs_book.specs.declared.script_line.Command.TheVariants.{Begin, Commit, Abort, Request}
-use Rattle.qs_book.specs.declared.script_line.ScriptLine.{ScriptLine}
+use Rattle.qs_journal.specs.declared.script_line.Command.{Command}
+use Rattle.qs_journal.specs.declared.script_line.Command.TheVariants.{Begin, Commit, Abort, Request}
+use Rattle.qs_journal.specs.declared.script_line.ScriptLine.{ScriptLine}
 use Rattle.qs_text.specs.Lines.{files_of_node_0}
 use Rattle.qs_text.specs.Script.{is_begin, may_name}
 use Rattle.qs_text.specs.declared.script.Script.{Script}

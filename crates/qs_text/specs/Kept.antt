@@ -9,14 +9,14 @@ use Rattle.qs_ops.specs.declared.answer.Answer.{Answer}
 use Rattle.qs_ops.specs.declared.answer.Answer.TheVariants as answers
 use Rattle.qs_ops.specs.declared.answer.Cause.TheVariants as causes
 use Rattle.qs_ops.specs.declared.reply.Reply.{Reply}
-use Rattle.qs_book.specs.declared.entry.Act.{Act}
-use Rattle.qs_book.specs.declared.entry.Act.TheVariants as acts
-use Rattle.qs_book.specs.declared.entry.Entry.{Entry}
-use Rattle.qs_book.specs.declared.script_line.Command.{Command}
-use Rattle.qs_book.specs.declared.script_line.Command.TheVariants as commands
-use Rattle.qs_book.specs.declared.script_line.ScriptLine.{ScriptLine}
-use Rattle.qs_machine.specs.Book.{BookValue, find_transaction, find_label}
-use Rattle.qs_machine.specs.Lawful.{effect}
+use Rattle.qs_journal.specs.declared.entry.Act.{Act}
+use Rattle.qs_journal.specs.declared.entry.Act.TheVariants as acts
+use Rattle.qs_journal.specs.declared.entry.Entry.{Entry}
+use Rattle.qs_journal.specs.declared.script_line.Command.{Command}
+use Rattle.qs_journal.specs.declared.script_line.Command.TheVariants as commands
+use Rattle.qs_journal.specs.declared.script_line.ScriptLine.{ScriptLine}
+use Rattle.qs_book.specs.Book.{BookValue, find_transaction, find_label}
+use Rattle.qs_book.specs.Lawful.{effect}
 use Rattle.qs_transaction.specs.Transaction.{TransactionValue}
 use Rattle.qs_transaction.specs.declared.state.Cell.{Cell}
 use Rattle.qs_transaction.specs.declared.state.Cell.TheVariants as cells

@@ -4,8 +4,8 @@ use Rattle.std.specs.List.{slice_split, filter, list_all}
 use Rattle.std.specs.Char.{is_ascii_alphanumeric}
 use Rattle.qs_base.specs.Order.{same_bytes}
 use Rattle.qs_base.specs.declared.identifiers.Member.{Member}
-use Rattle.qs_book.specs.declared.script_line.Command.{Command}
-use Rattle.qs_book.specs.declared.script_line.Command.TheVariants.{Begin, Commit, Abort, Request}
+use Rattle.qs_journal.specs.declared.script_line.Command.{Command}
+use Rattle.qs_journal.specs.declared.script_line.Command.TheVariants.{Begin, Commit, Abort, Request}
 use Rattle.qs_ops.specs.declared.operation.Op.{Op}
 use Rattle.qs_ops.specs.declared.operation.Op.TheVariants.{Put, Get}
 use Rattle.qs_text.specs.declared.line.Said.{Said}

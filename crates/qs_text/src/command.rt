@@ -2,7 +2,7 @@
 ghost use Rattle.std.specs.Prelude.{◌≡◌};
 ghost use Rattle.qs_text.specs.Script.{is_begin, is_end};
 
-use qs_book::Command;
+use qs_journal::Command;
 
 /// Whether the command begins a transaction.
 pub fn is_begin(command: &Command) -> bool

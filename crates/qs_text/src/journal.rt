@@ -12,8 +12,8 @@ use crate::pieces::{
     add_bytes, add_done, add_member, add_number, add_pend, add_text, add_word_and_tid,
 };
 use qs_base::{Bytes, ClientNo, Copied, List, Member, NoMemory, NodeNo, Outcome, Tid};
-use qs_book::{Act, CrashCause, Entry, Found};
-use qs_machine::Book;
+use qs_book::Book;
+use qs_journal::{Act, CrashCause, Entry, Found};
 use qs_ops::{Answer, Cause, Op, Reply, Vote, answer_of};
 use std::alloc::Global;
 

@@ -4,7 +4,7 @@ use crate::output::out_text;
 use crate::reading::read_script;
 use crate::tests::fresh_book;
 use qs_base::{Bytes, ClientNo, List, Member, NoMemory, NodeNo, Outcome, ServerNo, Tid};
-use qs_book::{Act, CrashCause, Entry, Found};
+use qs_journal::{Act, CrashCause, Entry, Found};
 use qs_ops::{Answer, Cause, Op, Reason, Reply, Vote};
 use std::alloc::Global;
 use std::test::Fail;

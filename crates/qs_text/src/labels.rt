@@ -6,7 +6,7 @@ ghost use Rattle.qs_text.specs.Output.{label_of};
 
 use crate::answers::{put, put_answer};
 use qs_base::{Bytes, NoMemory, Tid};
-use qs_machine::Book;
+use qs_book::Book;
 use qs_ops::Answer;
 use std::alloc::Global;
 

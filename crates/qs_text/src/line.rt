@@ -6,7 +6,7 @@ ghost use Rattle.qs_base.specs.Order.{same_bytes};
 ghost use Rattle.qs_text.specs.Lines.{lines_of, words_of, is_printable, is_label, is_skipped, line_says, words_say, said_by, short_command, said_seat, said_short, said_get, said_put, request, is_at_files, is_name, is_text};
 
 use qs_base::{Bytes, Member, NoMemory, NodeNo, ServerNo};
-use qs_book::Command;
+use qs_journal::Command;
 use qs_ops::Op;
 use std::alloc::{AllocError, Global};
 

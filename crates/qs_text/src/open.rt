@@ -7,7 +7,7 @@ ghost use Rattle.qs_text.specs.Script.{open_line, first_open, ends};
 use crate::command::{is_begin, is_end};
 use crate::label_set::LabelSet;
 use qs_base::NoMemory;
-use qs_book::ScriptLine;
+use qs_journal::ScriptLine;
 use std::alloc::Global;
 
 /// The line of the first `begin` of a transaction that no later command ends. It goes over the

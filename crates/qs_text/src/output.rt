@@ -9,8 +9,8 @@ use crate::labels::put_told;
 use crate::script::{Script, Seat};
 use crate::totals::{aborted, begun, committed, restarts};
 use qs_base::{Bytes, ClientNo, List, NoMemory, NodeNo};
-use qs_book::{Act, Entry};
-use qs_machine::{Book, NodeState};
+use qs_book::{Book, NodeState};
+use qs_journal::{Act, Entry};
 use qs_ops::{Answer, File};
 use std::alloc::{AllocError, Global};
 

@@ -5,7 +5,7 @@ ghost use Rattle.qs_text.specs.Journal.{member_text, part_text, pend_text, done_
 
 use crate::answers::{put, server_text, tid_text};
 use qs_base::{Bytes, Member, NoMemory, ServerNo, Tid};
-use qs_book::Found;
+use qs_journal::Found;
 use std::alloc::{AllocError, Global};
 
 /// The number of client 0 as borrower.

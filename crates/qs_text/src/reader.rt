@@ -7,7 +7,7 @@ use crate::command::is_begin;
 use crate::label_set::LabelSet;
 use crate::line::Said;
 use qs_base::{Bytes, ClientNo, List, NoMemory};
-use qs_book::{Command, ScriptLine};
+use qs_journal::{Command, ScriptLine};
 use std::alloc::Global;
 
 /// What the lines that were read so far say.

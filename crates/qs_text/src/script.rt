@@ -1,7 +1,7 @@
 //! A script that was read.
 
 use qs_base::{ClientNo, List, NodeNo};
-use qs_book::{Point, ScriptLine};
+use qs_journal::{Point, ScriptLine};
 
 /// A script.
 #[derive(Debug, Drop, PartialEq, Eq)]

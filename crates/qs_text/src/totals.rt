@@ -3,8 +3,8 @@ ghost use Rattle.std.specs.Prelude.{◌≡◌};
 ghost use Rattle.std.specs.List.{count_by};
 ghost use Rattle.qs_text.specs.Output.{transactions_of, is_begun, is_committed, is_aborted, is_restart};
 
-use qs_book::{Act, Entry};
-use qs_machine::Book;
+use qs_book::Book;
+use qs_journal::{Act, Entry};
 use qs_transaction::{Cell, Transaction};
 
 /// How many transactions were begun.

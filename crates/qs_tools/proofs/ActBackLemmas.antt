@@ -7,8 +7,8 @@ use Rattle.qs_base.specs.Order.{same_bytes}
 use Rattle.qs_base.proofs.Same.{same_bytes-true}
 use Rattle.qs_base.specs.declared.identifiers.Outcome.TheVariants as outcomes
 use Rattle.qs_base.specs.declared.identifiers.Tid.{Tid}
-use Rattle.qs_book.specs.declared.entry.Act.{Act}
-use Rattle.qs_book.specs.declared.entry.Act.TheVariants as acts
+use Rattle.qs_journal.specs.declared.entry.Act.{Act}
+use Rattle.qs_journal.specs.declared.entry.Act.TheVariants as acts
 use Rattle.qs_ops.specs.Operations.{answer_of as answer_made}
 use Rattle.qs_ops.specs.declared.vote.Vote.{Vote}
 use Rattle.qs_ops.specs.declared.vote.Vote.TheVariants as votes

@@ -8,9 +8,9 @@ use Rattle.std.proofs.lemmas.List.Folds.{list_all-append}
 use Rattle.qs_base.specs.declared.identifiers.Member.{Member}
 use Rattle.qs_base.specs.declared.identifiers.Outcome.TheVariants as outcomes
 use Rattle.qs_base.specs.declared.identifiers.Tid.{Tid}
-use Rattle.qs_book.specs.declared.entry.Act.{Act}
-use Rattle.qs_book.specs.declared.entry.Act.TheVariants as acts
-use Rattle.qs_book.specs.declared.entry.Found.{Found}
+use Rattle.qs_journal.specs.declared.entry.Act.{Act}
+use Rattle.qs_journal.specs.declared.entry.Act.TheVariants as acts
+use Rattle.qs_journal.specs.declared.entry.Found.{Found}
 use Rattle.qs_ops.specs.Operations.{answer_of as answer_made}
 use Rattle.qs_ops.specs.declared.answer.Answer.{Answer}
 use Rattle.qs_ops.specs.declared.answer.Answer.TheVariants as answers

@@ -8,7 +8,7 @@ use Rattle.qs_base.proofs.Same.{same_bytes-true}
 use Rattle.qs_base.specs.declared.identifiers.Tid.{Tid}
 use Rattle.std.specs.Prelude.{OnOk}
 use Rattle.std.proofs.lemmas.List.Folds.{list_any-append}
-use Rattle.qs_book.specs.declared.entry.Entry.{Entry}
+use Rattle.qs_journal.specs.declared.entry.Entry.{Entry}
 use Rattle.qs_tools.specs.Begun.{BegunValue, or_else, begun_with, begun_as, begins_by, begins, first_begun, is_begun, label_in, tid_in}
 use Rattle.qs_tools.specs.Reader.{Knows}
 

@@ -6,7 +6,7 @@ use Rattle.std.proofs.lemmas.Bool.{lt-ltb, ltb-true}
 use Rattle.qs_base.specs.Order.{same_bytes}
 use Rattle.qs_base.proofs.Same.{same_bytes-true}
 use Rattle.qs_base.specs.declared.identifiers.Tid.{Tid}
-use Rattle.qs_book.specs.declared.entry.Entry.{Entry}
+use Rattle.qs_journal.specs.declared.entry.Entry.{Entry}
 use Rattle.qs_text.specs.Answers.{tid_text, list_text}
 use Rattle.qs_tools.specs.Acts.{act_of, entry_of}
 use Rattle.qs_tools.specs.Reader.{taken, read_line}

@@ -10,7 +10,7 @@ use Rattle.qs_base.specs.Order.{same_bytes}
 use Rattle.qs_base.proofs.Same.{same_bytes-true}
 use Rattle.qs_base.specs.declared.identifiers.Member.{Member}
 use Rattle.qs_base.specs.declared.identifiers.Tid.{Tid}
-use Rattle.qs_book.specs.declared.entry.Found.{Found}
+use Rattle.qs_journal.specs.declared.entry.Found.{Found}
 use Rattle.qs_text.specs.Answers.{tid_text, server_text}
 use Rattle.qs_text.specs.Journal.{part_text, member_text, pend_text, done_text}
 use Rattle.qs_text.proofs.WordLemmas.{one_spelling}

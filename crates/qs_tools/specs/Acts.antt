@@ -5,10 +5,10 @@ use Rattle.qs_base.specs.Order.{same_bytes}
 use Rattle.qs_base.specs.declared.identifiers.Member.{Member}
 use Rattle.qs_base.specs.declared.identifiers.Outcome.TheVariants as outcomes
 use Rattle.qs_base.specs.declared.identifiers.Tid.{Tid}
-use Rattle.qs_book.specs.declared.entry.Act.{Act}
-use Rattle.qs_book.specs.declared.entry.Act.TheVariants as acts
-use Rattle.qs_book.specs.declared.entry.Entry.{Entry}
-use Rattle.qs_book.specs.declared.entry.Found.{Found}
+use Rattle.qs_journal.specs.declared.entry.Act.{Act}
+use Rattle.qs_journal.specs.declared.entry.Act.TheVariants as acts
+use Rattle.qs_journal.specs.declared.entry.Entry.{Entry}
+use Rattle.qs_journal.specs.declared.entry.Found.{Found}
 use Rattle.qs_ops.specs.declared.answer.Answer.{Answer}
 use Rattle.qs_ops.specs.declared.answer.Cause.{Cause}
 use Rattle.qs_ops.specs.declared.reply.Reply.{Reply}

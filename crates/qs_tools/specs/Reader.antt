@@ -1,7 +1,7 @@
 -- What the reader of a history keeps.
 use Rattle.std.specs.Prelude.{ℕ, ◌≡◌, Bool, true, List, Option, Some, None, if◌then◌else◌}
 use Rattle.qs_base.specs.declared.identifiers.Tid.{Tid}
-use Rattle.qs_book.specs.declared.entry.Entry.{Entry}
+use Rattle.qs_journal.specs.declared.entry.Entry.{Entry}
 use Rattle.qs_tools.specs.Begun.{BegunValue, label_in, tid_in, first_begun, is_begun}
 use Rattle.qs_tools.specs.Reading.{Reading, may_follow, read_after}
 use Rattle.qs_tools.specs.Said.{said_of}

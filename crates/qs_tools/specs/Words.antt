@@ -4,7 +4,7 @@ use Rattle.std.specs.List.{slice_split, list_all, before_first, after_first}
 use Rattle.qs_base.specs.Order.{same_bytes}
 use Rattle.qs_base.specs.declared.identifiers.Member.{Member}
 use Rattle.qs_base.specs.declared.identifiers.Tid.{Tid}
-use Rattle.qs_book.specs.declared.entry.Found.{Found}
+use Rattle.qs_journal.specs.declared.entry.Found.{Found}
 use Rattle.qs_text.specs.Words.{number_of}
 
 -- ---- words

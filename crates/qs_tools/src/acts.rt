@@ -14,7 +14,7 @@ use crate::operations::op_of;
 use crate::restarts::restart_of;
 use crate::words::{is, u8_of, u32_of, u64_of};
 use qs_base::{Bytes, ClientNo, Member, NoMemory, NodeNo, Outcome, Tid};
-use qs_book::{Act, Entry};
+use qs_journal::{Act, Entry};
 use qs_ops::{Answer, Cause, Op, Reply, Vote};
 use std::alloc::Global;
 

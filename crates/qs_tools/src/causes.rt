@@ -5,7 +5,7 @@ ghost use Rattle.qs_tools.specs.Answers.{short_reason, long_reason, asked, short
 use crate::identifiers::{member_with, server_of};
 use crate::words::{is, u8_of, u32_of, u64_of};
 use qs_base::{Bytes, NoMemory, NodeNo, Outcome};
-use qs_book::CrashCause;
+use qs_journal::CrashCause;
 use qs_ops::{Cause, Reason, Vote};
 use std::alloc::Global;
 

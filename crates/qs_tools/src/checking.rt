@@ -1,13 +1,13 @@
 //! The checker of histories.
 ghost use Rattle.std.specs.Prelude.{◌≡◌, ◌↔◌, ◌+◌, ◌≤◌, None, IfOk, length};
-ghost use Rattle.qs_machine.specs.Lawful.{IsLawful, broken, effect};
-ghost use Rattle.qs_machine.specs.Opening.{opening};
+ghost use Rattle.qs_book.specs.Lawful.{IsLawful, broken, effect};
+ghost use Rattle.qs_book.specs.Opening.{opening};
 ghost use Rattle.qs_tools.specs.Checked.{first_broken_line};
 
 use crate::journal::Journal;
 use qs_base::NoMemory;
-use qs_book::Entry;
-use qs_machine::{Book, BookFault};
+use qs_book::{Book, BookFault};
+use qs_journal::Entry;
 use std::alloc::Global;
 
 /// Whether each entry of a history is a lawful step of the reference machine, from the opening that

@@ -4,7 +4,7 @@ ghost use Rattle.qs_tools.specs.Words.{below, tid_of, tid_with, server_of, borro
 
 use crate::words::{after, before, is, u8_of, u32_of, u64_of};
 use qs_base::{Member, NodeNo, ServerNo, Tid};
-use qs_book::Found;
+use qs_journal::Found;
 
 /// The identifier `home.inc.seq` that the word is.
 #[tactic(auto, unfolding(crate::specs::Words::tid_of))]

@@ -1,8 +1,8 @@
 //! A history as a value: what the nodes' logs held, and the entries.
 
 use qs_base::List;
-use qs_book::Entry;
-use qs_machine::Opened;
+use qs_book::Opened;
+use qs_journal::Entry;
 
 /// What the text of a history says.
 #[derive(Debug, Drop, PartialEq, Eq)]

@@ -10,8 +10,8 @@ use crate::begun::Begun;
 use crate::said::{Said, said_of};
 use crate::words::words_of;
 use qs_base::{Bytes, List, NoMemory};
-use qs_book::{Act, Entry};
-use qs_machine::Opened;
+use qs_book::Opened;
+use qs_journal::{Act, Entry};
 use qs_ops::File;
 use std::alloc::Global;
 

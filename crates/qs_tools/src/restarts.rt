@@ -7,7 +7,7 @@ ghost use Rattle.qs_tools.specs.Words.{found_of, done_of, is_done};
 use crate::identifiers::{done_of, found_of, is_done};
 use crate::words::u64_of;
 use qs_base::{List, NoMemory, Tid};
-use qs_book::{Act, Found};
+use qs_journal::{Act, Found};
 use std::alloc::Global;
 
 /// That a node started, and what it found.

@@ -10,7 +10,7 @@ use crate::begun::Begun;
 use crate::identifiers::tid_of;
 use crate::words::{is, u8_of, u32_of, u64_of};
 use qs_base::{Bytes, NoMemory, Tid};
-use qs_book::Entry;
+use qs_journal::Entry;
 use std::alloc::Global;
 
 /// What a line says.

@@ -1,8 +1,8 @@
 //! Histories that are read, and neighbours of them that are not.
 use crate::reading::{JournalFailed, read_journal};
 use qs_base::{Bytes, ClientNo, List, Member, NoMemory, NodeNo, Outcome, ServerNo, Tid};
-use qs_book::{Act, CrashCause, Entry, Found};
-use qs_machine::Opened;
+use qs_book::Opened;
+use qs_journal::{Act, CrashCause, Entry, Found};
 use qs_ops::{Answer, Cause, File, Op, Reason, Reply, Vote};
 use std::alloc::Global;
 use std::test::Fail;

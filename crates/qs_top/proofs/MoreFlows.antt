@@ -18,16 +18,16 @@ use Rattle.qs_ops.specs.declared.answer.Answer.TheVariants as answers
 use Rattle.qs_ops.specs.declared.operation.Op.{Op}
 use Rattle.qs_ops.specs.declared.reply.Reply.{Reply}
 use Rattle.qs_ops.specs.declared.reply.Reply.TheVariants.{Done, Value, Left, Names, Notes, Busy, Absent, TooMany, TooLong}
-use Rattle.qs_book.specs.declared.entry.Act.TheVariants as acts
-use Rattle.qs_book.specs.declared.entry.Entry.{Entry}
-use Rattle.qs_book.specs.declared.script_line.Command.{Command}
-use Rattle.qs_book.specs.declared.script_line.Command.TheVariants as commands
-use Rattle.qs_book.specs.declared.script_line.ScriptLine.{ScriptLine}
-use Rattle.qs_machine.specs.Book.{BookValue, find_label, find_transaction, ticks_at}
-use Rattle.qs_machine.specs.Clauses.{is_for, is_known}
-use Rattle.qs_machine.specs.Lawful.{broken, effect}
-use Rattle.qs_machine.specs.Nodes.{NodeValue, with_table}
-use Rattle.qs_machine.specs.declared.state.Owner.{Owner}
+use Rattle.qs_journal.specs.declared.entry.Act.TheVariants as acts
+use Rattle.qs_journal.specs.declared.entry.Entry.{Entry}
+use Rattle.qs_journal.specs.declared.script_line.Command.{Command}
+use Rattle.qs_journal.specs.declared.script_line.Command.TheVariants as commands
+use Rattle.qs_journal.specs.declared.script_line.ScriptLine.{ScriptLine}
+use Rattle.qs_book.specs.Book.{BookValue, find_label, find_transaction, ticks_at}
+use Rattle.qs_book.specs.Clauses.{is_for, is_known}
+use Rattle.qs_book.specs.Lawful.{broken, effect}
+use Rattle.qs_book.specs.Nodes.{NodeValue, with_table}
+use Rattle.qs_book.specs.declared.state.Owner.{Owner}
 use Rattle.qs_servers.proofs.IndexSteps.{tid_total, tid_exact, same_tid-cmp}
 use Rattle.qs_servers.specs.Table.{reply_to, served}
 use Rattle.qs_transaction.specs.Transaction.{TransactionValue, begun, learnt_abort, next_number}

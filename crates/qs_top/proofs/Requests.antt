@@ -18,13 +18,13 @@ use Rattle.qs_ops.specs.Alike.{same_reply}
 use Rattle.qs_ops.specs.declared.operation.Op.{Op}
 use Rattle.qs_ops.specs.declared.reply.Reply.{Reply}
 use Rattle.qs_ops.specs.declared.reply.Reply.TheVariants.{Done, Value, Left, Names, Notes, Busy, Absent, TooMany, TooLong}
-use Rattle.qs_book.specs.declared.entry.Act.TheVariants as acts
-use Rattle.qs_book.specs.declared.entry.Entry.{Entry}
-use Rattle.qs_machine.specs.Book.{BookValue, find_transaction, inc_at, issue, with_crossing, with_waiting, with_transaction, crosses, serve_node, is_done}
-use Rattle.qs_machine.specs.Clauses.{is_for, is_numbered, is_owner_of, may_issue, may_issue_as_borrower, broken_request, is_crossed_busy, is_reply}
-use Rattle.qs_machine.specs.Lawful.{broken, effect}
-use Rattle.qs_machine.specs.Nodes.{NodeValue, with_table}
-use Rattle.qs_machine.specs.declared.state.Owner.{Owner}
+use Rattle.qs_journal.specs.declared.entry.Act.TheVariants as acts
+use Rattle.qs_journal.specs.declared.entry.Entry.{Entry}
+use Rattle.qs_book.specs.Book.{BookValue, find_transaction, inc_at, issue, with_crossing, with_waiting, with_transaction, crosses, serve_node, is_done}
+use Rattle.qs_book.specs.Clauses.{is_for, is_numbered, is_owner_of, may_issue, may_issue_as_borrower, broken_request, is_crossed_busy, is_reply}
+use Rattle.qs_book.specs.Lawful.{broken, effect}
+use Rattle.qs_book.specs.Nodes.{NodeValue, with_table}
+use Rattle.qs_book.specs.declared.state.Owner.{Owner}
 use Rattle.qs_servers.specs.Table.{reply_to, served}
 use Rattle.qs_transaction.proofs.Present.{request_total}
 use Rattle.qs_transaction.specs.Transaction.{TransactionValue, changed_value, is_served, is_standing, issued, mark_served, next_number, request_cmp, requests_at, requests_in, served_in, standing_request, learnt_abort, is_open, is_commit, is_crossed, all_served, life, life_cmp, serving_part, no_part as no_part_yet}

@@ -13,14 +13,14 @@ use Rattle.qs_ops.specs.declared.answer.Cause.TheVariants as causes
 use Rattle.qs_ops.specs.declared.operation.Op.{Op}
 use Rattle.qs_ops.specs.declared.reply.Reply.{Reply}
 use Rattle.qs_ops.specs.declared.vote.Vote.TheVariants as votes
-use Rattle.qs_book.specs.declared.entry.Act.{Act}
-use Rattle.qs_book.specs.declared.entry.Act.TheVariants as acts
-use Rattle.qs_book.specs.declared.entry.Entry.{Entry}
-use Rattle.qs_book.specs.declared.script_line.Command.{Command}
-use Rattle.qs_book.specs.declared.script_line.Command.TheVariants as commands
-use Rattle.qs_book.specs.declared.script_line.ScriptLine.{ScriptLine}
-use Rattle.qs_machine.specs.Book.{BookValue, find_transaction, find_label}
-use Rattle.qs_machine.specs.Nodes.{NodeValue}
+use Rattle.qs_journal.specs.declared.entry.Act.{Act}
+use Rattle.qs_journal.specs.declared.entry.Act.TheVariants as acts
+use Rattle.qs_journal.specs.declared.entry.Entry.{Entry}
+use Rattle.qs_journal.specs.declared.script_line.Command.{Command}
+use Rattle.qs_journal.specs.declared.script_line.Command.TheVariants as commands
+use Rattle.qs_journal.specs.declared.script_line.ScriptLine.{ScriptLine}
+use Rattle.qs_book.specs.Book.{BookValue, find_transaction, find_label}
+use Rattle.qs_book.specs.Nodes.{NodeValue}
 use Rattle.qs_servers.specs.Table.{reply_to, has_changes}
 use Rattle.qs_transaction.specs.Transaction.{TransactionValue, next_number, part_of}
 use Rattle.qs_transaction.specs.declared.state.Cell.TheVariants as cells

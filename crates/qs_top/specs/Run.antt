@@ -3,13 +3,13 @@ use Rattle.std.specs.Prelude.{◌≡◌, ◌⊎◌, ◌<◌, ◌^◌, ℕ, false
 use Rattle.std.specs.Io.KnownBytes.{Consumes, Appends}
 use Rattle.qs_base.specs.Causes.{Rose}
 use Rattle.qs_base.specs.declared.identifiers.NodeNo.{NodeNo}
-use Rattle.qs_book.specs.declared.entry.Entry.{Entry}
+use Rattle.qs_journal.specs.declared.entry.Entry.{Entry}
 use Rattle.qs_disk.specs.Disk.{DiskState}
 use Rattle.qs_io.specs.Streams.{IsWholeOrLonger, GivesPart}
 use Rattle.qs_log.specs.Image.{IsDamaged}
 use Rattle.qs_log.specs.declared.fault.OpenFault.{OpenFault}
 use Rattle.qs_log.specs.declared.fault.OpenFault.TheVariants as faults
-use Rattle.qs_machine.specs.Lawful.{IsLawful, book_after}
+use Rattle.qs_book.specs.Lawful.{IsLawful, book_after}
 use Rattle.qs_text.specs.Kept.{at_start, IsAnswered, IsKept}
 use Rattle.qs_text.specs.Output.{out_of}
 use Rattle.qs_text.specs.Script.{script_of}

@@ -1,13 +1,13 @@
 //! A script is carried out command by command, and every entry is taken into the book.
 ghost use Rattle.std.specs.Prelude.{◌≡◌, [], ◌∷◌, false, None, OnOk, IfOk};
-ghost use Rattle.qs_machine.specs.Lawful.{IsLawful, book_after, broken, effect};
+ghost use Rattle.qs_book.specs.Lawful.{IsLawful, book_after, broken, effect};
 ghost use Rattle.qs_text.specs.Fits.{Fits, IsSeated};
 ghost use Rattle.qs_top.specs.Carrying.{Makes, Ready, empty_log};
 
 use crate::node::{NODE, entries_of};
 use qs_base::{List, NoMemory};
-use qs_book::{Entry, ScriptLine};
-use qs_machine::{Book, Opened};
+use qs_book::{Book, Opened};
+use qs_journal::{Entry, ScriptLine};
 use qs_text::Script;
 use std::alloc::Global;
 

@@ -2,7 +2,7 @@
 ghost use Rattle.std.specs.Prelude.{◌≡◌, ◌+◌, ◌<◌, ◌^◌, IfOk, Some, None};
 ghost use Rattle.qs_base.specs.declared.identifiers.Outcome.TheVariants as outcomes;
 ghost use Rattle.qs_transaction.specs.Transaction.{next_number};
-ghost use Rattle.qs_book.specs.declared.entry.Act.TheVariants as acts;
+ghost use Rattle.qs_journal.specs.declared.entry.Act.TheVariants as acts;
 ghost use Rattle.qs_ops.specs.declared.answer.Cause.TheVariants as causes;
 ghost use Rattle.std.specs.Option.{option_copied};
 ghost use Rattle.qs_top.specs.Node.{entry, answered, begin_entries, request_entries, answer_entries, empty_commit_entries, read_commit_entries, commit_entries, empty_abort_entries, abort_entries, committing, aborting, aborted_answer, of_commit, of_abort, of_request, requesting, next_tid, of_known, of_labelled, entries_of, files_0, link_0};
@@ -10,8 +10,8 @@ ghost use Rattle.qs_top.specs.Node.{entry, answered, begin_entries, request_entr
 use qs_base::{
     Bytes, ClientNo, Copied, List, Member, NoMemory, NodeNo, Outcome, ServerNo, Stamp, Tid,
 };
-use qs_book::{Act, Command, Entry, ScriptLine};
-use qs_machine::{Book, NodeState};
+use qs_book::{Book, NodeState};
+use qs_journal::{Act, Command, Entry, ScriptLine};
 use qs_ops::{Answer, Cause, Op, Reply, Vote, answer_of};
 use qs_transaction::{Cell, Link, Part, Transaction};
 use std::alloc::Global;

@@ -1,7 +1,7 @@
 //! What a run answers.
 
 use qs_base::List;
-use qs_book::Entry;
+use qs_journal::Entry;
 use qs_text::Status;
 
 /// How a run ended, and what happened in it.

@@ -1,5 +1,5 @@
 use Rattle.std.proofs.Common.{◌≡◌, Ok, Err, ◌∙◌}
-use Rattle.qs_ops.specs.Places.{place_of}
+use Rattle.qs_servers.specs.Places.{place_of}
 use Rattle.qs_servers.proofs.FileOrder.{put_file-found, put_file-gap, in_order-put_file}
 use Rattle.qs_servers.proofs.contents.put_file.Goals as goal
 

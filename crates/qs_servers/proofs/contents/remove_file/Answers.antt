@@ -1,5 +1,5 @@
 use Rattle.std.proofs.Common.{◌≡◌, Ok, Err, ◌∙◌}
-use Rattle.qs_ops.specs.Places.{place_of}
+use Rattle.qs_servers.specs.Places.{place_of}
 use Rattle.qs_servers.proofs.FileOrder.{remove_file-found, remove_file-gap, in_order-remove_file}
 use Rattle.qs_servers.proofs.contents.remove_file.Goals as goal
 

@@ -1,7 +1,7 @@
 use Rattle.std.proofs.Common.{◌≡◌, ◌+◌, ◌≤◌, length, vec_len}
 use Rattle.std.specs.List.{fold}
 use Rattle.std.specs.Vec.{vec_capacity}
-use Rattle.qs_ops.specs.Places.{IsInOrder}
+use Rattle.qs_servers.specs.Places.{IsInOrder}
 use Rattle.qs_servers.specs.Staged.{set_entry}
 use Rattle.qs_servers.proofs.staged.apply_texts.Given as goal
 

@@ -1,7 +1,7 @@
 use Rattle.std.proofs.Common.{◌≡◌, ◌+◌, ◌≤◌, length, take, vec_len}
 use Rattle.std.specs.List.{fold}
 use Rattle.std.specs.Vec.{vec_capacity}
-use Rattle.qs_ops.specs.Places.{IsInOrder}
+use Rattle.qs_servers.specs.Places.{IsInOrder}
 use Rattle.qs_servers.specs.Table.{apply_change}
 use Rattle.qs_servers.specs.Views.{names_of}
 use Rattle.qs_servers.proofs.views.names_in_view.Given as goal

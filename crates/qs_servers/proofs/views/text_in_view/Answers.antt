@@ -2,7 +2,7 @@ use Rattle.std.proofs.Common.{sym, ap, ◌∙◌}
 use Rattle.std.specs.List.{fold}
 use Rattle.std.specs.Prelude.{ℕ, List, Option}
 use Rattle.std.proofs.lemmas.Result.{IfOk-weaker}
-use Rattle.qs_ops.specs.Files.{file_text}
+use Rattle.qs_servers.specs.Files.{file_text}
 use Rattle.qs_servers.specs.Edits.{changed_at}
 use Rattle.qs_servers.proofs.Texts.{file_text-fold}
 use Rattle.qs_servers.proofs.views.text_in_view.Goals as goal

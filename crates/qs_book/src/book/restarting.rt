@@ -1,0 +1,234 @@
+//! A restart: whether its found lists may be, and what it does.
+ghost use Rattle.std.specs.Prelude.{◌≡◌, not, cond, true, IfOk, OnOk};
+ghost use Rattle.std.specs.List.{list_any, list_all};
+ghost use Rattle.std.specs.BTreeMap.{is_at};
+ghost use Rattle.std.specs.Option.{option_copied};
+ghost use Rattle.qs_transaction.specs.Transaction.{is_empty};
+ghost use Rattle.qs_book.specs.Nodes.{is_recoverable, pending_at, voter_cmp};
+ghost use Rattle.qs_book.specs.Restart.{member_at, is_among, is_on_record, could_vote, is_new_vote, was_applied, is_seen, voter_of, votes_once, may_be_lost, is_found_as, is_committed, is_open_here, is_found_vote, is_kept, is_found_commit, broken_restart};
+ghost use Rattle.qs_book.specs.declared.state.OnRecord.{OnRecord};
+
+use super::Book;
+use crate::clauses::{
+    FOUND_COMMITS_ARE_COMMITS, FOUND_VOTES_ARE_VOTES, INCARNATION_RISES, NO_VOTE_IS_LOST,
+};
+use crate::node::NodeState;
+use crate::state::Voter;
+use qs_base::{Member, NoMemory, NodeNo, ServerNo, Tid};
+use qs_journal::Found;
+use qs_transaction::{Cell, Transaction};
+use std::alloc::Global;
+use std::collections::BTreeSet;
+
+pub fn member_at(here: NodeNo, server: ServerNo) -> Member
+    ensures { result ≡ member_at here.0 server.0 }
+{
+    Member { node: here, server }
+}
+
+pub fn is_among(tids: &[Tid], tid: Tid) -> bool
+    ensures { result ≡ is_among tids.now tid }
+{
+    tids.iter().any(|other| tid == *other)
+}
+
+fn is_on_record(node: &NodeState, found: Found) -> bool
+    ensures { result ≡ is_on_record node.now found }
+{
+    match node.record(found.tid, found.server) {
+        Some(record) => record.covers == found.covers,
+        None => false,
+    }
+}
+
+fn is_recoverable(server: ServerNo) -> bool
+    ensures { result ≡ is_recoverable server.0 }
+{
+    server.0 == 0 || server.0 == 1 || server.0 == 6
+}
+
+fn has_pending(node: &NodeState, found: Found) -> bool
+    ensures { result ≡ not (is_empty (pending_at node.now found.tid found.server.0)) }
+{
+    match node.table(found.server) {
+        Some(table) => table.has_changes(found.tid),
+        None => false,
+    }
+}
+
+fn could_vote(here: NodeNo, node: &NodeState, tx: &Transaction, found: Found) -> bool
+    ensures { result ≡ could_vote here.0 node.now tx.now found }
+{
+    let member = member_at(here, found.server);
+    let part = tx.part(member, node.inc());
+    tx.was_in_commit(node.stopped())
+        && part.voted < part.served
+        && tx.is_covering(member, node.inc(), u64::from(found.covers))
+        && (tx.was_crossed(node.stopped(), member) || has_pending(node, found))
+}
+
+pub fn is_new_vote(here: NodeNo, node: &NodeState, tx: Option<&Transaction>, found: Found) -> bool
+    ensures { result ≡ is_new_vote here.0 node.now (option_copied tx.entry) found }
+{
+    match tx {
+        Some(tx) => !is_on_record(node, found) && could_vote(here, node, tx, found),
+        None => false,
+    }
+}
+
+fn was_applied(
+    here: NodeNo,
+    node: &NodeState,
+    done: &[Tid],
+    tx: Option<&Transaction>,
+    found: Found,
+) -> bool
+    ensures { result ≡ was_applied here.0 node.now done.now (option_copied tx.entry) found }
+{
+    match tx {
+        Some(tx) => {
+            is_among(done, found.tid)
+                && (tx.has_learnt(member_at(here, found.server)) || node.held_commit(found.tid))
+        }
+        None => false,
+    }
+}
+
+/// Whether no vote of that member for that transaction was seen; from now on it is.
+fn is_first(seen: &mut BTreeSet<Voter>, found: Found) -> Result<bool, NoMemory>
+    ensures first { IfOk result (λ first. first ≡ not (is_seen seen.old.keys found)) }
+    ensures seen { OnOk result ((other : Found) → is_seen seen.new.keys other ≡ cond (is_at (voter_cmp (voter_of found)) (voter_of other)) true (is_seen seen.old.keys other)) }
+{
+    let voter = Voter {
+        tid: found.tid,
+        server: found.server,
+    };
+    Ok(seen.insert(voter)?)
+}
+
+/// Whether each member's vote for a transaction is found once.
+fn votes_once(alloc: Global, pend: &[Found]) -> Result<bool, NoMemory>
+    ensures { IfOk result (λ once. once ≡ votes_once pend.now) }
+{
+    let mut seen = BTreeSet::new(alloc);
+    for found in pend {
+        if !is_first(&mut seen, *found)? {
+            return Ok(false);
+        }
+    }
+    Ok(true)
+}
+
+fn may_be_lost(here: NodeNo, tid: Tid, tx: Option<&Transaction>) -> bool
+    ensures { result ≡ may_be_lost here.0 tid (option_copied tx.entry) }
+{
+    match tx {
+        Some(tx) => tx.cell() == Cell::Abort || tx.cell() == Cell::Open && tid.home == here,
+        None => false,
+    }
+}
+
+fn is_found_as(at: Voter, covers: u32, found: Found) -> bool
+    ensures { result ≡ is_found_as at covers found }
+{
+    found.tid == at.tid && found.server == at.server && covers <= found.covers
+}
+
+fn is_found(pend: &[Found], at: Voter, covers: u32) -> bool
+    ensures { result ≡ list_any (is_found_as at covers) pend.now }
+{
+    pend.iter().any(|found| is_found_as(at, covers, *found))
+}
+
+fn is_committed(here: NodeNo, tid: Tid, tx: Option<&Transaction>) -> bool
+    ensures { result ≡ is_committed here.0 tid (option_copied tx.entry) }
+{
+    match tx {
+        Some(tx) => {
+            tx.cell() == Cell::Commit
+                || tx.cell() == Cell::Open && tid.home == here && tx.is_unanimous()
+        }
+        None => false,
+    }
+}
+
+pub fn is_open_here(here: NodeNo, tid: Tid, tx: Option<&Transaction>) -> bool
+    ensures { result ≡ is_open_here here.0 tid (option_copied tx.entry) }
+{
+    match tx {
+        Some(tx) => tid.home == here && tx.cell() == Cell::Open,
+        None => false,
+    }
+}
+
+impl Book {
+    fn is_found_vote(&self, here: NodeNo, node: &NodeState, done: &[Tid], found: Found) -> bool
+        ensures { result ≡ is_found_vote here.0 self.now node.now done.now found }
+    {
+        let tx = self.transaction(found.tid);
+        is_recoverable(found.server)
+            && (is_on_record(node, found)
+                || is_new_vote(here, node, tx, found)
+                || was_applied(here, node, done, tx, found))
+    }
+
+    fn is_kept(&self, here: NodeNo, pend: &[Found], done: &[Tid], at: Voter, covers: u32) -> bool
+        ensures { (kept : OnRecord) → kept.covers ≡ covers → result ≡ is_kept here.0 self.now pend.now done.now (at, kept) }
+    {
+        may_be_lost(here, at.tid, self.transaction(at.tid))
+            || is_among(done, at.tid)
+            || is_found(pend, at, covers)
+    }
+
+    fn is_found_commit(&self, here: NodeNo, node: &NodeState, tid: Tid) -> bool
+        ensures { result ≡ is_found_commit here.0 self.now node.now tid }
+    {
+        node.held_commit(tid) || is_committed(here, tid, self.transaction(tid))
+    }
+
+    fn are_found_votes(&self, here: NodeNo, node: &NodeState, pend: &[Found], done: &[Tid]) -> bool
+        ensures { result ≡ list_all (is_found_vote here.0 self.now node.now done.now) pend.now }
+    {
+        pend.iter()
+            .all(|found| self.is_found_vote(here, node, done, *found))
+    }
+
+    fn are_kept(&self, here: NodeNo, node: &NodeState, pend: &[Found], done: &[Tid]) -> bool
+        ensures { result ≡ list_all (is_kept here.0 self.now pend.now done.now) node.now.records }
+    {
+        node.records().iter().all(|(at, record)| self.is_kept(here, pend, done, *at, record.covers))
+    }
+
+    fn are_found_commits(&self, here: NodeNo, node: &NodeState, done: &[Tid]) -> bool
+        ensures { result ≡ list_all (is_found_commit here.0 self.now node.now) done.now }
+    {
+        done.iter()
+            .all(|tid| self.is_found_commit(here, node, *tid))
+    }
+
+    /// The first clause that a restart at `here` breaks.
+    pub fn broken_restart(
+        &self,
+        here: NodeNo,
+        node: &NodeState,
+        inc: u64,
+        pend: &[Found],
+        done: &[Tid],
+    ) -> Result<Option<u16>, NoMemory>
+        ensures { IfOk result (λ clause. clause ≡ broken_restart here.0 self.now node.now inc pend.now done.now) }
+    {
+        if inc <= node.inc() {
+            return Ok(Some(INCARNATION_RISES));
+        }
+        if !self.are_found_votes(here, node, pend, done) || !votes_once(self.alloc, pend)? {
+            return Ok(Some(FOUND_VOTES_ARE_VOTES));
+        }
+        if !self.are_kept(here, node, pend, done) {
+            return Ok(Some(NO_VOTE_IS_LOST));
+        }
+        if !self.are_found_commits(here, node, done) {
+            return Ok(Some(FOUND_COMMITS_ARE_COMMITS));
+        }
+        Ok(None)
+    }
+}

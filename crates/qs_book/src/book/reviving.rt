@@ -1,0 +1,409 @@
+//! What a restart does: found votes go on record, found commits are applied, what is open is aborted.
+ghost use Rattle.std.specs.Prelude.{◌≡◌, ◌++◌, ◌∷◌, [], fold, length, IfOk, OnOk, slice_get};
+ghost use Rattle.std.specs.List.{flat_map};
+ghost use Rattle.std.specs.Option.{option_copied};
+ghost use Rattle.qs_transaction.specs.Transaction.{found_at, with_learnt};
+ghost use Rattle.qs_book.specs.Book.{changed_at, find_transaction, with_node, with_transaction, decide, crossed_in, inc_at};
+ghost use Rattle.qs_book.specs.Nodes.{changes_of};
+ghost use Rattle.qs_book.specs.Restart.{new_vote, new_votes_at, new_votes, put_new_votes, with_votes, record_at, changes_at, is_kept_at, has_record, add_commit, commits_found, keep_found, reopened, restarted_node, learn_found, decide_found, commit_found, vote_found, abort_begun, begun_tid, begun_at, up_to, restart_found, restart, member_at};
+
+use super::restarting::{is_among, is_new_vote, is_open_here, member_at};
+use super::{Book, find, nodes, transactions};
+use crate::node::NodeState;
+use crate::state::{OnRecord, Reopened, Voter};
+use qs_base::{Copied, List, NoMemory, NodeNo, Outcome, ServerNo, Tid};
+use qs_journal::Found;
+use qs_ops::{Cause, Op};
+use qs_servers::Kept;
+
+const FILES: ServerNo = ServerNo(0);
+
+const AUDIT: ServerNo = ServerNo(1);
+
+const EXTRA: ServerNo = ServerNo(6);
+
+impl Book {
+    /// Adds a vote that was found, where it is a new one.
+    fn add_new_vote(
+        &self,
+        votes: &mut Vec<(Voter, OnRecord)>,
+        here: NodeNo,
+        node: &NodeState,
+        found: &Found,
+    ) -> Result<(), NoMemory>
+        ensures { OnOk result (votes.new.items ≡ votes.old.items ++ new_vote here.0 self.now node.now found.now) }
+    {
+        if is_new_vote(here, node, self.transaction(found.tid), *found) {
+            let voter = Voter {
+                tid: found.tid,
+                server: found.server,
+            };
+            let changes = node.pending(found.tid, found.server)?;
+            let covers = found.covers;
+            votes.push((voter, OnRecord { changes, covers }))?;
+        }
+        Ok(())
+    }
+
+    /// The votes that were found and are new.
+    fn new_votes(&self, here: NodeNo, pend: &[Found]) -> Result<Vec<(Voter, OnRecord)>, NoMemory>
+        ensures { IfOk result (λ votes. votes.items ≡ new_votes here.0 self.now pend.now) }
+    {
+        new_votes_at(self, here, self.nodes.get(usize::from(here.0)), pend)
+    }
+
+    fn put_votes(&mut self, here: NodeNo, votes: Vec<(Voter, OnRecord)>) -> Result<(), NoMemory>
+        ensures { OnOk result (self.new ≡ with_node here.0 (with_votes votes.items) self.old) }
+    {
+        nodes::put_votes(&mut self.nodes, here, votes)
+    }
+
+    /// The votes that were found and are new go on record.
+    fn put_new_votes(&mut self, here: NodeNo, pend: &[Found]) -> Result<(), NoMemory>
+        ensures { OnOk result (self.new ≡ put_new_votes here.0 pend.now self.old) }
+    {
+        let votes = self.new_votes(here, pend)?;
+        self.put_votes(here, votes)
+    }
+
+    /// What the log of a node holds of a transaction at a server.
+    fn record_at(&self, here: NodeNo, tid: Tid, server: ServerNo) -> Option<&OnRecord>
+        ensures { option_copied result ≡ record_at here.0 self.now tid server.0 }
+    {
+        self.nodes.get(usize::from(here.0))?.record(tid, server)
+    }
+
+    /// How many changes of a transaction the log of a node holds at a server.
+    fn change_count(&self, here: NodeNo, tid: Tid, server: ServerNo) -> usize
+        ensures { result ≡ length (changes_at here.0 self.now server.0 tid) }
+    {
+        match self.record_at(here, tid, server) {
+            Some(record) => record.changes.len(),
+            None => 0,
+        }
+    }
+
+    /// Adds the changes of a transaction that the log of a node holds at a server.
+    fn add_changes(
+        &self,
+        changes: &mut List<Op>,
+        here: NodeNo,
+        server: ServerNo,
+        tid: &Tid,
+    ) -> Result<(), NoMemory>
+        ensures { OnOk result (changes.new ≡ changes.old ++ changes_at here.0 self.now server.0 tid.now) }
+    {
+        match self.record_at(here, *tid, server) {
+            Some(record) => append_copies(changes, record.changes.as_slice()),
+            None => Ok(()),
+        }
+    }
+
+    /// A copy of the changes of a transaction that the log of a node holds at a server.
+    fn changes_at(&self, here: NodeNo, server: ServerNo, tid: Tid) -> Result<List<Op>, NoMemory>
+        ensures { IfOk result (λ changes. changes ≡ changes_at here.0 self.now server.0 tid) }
+    {
+        match self.record_at(here, tid, server) {
+            Some(record) => record.changes.copy(),
+            None => Ok(List::new(self.alloc)),
+        }
+    }
+
+    fn has_record(&self, here: NodeNo, tid: Tid) -> bool
+        ensures { result ≡ has_record here.0 self.now tid }
+    {
+        self.record_at(here, tid, FILES).is_some() || self.record_at(here, tid, AUDIT).is_some()
+    }
+
+    /// Adds a transaction whose Commit is found, where something of it is on record and it is new.
+    fn add_commit(&self, tids: &mut List<Tid>, here: NodeNo, tid: &Tid) -> Result<(), NoMemory>
+        ensures { OnOk result (tids.new ≡ add_commit here.0 self.now tids.old tid.now) }
+    {
+        if self.has_record(here, *tid) && !is_among(tids.as_slice(), *tid) {
+            tids.push(*tid)?;
+        }
+        Ok(())
+    }
+
+    fn is_kept_at(&self, here: NodeNo, server: ServerNo, done: &[Tid], found: &Found) -> bool
+        ensures { result ≡ is_kept_at here.0 self.now server.0 done.now found.now }
+    {
+        found.server == server
+            && !(is_among(done, found.tid) || self.is_crossed(found.tid, member_at(here, server)))
+    }
+
+    /// Adds a vote of a server that is pending again.
+    fn add_kept(
+        &self,
+        kept: &mut List<Kept>,
+        here: NodeNo,
+        server: ServerNo,
+        done: &[Tid],
+        found: &Found,
+    ) -> Result<(), NoMemory>
+        ensures { OnOk result (kept.new ≡ kept.old ++ keep_found here.0 self.now server.0 done.now found.now) }
+    {
+        if self.is_kept_at(here, server, done, found) {
+            let changes = self.changes_at(here, server, found.tid)?;
+            kept.push(Kept {
+                tid: found.tid,
+                changes,
+            })?;
+        }
+        Ok(())
+    }
+
+    /// What files and audit of the node begin with.
+    fn reopened(
+        &self,
+        here: NodeNo,
+        inc: u64,
+        pend: &[Found],
+        done: &[Tid],
+    ) -> Result<Reopened, NoMemory>
+        ensures { IfOk result (λ left. left ≡ reopened here.0 inc pend.now done.now self.now) }
+    {
+        let commits = commits_found(self, here, done)?;
+        Ok(Reopened {
+            inc,
+            files: changes_found(self, here, FILES, commits.as_slice())?,
+            files_kept: kept_found(self, here, FILES, pend, done)?,
+            audit: changes_found(self, here, AUDIT, commits.as_slice())?,
+            audit_kept: kept_found(self, here, AUDIT, pend, done)?,
+        })
+    }
+
+    /// A member with a vote on record learns commit.
+    fn learn_found(&mut self, here: NodeNo, tid: Tid, server: ServerNo) -> Result<(), NoMemory>
+        ensures { OnOk result (self.new ≡ learn_found here.0 tid server.0 self.old) }
+    {
+        if self.record_at(here, tid, server).is_some() {
+            let member = member_at(here, server);
+            transactions::learn_found(&mut self.transactions, tid, member)?;
+        }
+        Ok(())
+    }
+
+    /// At the home an open cell becomes commit.
+    fn decide_found(&mut self, here: NodeNo, tid: Tid) -> Result<(), NoMemory>
+        ensures { OnOk result (self.new ≡ decide_found here.0 tid self.old) }
+    {
+        if is_open_here(here, tid, find(&self.transactions, tid)) {
+            self.decide(tid, Outcome::Commit, None)?;
+        }
+        Ok(())
+    }
+
+    /// A Commit was found.
+    fn commit_found(&mut self, here: NodeNo, tid: &Tid) -> Result<(), NoMemory>
+        ensures { OnOk result (self.new ≡ commit_found here.0 self.old tid.now) }
+    {
+        self.learn_found(here, *tid, FILES)?;
+        self.learn_found(here, *tid, AUDIT)?;
+        self.learn_found(here, *tid, EXTRA)?;
+        self.decide_found(here, *tid)
+    }
+
+    /// A vote was found that is pending again, unless its Commit was found too.
+    fn vote_found(
+        &mut self,
+        here: NodeNo,
+        inc: u64,
+        done: &[Tid],
+        found: &Found,
+    ) -> Result<(), NoMemory>
+        ensures { OnOk result (self.new ≡ vote_found here.0 inc done.now self.old found.now) }
+    {
+        if is_among(done, found.tid) {
+            return Ok(());
+        }
+        let changes = self.change_count(here, found.tid, found.server) as u64;
+        let member = member_at(here, found.server);
+        let covers = u64::from(found.covers);
+        transactions::find_vote(
+            &mut self.transactions,
+            found.tid,
+            member,
+            inc,
+            covers,
+            changes,
+        )
+    }
+
+    /// A transaction that was begun in the incarnation that ended, and is open still, is aborted.
+    fn abort_begun(&mut self, here: NodeNo, inc: u64, seq: u32) -> Result<(), NoMemory>
+        ensures { OnOk result (self.new ≡ abort_begun here.0 inc self.old seq) }
+    {
+        let tid = Tid {
+            home: here,
+            inc,
+            seq,
+        };
+        if is_open_here(here, tid, find(&self.transactions, tid)) {
+            self.decide(tid, Outcome::Abort, Some(&Cause::Home { inc }))?;
+        }
+        Ok(())
+    }
+
+    /// How many transactions were begun at the node in its incarnation.
+    fn begun_at(&self, here: NodeNo) -> u32
+        ensures { result ≡ begun_at here.0 self.now }
+    {
+        match self.nodes.get(usize::from(here.0)) {
+            Some(node) => node.begun(),
+            None => 0,
+        }
+    }
+
+    fn restart_node(&mut self, here: NodeNo, left: Reopened, done: &[Tid]) -> Result<(), NoMemory>
+        ensures { OnOk result (self.new ≡ with_node here.0 (restarted_node left done.now) self.old) }
+    {
+        nodes::restart(&mut self.nodes, here, left, done)
+    }
+
+    fn restart_found(
+        &mut self,
+        here: NodeNo,
+        inc: u64,
+        pend: &[Found],
+        done: &[Tid],
+    ) -> Result<(), NoMemory>
+        ensures { OnOk result (self.new ≡ restart_found here.0 inc pend.now done.now self.old) }
+    {
+        let left = self.reopened(here, inc, pend, done)?;
+        let (old, begun) = (self.inc_at(here), self.begun_at(here));
+        commit_all(self, here, done)?;
+        vote_all(self, here, inc, pend, done)?;
+        abort_all(self, here, old, begun)?;
+        self.restart_node(here, left, done)
+    }
+
+    /// The node restarts in that incarnation, with these found lists.
+    pub fn restart(
+        &mut self,
+        here: NodeNo,
+        inc: u64,
+        pend: &[Found],
+        done: &[Tid],
+    ) -> Result<(), NoMemory>
+        ensures { OnOk result (self.new ≡ restart here.0 inc pend.now done.now self.old) }
+    {
+        self.put_new_votes(here, pend)?;
+        self.restart_found(here, inc, pend, done)
+    }
+}
+
+fn new_votes_at(
+    book: &Book,
+    here: NodeNo,
+    node: Option<&NodeState>,
+    pend: &[Found],
+) -> Result<Vec<(Voter, OnRecord)>, NoMemory>
+    ensures { IfOk result (λ votes. votes.items ≡ new_votes_at here.0 book.now (option_copied node.entry) pend.now) }
+{
+    match node {
+        Some(node) => new_votes_of(book, here, node, pend),
+        None => Ok(Vec::new(book.alloc)),
+    }
+}
+
+fn new_votes_of(
+    book: &Book,
+    here: NodeNo,
+    node: &NodeState,
+    pend: &[Found],
+) -> Result<Vec<(Voter, OnRecord)>, NoMemory>
+    ensures { IfOk result (λ votes. votes.items ≡ flat_map (new_vote here.0 book.now node.now) pend.now) }
+{
+    let mut votes = Vec::new(book.alloc);
+    for found in pend {
+        book.add_new_vote(&mut votes, here, node, found)?;
+    }
+    Ok(votes)
+}
+
+fn append_copies(changes: &mut List<Op>, more: &[Op]) -> Result<(), NoMemory>
+    ensures { OnOk result (changes.new ≡ changes.old ++ more.now) }
+{
+    for op in more {
+        changes.push(op.copy()?)?;
+    }
+    Ok(())
+}
+
+/// The transactions with something on record whose Commits are found, each once, in their order.
+fn commits_found(book: &Book, here: NodeNo, done: &[Tid]) -> Result<List<Tid>, NoMemory>
+    ensures { IfOk result (λ tids. tids ≡ commits_found here.0 book.now done.now) }
+{
+    let mut tids = List::new(book.alloc);
+    for tid in done {
+        book.add_commit(&mut tids, here, tid)?;
+    }
+    Ok(tids)
+}
+
+/// The changes at a server of these transactions, in their order.
+fn changes_found(
+    book: &Book,
+    here: NodeNo,
+    server: ServerNo,
+    done: &[Tid],
+) -> Result<List<Op>, NoMemory>
+    ensures { IfOk result (λ changes. changes ≡ flat_map (changes_at here.0 book.now server.0) done.now) }
+{
+    let mut changes = List::new(book.alloc);
+    for tid in done {
+        book.add_changes(&mut changes, here, server, tid)?;
+    }
+    Ok(changes)
+}
+
+/// The votes at a server that are pending again.
+fn kept_found(
+    book: &Book,
+    here: NodeNo,
+    server: ServerNo,
+    pend: &[Found],
+    done: &[Tid],
+) -> Result<List<Kept>, NoMemory>
+    ensures { IfOk result (λ kept. kept ≡ flat_map (keep_found here.0 book.now server.0 done.now) pend.now) }
+{
+    let mut kept = List::new(book.alloc);
+    for found in pend {
+        book.add_kept(&mut kept, here, server, done, found)?;
+    }
+    Ok(kept)
+}
+
+fn commit_all(book: &mut Book, here: NodeNo, done: &[Tid]) -> Result<(), NoMemory>
+    ensures { OnOk result (book.new ≡ fold (commit_found here.0) book.old done.now) }
+{
+    for tid in done {
+        book.commit_found(here, tid)?;
+    }
+    Ok(())
+}
+
+fn vote_all(
+    book: &mut Book,
+    here: NodeNo,
+    inc: u64,
+    pend: &[Found],
+    done: &[Tid],
+) -> Result<(), NoMemory>
+    ensures { OnOk result (book.new ≡ fold (vote_found here.0 inc done.now) book.old pend.now) }
+{
+    for found in pend {
+        book.vote_found(here, inc, done, found)?;
+    }
+    Ok(())
+}
+
+fn abort_all(book: &mut Book, here: NodeNo, inc: u64, begun: u32) -> Result<(), NoMemory>
+    ensures { OnOk result (book.new ≡ fold (abort_begun here.0 inc) book.old (up_to begun)) }
+{
+    for seq in 0..begun {
+        book.abort_begun(here, inc, seq + 1)?;
+    }
+    Ok(())
+}

@@ -1,0 +1,12 @@
+//! The journal of a run: what happened, entry by entry, and the commands that clients gave.
+#![tactic(auto)]
+
+mod entry;
+mod merging;
+mod script_line;
+#[cfg(test)]
+mod tests;
+
+pub use entry::{Act, CrashCause, Entry, Found};
+pub use merging::{merge, one_merge};
+pub use script_line::{Command, Kind, LineAnswer, Point, ScriptLine};

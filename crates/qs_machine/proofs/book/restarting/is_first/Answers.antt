@@ -1,5 +1,0 @@
-use Rattle.qs_machine.specs.Restart.{voter_of}
-use Rattle.qs_machine.proofs.book.restarting.is_first.Goals as goal
-
-pub returns-clause-seen : goal.returns-clause-seen
-returns-clause-seen c = λ other. c.in_ok-insert.ensures.updates.0 (voter_of other)

@@ -1,6 +1,0 @@
-use Rattle.std.proofs.Common.{◌≡◌, take, map}
-use Rattle.qs_machine.specs.Opening.{put_of}
-use Rattle.qs_machine.proofs.opening.puts_of.Given as goal
-
-abbrev pub invariant-loop-file : goal.invariant-loop-file
-invariant-loop-file l = l.puts ≡ map put_of (take l.file-index l.files)

@@ -1,4 +1,0 @@
-pub mod FileOrder
-pub mod Following
-pub mod IndexSteps
-pub mod ShareSteps
