@@ -1,6 +1,7 @@
 //! Entries of the journal: what happened, at which node, at which logical time.
+ghost use Rattle.std.specs.Prelude.{◌≡◌, IfOk};
+ghost use Rattle.std.specs.Option.{option_copied};
 
-use crate::effects::copied_cause;
 use qs_base::{
     Bytes, ClientNo, Copied, List, Member, NoMemory, NodeNo, Outcome, ServerNo, Stamp, Tid,
 };
@@ -239,5 +240,15 @@ impl Copied for Act {
 impl Copied for Found {
     fn copy(&self) -> Result<Self, NoMemory> {
         Ok(*self)
+    }
+}
+
+/// A copy of a cause, where there is one. The only error is a refusal of memory.
+pub fn copied_cause(cause: Option<&Cause>) -> Result<Option<Cause>, NoMemory>
+    ensures { IfOk result (λ copy. copy ≡ option_copied cause.entry) }
+{
+    match cause {
+        Some(cause) => Ok(Some(cause.copy()?)),
+        None => Ok(None),
     }
 }

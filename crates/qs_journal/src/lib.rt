@@ -7,6 +7,6 @@ mod script_line;
 #[cfg(test)]
 mod tests;
 
-pub use entry::{Act, CrashCause, Entry, Found};
+pub use entry::{Act, CrashCause, Entry, Found, copied_cause};
 pub use merging::{merge, one_merge};
 pub use script_line::{Command, Kind, LineAnswer, Point, ScriptLine};

@@ -1,5 +1,5 @@
 //! What a lawful step does, act by act.
-ghost use Rattle.std.specs.Prelude.{◌≡◌, OnOk, IfOk, fold, slice_get};
+ghost use Rattle.std.specs.Prelude.{◌≡◌, OnOk, fold, slice_get};
 ghost use Rattle.std.specs.BTreeMap.{insert_entry};
 ghost use Rattle.qs_base.specs.Order.{bytes_cmp};
 ghost use Rattle.qs_transaction.specs.Transaction.{served_in};
@@ -10,7 +10,7 @@ use super::{Book, find, nodes, owners, transactions};
 use crate::clauses::borrower_at;
 use crate::state::Asking;
 use qs_base::{Bytes, ClientNo, Copied, Member, NoMemory, NodeNo, Outcome, Stamp, Tid};
-use qs_journal::Act;
+use qs_journal::{Act, copied_cause};
 use qs_ops::{Cause, Op, Reply, Vote};
 use qs_transaction::{Link, Request, RequestNo, Transaction};
 use std::collections::BTreeMap;
@@ -384,14 +384,4 @@ fn owner_of(tx: Option<&Transaction>) -> Option<ClientNo>
     ensures { result ≡ owner_of (option_copied tx.entry) }
 {
     tx?.owner()
-}
-
-/// A copy of a cause.
-fn copied_cause(cause: Option<&Cause>) -> Result<Option<Cause>, NoMemory>
-    ensures { IfOk result (λ copy. copy ≡ option_copied cause.entry) }
-{
-    match cause {
-        Some(cause) => Ok(Some(cause.copy()?)),
-        None => Ok(None),
-    }
 }
