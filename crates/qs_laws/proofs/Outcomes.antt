@@ -1,7 +1,6 @@
 -- The invariant of outcomes, and that steps which leave what the laws see, a begin and a decision keep it.
-use Rattle.std.proofs.Common.{◌≡◌, ◌⊎◌, ℕ, ◌+◌, ◌<◌, ◌≤◌, [], ◌∷◌, ◌||◌, Bool, true, false, List, Option, Some, None, inl, inr, refl, sym, ap, subst, ◌∙◌, arith}
+use Rattle.std.proofs.Common.{◌≡◌, ◌⊎◌, ℕ, ◌+◌, ◌<◌, ◌≤◌, [], ◌∷◌, Bool, true, false, List, Option, Some, None, inl, inr, refl, sym, ap, subst, ◌∙◌, arith}
 use Rattle.std.proofs.lemmas.Bool.Decides.{nat_tests}
-use Rattle.std.proofs.lemmas.List.Folds.{list_any-append}
 use Rattle.std.specs.Prelude.{slice_get, slice_set}
 use Rattle.std.specs.List.{list_any}
 use Rattle.std.specs.Option.{option_map}
@@ -22,6 +21,7 @@ use Rattle.qs_book.specs.Clauses.{is_next_tid}
 use Rattle.qs_book.specs.Nodes.{NodeValue}
 use Rattle.qs_book.specs.declared.state.Owner.{Owner}
 use Rattle.qs_laws.proofs.Alikes.{same_cause-true, at_exact}
+use Rattle.qs_book.proofs.CauseOrder.{among_more}
 use Rattle.qs_laws.proofs.Faces.{Face, face, Age, age, Told, told_of, face_at, age_at, told_at, Alike}
 use Rattle.qs_laws.proofs.Maps.{Either, lookup_changed, changed_either, lookup_put_apart, changed_at_either, changed_at_here}
 
@@ -181,14 +181,12 @@ told_abort : (outcome : Outcome) (cause : Option Cause) (v : Owner) (t : Told) (
 told_abort outcomes.Commit cause v t c is among = inl (ap (λ (u : Told). list_any (same_cause c) u.causes) is ∙ among)
 told_abort outcomes.Abort None v t c is among = inl (ap (λ (u : Told). list_any (same_cause c) u.causes) is ∙ among)
 told_abort outcomes.Abort (Some d) v t c is among =
-    by (list_any (same_cause c) v.causes) (same_cause c d) refl refl
-    (sym (list_any-append (same_cause c) v.causes (d ∷ [])) ∙ (ap (λ (u : Told). list_any (same_cause c) u.causes) is ∙ among))
+    by (among_more c d v.causes (ap (λ (u : Told). list_any (same_cause c) u.causes) is ∙ among))
   where
-    by : (a b : Bool) → list_any (same_cause c) v.causes ≡ a → same_cause c d ≡ b → (list_any (same_cause c) v.causes || (same_cause c d || false)) ≡ true
+    by : (list_any (same_cause c) v.causes ≡ true) ⊎ (same_cause c d ≡ true)
         → (list_any (same_cause c) v.causes ≡ true) ⊎ ((outcomes.Abort ≡ outcomes.Abort) × (Some d ≡ Some c))
-    by true b p q h = inl p
-    by false true p q h = inr (refl, ap Some (sym (same_cause-true c d q)))
-    by false false p q h = absurd (cc (rw (p, q) at h))
+    by (inl was) = inl was
+    by (inr q) = inr (refl, ap Some (sym (same_cause-true c d q)))
 
 module _ (book : BookValue) (tid : Tid) (tx : TransactionValue) (outcome : Outcome) (cause : Option Cause)
     (i : Inv book) (found : find_transaction book tid ≡ Some tx) (opened : is_open tx.cell ≡ true) where

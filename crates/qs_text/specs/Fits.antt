@@ -9,7 +9,6 @@ use Rattle.qs_journal.specs.declared.script_line.ScriptLine.{ScriptLine}
 use Rattle.qs_text.specs.Lines.{files_of_node_0}
 use Rattle.qs_text.specs.Script.{is_begin, may_name}
 use Rattle.qs_text.specs.declared.script.Script.{Script}
-use Rattle.qs_text.specs.declared.script.Seat.{Seat}
 
 -- an operation of the files of node 0 that this stage knows; a file has at most 65,536 bytes
 abbrev pub is_plain_op : Op → Bool

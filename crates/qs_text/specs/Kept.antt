@@ -1,5 +1,5 @@
 -- A history keeps to a script: what each client made and was answered is what its lines command, in order.
-use Rattle.std.specs.Prelude.{◌≡◌, ℕ, ◌+◌, ◌-◌, ◌==◌, Bool, true, false, ◌&&◌, List, [], ◌∷◌, length, filter, find, Option, Some, None, option_map, nat_lt, slice_get, if◌then◌else◌, ⊤}
+use Rattle.std.specs.Prelude.{◌≡◌, ℕ, ◌+◌, ◌-◌, ◌==◌, Bool, false, ◌&&◌, List, [], ◌∷◌, length, filter, find, Option, Some, None, option_map, nat_lt, slice_get, if◌then◌else◌, ⊤}
 use Rattle.qs_base.specs.Order.{same_tid, same_member}
 use Rattle.qs_base.specs.declared.identifiers.Member.{Member}
 use Rattle.qs_base.specs.declared.identifiers.Outcome.TheVariants as outcomes
@@ -18,9 +18,7 @@ use Rattle.qs_journal.specs.declared.script_line.ScriptLine.{ScriptLine}
 use Rattle.qs_book.specs.Book.{BookValue, find_transaction, find_label}
 use Rattle.qs_book.specs.Lawful.{effect}
 use Rattle.qs_transaction.specs.Transaction.{TransactionValue}
-use Rattle.qs_transaction.specs.declared.state.Cell.{Cell}
 use Rattle.qs_transaction.specs.declared.state.Cell.TheVariants as cells
-use Rattle.qs_ops.specs.declared.answer.Cause.{Cause}
 use Rattle.qs_text.specs.declared.script.Script.{Script}
 
 -- what a client's first command that is not answered has made so far

@@ -18,7 +18,7 @@ use Rattle.qs_journal.specs.declared.script_line.Command.{Command}
 use Rattle.qs_journal.specs.declared.script_line.Command.TheVariants as commands
 use Rattle.qs_journal.specs.declared.script_line.ScriptLine.{ScriptLine}
 use Rattle.qs_book.specs.Book.{BookValue, find_label, find_transaction, told, vote_node, learn_node}
-use Rattle.qs_book.specs.Clauses.{is_known, is_server_vote, may_ask, may_decide, may_learn, is_vote_due, broken_outcome}
+use Rattle.qs_book.specs.Clauses.{is_known, may_ask, may_decide, may_learn, is_vote_due, broken_outcome}
 use Rattle.qs_book.specs.Lawful.{effect}
 use Rattle.qs_book.specs.Nodes.{NodeValue}
 use Rattle.qs_book.specs.declared.state.Owner.{Owner}

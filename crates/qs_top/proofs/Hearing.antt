@@ -1,12 +1,12 @@
 -- An answer to client 0, and what it hears with it.
-use Rattle.std.proofs.Common.{◌≡◌, ◌≤◌, ◌<◌, ◌^◌, ℕ, true, List, [], ◌∷◌, Option, Some, None, IsSome, refl, sym, ◌∙◌, subst, nat_lt, slice_get}
+use Rattle.std.proofs.Common.{◌≡◌, ◌≤◌, ◌<◌, ◌^◌, ℕ, true, List, [], ◌∷◌, Option, Some, None, refl, sym, subst, nat_lt, slice_get}
 use Rattle.std.specs.Prelude.{fold}
 use Rattle.std.specs.BTreeMap.{is_at}
 use Rattle.qs_base.specs.Order.{tid_cmp}
 use Rattle.qs_base.specs.declared.identifiers.Tid.{Tid}
 use Rattle.qs_ops.specs.declared.answer.Answer.{Answer}
 use Rattle.qs_journal.specs.declared.entry.Entry.{Entry}
-use Rattle.qs_book.specs.Book.{BookValue, find_transaction, find_label, hear, inc_at, waiting_of, with_owner}
+use Rattle.qs_book.specs.Book.{BookValue, find_transaction, hear, inc_at, waiting_of, with_owner}
 use Rattle.qs_book.specs.Clauses.{is_known}
 use Rattle.qs_book.specs.Lawful.{broken, effect}
 use Rattle.qs_book.specs.Nodes.{NodeValue}
@@ -15,7 +15,7 @@ use Rattle.qs_book.specs.declared.state.Owner.{Owner}
 use Rattle.qs_transaction.specs.Transaction.{TransactionValue, changed_value, heard}
 use Rattle.qs_transaction.specs.declared.state.Cell.{Cell}
 use Rattle.qs_transaction.specs.declared.state.Cell.TheVariants as cells
-use Rattle.qs_top.specs.Node.{answered, client_0, node_0}
+use Rattle.qs_top.specs.Node.{answered}
 use Rattle.qs_top.specs.Rest.{AtRest, IsTold, Resting}
 use Rattle.qs_top.proofs.MapSteps.{unchanged}
 use Rattle.qs_top.proofs.Steps.{working_from, resting_from, after_change, same_rest, told_more, lawful_here, in_order, owner_after_change}

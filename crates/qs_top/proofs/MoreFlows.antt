@@ -1,16 +1,14 @@
 -- A request and a begin of client 0, carried out from rest to rest.
-use Rattle.std.proofs.Common.{◌≡◌, ◌≤◌, ◌<◌, ◌^◌, ℕ, ◌+◌, ◌==◌, Bool, true, false, ◌&&◌, ◌||◌, List, Option, Some, None, IsSome, refl, sym, ap, ◌∙◌, subst, arith, nat_lt, slice_get, if◌then◌else◌}
+use Rattle.std.proofs.Common.{◌≡◌, ◌≤◌, ◌<◌, ◌^◌, ℕ, ◌+◌, ◌==◌, Bool, true, false, ◌||◌, List, Option, Some, None, IsSome, refl, sym, ap, ◌∙◌, subst, arith, nat_lt, slice_get, if◌then◌else◌}
 use Rattle.std.proofs.lemmas.Bool.{false≢true}
 use Rattle.std.proofs.lemmas.Cmp.{tied_itself}
 use Rattle.std.proofs.lemmas.Map.Lookups.{exact_bytes}
 use Rattle.std.specs.BTreeMap.{insert_entry, is_at}
 use Rattle.std.specs.Cmp.Lexicographic.{texts_ties, nat_list_cmp_total}
-use Rattle.std.specs.List.{list_any}
 use Rattle.std.specs.Map.{lookup}
 use Rattle.std.specs.Option.{is_some}
 use Rattle.qs_base.specs.Order.{bytes_cmp, same_bytes, tid_cmp}
 use Rattle.qs_base.proofs.Same.{same_bytes-self, same_bytes-true, same_tid-self, same_tid-true}
-use Rattle.qs_base.specs.declared.identifiers.Member.{Member}
 use Rattle.qs_base.specs.declared.identifiers.Tid.{Tid}
 use Rattle.qs_ops.specs.Operations.{answer_of}
 use Rattle.qs_ops.specs.declared.answer.Answer.{Answer}

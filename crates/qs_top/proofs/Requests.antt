@@ -1,7 +1,7 @@
 -- A request of one transaction at the only node: issued, and then served.
-use Rattle.std.proofs.Common.{◌≡◌, ◌≤◌, ◌<◌, ◌^◌, ℕ, ◌+◌, ◌==◌, Bool, true, false, not, ◌&&◌, ◌||◌, List, [], ◌∷◌, ◌++◌, Option, Some, None, is_none, refl, sym, ap, ◌∙◌, subst, arith, slice_get}
+use Rattle.std.proofs.Common.{◌≡◌, ◌≤◌, ◌<◌, ◌^◌, ℕ, ◌+◌, ◌==◌, Bool, true, false, not, ◌&&◌, ◌||◌, List, [], ◌∷◌, ◌++◌, Option, Some, None, is_none, refl, sym, ap, ◌∙◌, subst}
 use Rattle.std.proofs.lemmas.Bool.{false≢true}
-use Rattle.std.proofs.lemmas.Cmp.{nat_cmp_total, tied_itself}
+use Rattle.std.proofs.lemmas.Cmp.{tied_itself}
 use Rattle.std.specs.List.{list_all, find}
 use Rattle.std.specs.BTreeMap.{insert_entry, is_at}
 use Rattle.std.specs.Map.{lookup, set_value}
@@ -20,14 +20,14 @@ use Rattle.qs_ops.specs.declared.reply.Reply.{Reply}
 use Rattle.qs_ops.specs.declared.reply.Reply.TheVariants.{Done, Value, Left, Names, Notes, Busy, Absent, TooMany, TooLong}
 use Rattle.qs_journal.specs.declared.entry.Act.TheVariants as acts
 use Rattle.qs_journal.specs.declared.entry.Entry.{Entry}
-use Rattle.qs_book.specs.Book.{BookValue, find_transaction, inc_at, issue, with_crossing, with_waiting, with_transaction, crosses, serve_node, is_done}
-use Rattle.qs_book.specs.Clauses.{is_for, is_numbered, is_owner_of, may_issue, may_issue_as_borrower, broken_request, is_crossed_busy, is_reply}
+use Rattle.qs_book.specs.Book.{BookValue, find_transaction, inc_at, with_crossing, with_waiting, with_transaction, crosses, serve_node, is_done}
+use Rattle.qs_book.specs.Clauses.{is_for, is_numbered, is_owner_of, may_issue, may_issue_as_borrower, is_reply}
 use Rattle.qs_book.specs.Lawful.{broken, effect}
 use Rattle.qs_book.specs.Nodes.{NodeValue, with_table}
 use Rattle.qs_book.specs.declared.state.Owner.{Owner}
 use Rattle.qs_servers.specs.Table.{reply_to, served}
 use Rattle.qs_transaction.proofs.Present.{request_total}
-use Rattle.qs_transaction.specs.Transaction.{TransactionValue, changed_value, is_served, is_standing, issued, mark_served, next_number, request_cmp, requests_at, requests_in, served_in, standing_request, learnt_abort, is_open, is_commit, is_crossed, all_served, life, life_cmp, serving_part, no_part as no_part_yet}
+use Rattle.qs_transaction.specs.Transaction.{TransactionValue, changed_value, is_served, is_standing, issued, mark_served, next_number, request_cmp, requests_at, served_in, standing_request, learnt_abort, is_open, is_commit, all_served, life, life_cmp, serving_part, no_part as no_part_yet}
 use Rattle.qs_transaction.specs.declared.state.Cell.{Cell}
 use Rattle.qs_transaction.specs.declared.state.Cell.TheVariants as cells
 use Rattle.qs_transaction.specs.declared.state.Life.{Life}
@@ -90,14 +90,6 @@ all_with (y ∷ ys) x h is = by y.served (all_with ys x) h
     by false more g = absurd (false≢true g)
 
 -- ---- maps of them
-
-set_set : {K X : Type 0} (test : K → Bool) (es : List (K × X)) (v w : X) → set_value test (set_value test es v) w ≡ set_value test es w
-set_set test [] v w = refl
-set_set {K} {X} test (e ∷ es) v w = by (test e.0) refl (set_set test es v w)
-  where
-    by : (b : Bool) → test e.0 ≡ b → set_value test (set_value test es v) w ≡ set_value test es w → set_value test (set_value test (e ∷ es) v) w ≡ set_value test (e ∷ es) w
-    by true is more = rw (is, is) refl
-    by false is more = rw (is, is) (ap (λ (l : List (K × X)). e ∷ l) more)
 
 set_put : {K X : Type 0} (cmp : K → K → Ordering) (k : K) (v w : X) → cmp k k ≡ Equal → (es : List (K × X)) → set_value (is_at (cmp k)) (insert_entry cmp es k v) w ≡ insert_entry cmp es k w
 set_put cmp k v w self [] = rw self refl

@@ -1,5 +1,5 @@
 -- One entry of one transaction at the only node: it is lawful, and what stands after it.
-use Rattle.std.proofs.Common.{◌≡◌, ◌≤◌, ◌<◌, ◌^◌, ℕ, ◌+◌, ◌==◌, Bool, true, false, not, ◌||◌, List, [], ◌∷◌, ◌++◌, Option, Some, None, refl, sym, ap, ◌∙◌, subst, arith, nat_lt, slice_get, IsSome}
+use Rattle.std.proofs.Common.{◌≡◌, ◌≤◌, ◌<◌, ◌^◌, ℕ, ◌+◌, ◌==◌, Bool, true, false, ◌||◌, List, [], ◌∷◌, Option, Some, None, refl, sym, ap, ◌∙◌, subst, arith, nat_lt, slice_get, IsSome}
 use Rattle.std.proofs.lemmas.Bool.{false≢true}
 use Rattle.std.proofs.lemmas.Bool.Decides.{nat_tests}
 use Rattle.std.proofs.lemmas.Cmp.{tied_itself}
@@ -21,7 +21,6 @@ use Rattle.qs_ops.specs.declared.answer.Cause.{Cause}
 use Rattle.qs_ops.specs.declared.answer.Cause.TheVariants as causes
 use Rattle.qs_ops.specs.declared.vote.Vote.{Vote}
 use Rattle.qs_ops.specs.declared.vote.Vote.TheVariants as votes
-use Rattle.qs_journal.specs.declared.entry.Act.{Act}
 use Rattle.qs_journal.specs.declared.entry.Act.TheVariants as acts
 use Rattle.qs_journal.specs.declared.entry.Entry.{Entry}
 use Rattle.qs_book.specs.Book.{BookValue, find_transaction, find_label, inc_at, changed_at, crossed_in, vote_node, learn_node, told}
@@ -39,9 +38,6 @@ use Rattle.qs_top.specs.Rest.{AtRest, IsTold, Resting}
 use Rattle.qs_top.proofs.MapSteps.{lookup_changed, lookup_apart}
 
 -- ---- the book while one transaction is worked on
-
-abbrev pub is_other : Tid → Tid → Bool
-is_other tid q = not (is_at (tid_cmp tid) q)
 
 pub record Working (node : NodeValue) (owner : Owner) (tid : Tid) (tx : TransactionValue) (book : BookValue) : Type 0 where
   pub nodes : book.nodes ≡ node ∷ []

@@ -1,5 +1,5 @@
 -- The lines of a history that was read are few enough to be numbered.
-use Rattle.std.proofs.Common.{◌≡◌, ◌≤◌, ◌+◌, ◌==◌, ℕ, suc, Bool, true, false, cond, List, [], ◌∷◌, ◌++◌, length, Option, Some, None, refl, sym, subst, ◌∙◌, ap, arith, length-append}
+use Rattle.std.proofs.Common.{◌≡◌, ◌≤◌, ◌+◌, ◌==◌, ℕ, suc, Bool, true, false, cond, List, [], ◌∷◌, ◌++◌, length, ◌∙◌, ap, arith, length-append}
 use Rattle.std.specs.List.{slice_split, onto_first}
 use Rattle.qs_journal.specs.declared.entry.Entry.{Entry}
 use Rattle.qs_book.specs.declared.opened.Opened.{Opened}

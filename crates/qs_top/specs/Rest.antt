@@ -16,7 +16,8 @@ use Rattle.qs_top.specs.Node.{client_0, files_0}
 
 -- ---- a transaction at rest
 
--- files served something and has not voted: so many requests, of which so many changes are pending, the last in that step
+-- files served one request and so many more, the last in the step of that stamp, has so many changes pending, and has not
+-- voted
 abbrev pub unvoted : ℕ → ℕ → ℕ → Part
 unvoted served pending step = record {
   served = served + 1;

@@ -188,8 +188,9 @@ pub fn run<R: Threads + Sync, S: Source, K: Sink, D: Disk>(
         → IsDamageOf D.told D.state node at disks.old.items disks.new.items }
     ensures built { form_of words.now ≢ Some Form.Check → IsBuilt result.status }
 
-    // Of a run: the journal is a run of the script that was read, every command was answered, and the output
-    // was given whole; at a write fault a part of it was, and else nothing.
+    // Of a run: the journal is a run of the script that was read, every command was answered, and
+    // the output was given whole; at a write fault a part of it was. Else nothing was given, and the
+    // journal is empty.
     ensures finished { form_of words.now ≢ Some Form.Check → result.status ≡ Status.Finished
         → ReadWhole 1048576 (S.left source.old) (S.left source.new)
         (λ text. IsGiven D.told D.state text result.journal (K.given sink.old) (K.given sink.new) disks.old.items disks.new.items) }
