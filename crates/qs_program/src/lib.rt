@@ -1,0 +1,77 @@
+//! The program as a function: its words, standard input and output, and the number that it ends with.
+#![tactic(auto)]
+
+ghost use Rattle.std.specs.Prelude.{◌≡◌, length, IfOk};
+
+use qs_base::NoMemory;
+use qs_disk::MemDisk;
+use qs_io::{StdSink, StdSource};
+use qs_text::{Status, status_line};
+use qs_top::run;
+use std::alloc::Global;
+use std::process::ExitCode;
+use std::rt::Env;
+use std::thread::Threads;
+use std::{env, io};
+
+/// The bytes of each disk.
+const DISK_SIZE: u64 = 65_536;
+
+/// The words after the program's name.
+fn words_of<R: Env + AllocGlobal>(rt: &R) -> io::Result<Vec<String>> {
+    let mut words = Vec::new(rt.alloc());
+    for word in env::args(rt)?.skip(1) {
+        words.push(word)?;
+    }
+    Ok(words)
+}
+
+/// Tells the status on standard error.
+fn tell(rt: &impl Eprint, alloc: Global, status: &Status) -> io::Result<()> {
+    let Ok(line) = status_line(alloc, status) else {
+        return eprintln!(rt; "qs: no memory");
+    };
+    match str::from_utf8(line.as_slice()) {
+        Ok(text) => eprintln!(rt; "{text}"),
+        Err(_) => Ok(()),
+    }
+}
+
+/// Eight disks in memory, one for each node that a run may have.
+fn disks(alloc: Global) -> Result<Vec<MemDisk>, NoMemory>
+    ensures { IfOk result (λ disks. length disks.items ≡ 8) }
+{
+    let mut disks = Vec::new(alloc);
+    for seed in 0..8 {
+        disks.push(MemDisk::new(alloc, DISK_SIZE, seed, &[])?)?;
+    }
+    Ok(disks)
+}
+
+/// Does what the program's words ask for, from standard input to standard output, tells the status
+/// on standard error, and answers its number.
+pub fn program<R>(rt: &R) -> ExitCode
+where
+    R: Env + AllocGlobal + Input + Print + Eprint + Threads + Sync,
+{
+    let alloc = rt.alloc();
+    let status = match (words_of(rt), disks(alloc)) {
+        (Ok(words), Ok(mut disks)) => {
+            let mut source = StdSource::new(rt.reader());
+            let mut sink = StdSink::new(io::writer(rt));
+            run(
+                rt,
+                alloc,
+                words.as_slice(),
+                &mut source,
+                &mut sink,
+                &mut disks,
+            )
+            .status
+        }
+        _ => Status::NoMemory,
+    };
+    // Where standard error takes nothing, the number alone tells.
+    let _ = tell(rt, alloc, &status);
+    ExitCode::from(status.number())
+}
