@@ -1,3 +1,2 @@
-pub mod CauseOrder
 pub mod Loops
 pub mod Once

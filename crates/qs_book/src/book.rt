@@ -16,11 +16,12 @@ use crate::clauses::{
     broken_loan, broken_serve, broken_vote, broken_yield,
 };
 use crate::node::NodeState;
-use crate::state::Owner;
+use qs_machine::Owner;
 use qs_base::{Bytes, List, NoMemory, NodeNo, Stamp, Tid};
 use qs_journal::{Act, Entry};
 use qs_ops::File;
-use qs_transaction::{Cell, Transaction};
+use qs_machine::Cell;
+use qs_book_transactions::Transaction;
 use std::alloc::Global;
 use std::collections::BTreeMap;
 use std::marker::Model;
@@ -60,7 +61,7 @@ pub struct Book {
 }
 
 impl Model for Book {
-    ghost use Rattle.qs_book.specs.Book.{BookValue};
+    ghost use Rattle.qs_machine.specs.Book.{BookValue};
 
     ghost Value = { BookValue };
 
@@ -76,8 +77,8 @@ impl Model for Book {
 }
 
 impl Book {
-    ghost use Rattle.qs_book.specs.Book.{find_transaction, find_label, inc_of, files_of, notes_of, extra_of_node, cell_of_transaction, inc_at};
-    ghost use Rattle.qs_book.specs.Lawful.{broken, broken_at, broken_node, broken_act, broken_end, is_in_order, effect, effect_act};
+    ghost use Rattle.qs_machine.specs.Book.{find_transaction, find_label, inc_of, files_of, notes_of, extra_of_node, cell_of_transaction, inc_at};
+    ghost use Rattle.qs_machine.specs.Lawful.{broken, broken_at, broken_node, broken_act, broken_end, is_in_order, effect, effect_act};
 
     /// The stamp of the last entry; 0 before the first.
     pub fn stamp(&self) -> Stamp

@@ -4,16 +4,16 @@ ghost use Rattle.std.specs.Prelude.{◌≡◌, ◌&&◌, ◌++◌, not, OnOk, On
 ghost use Rattle.std.specs.List.{list_any};
 ghost use Rattle.qs_base.specs.Order.{same_tid, same_bytes};
 ghost use Rattle.std.specs.List.{fold};
-ghost use Rattle.qs_book.specs.Opening.{opened_node};
-ghost use Rattle.qs_book.specs.Restart.{with_vote, without_records, reopened_node, restarted_node};
-ghost use Rattle.qs_book.specs.Nodes.{bound_name, bound_names, is_doubt};
+ghost use Rattle.qs_machine.specs.Opening.{opened_node};
+ghost use Rattle.qs_machine.specs.Restart.{with_vote, without_records, reopened_node, restarted_node};
+ghost use Rattle.qs_machine.specs.Nodes.{bound_name, bound_names, is_doubt};
 
-use crate::opened::Opened;
+use qs_machine::Opened;
 use crate::opening::{opened_audit, opened_commits, opened_files, opened_records};
-use crate::state::{OnRecord, Reopened, Voter};
+use qs_machine::{OnRecord, Reopened, Voter};
 use qs_base::{Bytes, Copied, List, NoMemory, Outcome, ServerNo, Stamp, Tid};
 use qs_ops::{Changes, Op, Reply, Vote};
-use qs_servers::{Table, TimerTable};
+use qs_book_tables::{Table, TimerTable};
 use std::alloc::Global;
 use std::collections::{BTreeMap, BTreeSet};
 use std::marker::Model;
@@ -45,7 +45,7 @@ pub struct NodeState {
 }
 
 impl Model for NodeState {
-    ghost use Rattle.qs_book.specs.Nodes.{NodeValue};
+    ghost use Rattle.qs_machine.specs.Nodes.{NodeValue};
 
     ghost Value = { NodeValue };
 
@@ -75,11 +75,11 @@ impl NodeState {
     ghost use Rattle.std.specs.Map.{remove_entry};
     ghost use Rattle.std.specs.BTreeMap.{insert_entry, is_at};
     ghost use Rattle.std.specs.Option.{option_copied};
-    ghost use Rattle.qs_servers.specs.Table.{released, committed};
-    ghost use Rattle.qs_servers.specs.Table.{with_vote as with_ballot};
-    ghost use Rattle.qs_servers.specs.Timers.{timers_ended};
-    ghost use Rattle.qs_book.specs.Book.{tick_node, crash_node, server_serve, vote_node, learn_node};
-    ghost use Rattle.qs_book.specs.Nodes.{table_of, with_table, record_of, voter, voter_cmp, pending_at, extra_of, keep_of, is_doubtful, with_doubts, crossed_node, crossed_server, crossed_names, without_doubts, without_record};
+    ghost use Rattle.qs_ops.specs.Table.{released, committed};
+    ghost use Rattle.qs_ops.specs.Table.{with_vote as with_ballot};
+    ghost use Rattle.qs_ops.specs.Timers.{timers_ended};
+    ghost use Rattle.qs_machine.specs.Book.{tick_node, crash_node, server_serve, vote_node, learn_node};
+    ghost use Rattle.qs_machine.specs.Nodes.{table_of, with_table, record_of, voter, voter_cmp, pending_at, extra_of, keep_of, is_doubtful, with_doubts, crossed_node, crossed_server, crossed_names, without_doubts, without_record};
 
     /// The node as a run begins: up, with what its log holds.
     pub fn opened(alloc: Global, opened: &Opened) -> Result<NodeState, NoMemory>

@@ -1,16 +1,17 @@
 //! The machine as a run begins, from what the logs of its nodes hold.
 ghost use Rattle.std.specs.Prelude.{◌≡◌, ◌++◌, [], IfOk, OnOk, map, replicate};
 ghost use Rattle.std.specs.List.{flat_map, fold};
-ghost use Rattle.qs_servers.specs.Table.{no_table, restarted};
-ghost use Rattle.qs_book.specs.Opening.{keep_pending, put_of, note_of, put_record, put_tid, opened_node, no_owner};
+ghost use Rattle.qs_ops.specs.Table.{no_table, restarted};
+ghost use Rattle.qs_machine.specs.Opening.{keep_pending, put_of, note_of, put_record, put_tid, opened_node, no_owner};
 
-use crate::causes::Causes;
+use qs_machine::Causes;
 use crate::node::NodeState;
-use crate::opened::{Opened, Pending};
-use crate::state::{OnRecord, Owner, Voter};
+use qs_machine::{Opened, Pending};
+use qs_machine::{OnRecord, Owner, Voter};
 use qs_base::{Bytes, Copied, List, NoMemory, ServerNo, Tid};
 use qs_ops::{File, Op};
-use qs_servers::{Kept, Table};
+use qs_ops::Kept;
+use qs_book_tables::Table;
 use std::alloc::Global;
 use std::collections::{BTreeMap, BTreeSet};
 

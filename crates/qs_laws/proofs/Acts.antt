@@ -11,15 +11,15 @@ use Rattle.qs_ops.specs.declared.reply.Reply.{Reply}
 use Rattle.qs_ops.specs.declared.vote.Vote.{Vote}
 use Rattle.qs_ops.specs.declared.vote.Vote.TheVariants as votes
 use Rattle.std.specs.Prelude.{slice_get}
-use Rattle.qs_servers.specs.Table.{TableValue, released, served, committed, with_vote}
-use Rattle.qs_servers.specs.Timers.{timer_served, timers_ended}
-use Rattle.qs_transaction.specs.Transaction.{TransactionValue, issued, learnt, asked_at, is_crossed, standing_request, requests_at}
-use Rattle.qs_transaction.specs.declared.state.Request.{Request}
-use Rattle.qs_transaction.specs.declared.state.RequestNo.{RequestNo}
-use Rattle.qs_book.specs.Clauses.{link_to, borrower_at}
-use Rattle.qs_book.specs.Nodes.{NodeValue, with_table, crossed_node, crossed_server, crossed_names, crossed_table}
-use Rattle.qs_book.specs.Book.{BookValue, find_transaction, with_node, with_transaction, with_waiting, with_crossing, crosses, issue, serve, serve_node, server_serve, crossed_serve, is_done, vote, vote_node, crossed_in, learn, learn_node, doubts_after, hear, answer, waiting_of, tick_node, crash_node, count, end, end_node, loan, loan_to, give_back, give_back_from, inc_at}
-use Rattle.qs_book.specs.declared.state.Asking.{Asking}
+use Rattle.qs_ops.specs.Table.{TableValue, released, served, committed, with_vote}
+use Rattle.qs_ops.specs.Timers.{timer_served, timers_ended}
+use Rattle.qs_machine.specs.Transaction.{TransactionValue, issued, learnt, asked_at, is_crossed, standing_request, requests_at}
+use Rattle.qs_machine.specs.declared.transaction.Request.{Request}
+use Rattle.qs_machine.specs.declared.transaction.RequestNo.{RequestNo}
+use Rattle.qs_machine.specs.Clauses.{link_to, borrower_at}
+use Rattle.qs_machine.specs.Nodes.{NodeValue, with_table, crossed_node, crossed_server, crossed_names, crossed_table}
+use Rattle.qs_machine.specs.Book.{BookValue, find_transaction, with_node, with_transaction, with_waiting, with_crossing, crosses, issue, serve, serve_node, server_serve, crossed_serve, is_done, vote, vote_node, crossed_in, learn, learn_node, doubts_after, hear, answer, waiting_of, tick_node, crash_node, count, end, end_node, loan, loan_to, give_back, give_back_from, inc_at}
+use Rattle.qs_machine.specs.declared.state.Asking.{Asking}
 use Rattle.qs_laws.proofs.Faces.{face, age, Alike, alike_self, alike_then, transaction_alike, node_alike, owner_alike, either_way, either_alike}
 
 -- ---- nodes

@@ -12,13 +12,13 @@ use Rattle.qs_journal.specs.declared.entry.Act.{Act}
 use Rattle.qs_journal.specs.declared.entry.Act.TheVariants as acts
 use Rattle.qs_journal.specs.declared.entry.Entry.{Entry}
 use Rattle.qs_journal.specs.declared.entry.Found.{Found}
-use Rattle.qs_servers.specs.Table.{TableValue, applied, restarted, apply_change, apply_note}
-use Rattle.qs_book.specs.Book.{BookValue, find_transaction, changed_at, crossed_in}
-use Rattle.qs_book.specs.Lawful.{is_in_order, broken_at, broken, effect_act, effect}
-use Rattle.qs_book.specs.Nodes.{NodeValue, pending_at, record_of, changes_of, voter, voter_cmp}
-use Rattle.qs_book.specs.Restart.{restart, reopened, restarted_node, put_new_votes, new_votes, new_votes_at, with_votes, with_vote, record_at, changes_at, is_kept, is_found_vote, votes_once, broken_restart, is_among, add_commit, commits_found, has_record, member_at, without_records}
-use Rattle.qs_book.specs.declared.state.OnRecord.{OnRecord}
-use Rattle.qs_book.specs.declared.state.Voter.{Voter}
+use Rattle.qs_ops.specs.Table.{TableValue, applied, restarted, apply_change, apply_note}
+use Rattle.qs_machine.specs.Book.{BookValue, find_transaction, changed_at, crossed_in}
+use Rattle.qs_machine.specs.Lawful.{is_in_order, broken_at, broken, effect_act, effect}
+use Rattle.qs_machine.specs.Nodes.{NodeValue, pending_at, record_of, changes_of, voter, voter_cmp}
+use Rattle.qs_machine.specs.Restart.{restart, reopened, restarted_node, put_new_votes, new_votes, new_votes_at, with_votes, with_vote, record_at, changes_at, is_kept, is_found_vote, votes_once, broken_restart, is_among, add_commit, commits_found, has_record, member_at, without_records}
+use Rattle.qs_machine.specs.declared.state.OnRecord.{OnRecord}
+use Rattle.qs_machine.specs.declared.state.Voter.{Voter}
 use Rattle.qs_laws.specs.Laws.{IsCommitted}
 use Rattle.qs_laws.specs.Served.{crossed_at, keeps_contents, logged_at, IsLogged, PendsAgain, CommitsOnce}
 use Rattle.qs_laws.proofs.Alikes.{voter_exact, voter_equal, voter_itself}

@@ -15,9 +15,9 @@ use Rattle.qs_ops.specs.declared.answer.Cause.TheVariants.{Asked, Voted, Gone, H
 use Rattle.qs_ops.specs.declared.vote.Reason.{Reason}
 use Rattle.qs_ops.specs.declared.vote.Reason.TheVariants.{Quota, LogRoom, Taken, Code}
 use Rattle.std.proofs.lemmas.Map.Lookups.{exact_unsigned, exact_pairs}
-use Rattle.qs_book.specs.Nodes.{voter_cmp}
-use Rattle.qs_book.specs.declared.state.Voter.{Voter}
-use Rattle.qs_servers.proofs.IndexSteps.{tid_exact, tid_total}
+use Rattle.qs_machine.specs.Nodes.{voter_cmp}
+use Rattle.qs_machine.specs.declared.state.Voter.{Voter}
+use Rattle.qs_base.proofs.TidOrder.{tid_exact, tid_total}
 use Rattle.std.proofs.lemmas.Cmp.{tied_itself, nat_cmp_total}
 
 pub same_reason-true : (r s : Reason) → same_reason r s ≡ true → r ≡ s

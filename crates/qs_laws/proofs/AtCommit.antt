@@ -6,12 +6,12 @@ use Rattle.std.specs.Option.{option_map}
 use Rattle.qs_base.specs.declared.identifiers.Member.{Member}
 use Rattle.qs_base.specs.declared.identifiers.Tid.{Tid}
 use Rattle.qs_journal.specs.declared.entry.Entry.{Entry}
-use Rattle.qs_transaction.specs.Transaction.{TransactionValue, is_open, is_crossed, is_unanimous, is_empty, agrees, all_served}
-use Rattle.qs_book.specs.Book.{BookValue, find_transaction}
-use Rattle.qs_book.specs.Lawful.{IsLawful, book_after}
-use Rattle.qs_book.specs.Nodes.{changes_of}
-use Rattle.qs_book.specs.Opening.{opening}
-use Rattle.qs_book.specs.declared.opened.Opened.{Opened}
+use Rattle.qs_machine.specs.Transaction.{TransactionValue, is_open, is_crossed, is_unanimous, is_empty, agrees, all_served}
+use Rattle.qs_machine.specs.Book.{BookValue, find_transaction}
+use Rattle.qs_machine.specs.Lawful.{IsLawful, book_after}
+use Rattle.qs_machine.specs.Nodes.{changes_of}
+use Rattle.qs_machine.specs.Opening.{opening}
+use Rattle.qs_machine.specs.declared.opened.Opened.{Opened}
 use Rattle.qs_laws.specs.Durable.{IsKept}
 use Rattle.qs_laws.specs.Laws.{IsCoherent}
 use Rattle.qs_laws.specs.Served.{held_at, changes_served, keeps_contents}

@@ -13,14 +13,14 @@ use Rattle.qs_ops.specs.declared.vote.Vote.TheVariants as votes
 use Rattle.qs_journal.specs.declared.entry.Act.{Act}
 use Rattle.qs_journal.specs.declared.entry.Act.TheVariants as acts
 use Rattle.qs_journal.specs.declared.entry.Entry.{Entry}
-use Rattle.qs_servers.specs.Table.{TableValue, share_of, released, nothing_held}
-use Rattle.qs_servers.specs.declared.share.Share.{Share}
-use Rattle.qs_transaction.specs.Transaction.{TransactionValue, part_of, is_crossed, is_covering, voted}
-use Rattle.qs_book.specs.Book.{BookValue, find_transaction, changed_at, crossed_in, vote, vote_node, inc_at}
-use Rattle.qs_book.specs.Clauses.{broken_vote, is_vote_due, is_vote, is_server_vote, has_vote}
-use Rattle.qs_book.specs.Lawful.{broken_act, broken, effect_act, effect}
-use Rattle.qs_book.specs.Nodes.{NodeValue, pending_at, voter, voter_cmp}
-use Rattle.qs_book.specs.declared.state.OnRecord.{OnRecord}
+use Rattle.qs_ops.specs.Table.{TableValue, share_of, released, nothing_held}
+use Rattle.qs_ops.specs.declared.share.Share.{Share}
+use Rattle.qs_machine.specs.Transaction.{TransactionValue, part_of, is_crossed, is_covering, voted}
+use Rattle.qs_machine.specs.Book.{BookValue, find_transaction, changed_at, crossed_in, vote, vote_node, inc_at}
+use Rattle.qs_machine.specs.Clauses.{broken_vote, is_vote_due, is_vote, is_server_vote, has_vote}
+use Rattle.qs_machine.specs.Lawful.{broken_act, broken, effect_act, effect}
+use Rattle.qs_machine.specs.Nodes.{NodeValue, pending_at, voter, voter_cmp}
+use Rattle.qs_machine.specs.declared.state.OnRecord.{OnRecord}
 use Rattle.qs_laws.specs.Served.{held_at, crossed_at}
 use Rattle.qs_laws.proofs.Acts as alike
 use Rattle.qs_laws.proofs.Alikes.{at_exact, voter_itself}

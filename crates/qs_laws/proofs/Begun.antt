@@ -17,11 +17,11 @@ use Rattle.qs_journal.specs.declared.entry.Act.TheVariants.{Begin, Issue, Serve,
 use Rattle.qs_journal.specs.declared.entry.Act.TheVariants as acts
 use Rattle.qs_journal.specs.declared.entry.Entry.{Entry}
 use Rattle.qs_journal.specs.declared.entry.Found.{Found}
-use Rattle.qs_transaction.specs.Transaction.{TransactionValue, is_open, decided_at}
-use Rattle.qs_book.specs.Book.{BookValue, find_transaction, changed_at, decide, begin, inc_at}
-use Rattle.qs_book.specs.Lawful.{is_in_order, broken_act, broken_node, broken_at, broken, effect_act, effect}
-use Rattle.qs_book.specs.Nodes.{NodeValue}
-use Rattle.qs_book.specs.Restart.{restart, restarted_node, reopened, put_new_votes, new_votes, with_votes, abort_begun, begun_tid, is_open_here, up_to, begun_at, commit_found, vote_found}
+use Rattle.qs_machine.specs.Transaction.{TransactionValue, is_open, decided_at}
+use Rattle.qs_machine.specs.Book.{BookValue, find_transaction, changed_at, decide, begin, inc_at}
+use Rattle.qs_machine.specs.Lawful.{is_in_order, broken_act, broken_node, broken_at, broken, effect_act, effect}
+use Rattle.qs_machine.specs.Nodes.{NodeValue}
+use Rattle.qs_machine.specs.Restart.{restart, restarted_node, reopened, put_new_votes, new_votes, with_votes, abort_begun, begun_tid, is_open_here, up_to, begun_at, commit_found, vote_found}
 use Rattle.qs_laws.proofs.Acts as of
 use Rattle.qs_laws.proofs.Faces.{Face, face, face_at, Age, age, age_at, Alike, node_alike}
 use Rattle.qs_laws.proofs.Grows.{before_aborts, abort_alters}

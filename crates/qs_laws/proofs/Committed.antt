@@ -11,14 +11,14 @@ use Rattle.qs_journal.specs.declared.entry.Act.{Act}
 use Rattle.qs_journal.specs.declared.entry.Act.TheVariants.{Begin, Issue, Serve, Ask, Counted, Decide, Ending, Learn, Answer, Loan, Yield, Tick, Crash, Restart}
 use Rattle.qs_journal.specs.declared.entry.Act.TheVariants as acts
 use Rattle.qs_journal.specs.declared.entry.Entry.{Entry}
-use Rattle.qs_transaction.specs.Transaction.{TransactionValue, asked_at, voted, learnt}
-use Rattle.qs_book.specs.Book.{BookValue, find_transaction, with_node, with_transaction, begin, vote, vote_node, crossed_in, learn, learn_node, doubts_after, inc_at}
-use Rattle.qs_book.specs.Clauses.{broken_ask, may_ask, broken_vote, broken_learn}
-use Rattle.qs_book.specs.Lawful.{is_in_order, broken_act, broken_node, broken_at, broken, effect_act, effect, IsLawful, book_after}
-use Rattle.qs_book.specs.Nodes.{NodeValue, pending_at}
-use Rattle.qs_book.specs.Opening.{opening}
-use Rattle.qs_book.specs.Restart.{broken_restart, is_found_commit}
-use Rattle.qs_book.specs.declared.opened.Opened.{Opened}
+use Rattle.qs_machine.specs.Transaction.{TransactionValue, asked_at, voted, learnt}
+use Rattle.qs_machine.specs.Book.{BookValue, find_transaction, with_node, with_transaction, begin, vote, vote_node, crossed_in, learn, learn_node, doubts_after, inc_at}
+use Rattle.qs_machine.specs.Clauses.{broken_ask, may_ask, broken_vote, broken_learn}
+use Rattle.qs_machine.specs.Lawful.{is_in_order, broken_act, broken_node, broken_at, broken, effect_act, effect, IsLawful, book_after}
+use Rattle.qs_machine.specs.Nodes.{NodeValue, pending_at}
+use Rattle.qs_machine.specs.Opening.{opening}
+use Rattle.qs_machine.specs.Restart.{broken_restart, is_found_commit}
+use Rattle.qs_machine.specs.declared.opened.Opened.{Opened}
 use Rattle.qs_laws.specs.Laws.{IsCoherent, IsCommitted, TakesCommitted, LeavesCommitted, may_take}
 use Rattle.qs_laws.proofs.Fates.{commit_stays}
 use Rattle.qs_laws.proofs.Histories.{learns_cell}

@@ -21,14 +21,14 @@ use Rattle.qs_ops.specs.declared.vote.Vote.{Vote}
 use Rattle.qs_ops.specs.declared.vote.Vote.TheVariants as votes
 use Rattle.qs_journal.specs.declared.entry.Found.{Found}
 use Rattle.qs_ops.specs.Members.{class_of}
-use Rattle.qs_transaction.specs.Transaction.{TransactionValue, changed_value, part_of, no_part, life, life_cmp, learnt, learnt_part, lent, made_part, given_back, yielded_part, voted, voted_part, served_in, serving_part, found_at, found_part, with_learnt, decided_at, heard}
-use Rattle.qs_transaction.specs.declared.state.Life.{Life}
-use Rattle.qs_transaction.specs.declared.state.Part.{Part}
-use Rattle.qs_transaction.specs.declared.state.RequestNo.{RequestNo}
-use Rattle.qs_book.specs.Book.{BookValue, find_transaction, with_transaction, decide, hear, loan_to, give_back_from, inc_at}
+use Rattle.qs_machine.specs.Transaction.{TransactionValue, changed_value, part_of, no_part, life, life_cmp, learnt, learnt_part, lent, made_part, given_back, yielded_part, voted, voted_part, served_in, serving_part, found_at, found_part, with_learnt, decided_at, heard}
+use Rattle.qs_machine.specs.declared.transaction.Life.{Life}
+use Rattle.qs_machine.specs.declared.transaction.Part.{Part}
+use Rattle.qs_machine.specs.declared.transaction.RequestNo.{RequestNo}
+use Rattle.qs_machine.specs.Book.{BookValue, find_transaction, with_transaction, decide, hear, loan_to, give_back_from, inc_at}
 use Rattle.qs_ops.specs.declared.answer.Cause.TheVariants as causes
-use Rattle.qs_book.specs.Restart.{changes_at, up_to, begun_at, abort_begun, vote_found, commit_found, learn_found, decide_found, is_among, is_open_here, begun_tid, record_at, member_at}
-use Rattle.qs_book.specs.declared.state.Asking.{Asking}
+use Rattle.qs_machine.specs.Restart.{changes_at, up_to, begun_at, abort_begun, vote_found, commit_found, learn_found, decide_found, is_among, is_open_here, begun_tid, record_at, member_at}
+use Rattle.qs_machine.specs.declared.state.Asking.{Asking}
 use Rattle.qs_laws.proofs.Holding.{member_equal, clash, settled}
 use Rattle.qs_laws.proofs.Maps.{changed_alike, changed_apart, changed_none, lookup_changed, lookup_put, lookup_put_apart}
 

@@ -16,17 +16,17 @@ use Rattle.qs_journal.specs.declared.entry.Act.{Act}
 use Rattle.qs_journal.specs.declared.entry.Act.TheVariants as acts
 use Rattle.qs_journal.specs.declared.entry.Entry.{Entry}
 use Rattle.qs_ops.specs.Members.{class_of}
-use Rattle.qs_transaction.specs.Transaction.{TransactionValue, changed_value, life, life_cmp, no_part, voted, is_unanimous, agrees, agrees_in, is_empty}
-use Rattle.qs_transaction.specs.declared.state.Life.{Life}
-use Rattle.qs_transaction.specs.declared.state.Part.{Part}
-use Rattle.qs_book.specs.Book.{BookValue, find_transaction, changed_at, crossed_in, vote_node}
-use Rattle.qs_book.specs.Clauses.{broken_decide, broken_outcome, may_decide}
-use Rattle.qs_book.specs.Lawful.{broken_act, broken, effect_act, effect, IsLawful, book_after}
-use Rattle.qs_book.specs.Nodes.{NodeValue, pending_at, record_of, changes_of, voter, voter_cmp}
-use Rattle.qs_book.specs.Opening.{opening}
-use Rattle.qs_book.specs.Restart.{record_at}
-use Rattle.qs_book.specs.declared.opened.Opened.{Opened}
-use Rattle.qs_book.specs.declared.state.OnRecord.{OnRecord}
+use Rattle.qs_machine.specs.Transaction.{TransactionValue, changed_value, life, life_cmp, no_part, voted, is_unanimous, agrees, agrees_in, is_empty}
+use Rattle.qs_machine.specs.declared.transaction.Life.{Life}
+use Rattle.qs_machine.specs.declared.transaction.Part.{Part}
+use Rattle.qs_machine.specs.Book.{BookValue, find_transaction, changed_at, crossed_in, vote_node}
+use Rattle.qs_machine.specs.Clauses.{broken_decide, broken_outcome, may_decide}
+use Rattle.qs_machine.specs.Lawful.{broken_act, broken, effect_act, effect, IsLawful, book_after}
+use Rattle.qs_machine.specs.Nodes.{NodeValue, pending_at, record_of, changes_of, voter, voter_cmp}
+use Rattle.qs_machine.specs.Opening.{opening}
+use Rattle.qs_machine.specs.Restart.{record_at}
+use Rattle.qs_machine.specs.declared.opened.Opened.{Opened}
+use Rattle.qs_machine.specs.declared.state.OnRecord.{OnRecord}
 use Rattle.qs_laws.specs.Laws.{IsCoherent}
 use Rattle.qs_laws.specs.Served.{change_served, crossed_at, held_at, keeps_contents, lets_go, NeverVotes, IsHolding}
 use Rattle.qs_laws.proofs.Alikes.{voter_itself}

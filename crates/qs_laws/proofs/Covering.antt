@@ -7,9 +7,9 @@ use Rattle.qs_ops.specs.declared.operation.Op.{Op}
 use Rattle.qs_journal.specs.declared.entry.Act.{Act}
 use Rattle.qs_journal.specs.declared.entry.Act.TheVariants as acts
 use Rattle.qs_journal.specs.declared.entry.Entry.{Entry}
-use Rattle.qs_book.specs.Book.{BookValue}
-use Rattle.qs_book.specs.Lawful.{broken, effect}
-use Rattle.qs_book.specs.Nodes.{changes_of}
+use Rattle.qs_machine.specs.Book.{BookValue}
+use Rattle.qs_machine.specs.Lawful.{broken, effect}
+use Rattle.qs_machine.specs.Nodes.{changes_of}
 use Rattle.qs_laws.specs.Served.{change_served, held_at, lets_go, votes_on}
 use Rattle.qs_laws.proofs.Counts.{Count, count_of}
 use Rattle.qs_laws.proofs.Covers.{Mark, mark_of}

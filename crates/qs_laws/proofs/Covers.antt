@@ -10,11 +10,11 @@ use Rattle.qs_base.specs.declared.identifiers.Member.{Member}
 use Rattle.qs_base.specs.declared.identifiers.Tid.{Tid}
 use Rattle.qs_base.proofs.Same.{same_tid-self}
 use Rattle.qs_ops.specs.declared.vote.Vote.TheVariants as votes
-use Rattle.qs_transaction.specs.Transaction.{TransactionValue}
-use Rattle.qs_book.specs.Book.{BookValue, changed_at, with_transaction, vote_node}
-use Rattle.qs_book.specs.Nodes.{NodeValue, record_of, voter, voter_cmp, without_record}
-use Rattle.qs_book.specs.declared.state.OnRecord.{OnRecord}
-use Rattle.qs_book.specs.declared.state.Voter.{Voter}
+use Rattle.qs_machine.specs.Transaction.{TransactionValue}
+use Rattle.qs_machine.specs.Book.{BookValue, changed_at, with_transaction, vote_node}
+use Rattle.qs_machine.specs.Nodes.{NodeValue, record_of, voter, voter_cmp, without_record}
+use Rattle.qs_machine.specs.declared.state.OnRecord.{OnRecord}
+use Rattle.qs_machine.specs.declared.state.Voter.{Voter}
 use Rattle.qs_laws.specs.Served.{is_share}
 use Rattle.qs_laws.proofs.Alikes.{at_exact, voter_exact, voter_equal}
 use Rattle.qs_laws.proofs.Counts.{count_in, no_count, Counted as SameCount, of_transaction}

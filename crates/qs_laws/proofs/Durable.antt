@@ -18,17 +18,17 @@ use Rattle.qs_journal.specs.declared.entry.Act.{Act}
 use Rattle.qs_journal.specs.declared.entry.Act.TheVariants as acts
 use Rattle.qs_journal.specs.declared.entry.Entry.{Entry}
 use Rattle.qs_journal.specs.declared.entry.Found.{Found}
-use Rattle.qs_servers.specs.Table.{nothing_held}
-use Rattle.qs_servers.specs.declared.share.Share.{Share}
-use Rattle.qs_transaction.specs.Transaction.{cell_of}
-use Rattle.qs_transaction.specs.declared.state.Cell.TheVariants as cells
-use Rattle.qs_book.specs.Book.{BookValue, find_transaction, cell_of_transaction, changed_at, learn_node, doubts_after}
-use Rattle.qs_book.specs.Lawful.{broken_act, broken, effect_act, effect, IsLawful, book_after}
-use Rattle.qs_book.specs.Nodes.{NodeValue, pending_at, record_of, changes_of, voter, voter_cmp}
-use Rattle.qs_book.specs.Opening.{opening}
-use Rattle.qs_book.specs.Restart.{record_at}
-use Rattle.qs_book.specs.declared.opened.Opened.{Opened}
-use Rattle.qs_book.specs.declared.state.OnRecord.{OnRecord}
+use Rattle.qs_ops.specs.Table.{nothing_held}
+use Rattle.qs_ops.specs.declared.share.Share.{Share}
+use Rattle.qs_machine.specs.Transaction.{cell_of}
+use Rattle.qs_machine.specs.declared.transaction.Cell.TheVariants as cells
+use Rattle.qs_machine.specs.Book.{BookValue, find_transaction, cell_of_transaction, changed_at, learn_node, doubts_after}
+use Rattle.qs_machine.specs.Lawful.{broken_act, broken, effect_act, effect, IsLawful, book_after}
+use Rattle.qs_machine.specs.Nodes.{NodeValue, pending_at, record_of, changes_of, voter, voter_cmp}
+use Rattle.qs_machine.specs.Opening.{opening}
+use Rattle.qs_machine.specs.Restart.{record_at}
+use Rattle.qs_machine.specs.declared.opened.Opened.{Opened}
+use Rattle.qs_machine.specs.declared.state.OnRecord.{OnRecord}
 use Rattle.qs_laws.specs.Durable.{IsKept, IsGone, LearnsCommit, Applies, IsGoneThrough, IsDurable}
 use Rattle.qs_laws.specs.Laws.{IsCommitted, IsCoherent}
 use Rattle.qs_laws.specs.Served.{is_share, change_served, held_at, keeps_contents, lets_go, votes_on, HasApplied}

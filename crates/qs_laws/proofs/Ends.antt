@@ -11,15 +11,15 @@ use Rattle.qs_ops.specs.declared.vote.Vote.TheVariants as votes
 use Rattle.qs_journal.specs.declared.entry.Act.{Act}
 use Rattle.qs_journal.specs.declared.entry.Act.TheVariants as acts
 use Rattle.qs_journal.specs.declared.entry.Entry.{Entry}
-use Rattle.qs_servers.specs.Table.{TableValue, share_of, has_changes}
-use Rattle.qs_transaction.specs.Transaction.{TransactionValue, part_of, is_crossed}
-use Rattle.qs_book.specs.Book.{BookValue, find_transaction, changed_at, crossed_in, vote_node, learn_node, doubts_after}
-use Rattle.qs_book.specs.Clauses.{broken_vote, is_vote_due, is_vote, is_server_vote}
-use Rattle.qs_transaction.specs.Transaction.{is_covering}
-use Rattle.qs_book.specs.Lawful.{is_in_order, broken_act, broken_node, broken_at, broken, effect_act, effect}
-use Rattle.qs_book.specs.Nodes.{NodeValue, pending_at, record_of, voter, voter_cmp}
-use Rattle.qs_book.specs.Restart.{record_at}
-use Rattle.qs_book.specs.declared.state.OnRecord.{OnRecord}
+use Rattle.qs_ops.specs.Table.{TableValue, share_of, has_changes}
+use Rattle.qs_machine.specs.Transaction.{TransactionValue, part_of, is_crossed}
+use Rattle.qs_machine.specs.Book.{BookValue, find_transaction, changed_at, crossed_in, vote_node, learn_node, doubts_after}
+use Rattle.qs_machine.specs.Clauses.{broken_vote, is_vote_due, is_vote, is_server_vote}
+use Rattle.qs_machine.specs.Transaction.{is_covering}
+use Rattle.qs_machine.specs.Lawful.{is_in_order, broken_act, broken_node, broken_at, broken, effect_act, effect}
+use Rattle.qs_machine.specs.Nodes.{NodeValue, pending_at, record_of, voter, voter_cmp}
+use Rattle.qs_machine.specs.Restart.{record_at}
+use Rattle.qs_machine.specs.declared.state.OnRecord.{OnRecord}
 use Rattle.qs_laws.specs.Served.{held_at, crossed_at, keeps_contents, HasApplied}
 use Rattle.qs_laws.proofs.Alikes.{voter_itself}
 use Rattle.qs_laws.proofs.Holding.{vote_here, learn_here, which}

@@ -8,11 +8,11 @@ use Rattle.qs_base.specs.Order.{tid_cmp}
 use Rattle.qs_base.specs.declared.identifiers.ClientNo.{ClientNo}
 use Rattle.qs_base.specs.declared.identifiers.Tid.{Tid}
 use Rattle.qs_ops.specs.declared.answer.Cause.{Cause}
-use Rattle.qs_transaction.specs.Transaction.{TransactionValue}
-use Rattle.qs_transaction.specs.declared.state.Cell.{Cell}
-use Rattle.qs_book.specs.Book.{BookValue, find_transaction, with_node, with_transaction, with_owner}
-use Rattle.qs_book.specs.Nodes.{NodeValue}
-use Rattle.qs_book.specs.declared.state.Owner.{Owner}
+use Rattle.qs_machine.specs.Transaction.{TransactionValue}
+use Rattle.qs_machine.specs.declared.transaction.Cell.{Cell}
+use Rattle.qs_machine.specs.Book.{BookValue, find_transaction, with_node, with_transaction, with_owner}
+use Rattle.qs_machine.specs.Nodes.{NodeValue}
+use Rattle.qs_machine.specs.declared.state.Owner.{Owner}
 use Rattle.qs_laws.proofs.Maps.{changed_alike, changed_at_alike}
 
 pub record Face : Type 0 where

@@ -9,12 +9,12 @@ use Rattle.std.specs.BTreeMap.{is_at}
 use Rattle.qs_base.specs.Order.{tid_cmp}
 use Rattle.qs_base.specs.declared.identifiers.Outcome.TheVariants as outcomes
 use Rattle.qs_base.specs.declared.identifiers.Tid.{Tid}
-use Rattle.qs_transaction.specs.Transaction.{TransactionValue, is_open, is_commit, is_unanimous, decided_at, with_learnt}
-use Rattle.qs_transaction.specs.declared.state.Cell.{Cell}
-use Rattle.qs_transaction.specs.declared.state.Cell.TheVariants as cells
-use Rattle.qs_book.specs.Book.{BookValue, find_transaction, cell_of_transaction, with_transaction, decide}
-use Rattle.qs_book.specs.Nodes.{NodeValue}
-use Rattle.qs_book.specs.Restart.{is_among, member_at, record_at, is_open_here, learn_found, decide_found, commit_found, is_committed, is_found_commit}
+use Rattle.qs_machine.specs.Transaction.{TransactionValue, is_open, is_commit, is_unanimous, decided_at, with_learnt}
+use Rattle.qs_machine.specs.declared.transaction.Cell.{Cell}
+use Rattle.qs_machine.specs.declared.transaction.Cell.TheVariants as cells
+use Rattle.qs_machine.specs.Book.{BookValue, find_transaction, cell_of_transaction, with_transaction, decide}
+use Rattle.qs_machine.specs.Nodes.{NodeValue}
+use Rattle.qs_machine.specs.Restart.{is_among, member_at, record_at, is_open_here, learn_found, decide_found, commit_found, is_committed, is_found_commit}
 use Rattle.qs_laws.specs.Laws.{IsCommitted}
 use Rattle.qs_laws.proofs.Faces.{Face, face, Alike, alike_self, alike_then, transaction_alike}
 use Rattle.qs_laws.proofs.Histories.{stays}

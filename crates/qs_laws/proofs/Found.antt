@@ -10,16 +10,16 @@ use Rattle.qs_base.specs.declared.identifiers.Tid.{Tid}
 use Rattle.qs_base.proofs.Same.{same_tid-true, same_tid-self}
 use Rattle.qs_ops.specs.declared.operation.Op.{Op}
 use Rattle.qs_journal.specs.declared.entry.Found.{Found}
-use Rattle.qs_servers.specs.Table.{TableValue, share_of, kept}
-use Rattle.qs_servers.specs.declared.share.Share.{Share}
-use Rattle.qs_servers.specs.declared.share.Kept.{Kept}
-use Rattle.qs_transaction.specs.Transaction.{TransactionValue}
-use Rattle.qs_transaction.specs.declared.state.Cell.TheVariants as cells
-use Rattle.qs_book.specs.Book.{BookValue, find_transaction, crossed_in, cell_of_transaction}
-use Rattle.qs_book.specs.Nodes.{NodeValue, record_of, voter, voter_cmp, without_record}
-use Rattle.qs_book.specs.Restart.{changes_at, keep_found, is_kept_at, is_found_as, is_kept, may_be_lost, is_among, without_records, member_at}
-use Rattle.qs_book.specs.declared.state.OnRecord.{OnRecord}
-use Rattle.qs_book.specs.declared.state.Voter.{Voter}
+use Rattle.qs_ops.specs.Table.{TableValue, share_of, kept}
+use Rattle.qs_ops.specs.declared.share.Share.{Share}
+use Rattle.qs_ops.specs.declared.share.Kept.{Kept}
+use Rattle.qs_machine.specs.Transaction.{TransactionValue}
+use Rattle.qs_machine.specs.declared.transaction.Cell.TheVariants as cells
+use Rattle.qs_machine.specs.Book.{BookValue, find_transaction, crossed_in, cell_of_transaction}
+use Rattle.qs_machine.specs.Nodes.{NodeValue, record_of, voter, voter_cmp, without_record}
+use Rattle.qs_machine.specs.Restart.{changes_at, keep_found, is_kept_at, is_found_as, is_kept, may_be_lost, is_among, without_records, member_at}
+use Rattle.qs_machine.specs.declared.state.OnRecord.{OnRecord}
+use Rattle.qs_machine.specs.declared.state.Voter.{Voter}
 use Rattle.qs_laws.proofs.Alikes.{voter_exact}
 use Rattle.qs_laws.proofs.Holding.{clash, left_of, right_of}
 use Rattle.qs_laws.proofs.Shares.{removed_apart, share_put, share_put_other}

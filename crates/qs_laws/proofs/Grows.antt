@@ -13,22 +13,22 @@ use Rattle.qs_base.specs.declared.identifiers.Tid.{Tid}
 use Rattle.qs_ops.specs.declared.answer.Cause.{Cause}
 use Rattle.qs_ops.specs.declared.answer.Cause.TheVariants as causes
 use Rattle.qs_ops.specs.declared.operation.Op.{Op}
-use Rattle.qs_servers.proofs.IndexSteps.{tid_exact}
+use Rattle.qs_base.proofs.TidOrder.{tid_exact}
 use Rattle.qs_journal.specs.declared.entry.Act.{Act}
 use Rattle.qs_journal.specs.declared.entry.Act.TheVariants.{Begin, Issue, Serve, Ask, Counted, Decide, Ending, Learn, Answer, Loan, Yield, Tick, Crash, Restart}
 use Rattle.qs_journal.specs.declared.entry.Act.TheVariants as acts
 use Rattle.qs_journal.specs.declared.entry.Entry.{Entry}
 use Rattle.qs_journal.specs.declared.entry.Found.{Found}
-use Rattle.qs_transaction.specs.Transaction.{TransactionValue, is_crossed, crossed_from, crossed_by, standing_request, issued, begun, asked_at, counted, ended, learnt, lent, given_back, voted, served_in, decided_at, heard, with_learnt, found_at}
-use Rattle.qs_transaction.specs.declared.state.Request.{Request}
-use Rattle.qs_transaction.specs.declared.state.RequestNo.{RequestNo}
-use Rattle.qs_book.specs.Book.{BookValue, find_transaction, crossed_in, with_node, with_owner, with_transaction, with_waiting, crosses, begin, issue, learn, hear, answer, waiting_of, inc_at, is_done, ticks_at, decide, loan_to, give_back_from, tick_node, crash_node}
-use Rattle.qs_book.specs.Clauses.{link_to, borrower_at}
-use Rattle.qs_book.specs.Lawful.{is_in_order, broken_act, broken_node, broken_at, broken, effect_act, effect}
-use Rattle.qs_book.specs.Nodes.{NodeValue}
-use Rattle.qs_book.specs.Restart.{restart, put_new_votes, changes_at, up_to, begun_at, abort_begun, vote_found, commit_found, learn_found, decide_found, is_among, is_open_here, begun_tid, record_at, member_at}
-use Rattle.qs_book.specs.declared.state.Asking.{Asking}
-use Rattle.qs_book.specs.declared.state.Owner.{Owner}
+use Rattle.qs_machine.specs.Transaction.{TransactionValue, is_crossed, crossed_from, crossed_by, standing_request, issued, begun, asked_at, counted, ended, learnt, lent, given_back, voted, served_in, decided_at, heard, with_learnt, found_at}
+use Rattle.qs_machine.specs.declared.transaction.Request.{Request}
+use Rattle.qs_machine.specs.declared.transaction.RequestNo.{RequestNo}
+use Rattle.qs_machine.specs.Book.{BookValue, find_transaction, crossed_in, with_node, with_owner, with_transaction, with_waiting, crosses, begin, issue, learn, hear, answer, waiting_of, inc_at, is_done, ticks_at, decide, loan_to, give_back_from, tick_node, crash_node}
+use Rattle.qs_machine.specs.Clauses.{link_to, borrower_at}
+use Rattle.qs_machine.specs.Lawful.{is_in_order, broken_act, broken_node, broken_at, broken, effect_act, effect}
+use Rattle.qs_machine.specs.Nodes.{NodeValue}
+use Rattle.qs_machine.specs.Restart.{restart, put_new_votes, changes_at, up_to, begun_at, abort_begun, vote_found, commit_found, learn_found, decide_found, is_among, is_open_here, begun_tid, record_at, member_at}
+use Rattle.qs_machine.specs.declared.state.Asking.{Asking}
+use Rattle.qs_machine.specs.declared.state.Owner.{Owner}
 use Rattle.qs_laws.specs.Served.{crossed_at}
 use Rattle.qs_laws.proofs.Alikes.{at_exact}
 use Rattle.qs_laws.proofs.Faces.{face}

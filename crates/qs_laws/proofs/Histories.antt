@@ -13,16 +13,16 @@ use Rattle.qs_ops.specs.declared.answer.Cause.{Cause}
 use Rattle.qs_journal.specs.declared.entry.Act.{Act}
 use Rattle.qs_journal.specs.declared.entry.Act.TheVariants as acts
 use Rattle.qs_journal.specs.declared.entry.Entry.{Entry}
-use Rattle.qs_transaction.specs.Transaction.{TransactionValue, is_open, is_outcome, cell_of, part_of}
-use Rattle.qs_transaction.specs.declared.state.Cell.{Cell}
-use Rattle.qs_transaction.specs.declared.state.Cell.TheVariants as cells
-use Rattle.qs_book.specs.Book.{BookValue, find_transaction, cell_of_transaction}
-use Rattle.qs_book.specs.Clauses.{broken_learn, may_learn, broken_answer, is_known}
-use Rattle.qs_book.specs.Lawful.{is_in_order, broken_act, broken_node, broken_at, broken, IsLawful, book_after}
-use Rattle.qs_book.specs.Nodes.{NodeValue}
-use Rattle.qs_book.specs.Opening.{opening}
-use Rattle.qs_book.specs.declared.opened.Opened.{Opened}
-use Rattle.qs_book.specs.declared.state.Owner.{Owner}
+use Rattle.qs_machine.specs.Transaction.{TransactionValue, is_open, is_outcome, cell_of, part_of}
+use Rattle.qs_machine.specs.declared.transaction.Cell.{Cell}
+use Rattle.qs_machine.specs.declared.transaction.Cell.TheVariants as cells
+use Rattle.qs_machine.specs.Book.{BookValue, find_transaction, cell_of_transaction}
+use Rattle.qs_machine.specs.Clauses.{broken_learn, may_learn, broken_answer, is_known}
+use Rattle.qs_machine.specs.Lawful.{is_in_order, broken_act, broken_node, broken_at, broken, IsLawful, book_after}
+use Rattle.qs_machine.specs.Nodes.{NodeValue}
+use Rattle.qs_machine.specs.Opening.{opening}
+use Rattle.qs_machine.specs.declared.opened.Opened.{Opened}
+use Rattle.qs_machine.specs.declared.state.Owner.{Owner}
 use Rattle.qs_laws.specs.Laws.{IsCoherent, IsDecided, HasCommitted, HasAborted, IsTrueAnswer}
 use Rattle.qs_laws.proofs.Faces.{Face, face, face_at, told_of}
 use Rattle.qs_laws.proofs.Outcomes.{Inv, Moves, Kept, HasCommit, HasAbort}

@@ -26,15 +26,15 @@ use Rattle.qs_journal.specs.declared.entry.Act.TheVariants as acts
 use Rattle.qs_journal.specs.declared.entry.Entry.{Entry}
 use Rattle.qs_journal.specs.declared.entry.Found.{Found}
 use Rattle.qs_ops.specs.Members.{class_of, is_two_phase}
-use Rattle.qs_transaction.specs.Transaction.{TransactionValue, standing_request, part_of, issued, crossed_by, crossed_from, is_outcome}
-use Rattle.qs_transaction.specs.declared.state.Request.{Request}
-use Rattle.qs_transaction.specs.declared.state.RequestNo.{RequestNo}
-use Rattle.qs_book.specs.Book.{BookValue, find_transaction, changed_at, with_owner, with_transaction, with_waiting, with_crossing, crosses, issue, serve_node, vote_node, crossed_in, learn_node, doubts_after, hear, answer, waiting_of, loan_to, give_back_from, inc_at, end_node, tick_node, crash_node}
-use Rattle.qs_book.specs.Clauses.{link_to, borrower_at, broken_serve, broken_vote, is_vote_due, broken_learn, may_learn}
-use Rattle.qs_book.specs.Lawful.{is_in_order, broken_act, broken_node, broken_at, broken, effect_act, effect, IsLawful, book_after}
-use Rattle.qs_book.specs.Nodes.{NodeValue, pending_at}
-use Rattle.qs_book.specs.Restart.{restart, put_new_votes, new_votes, with_votes, restarted_node, reopened, abort_begun, vote_found, commit_found, learn_found, decide_found, up_to, begun_at, is_among, is_open_here, begun_tid, record_at}
-use Rattle.qs_book.specs.declared.state.Owner.{Owner}
+use Rattle.qs_machine.specs.Transaction.{TransactionValue, standing_request, part_of, issued, crossed_by, crossed_from, is_outcome}
+use Rattle.qs_machine.specs.declared.transaction.Request.{Request}
+use Rattle.qs_machine.specs.declared.transaction.RequestNo.{RequestNo}
+use Rattle.qs_machine.specs.Book.{BookValue, find_transaction, changed_at, with_owner, with_transaction, with_waiting, with_crossing, crosses, issue, serve_node, vote_node, crossed_in, learn_node, doubts_after, hear, answer, waiting_of, loan_to, give_back_from, inc_at, end_node, tick_node, crash_node}
+use Rattle.qs_machine.specs.Clauses.{link_to, borrower_at, broken_serve, broken_vote, is_vote_due, broken_learn, may_learn}
+use Rattle.qs_machine.specs.Lawful.{is_in_order, broken_act, broken_node, broken_at, broken, effect_act, effect, IsLawful, book_after}
+use Rattle.qs_machine.specs.Nodes.{NodeValue, pending_at}
+use Rattle.qs_machine.specs.Restart.{restart, put_new_votes, new_votes, with_votes, restarted_node, reopened, abort_begun, vote_found, commit_found, learn_found, decide_found, up_to, begun_at, is_among, is_open_here, begun_tid, record_at}
+use Rattle.qs_machine.specs.declared.state.Owner.{Owner}
 use Rattle.qs_laws.specs.Served.{is_share, change_of_request, standing_at, change_served, changes_served, lets_go, IsHolding, held_at, crossed_at, keeps_contents}
 use Rattle.qs_laws.proofs.Faces.{either_way}
 use Rattle.qs_laws.proofs.Maps.{lookup_changed, lookup_put}

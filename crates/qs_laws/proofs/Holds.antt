@@ -13,14 +13,14 @@ use Rattle.qs_ops.specs.declared.operation.Op.{Op}
 use Rattle.qs_ops.specs.declared.reply.Reply.{Reply}
 use Rattle.qs_ops.specs.declared.vote.Vote.{Vote}
 use Rattle.qs_ops.specs.declared.vote.Vote.TheVariants as votes
-use Rattle.qs_servers.specs.Table.{TableValue, share_of, change_by, served, released, committed, with_vote}
-use Rattle.qs_servers.specs.Timers.{timer_served, timers_ended}
-use Rattle.qs_servers.specs.declared.share.Share.{Share}
-use Rattle.qs_transaction.specs.Transaction.{TransactionValue, is_crossed, standing_request, requests_at}
-use Rattle.qs_transaction.specs.declared.state.Request.{Request}
-use Rattle.qs_transaction.specs.declared.state.RequestNo.{RequestNo}
-use Rattle.qs_book.specs.Book.{changed_at, serve_node, server_serve, crossed_serve, is_done, vote_node, crossed_in, learn_node, doubts_after}
-use Rattle.qs_book.specs.Nodes.{NodeValue, with_table, crossed_node, crossed_server, crossed_names, crossed_table, with_doubts, bound_names, pending_at}
+use Rattle.qs_ops.specs.Table.{TableValue, share_of, change_by, served, released, committed, with_vote}
+use Rattle.qs_ops.specs.Timers.{timer_served, timers_ended}
+use Rattle.qs_ops.specs.declared.share.Share.{Share}
+use Rattle.qs_machine.specs.Transaction.{TransactionValue, is_crossed, standing_request, requests_at}
+use Rattle.qs_machine.specs.declared.transaction.Request.{Request}
+use Rattle.qs_machine.specs.declared.transaction.RequestNo.{RequestNo}
+use Rattle.qs_machine.specs.Book.{changed_at, serve_node, server_serve, crossed_serve, is_done, vote_node, crossed_in, learn_node, doubts_after}
+use Rattle.qs_machine.specs.Nodes.{NodeValue, with_table, crossed_node, crossed_server, crossed_names, crossed_table, with_doubts, bound_names, pending_at}
 use Rattle.qs_laws.specs.Served.{is_share, change_of_request, standing_at}
 use Rattle.qs_laws.proofs.Faces.{either_way}
 use Rattle.qs_laws.proofs.Maps.{set_at_either, changed_at_alike, changed_at_here}

@@ -10,15 +10,15 @@ use Rattle.qs_journal.specs.declared.entry.Act.{Act}
 use Rattle.qs_journal.specs.declared.entry.Act.TheVariants.{Begin, Issue, Serve, Ask, Counted, Decide, Ending, Learn, Answer, Loan, Yield, Tick, Crash, Restart}
 use Rattle.qs_journal.specs.declared.entry.Act.TheVariants as acts
 use Rattle.qs_journal.specs.declared.entry.Entry.{Entry}
-use Rattle.qs_transaction.specs.Transaction.{issued}
-use Rattle.qs_book.specs.Book.{BookValue, find_transaction, changed_at, with_owner, with_transaction, with_waiting, with_crossing, crosses, hear, waiting_of, inc_at, crossed_in, serve_node, vote_node, learn_node, doubts_after, end_node, tick_node, crash_node}
-use Rattle.qs_book.specs.Clauses.{link_to, borrower_at}
-use Rattle.qs_book.specs.Lawful.{effect_act, effect, book_after}
-use Rattle.qs_book.specs.Nodes.{NodeValue, crossed_node}
-use Rattle.qs_book.specs.Opening.{opened_node, opening}
-use Rattle.qs_book.specs.Restart.{restarted_node, reopened, put_new_votes, new_votes, with_votes}
-use Rattle.qs_book.specs.declared.opened.Opened.{Opened}
-use Rattle.qs_book.specs.declared.state.Owner.{Owner}
+use Rattle.qs_machine.specs.Transaction.{issued}
+use Rattle.qs_machine.specs.Book.{BookValue, find_transaction, changed_at, with_owner, with_transaction, with_waiting, with_crossing, crosses, hear, waiting_of, inc_at, crossed_in, serve_node, vote_node, learn_node, doubts_after, end_node, tick_node, crash_node}
+use Rattle.qs_machine.specs.Clauses.{link_to, borrower_at}
+use Rattle.qs_machine.specs.Lawful.{effect_act, effect, book_after}
+use Rattle.qs_machine.specs.Nodes.{NodeValue, crossed_node}
+use Rattle.qs_machine.specs.Opening.{opened_node, opening}
+use Rattle.qs_machine.specs.Restart.{restarted_node, reopened, put_new_votes, new_votes, with_votes}
+use Rattle.qs_machine.specs.declared.opened.Opened.{Opened}
+use Rattle.qs_machine.specs.declared.state.Owner.{Owner}
 use Rattle.qs_laws.specs.Laws.{IsCoherent}
 use Rattle.qs_laws.proofs.Holding.{waiting_nodes, fold_nodes, loan_nodes, yield_nodes, restart_nodes}
 use Rattle.qs_laws.proofs.Openings.{opening_names}

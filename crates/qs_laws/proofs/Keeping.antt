@@ -17,14 +17,14 @@ use Rattle.qs_journal.specs.declared.entry.Act.{Act}
 use Rattle.qs_journal.specs.declared.entry.Act.TheVariants as acts
 use Rattle.qs_journal.specs.declared.entry.Entry.{Entry}
 use Rattle.qs_journal.specs.declared.entry.Found.{Found}
-use Rattle.qs_transaction.specs.Transaction.{TransactionValue, is_open, is_crossed, is_outcome, part_of}
-use Rattle.qs_transaction.specs.declared.state.Cell.{Cell}
-use Rattle.qs_transaction.specs.declared.state.Cell.TheVariants as cells
-use Rattle.qs_book.specs.Book.{BookValue, find_transaction, crossed_in}
-use Rattle.qs_book.specs.Clauses.{broken_learn, may_learn}
-use Rattle.qs_book.specs.Lawful.{broken_act, broken, effect}
-use Rattle.qs_book.specs.Nodes.{NodeValue, changes_of}
-use Rattle.qs_book.specs.declared.state.OnRecord.{OnRecord}
+use Rattle.qs_machine.specs.Transaction.{TransactionValue, is_open, is_crossed, is_outcome, part_of}
+use Rattle.qs_machine.specs.declared.transaction.Cell.{Cell}
+use Rattle.qs_machine.specs.declared.transaction.Cell.TheVariants as cells
+use Rattle.qs_machine.specs.Book.{BookValue, find_transaction, crossed_in}
+use Rattle.qs_machine.specs.Clauses.{broken_learn, may_learn}
+use Rattle.qs_machine.specs.Lawful.{broken_act, broken, effect}
+use Rattle.qs_machine.specs.Nodes.{NodeValue, changes_of}
+use Rattle.qs_machine.specs.declared.state.OnRecord.{OnRecord}
 use Rattle.qs_laws.specs.Served.{held_at, crossed_at, is_share, change_served, keeps_contents, lets_go, votes_on}
 use Rattle.qs_laws.proofs.Ballots.{IsEven, Evens, ballot_known, ballot_evens, ballot_mark, against_leaves, not_volatile, recorded_mark, lets_all_go}
 use Rattle.qs_laws.proofs.Counts.{Count, count_of, no_count, is_for_commit}

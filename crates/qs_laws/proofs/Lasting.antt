@@ -5,12 +5,12 @@ use Rattle.std.specs.Prelude.{length}
 use Rattle.qs_base.specs.declared.identifiers.Member.{Member}
 use Rattle.qs_base.specs.declared.identifiers.Tid.{Tid}
 use Rattle.qs_journal.specs.declared.entry.Entry.{Entry}
-use Rattle.qs_transaction.specs.Transaction.{TransactionValue, is_open}
-use Rattle.qs_transaction.specs.declared.state.Cell.TheVariants as cells
-use Rattle.qs_book.specs.Book.{find_transaction, cell_of_transaction}
-use Rattle.qs_book.specs.Lawful.{effect, IsLawful, book_after}
-use Rattle.qs_book.specs.Opening.{opening}
-use Rattle.qs_book.specs.declared.opened.Opened.{Opened}
+use Rattle.qs_machine.specs.Transaction.{TransactionValue, is_open}
+use Rattle.qs_machine.specs.declared.transaction.Cell.TheVariants as cells
+use Rattle.qs_machine.specs.Book.{find_transaction, cell_of_transaction}
+use Rattle.qs_machine.specs.Lawful.{effect, IsLawful, book_after}
+use Rattle.qs_machine.specs.Opening.{opening}
+use Rattle.qs_machine.specs.declared.opened.Opened.{Opened}
 use Rattle.qs_laws.specs.Durable.{IsDurable}
 use Rattle.qs_laws.specs.Laws.{IsCommitted, IsCoherent}
 use Rattle.qs_laws.specs.Served.{changes_served, keeps_contents}

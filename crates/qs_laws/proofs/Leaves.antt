@@ -15,21 +15,21 @@ use Rattle.qs_ops.specs.declared.operation.Op.{Op}
 use Rattle.qs_ops.specs.declared.reply.Reply.{Reply}
 use Rattle.qs_ops.specs.declared.vote.Vote.{Vote}
 use Rattle.qs_ops.specs.declared.vote.Vote.TheVariants as votes
-use Rattle.qs_servers.proofs.IndexSteps.{tid_exact}
+use Rattle.qs_base.proofs.TidOrder.{tid_exact}
 use Rattle.qs_journal.specs.declared.entry.Act.{Act}
 use Rattle.qs_journal.specs.declared.entry.Act.TheVariants.{Begin, Issue, Serve, Ask, Counted, Decide, Ending, Learn, Answer, Loan, Yield, Tick, Crash, Restart}
 use Rattle.qs_journal.specs.declared.entry.Act.TheVariants as acts
 use Rattle.qs_journal.specs.declared.entry.Found.{Found}
-use Rattle.qs_transaction.specs.Transaction.{TransactionValue, begun, issued, asked_at, counted, ended, ended_part, learnt, voted, served_in, life, life_cmp}
-use Rattle.qs_transaction.specs.declared.state.Request.{Request}
-use Rattle.qs_book.specs.Book.{BookValue, find_transaction, changed_at, with_node, with_owner, with_transaction, with_waiting, crosses, begin, issue, serve, vote, vote_node, crossed_in, learn, learn_node, doubts_after, answer, waiting_of, inc_at, is_done, ticks_at, end, count, loan, give_back, tick_node, crash_node}
-use Rattle.qs_book.specs.Clauses.{link_to, borrower_at, broken_vote, broken_learn}
+use Rattle.qs_machine.specs.Transaction.{TransactionValue, begun, issued, asked_at, counted, ended, ended_part, learnt, voted, served_in, life, life_cmp}
+use Rattle.qs_machine.specs.declared.transaction.Request.{Request}
+use Rattle.qs_machine.specs.Book.{BookValue, find_transaction, changed_at, with_node, with_owner, with_transaction, with_waiting, crosses, begin, issue, serve, vote, vote_node, crossed_in, learn, learn_node, doubts_after, answer, waiting_of, inc_at, is_done, ticks_at, end, count, loan, give_back, tick_node, crash_node}
+use Rattle.qs_machine.specs.Clauses.{link_to, borrower_at, broken_vote, broken_learn}
 use Rattle.qs_journal.specs.declared.entry.Entry.{Entry}
-use Rattle.qs_servers.specs.Table.{TableValue, committed}
-use Rattle.qs_book.specs.Lawful.{is_in_order, broken_act, broken_node, broken_at, broken, effect_act, effect}
-use Rattle.qs_book.specs.Nodes.{NodeValue, with_table}
-use Rattle.qs_book.specs.Restart.{restart, restarted_node, reopened, put_new_votes, with_votes, new_votes}
-use Rattle.qs_book.specs.declared.state.Owner.{Owner}
+use Rattle.qs_ops.specs.Table.{TableValue, committed}
+use Rattle.qs_machine.specs.Lawful.{is_in_order, broken_act, broken_node, broken_at, broken, effect_act, effect}
+use Rattle.qs_machine.specs.Nodes.{NodeValue, with_table}
+use Rattle.qs_machine.specs.Restart.{restart, restarted_node, reopened, put_new_votes, with_votes, new_votes}
+use Rattle.qs_machine.specs.declared.state.Owner.{Owner}
 use Rattle.qs_laws.specs.Served.{is_share, lets_go, votes_on}
 use Rattle.qs_laws.proofs.Acts as alike
 use Rattle.qs_laws.proofs.Alikes.{tid_itself, at_exact}

@@ -11,17 +11,17 @@ use Rattle.qs_base.specs.Order.{same_tid}
 use Rattle.qs_base.specs.declared.identifiers.Member.{Member}
 use Rattle.qs_base.specs.declared.identifiers.Tid.{Tid}
 use Rattle.qs_base.proofs.Same.{same_tid-true}
-use Rattle.qs_servers.specs.Table.{TableValue, share_of, kept, applied, no_table}
-use Rattle.qs_servers.specs.declared.share.Share.{Share}
-use Rattle.qs_transaction.specs.Transaction.{TransactionValue, found_at}
-use Rattle.qs_book.specs.Book.{BookValue, find_transaction}
-use Rattle.qs_book.specs.Nodes.{NodeValue, pending_at, record_of, voter, voter_cmp}
-use Rattle.qs_book.specs.Opening.{opened_node, name_transaction, name_pending, name_all, name_from, put_record, put_of, note_of, keep_pending, opening}
-use Rattle.qs_book.specs.Restart.{member_at}
-use Rattle.qs_book.specs.declared.opened.Opened.{Opened}
-use Rattle.qs_book.specs.declared.opened.Pending.{Pending}
-use Rattle.qs_book.specs.declared.state.OnRecord.{OnRecord}
-use Rattle.qs_book.specs.declared.state.Voter.{Voter}
+use Rattle.qs_ops.specs.Table.{TableValue, share_of, kept, applied, no_table}
+use Rattle.qs_ops.specs.declared.share.Share.{Share}
+use Rattle.qs_machine.specs.Transaction.{TransactionValue, found_at}
+use Rattle.qs_machine.specs.Book.{BookValue, find_transaction}
+use Rattle.qs_machine.specs.Nodes.{NodeValue, pending_at, record_of, voter, voter_cmp}
+use Rattle.qs_machine.specs.Opening.{opened_node, name_transaction, name_pending, name_all, name_from, put_record, put_of, note_of, keep_pending, opening}
+use Rattle.qs_machine.specs.Restart.{member_at}
+use Rattle.qs_machine.specs.declared.opened.Opened.{Opened}
+use Rattle.qs_machine.specs.declared.opened.Pending.{Pending}
+use Rattle.qs_machine.specs.declared.state.OnRecord.{OnRecord}
+use Rattle.qs_machine.specs.declared.state.Voter.{Voter}
 use Rattle.qs_laws.specs.Served.{held_at, keeps_contents}
 use Rattle.qs_laws.proofs.Alikes.{voter_equal}
 use Rattle.qs_laws.proofs.Counts.{Count, count_of, count_in, no_count}

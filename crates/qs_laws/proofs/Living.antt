@@ -11,11 +11,11 @@ use Rattle.qs_journal.specs.declared.entry.Act.{Act}
 use Rattle.qs_journal.specs.declared.entry.Act.TheVariants as acts
 use Rattle.qs_journal.specs.declared.entry.Entry.{Entry}
 use Rattle.qs_journal.specs.declared.entry.Found.{Found}
-use Rattle.qs_transaction.specs.Transaction.{TransactionValue}
-use Rattle.qs_book.specs.Book.{BookValue, find_transaction}
-use Rattle.qs_book.specs.Lawful.{broken_act, broken, effect_act, effect, IsLawful, book_after}
-use Rattle.qs_book.specs.Nodes.{NodeValue}
-use Rattle.qs_book.specs.Restart.{restart, broken_restart}
+use Rattle.qs_machine.specs.Transaction.{TransactionValue}
+use Rattle.qs_machine.specs.Book.{BookValue, find_transaction}
+use Rattle.qs_machine.specs.Lawful.{broken_act, broken, effect_act, effect, IsLawful, book_after}
+use Rattle.qs_machine.specs.Nodes.{NodeValue}
+use Rattle.qs_machine.specs.Restart.{restart, broken_restart}
 use Rattle.qs_laws.specs.Served.{change_served, changes_served, keeps_contents}
 use Rattle.qs_laws.proofs.Again.{restart_node}
 use Rattle.qs_laws.proofs.Alikes.{at_exact}

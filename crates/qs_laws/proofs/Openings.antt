@@ -9,14 +9,14 @@ use Rattle.std.specs.declared.cmp.Ordering.TheVariants.{Equal}
 use Rattle.qs_base.specs.Order.{tid_cmp}
 use Rattle.qs_base.specs.declared.identifiers.Tid.{Tid}
 use Rattle.qs_ops.specs.Alike.{same_cause}
-use Rattle.qs_transaction.specs.Transaction.{TransactionValue, found_at}
-use Rattle.qs_book.specs.Book.{BookValue, find_transaction, with_transaction}
-use Rattle.qs_book.specs.Nodes.{NodeValue}
-use Rattle.qs_book.specs.Opening.{opened_node, opened_transaction, name_transaction, name_pending, name_all, name_from, no_owner, opening}
-use Rattle.qs_book.specs.Restart.{member_at}
-use Rattle.qs_book.specs.declared.opened.Opened.{Opened}
-use Rattle.qs_book.specs.declared.opened.Pending.{Pending}
-use Rattle.qs_book.specs.declared.state.Owner.{Owner}
+use Rattle.qs_machine.specs.Transaction.{TransactionValue, found_at}
+use Rattle.qs_machine.specs.Book.{BookValue, find_transaction, with_transaction}
+use Rattle.qs_machine.specs.Nodes.{NodeValue}
+use Rattle.qs_machine.specs.Opening.{opened_node, opened_transaction, name_transaction, name_pending, name_all, name_from, no_owner, opening}
+use Rattle.qs_machine.specs.Restart.{member_at}
+use Rattle.qs_machine.specs.declared.opened.Opened.{Opened}
+use Rattle.qs_machine.specs.declared.opened.Pending.{Pending}
+use Rattle.qs_machine.specs.declared.state.Owner.{Owner}
 use Rattle.qs_laws.specs.Laws.{IsEarlier, IsVoteEarlier, IsSound, IsCoherent}
 use Rattle.qs_laws.proofs.Alikes.{at_exact}
 use Rattle.qs_laws.proofs.Faces.{Face, face, Age, age, Told, told_of, face_at, age_at, told_at, transaction_alike}

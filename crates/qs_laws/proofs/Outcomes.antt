@@ -13,15 +13,15 @@ use Rattle.qs_base.specs.declared.identifiers.Outcome.TheVariants as outcomes
 use Rattle.qs_base.specs.declared.identifiers.Tid.{Tid}
 use Rattle.qs_ops.specs.Alike.{same_cause}
 use Rattle.qs_ops.specs.declared.answer.Cause.{Cause}
-use Rattle.qs_transaction.specs.Transaction.{TransactionValue, is_open, begun, decided_at, cell_of}
-use Rattle.qs_transaction.specs.declared.state.Cell.{Cell}
-use Rattle.qs_transaction.specs.declared.state.Cell.TheVariants as cells
-use Rattle.qs_book.specs.Book.{BookValue, find_transaction, decide, begin, changed_at, told, told_owner, owner_of, ticks_at}
-use Rattle.qs_book.specs.Clauses.{is_next_tid}
-use Rattle.qs_book.specs.Nodes.{NodeValue}
-use Rattle.qs_book.specs.declared.state.Owner.{Owner}
+use Rattle.qs_machine.specs.Transaction.{TransactionValue, is_open, begun, decided_at, cell_of}
+use Rattle.qs_machine.specs.declared.transaction.Cell.{Cell}
+use Rattle.qs_machine.specs.declared.transaction.Cell.TheVariants as cells
+use Rattle.qs_machine.specs.Book.{BookValue, find_transaction, decide, begin, changed_at, told, told_owner, owner_of, ticks_at}
+use Rattle.qs_machine.specs.Clauses.{is_next_tid}
+use Rattle.qs_machine.specs.Nodes.{NodeValue}
+use Rattle.qs_machine.specs.declared.state.Owner.{Owner}
 use Rattle.qs_laws.proofs.Alikes.{same_cause-true, at_exact}
-use Rattle.qs_book.proofs.CauseOrder.{among_more}
+use Rattle.qs_machine.proofs.CauseOrder.{among_more}
 use Rattle.qs_laws.proofs.Faces.{Face, face, Age, age, Told, told_of, face_at, age_at, told_at, Alike}
 use Rattle.qs_laws.proofs.Maps.{Either, lookup_changed, changed_either, lookup_put_apart, changed_at_either, changed_at_here}
 

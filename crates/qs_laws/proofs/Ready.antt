@@ -25,17 +25,17 @@ use Rattle.qs_journal.specs.declared.entry.Act.TheVariants.{Begin, Issue, Serve,
 use Rattle.qs_journal.specs.declared.entry.Act.TheVariants as acts
 use Rattle.qs_journal.specs.declared.entry.Entry.{Entry}
 use Rattle.qs_journal.specs.declared.entry.Found.{Found}
-use Rattle.qs_transaction.specs.Transaction.{TransactionValue, is_commit, is_crossed, is_empty, is_unanimous, all_served, is_served, is_standing, standing_request, request_cmp, part_of, learnt, with_learnt, found_at, decided_at, issued, served_in, begun, agrees}
-use Rattle.qs_transaction.specs.declared.state.Cell.TheVariants as cells
-use Rattle.qs_transaction.specs.declared.state.Part.{Part}
-use Rattle.qs_transaction.specs.declared.state.Request.{Request}
-use Rattle.qs_transaction.specs.declared.state.RequestNo.{RequestNo}
-use Rattle.qs_book.specs.Book.{BookValue, find_transaction, crossed_in, cell_of_transaction, with_transaction, with_waiting, crosses, decide, begin, ticks_at, issue, serve, hear, waiting_of, loan_to, give_back_from, inc_at, is_done, with_owner}
-use Rattle.qs_book.specs.Clauses.{link_to, borrower_at, broken_issue, is_numbered, broken_issuer, broken_serve, broken_request, request_here, broken_vote, is_vote_due}
-use Rattle.qs_book.specs.Lawful.{is_in_order, broken_act, broken_node, broken_at, broken, effect_act, effect}
-use Rattle.qs_book.specs.Nodes.{NodeValue}
-use Rattle.qs_book.specs.Restart.{is_among, member_at, record_at, changes_at, is_open_here, learn_found, decide_found, commit_found, vote_found, begun_tid, abort_begun, up_to, begun_at, put_new_votes, restart}
-use Rattle.qs_book.specs.declared.state.Owner.{Owner}
+use Rattle.qs_machine.specs.Transaction.{TransactionValue, is_commit, is_crossed, is_empty, is_unanimous, all_served, is_served, is_standing, standing_request, request_cmp, part_of, learnt, with_learnt, found_at, decided_at, issued, served_in, begun, agrees}
+use Rattle.qs_machine.specs.declared.transaction.Cell.TheVariants as cells
+use Rattle.qs_machine.specs.declared.transaction.Part.{Part}
+use Rattle.qs_machine.specs.declared.transaction.Request.{Request}
+use Rattle.qs_machine.specs.declared.transaction.RequestNo.{RequestNo}
+use Rattle.qs_machine.specs.Book.{BookValue, find_transaction, crossed_in, cell_of_transaction, with_transaction, with_waiting, crosses, decide, begin, ticks_at, issue, serve, hear, waiting_of, loan_to, give_back_from, inc_at, is_done, with_owner}
+use Rattle.qs_machine.specs.Clauses.{link_to, borrower_at, broken_issue, is_numbered, broken_issuer, broken_serve, broken_request, request_here, broken_vote, is_vote_due}
+use Rattle.qs_machine.specs.Lawful.{is_in_order, broken_act, broken_node, broken_at, broken, effect_act, effect}
+use Rattle.qs_machine.specs.Nodes.{NodeValue}
+use Rattle.qs_machine.specs.Restart.{is_among, member_at, record_at, changes_at, is_open_here, learn_found, decide_found, commit_found, vote_found, begun_tid, abort_begun, up_to, begun_at, put_new_votes, restart}
+use Rattle.qs_machine.specs.declared.state.Owner.{Owner}
 use Rattle.qs_laws.specs.Laws.{IsCommitted}
 use Rattle.qs_laws.specs.Served.{crossed_at}
 use Rattle.qs_laws.proofs.Acts as alike

@@ -14,16 +14,16 @@ use Rattle.qs_journal.specs.declared.entry.Act.{Act}
 use Rattle.qs_journal.specs.declared.entry.Act.TheVariants as acts
 use Rattle.qs_journal.specs.declared.entry.Entry.{Entry}
 use Rattle.qs_journal.specs.declared.entry.Found.{Found}
-use Rattle.qs_servers.specs.Table.{TableValue, share_of, kept, applied}
-use Rattle.qs_servers.specs.declared.share.Share.{Share}
-use Rattle.qs_servers.specs.declared.share.Kept.{Kept}
-use Rattle.qs_transaction.specs.Transaction.{TransactionValue, was_crossed, is_before, is_empty, was_in_commit, is_covering, part_of}
-use Rattle.qs_book.specs.Book.{BookValue, find_transaction, cell_of_transaction, crossed_in}
-use Rattle.qs_book.specs.Lawful.{broken, effect_act, effect}
-use Rattle.qs_book.specs.Nodes.{NodeValue, pending_at, record_of, changes_of, voter, voter_cmp, without_record}
-use Rattle.qs_book.specs.Restart.{restart, reopened, restarted_node, put_new_votes, new_vote, is_new_vote, new_votes, new_votes_at, with_votes, with_vote, record_at, changes_at, is_among, member_at, without_records, keep_found, is_kept_at, is_on_record, broken_restart}
-use Rattle.qs_book.specs.declared.state.OnRecord.{OnRecord}
-use Rattle.qs_book.specs.declared.state.Voter.{Voter}
+use Rattle.qs_ops.specs.Table.{TableValue, share_of, kept, applied}
+use Rattle.qs_ops.specs.declared.share.Share.{Share}
+use Rattle.qs_ops.specs.declared.share.Kept.{Kept}
+use Rattle.qs_machine.specs.Transaction.{TransactionValue, was_crossed, is_before, is_empty, was_in_commit, is_covering, part_of}
+use Rattle.qs_machine.specs.Book.{BookValue, find_transaction, cell_of_transaction, crossed_in}
+use Rattle.qs_machine.specs.Lawful.{broken, effect_act, effect}
+use Rattle.qs_machine.specs.Nodes.{NodeValue, pending_at, record_of, changes_of, voter, voter_cmp, without_record}
+use Rattle.qs_machine.specs.Restart.{restart, reopened, restarted_node, put_new_votes, new_vote, is_new_vote, new_votes, new_votes_at, with_votes, with_vote, record_at, changes_at, is_among, member_at, without_records, keep_found, is_kept_at, is_on_record, broken_restart}
+use Rattle.qs_machine.specs.declared.state.OnRecord.{OnRecord}
+use Rattle.qs_machine.specs.declared.state.Voter.{Voter}
 use Rattle.qs_laws.specs.Durable.{IsKept, IsGone, Applies}
 use Rattle.qs_laws.specs.Laws.{IsCommitted}
 use Rattle.qs_laws.specs.Served.{crossed_at, keeps_contents, logged_at, IsLogged, PendsAgain}

@@ -12,15 +12,15 @@ use Rattle.qs_base.specs.declared.identifiers.Tid.{Tid}
 use Rattle.qs_ops.specs.declared.answer.Cause.TheVariants as causes
 use Rattle.qs_ops.specs.declared.operation.Op.{Op}
 use Rattle.qs_journal.specs.declared.entry.Found.{Found}
-use Rattle.qs_servers.specs.Table.{TableValue, apply_change, apply_note, restarted, kept, applied}
-use Rattle.qs_servers.specs.declared.share.Kept.{Kept as KeptShare}
-use Rattle.qs_transaction.specs.Transaction.{TransactionValue, decided_at, with_learnt, found_at}
-use Rattle.qs_book.specs.Book.{BookValue, find_transaction, with_node, with_transaction, decide, inc_at}
-use Rattle.qs_book.specs.Nodes.{NodeValue, without_record, record_of, pending_at, changes_of, voter, voter_cmp}
-use Rattle.qs_book.specs.Restart.{is_among, member_at, record_at, changes_at, has_record, add_commit, commits_found, votes_once, is_found_vote, is_kept, is_found_commit, broken_restart, commit_found, vote_found, abort_begun, up_to, begun_at, restarted_node, reopened, restart, with_votes, new_votes, new_votes_at, is_open_here, learn_found, decide_found, begun_tid, without_records}
-use Rattle.qs_book.specs.declared.state.OnRecord.{OnRecord}
-use Rattle.qs_book.specs.declared.state.Reopened.{Reopened}
-use Rattle.qs_book.specs.declared.state.Voter.{Voter}
+use Rattle.qs_ops.specs.Table.{TableValue, apply_change, apply_note, restarted, kept, applied}
+use Rattle.qs_ops.specs.declared.share.Kept.{Kept as KeptShare}
+use Rattle.qs_machine.specs.Transaction.{TransactionValue, decided_at, with_learnt, found_at}
+use Rattle.qs_machine.specs.Book.{BookValue, find_transaction, with_node, with_transaction, decide, inc_at}
+use Rattle.qs_machine.specs.Nodes.{NodeValue, without_record, record_of, pending_at, changes_of, voter, voter_cmp}
+use Rattle.qs_machine.specs.Restart.{is_among, member_at, record_at, changes_at, has_record, add_commit, commits_found, votes_once, is_found_vote, is_kept, is_found_commit, broken_restart, commit_found, vote_found, abort_begun, up_to, begun_at, restarted_node, reopened, restart, with_votes, new_votes, new_votes_at, is_open_here, learn_found, decide_found, begun_tid, without_records}
+use Rattle.qs_machine.specs.declared.state.OnRecord.{OnRecord}
+use Rattle.qs_machine.specs.declared.state.Reopened.{Reopened}
+use Rattle.qs_machine.specs.declared.state.Voter.{Voter}
 use Rattle.qs_laws.specs.Laws.{Given, IsCommitted, IsGiven, TakesCommitted, LeavesCommitted, changes_given}
 use Rattle.qs_laws.proofs.Faces.{node_alike}
 use Rattle.qs_laws.proofs.Fates.{AllDid, all_may, did_all, did_over}

@@ -8,12 +8,12 @@ use Rattle.qs_base.specs.declared.identifiers.Tid.{Tid}
 use Rattle.qs_ops.specs.declared.answer.Cause.{Cause}
 use Rattle.qs_ops.specs.declared.answer.Cause.TheVariants as causes
 use Rattle.qs_journal.specs.declared.entry.Found.{Found}
-use Rattle.qs_transaction.specs.Transaction.{TransactionValue, is_open, with_learnt, found_at}
-use Rattle.qs_book.specs.Book.{BookValue, find_transaction, with_node, with_transaction, decide, inc_at, changed_at}
-use Rattle.qs_book.specs.Nodes.{NodeValue}
-use Rattle.qs_book.specs.Restart.{is_among, member_at, record_at, changes_at, is_open_here, learn_found, decide_found, commit_found, vote_found, begun_tid, abort_begun, up_to, begun_at, restarted_node, reopened, restart_found, restart, with_votes, with_vote, new_votes}
-use Rattle.qs_book.specs.declared.state.OnRecord.{OnRecord}
-use Rattle.qs_book.specs.declared.state.Voter.{Voter}
+use Rattle.qs_machine.specs.Transaction.{TransactionValue, is_open, with_learnt, found_at}
+use Rattle.qs_machine.specs.Book.{BookValue, find_transaction, with_node, with_transaction, decide, inc_at, changed_at}
+use Rattle.qs_machine.specs.Nodes.{NodeValue}
+use Rattle.qs_machine.specs.Restart.{is_among, member_at, record_at, changes_at, is_open_here, learn_found, decide_found, commit_found, vote_found, begun_tid, abort_begun, up_to, begun_at, restarted_node, reopened, restart_found, restart, with_votes, with_vote, new_votes}
+use Rattle.qs_machine.specs.declared.state.OnRecord.{OnRecord}
+use Rattle.qs_machine.specs.declared.state.Voter.{Voter}
 use Rattle.qs_laws.proofs.Faces.{Face, face, Age, age, face_at, age_at, Alike, transaction_alike, node_alike}
 use Rattle.qs_laws.proofs.Maps.{changed_at_either}
 use Rattle.qs_laws.proofs.Outcomes.{Inv, IsBegun, Moves, moves_then, untold, by_alike, by_decide}

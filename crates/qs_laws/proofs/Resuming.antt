@@ -12,16 +12,16 @@ use Rattle.qs_base.specs.declared.identifiers.Tid.{Tid}
 use Rattle.qs_base.proofs.Same.{same_tid-self, same_member-true}
 use Rattle.qs_ops.specs.declared.operation.Op.{Op}
 use Rattle.qs_journal.specs.declared.entry.Found.{Found}
-use Rattle.qs_servers.specs.Table.{TableValue, share_of, applied, kept}
-use Rattle.qs_servers.specs.declared.share.Share.{Share}
-use Rattle.qs_transaction.specs.Transaction.{TransactionValue, is_open, is_abort, found_at}
-use Rattle.qs_transaction.specs.declared.state.Cell.{Cell}
-use Rattle.qs_transaction.specs.declared.state.Cell.TheVariants as cells
-use Rattle.qs_book.specs.Book.{BookValue, find_transaction, crossed_in, with_transaction, inc_at, cell_of_transaction}
-use Rattle.qs_book.specs.Nodes.{NodeValue, pending_at, record_of, changes_of, voter, voter_cmp}
-use Rattle.qs_book.specs.Restart.{restart, reopened, restarted_node, put_new_votes, new_votes, new_votes_at, new_vote, is_new_vote, with_votes, with_vote, changes_at, keep_found, is_found_as, may_be_lost, broken_restart, is_among, member_at, without_records, vote_found, commit_found, abort_begun, up_to, begun_at}
-use Rattle.qs_book.specs.declared.state.OnRecord.{OnRecord}
-use Rattle.qs_book.specs.declared.state.Voter.{Voter}
+use Rattle.qs_ops.specs.Table.{TableValue, share_of, applied, kept}
+use Rattle.qs_ops.specs.declared.share.Share.{Share}
+use Rattle.qs_machine.specs.Transaction.{TransactionValue, is_open, is_abort, found_at}
+use Rattle.qs_machine.specs.declared.transaction.Cell.{Cell}
+use Rattle.qs_machine.specs.declared.transaction.Cell.TheVariants as cells
+use Rattle.qs_machine.specs.Book.{BookValue, find_transaction, crossed_in, with_transaction, inc_at, cell_of_transaction}
+use Rattle.qs_machine.specs.Nodes.{NodeValue, pending_at, record_of, changes_of, voter, voter_cmp}
+use Rattle.qs_machine.specs.Restart.{restart, reopened, restarted_node, put_new_votes, new_votes, new_votes_at, new_vote, is_new_vote, with_votes, with_vote, changes_at, keep_found, is_found_as, may_be_lost, broken_restart, is_among, member_at, without_records, vote_found, commit_found, abort_begun, up_to, begun_at}
+use Rattle.qs_machine.specs.declared.state.OnRecord.{OnRecord}
+use Rattle.qs_machine.specs.declared.state.Voter.{Voter}
 use Rattle.qs_laws.specs.Served.{held_at}
 use Rattle.qs_laws.proofs.Again.{kept_rule, votes_new, reopened_there}
 use Rattle.qs_laws.proofs.Alikes.{all_among, at_exact, voter_exact, voter_equal}

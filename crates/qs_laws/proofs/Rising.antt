@@ -9,9 +9,9 @@ use Rattle.std.specs.BTreeMap.{insert_entry, is_at}
 use Rattle.std.specs.declared.cmp.Ordering.{Ordering}
 use Rattle.std.specs.declared.cmp.Ordering.TheVariants.{Less, Equal, Greater}
 use Rattle.std.proofs.lemmas.Cmp.{nat_cmp_total, on_total, then_total}
-use Rattle.qs_servers.proofs.IndexSteps.{tid_total}
-use Rattle.qs_book.specs.Nodes.{voter_cmp}
-use Rattle.qs_book.specs.declared.state.Voter.{Voter}
+use Rattle.qs_base.proofs.TidOrder.{tid_total}
+use Rattle.qs_machine.specs.Nodes.{voter_cmp}
+use Rattle.qs_machine.specs.declared.state.Voter.{Voter}
 
 pub voter_total : IsTotalOrder voter_cmp
 voter_total = then_total (on_total (λ (v : Voter). v.tid) tid_total) (on_total (λ (v : Voter). v.server.0) nat_cmp_total)

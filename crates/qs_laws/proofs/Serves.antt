@@ -14,13 +14,13 @@ use Rattle.qs_ops.specs.Members.{class_of}
 use Rattle.qs_journal.specs.declared.entry.Act.{Act}
 use Rattle.qs_journal.specs.declared.entry.Act.TheVariants as acts
 use Rattle.qs_journal.specs.declared.entry.Entry.{Entry}
-use Rattle.qs_transaction.specs.Transaction.{TransactionValue, served_in, serving_part}
-use Rattle.qs_transaction.specs.declared.state.Part.{Part}
-use Rattle.qs_transaction.specs.declared.state.RequestNo.{RequestNo}
-use Rattle.qs_book.specs.Book.{BookValue, find_transaction, inc_at, is_done}
-use Rattle.qs_book.specs.Clauses.{broken_serve}
-use Rattle.qs_book.specs.Lawful.{broken_act, broken, effect_act, effect}
-use Rattle.qs_book.specs.Nodes.{NodeValue}
+use Rattle.qs_machine.specs.Transaction.{TransactionValue, served_in, serving_part}
+use Rattle.qs_machine.specs.declared.transaction.Part.{Part}
+use Rattle.qs_machine.specs.declared.transaction.RequestNo.{RequestNo}
+use Rattle.qs_machine.specs.Book.{BookValue, find_transaction, inc_at, is_done}
+use Rattle.qs_machine.specs.Clauses.{broken_serve}
+use Rattle.qs_machine.specs.Lawful.{broken_act, broken, effect_act, effect}
+use Rattle.qs_machine.specs.Nodes.{NodeValue}
 use Rattle.qs_laws.proofs.Counts.{Count, counts, count_of, count_in, no_count, served_count, served_later}
 use Rattle.qs_laws.proofs.Covers.{Mark, mark_in, mark_of, SameMark}
 use Rattle.qs_laws.proofs.Ends.{lawful_node}

@@ -10,10 +10,10 @@ use Rattle.qs_base.proofs.Same.{same_tid-true, same_tid-self}
 use Rattle.qs_ops.specs.declared.operation.Op.{Op}
 use Rattle.qs_ops.specs.declared.reply.Reply.{Reply}
 use Rattle.qs_ops.specs.declared.reply.Reply.TheVariants as replies
-use Rattle.qs_servers.proofs.IndexSteps.{tid_exact}
-use Rattle.qs_servers.specs.Table.{TableValue, share_of, with_share, nothing_held, after_serve, change_by, served, released, with_vote}
-use Rattle.qs_servers.specs.declared.share.Share.{Share}
-use Rattle.qs_book.specs.Nodes.{NodeValue, with_table}
+use Rattle.qs_base.proofs.TidOrder.{tid_exact}
+use Rattle.qs_ops.specs.Table.{TableValue, share_of, with_share, nothing_held, after_serve, change_by, served, released, with_vote}
+use Rattle.qs_ops.specs.declared.share.Share.{Share}
+use Rattle.qs_machine.specs.Nodes.{NodeValue, with_table}
 use Rattle.qs_laws.proofs.Alikes.{tid_itself, at_exact}
 use Rattle.qs_laws.proofs.Faces.{either_way}
 use Rattle.qs_laws.proofs.Maps.{lookup_put, lookup_put_apart}

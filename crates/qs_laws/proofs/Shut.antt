@@ -10,15 +10,15 @@ use Rattle.std.specs.declared.cmp.Ordering.TheVariants.{Equal}
 use Rattle.qs_base.specs.Order.{tid_cmp}
 use Rattle.qs_base.specs.declared.identifiers.ClientNo.{ClientNo}
 use Rattle.qs_base.specs.declared.identifiers.Tid.{Tid}
-use Rattle.qs_transaction.specs.Transaction.{TransactionValue, is_open, is_commit, asked_at, begun}
-use Rattle.qs_transaction.specs.declared.state.Cell.{Cell}
-use Rattle.qs_transaction.specs.declared.state.Cell.TheVariants as cells
-use Rattle.qs_book.specs.Book.{BookValue, find_transaction, with_transaction, begin, changed_at, ticks_at}
-use Rattle.qs_book.specs.Clauses.{may_ask}
-use Rattle.qs_book.specs.Nodes.{NodeValue, voter, voter_cmp}
-use Rattle.qs_book.specs.Restart.{is_among}
-use Rattle.qs_book.specs.declared.state.OnRecord.{OnRecord}
-use Rattle.qs_book.specs.declared.state.Voter.{Voter}
+use Rattle.qs_machine.specs.Transaction.{TransactionValue, is_open, is_commit, asked_at, begun}
+use Rattle.qs_machine.specs.declared.transaction.Cell.{Cell}
+use Rattle.qs_machine.specs.declared.transaction.Cell.TheVariants as cells
+use Rattle.qs_machine.specs.Book.{BookValue, find_transaction, with_transaction, begin, changed_at, ticks_at}
+use Rattle.qs_machine.specs.Clauses.{may_ask}
+use Rattle.qs_machine.specs.Nodes.{NodeValue, voter, voter_cmp}
+use Rattle.qs_machine.specs.Restart.{is_among}
+use Rattle.qs_machine.specs.declared.state.OnRecord.{OnRecord}
+use Rattle.qs_machine.specs.declared.state.Voter.{Voter}
 use Rattle.qs_laws.proofs.Alikes.{tid_itself, at_exact, voter_exact, voter_equal}
 use Rattle.qs_laws.proofs.Faces.{Face, face, face_at}
 use Rattle.qs_laws.proofs.Maps.{changed_apart, removed_none, lookup_put, lookup_put_apart, changed_at_either}

@@ -13,16 +13,16 @@ use Rattle.std.specs.declared.cmp.Ordering.TheVariants.{Less, Equal, Greater}
 use Rattle.qs_base.specs.Order.{tid_cmp, same_tid}
 use Rattle.qs_base.specs.declared.identifiers.Tid.{Tid}
 use Rattle.qs_ops.specs.declared.answer.Cause.TheVariants as causes
-use Rattle.qs_transaction.specs.Transaction.{TransactionValue, is_open, is_commit, found_at, opened_as}
-use Rattle.qs_transaction.specs.declared.state.Cell.TheVariants as cells
-use Rattle.qs_book.specs.Book.{BookValue, find_transaction, with_transaction}
-use Rattle.qs_book.specs.Nodes.{NodeValue, voter, voter_cmp}
-use Rattle.qs_book.specs.Opening.{opened_node, has_commit, opened_transaction, name_transaction, name_pending, name_all, name_from, put_record, put_tid, opening}
-use Rattle.qs_book.specs.Restart.{is_among, member_at}
-use Rattle.qs_book.specs.declared.opened.Opened.{Opened}
-use Rattle.qs_book.specs.declared.opened.Pending.{Pending}
-use Rattle.qs_book.specs.declared.state.OnRecord.{OnRecord}
-use Rattle.qs_book.specs.declared.state.Voter.{Voter}
+use Rattle.qs_machine.specs.Transaction.{TransactionValue, is_open, is_commit, found_at, opened_as}
+use Rattle.qs_machine.specs.declared.transaction.Cell.TheVariants as cells
+use Rattle.qs_machine.specs.Book.{BookValue, find_transaction, with_transaction}
+use Rattle.qs_machine.specs.Nodes.{NodeValue, voter, voter_cmp}
+use Rattle.qs_machine.specs.Opening.{opened_node, has_commit, opened_transaction, name_transaction, name_pending, name_all, name_from, put_record, put_tid, opening}
+use Rattle.qs_machine.specs.Restart.{is_among, member_at}
+use Rattle.qs_machine.specs.declared.opened.Opened.{Opened}
+use Rattle.qs_machine.specs.declared.opened.Pending.{Pending}
+use Rattle.qs_machine.specs.declared.state.OnRecord.{OnRecord}
+use Rattle.qs_machine.specs.declared.state.Voter.{Voter}
 use Rattle.qs_laws.specs.Laws.{IsSound, IsCoherent, HasNoCommit}
 use Rattle.qs_laws.proofs.Alikes.{all_among, tid_itself, at_exact, voter_exact, voter_equal}
 use Rattle.qs_laws.proofs.Faces.{Face, face, face_at, transaction_alike}

@@ -9,12 +9,12 @@ use Rattle.qs_journal.specs.declared.entry.Act.{Act}
 use Rattle.qs_journal.specs.declared.entry.Act.TheVariants.{Begin, Issue, Serve, Ask, Counted, Decide, Ending, Learn, Answer, Loan, Yield, Tick, Crash, Restart}
 use Rattle.qs_journal.specs.declared.entry.Act.TheVariants as acts
 use Rattle.qs_journal.specs.declared.entry.Entry.{Entry}
-use Rattle.qs_transaction.specs.Transaction.{TransactionValue, is_open}
-use Rattle.qs_book.specs.Book.{BookValue, find_transaction}
-use Rattle.qs_book.specs.Clauses.{broken_begin, is_next_tid, is_fresh, broken_decide, may_decide, broken_outcome}
-use Rattle.qs_book.specs.Lawful.{is_in_order, broken_act, broken_node, broken_at, broken, effect_act, effect, IsLawful, book_after}
-use Rattle.qs_book.specs.Nodes.{NodeValue}
-use Rattle.qs_book.specs.Restart.{broken_restart}
+use Rattle.qs_machine.specs.Transaction.{TransactionValue, is_open}
+use Rattle.qs_machine.specs.Book.{BookValue, find_transaction}
+use Rattle.qs_machine.specs.Clauses.{broken_begin, is_next_tid, is_fresh, broken_decide, may_decide, broken_outcome}
+use Rattle.qs_machine.specs.Lawful.{is_in_order, broken_act, broken_node, broken_at, broken, effect_act, effect, IsLawful, book_after}
+use Rattle.qs_machine.specs.Nodes.{NodeValue}
+use Rattle.qs_machine.specs.Restart.{broken_restart}
 use Rattle.qs_laws.proofs.Acts as of
 use Rattle.qs_laws.proofs.Outcomes.{Inv, Moves, moves_then, untold, by_alike, by_begin, by_decide}
 use Rattle.qs_laws.proofs.Restarts.{by_restart}

@@ -5,16 +5,16 @@ use Rattle.std.proofs.lemmas.List.Elements.{All-cons, All-nil}
 use Rattle.std.specs.Prelude.{slice_get, is_some}
 use Rattle.std.specs.List.{All}
 use Rattle.std.proofs.lemmas.List.{append-nil}
-use Rattle.qs_book.specs.declared.state.OnRecord.{OnRecord}
-use Rattle.qs_book.specs.declared.state.Voter.{Voter}
+use Rattle.qs_machine.specs.declared.state.OnRecord.{OnRecord}
+use Rattle.qs_machine.specs.declared.state.Voter.{Voter}
 use Rattle.std.specs.Map.{lookup, remove_entry}
 use Rattle.std.specs.Option.{option_map}
 use Rattle.std.specs.BTreeMap.{is_at}
 use Rattle.qs_base.specs.declared.identifiers.Outcome.TheVariants as outcomes
 use Rattle.qs_base.specs.declared.identifiers.Tid.{Tid}
-use Rattle.qs_servers.specs.Table.{TableValue, committed, share_of, apply_change, apply_note}
-use Rattle.qs_book.specs.Book.{BookValue, learn_node, doubts_after, changed_at}
-use Rattle.qs_book.specs.Nodes.{NodeValue, with_table, pending_at, voter, voter_cmp}
+use Rattle.qs_ops.specs.Table.{TableValue, committed, share_of, apply_change, apply_note}
+use Rattle.qs_machine.specs.Book.{BookValue, learn_node, doubts_after, changed_at}
+use Rattle.qs_machine.specs.Nodes.{NodeValue, with_table, pending_at, voter, voter_cmp}
 use Rattle.qs_laws.specs.Laws.{Given, IsCommitted, IsGiven, TakesCommitted, LeavesCommitted}
 use Rattle.qs_laws.proofs.Faces.{either_way}
 use Rattle.qs_laws.proofs.Maps.{changed_at_either}

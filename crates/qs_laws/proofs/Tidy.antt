@@ -13,29 +13,29 @@ use Rattle.qs_ops.specs.declared.operation.Op.{Op}
 use Rattle.qs_ops.specs.declared.reply.Reply.{Reply}
 use Rattle.qs_ops.specs.declared.vote.Vote.{Vote}
 use Rattle.qs_ops.specs.declared.vote.Vote.TheVariants as votes
-use Rattle.qs_servers.proofs.IndexSteps.{tid_total}
+use Rattle.qs_base.proofs.TidOrder.{tid_total}
 use Rattle.qs_journal.specs.declared.entry.Act.{Act}
 use Rattle.qs_journal.specs.declared.entry.Act.TheVariants.{Begin, Issue, Serve, Ask, Counted, Decide, Ending, Learn, Answer, Loan, Yield, Tick, Crash, Restart}
 use Rattle.qs_journal.specs.declared.entry.Act.TheVariants as acts
 use Rattle.qs_journal.specs.declared.entry.Entry.{Entry}
-use Rattle.qs_servers.specs.Table.{TableValue, served, released, committed, with_vote, restarted, applied, kept, share_of, after_serve, no_table}
-use Rattle.qs_servers.specs.Timers.{timer_served, timers_ended}
-use Rattle.qs_servers.specs.declared.share.Kept.{Kept}
-use Rattle.qs_transaction.specs.Transaction.{TransactionValue, is_crossed, standing_request, requests_at, issued}
-use Rattle.qs_transaction.specs.declared.state.Request.{Request}
-use Rattle.qs_transaction.specs.declared.state.RequestNo.{RequestNo}
-use Rattle.qs_book.specs.Book.{BookValue, find_transaction, changed_at, with_owner, with_transaction, with_waiting, with_crossing, crosses, serve_node, server_serve, crossed_serve, is_done, vote_node, crossed_in, learn_node, doubts_after, hear, answer, waiting_of, inc_at, end_node, tick_node, crash_node, loan_to, give_back_from}
-use Rattle.qs_book.specs.Clauses.{link_to, borrower_at}
-use Rattle.qs_book.specs.Lawful.{effect_act, effect}
-use Rattle.qs_book.specs.Nodes.{NodeValue, with_table, crossed_node, crossed_server, crossed_names, with_doubts, without_doubts, without_record, bound_names, pending_at, voter, voter_cmp}
-use Rattle.qs_book.specs.Opening.{opened_node, put_record, put_of, note_of, keep_pending, opening}
-use Rattle.qs_book.specs.Restart.{restarted_node, reopened, without_records, with_votes, with_vote as put_vote, new_votes, put_new_votes}
-use Rattle.qs_book.specs.declared.opened.Opened.{Opened}
-use Rattle.qs_book.specs.declared.opened.Pending.{Pending}
-use Rattle.qs_book.specs.declared.state.OnRecord.{OnRecord}
-use Rattle.qs_book.specs.declared.state.Owner.{Owner}
-use Rattle.qs_book.specs.declared.state.Reopened.{Reopened}
-use Rattle.qs_book.specs.declared.state.Voter.{Voter}
+use Rattle.qs_ops.specs.Table.{TableValue, served, released, committed, with_vote, restarted, applied, kept, share_of, after_serve, no_table}
+use Rattle.qs_ops.specs.Timers.{timer_served, timers_ended}
+use Rattle.qs_ops.specs.declared.share.Kept.{Kept}
+use Rattle.qs_machine.specs.Transaction.{TransactionValue, is_crossed, standing_request, requests_at, issued}
+use Rattle.qs_machine.specs.declared.transaction.Request.{Request}
+use Rattle.qs_machine.specs.declared.transaction.RequestNo.{RequestNo}
+use Rattle.qs_machine.specs.Book.{BookValue, find_transaction, changed_at, with_owner, with_transaction, with_waiting, with_crossing, crosses, serve_node, server_serve, crossed_serve, is_done, vote_node, crossed_in, learn_node, doubts_after, hear, answer, waiting_of, inc_at, end_node, tick_node, crash_node, loan_to, give_back_from}
+use Rattle.qs_machine.specs.Clauses.{link_to, borrower_at}
+use Rattle.qs_machine.specs.Lawful.{effect_act, effect}
+use Rattle.qs_machine.specs.Nodes.{NodeValue, with_table, crossed_node, crossed_server, crossed_names, with_doubts, without_doubts, without_record, bound_names, pending_at, voter, voter_cmp}
+use Rattle.qs_machine.specs.Opening.{opened_node, put_record, put_of, note_of, keep_pending, opening}
+use Rattle.qs_machine.specs.Restart.{restarted_node, reopened, without_records, with_votes, with_vote as put_vote, new_votes, put_new_votes}
+use Rattle.qs_machine.specs.declared.opened.Opened.{Opened}
+use Rattle.qs_machine.specs.declared.opened.Pending.{Pending}
+use Rattle.qs_machine.specs.declared.state.OnRecord.{OnRecord}
+use Rattle.qs_machine.specs.declared.state.Owner.{Owner}
+use Rattle.qs_machine.specs.declared.state.Reopened.{Reopened}
+use Rattle.qs_machine.specs.declared.state.Voter.{Voter}
 use Rattle.qs_laws.specs.Laws.{IsCoherent}
 use Rattle.qs_laws.proofs.Holding.{waiting_nodes, fold_nodes, loan_nodes, yield_nodes, restart_nodes}
 use Rattle.qs_laws.proofs.Maps.{changed_at_either}

@@ -18,15 +18,15 @@ use Rattle.qs_journal.specs.declared.entry.Act.TheVariants.{Begin, Issue, Serve,
 use Rattle.qs_journal.specs.declared.entry.Act.TheVariants as acts
 use Rattle.qs_journal.specs.declared.entry.Entry.{Entry}
 use Rattle.qs_journal.specs.declared.entry.Found.{Found}
-use Rattle.qs_transaction.specs.Transaction.{TransactionValue, is_open, is_commit, is_unanimous, decided_at, found_at, begun}
-use Rattle.qs_transaction.specs.declared.state.Cell.TheVariants as cells
-use Rattle.qs_book.specs.Book.{BookValue, find_transaction, cell_of_transaction, with_transaction, decide, begin, ticks_at, inc_at}
-use Rattle.qs_book.specs.Clauses.{broken_decide, may_decide, broken_outcome}
-use Rattle.qs_book.specs.Lawful.{is_in_order, broken_act, broken_node, broken_at, broken, effect_act, effect, IsLawful, book_after}
-use Rattle.qs_book.specs.Nodes.{NodeValue}
-use Rattle.qs_book.specs.Opening.{opening}
-use Rattle.qs_book.specs.Restart.{is_among, member_at, changes_at, is_open_here, commit_found, vote_found, begun_tid, abort_begun, up_to, begun_at, put_new_votes, restart, is_committed, is_found_commit, broken_restart}
-use Rattle.qs_book.specs.declared.opened.Opened.{Opened}
+use Rattle.qs_machine.specs.Transaction.{TransactionValue, is_open, is_commit, is_unanimous, decided_at, found_at, begun}
+use Rattle.qs_machine.specs.declared.transaction.Cell.TheVariants as cells
+use Rattle.qs_machine.specs.Book.{BookValue, find_transaction, cell_of_transaction, with_transaction, decide, begin, ticks_at, inc_at}
+use Rattle.qs_machine.specs.Clauses.{broken_decide, may_decide, broken_outcome}
+use Rattle.qs_machine.specs.Lawful.{is_in_order, broken_act, broken_node, broken_at, broken, effect_act, effect, IsLawful, book_after}
+use Rattle.qs_machine.specs.Nodes.{NodeValue}
+use Rattle.qs_machine.specs.Opening.{opening}
+use Rattle.qs_machine.specs.Restart.{is_among, member_at, changes_at, is_open_here, commit_found, vote_found, begun_tid, abort_begun, up_to, begun_at, put_new_votes, restart, is_committed, is_found_commit, broken_restart}
+use Rattle.qs_machine.specs.declared.opened.Opened.{Opened}
 use Rattle.qs_laws.specs.Laws.{IsCommitted, IsCoherent}
 use Rattle.qs_laws.proofs.Acts as alike
 use Rattle.qs_laws.proofs.Alikes.{at_exact, tid_itself}

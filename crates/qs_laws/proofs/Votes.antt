@@ -10,13 +10,13 @@ use Rattle.qs_base.specs.declared.identifiers.Tid.{Tid}
 use Rattle.qs_ops.specs.declared.vote.Vote.{Vote}
 use Rattle.qs_journal.specs.declared.entry.Found.{Found}
 use Rattle.qs_ops.specs.Members.{class_of, is_two_phase}
-use Rattle.qs_transaction.specs.Transaction.{TransactionValue, is_commit, part_of, was_in_commit, was_committed, is_before}
-use Rattle.qs_book.specs.Book.{BookValue, find_transaction}
-use Rattle.qs_book.specs.Clauses.{broken_vote, is_vote_due}
-use Rattle.qs_book.specs.Nodes.{NodeValue, voter, voter_cmp, record_of, pending_at, changes_of}
-use Rattle.qs_book.specs.Restart.{new_vote, is_new_vote, is_on_record, could_vote, with_votes, with_vote}
-use Rattle.qs_book.specs.declared.state.OnRecord.{OnRecord}
-use Rattle.qs_book.specs.declared.state.Voter.{Voter}
+use Rattle.qs_machine.specs.Transaction.{TransactionValue, is_commit, part_of, was_in_commit, was_committed, is_before}
+use Rattle.qs_machine.specs.Book.{BookValue, find_transaction}
+use Rattle.qs_machine.specs.Clauses.{broken_vote, is_vote_due}
+use Rattle.qs_machine.specs.Nodes.{NodeValue, voter, voter_cmp, record_of, pending_at, changes_of}
+use Rattle.qs_machine.specs.Restart.{new_vote, is_new_vote, is_on_record, could_vote, with_votes, with_vote}
+use Rattle.qs_machine.specs.declared.state.OnRecord.{OnRecord}
+use Rattle.qs_machine.specs.declared.state.Voter.{Voter}
 use Rattle.qs_laws.proofs.Alikes.{voter_exact, voter_equal, voter_itself}
 use Rattle.qs_laws.proofs.Maps.{lookup_put, lookup_put_apart}
 use Rattle.qs_laws.proofs.Shut.{Changes, changes_none, put_changes}

@@ -7,10 +7,10 @@ use Rattle.qs_ops.specs.declared.operation.Op.{Op}
 use Rattle.qs_journal.specs.declared.entry.Act.TheVariants as acts
 use Rattle.qs_journal.specs.declared.entry.Entry.{Entry}
 use Rattle.qs_journal.specs.declared.entry.Found.{Found}
-use Rattle.qs_book.specs.Book.{BookValue}
-use Rattle.qs_book.specs.Lawful.{effect}
-use Rattle.qs_book.specs.Nodes.{NodeValue, changes_of}
-use Rattle.qs_book.specs.Restart.{record_at}
+use Rattle.qs_machine.specs.Book.{BookValue}
+use Rattle.qs_machine.specs.Lawful.{effect}
+use Rattle.qs_machine.specs.Nodes.{NodeValue, changes_of}
+use Rattle.qs_machine.specs.Restart.{record_at}
 use Rattle.qs_laws.specs.Served.{held_at, logged_at, HasApplied, CommitsOnce}
 
 -- the changes are pending at the member, where the share that holds them is their lock, and on record, where a restart

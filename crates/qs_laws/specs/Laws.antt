@@ -10,15 +10,15 @@ use Rattle.qs_ops.specs.declared.answer.Cause.{Cause}
 use Rattle.qs_ops.specs.declared.operation.Op.{Op}
 use Rattle.qs_journal.specs.declared.entry.Act.{Act}
 use Rattle.qs_journal.specs.declared.entry.Act.TheVariants as acts
-use Rattle.qs_servers.specs.Table.{apply_change, apply_note}
-use Rattle.qs_transaction.specs.Transaction.{TransactionValue, is_open}
-use Rattle.qs_transaction.specs.declared.state.Cell.{Cell}
-use Rattle.qs_transaction.specs.declared.state.Cell.TheVariants as cells
-use Rattle.qs_book.specs.Book.{BookValue, find_transaction, cell_of_transaction}
-use Rattle.qs_book.specs.Nodes.{NodeValue, pending_at, record_of, changes_of}
-use Rattle.qs_book.specs.Restart.{is_among}
-use Rattle.qs_book.specs.declared.opened.Opened.{Opened}
-use Rattle.qs_book.specs.declared.opened.Pending.{Pending}
+use Rattle.qs_ops.specs.Table.{apply_change, apply_note}
+use Rattle.qs_machine.specs.Transaction.{TransactionValue, is_open}
+use Rattle.qs_machine.specs.declared.transaction.Cell.{Cell}
+use Rattle.qs_machine.specs.declared.transaction.Cell.TheVariants as cells
+use Rattle.qs_machine.specs.Book.{BookValue, find_transaction, cell_of_transaction}
+use Rattle.qs_machine.specs.Nodes.{NodeValue, pending_at, record_of, changes_of}
+use Rattle.qs_machine.specs.Restart.{is_among}
+use Rattle.qs_machine.specs.declared.opened.Opened.{Opened}
+use Rattle.qs_machine.specs.declared.opened.Pending.{Pending}
 
 -- ---- what the logs of the nodes hold as a run begins
 

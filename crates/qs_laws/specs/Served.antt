@@ -10,15 +10,15 @@ use Rattle.qs_ops.specs.declared.vote.Vote.TheVariants as votes
 use Rattle.qs_journal.specs.declared.entry.Act.{Act}
 use Rattle.qs_journal.specs.declared.entry.Act.TheVariants as acts
 use Rattle.qs_journal.specs.declared.entry.Entry.{Entry}
-use Rattle.qs_servers.specs.Table.{apply_change, apply_note, change_by}
-use Rattle.qs_transaction.specs.Transaction.{TransactionValue, standing_request}
-use Rattle.qs_transaction.specs.declared.state.Request.{Request}
-use Rattle.qs_transaction.specs.declared.state.RequestNo.{RequestNo}
-use Rattle.qs_book.specs.Book.{BookValue, find_transaction, crossed_in}
-use Rattle.qs_book.specs.Lawful.{effect}
-use Rattle.qs_book.specs.Nodes.{NodeValue, pending_at, changes_of}
-use Rattle.qs_book.specs.Restart.{record_at, put_new_votes, is_among}
-use Rattle.qs_book.specs.declared.state.OnRecord.{OnRecord}
+use Rattle.qs_ops.specs.Table.{apply_change, apply_note, change_by}
+use Rattle.qs_machine.specs.Transaction.{TransactionValue, standing_request}
+use Rattle.qs_machine.specs.declared.transaction.Request.{Request}
+use Rattle.qs_machine.specs.declared.transaction.RequestNo.{RequestNo}
+use Rattle.qs_machine.specs.Book.{BookValue, find_transaction, crossed_in}
+use Rattle.qs_machine.specs.Lawful.{effect}
+use Rattle.qs_machine.specs.Nodes.{NodeValue, pending_at, changes_of}
+use Rattle.qs_machine.specs.Restart.{record_at, put_new_votes, is_among}
+use Rattle.qs_machine.specs.declared.state.OnRecord.{OnRecord}
 use Rattle.qs_journal.specs.declared.entry.Found.{Found}
 
 -- files (0) and audit (1) keep contents over restarts

@@ -7,11 +7,11 @@ ghost use Rattle.qs_ops.specs.declared.operation.Op.{Op};
 ghost use Rattle.qs_ops.specs.declared.reply.Reply.{Reply};
 ghost use Rattle.qs_ops.specs.declared.vote.Notice.TheVariants as notices;
 ghost use Rattle.qs_ops.specs.declared.vote.Vote.{Vote};
-ghost use Rattle.qs_book.specs.Book.{server_serve, vote_node, learn_node, end_node};
-ghost use Rattle.qs_book.specs.Clauses.{is_server_reply, is_server_vote};
-ghost use Rattle.qs_book.specs.Nodes.{NodeValue, extra_of, keep_of};
-ghost use Rattle.qs_servers.specs.Server.{ServerValue, number_of, reply_of, after_serving, vote_of, after_vote, after_notice};
-ghost use Rattle.qs_servers.specs.declared.server.Kind.TheVariants as kinds;
+ghost use Rattle.qs_machine.specs.Book.{server_serve, vote_node, learn_node, end_node};
+ghost use Rattle.qs_machine.specs.Clauses.{is_server_reply, is_server_vote};
+ghost use Rattle.qs_machine.specs.Nodes.{NodeValue, extra_of, keep_of};
+ghost use Rattle.qs_ops.specs.Server.{ServerValue, number_of, reply_of, after_serving, vote_of, after_vote, after_notice};
+ghost use Rattle.qs_ops.specs.declared.server.Kind.TheVariants as kinds;
 ghost use Rattle.qs_laws.specs.Standing.{StandsFor, StandsAs, notice_of};
 
 /// A server that keeps the laws of its trait, and holds what the machine has in its table, replies and votes as the machine

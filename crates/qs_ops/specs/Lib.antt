@@ -1,4 +1,9 @@
 pub mod Alike
+pub mod Files
 pub mod Members
 pub mod Operations
+pub mod Places
+pub mod Server
 pub mod Spelled
+pub mod Table
+pub mod Timers

@@ -6,8 +6,8 @@ use Rattle.std.proofs.lemmas.Bool.{lt-ltb, le-ltb}
 use Rattle.std.proofs.lemmas.List.{append-nil}
 use Rattle.std.specs.Prelude.{Bool}
 use Rattle.std.specs.List.{flat_map}
-use Rattle.qs_book.specs.Book.{BookValue}
-use Rattle.qs_book.specs.Nodes.{NodeValue}
+use Rattle.qs_machine.specs.Book.{BookValue}
+use Rattle.qs_machine.specs.Nodes.{NodeValue}
 use Rattle.qs_journal.specs.declared.entry.Entry.{Entry}
 use Rattle.qs_text.specs.Output.{client_text, nodes_text, node_text, totals_text, shown_journal, out_of}
 use Rattle.qs_text.specs.declared.script.Script.{Script}

@@ -15,10 +15,10 @@ use Rattle.qs_journal.specs.declared.entry.Entry.{Entry}
 use Rattle.qs_journal.specs.declared.script_line.Command.{Command}
 use Rattle.qs_journal.specs.declared.script_line.Command.TheVariants as commands
 use Rattle.qs_journal.specs.declared.script_line.ScriptLine.{ScriptLine}
-use Rattle.qs_book.specs.Book.{BookValue, find_transaction, find_label}
-use Rattle.qs_book.specs.Lawful.{effect}
-use Rattle.qs_transaction.specs.Transaction.{TransactionValue}
-use Rattle.qs_transaction.specs.declared.state.Cell.TheVariants as cells
+use Rattle.qs_machine.specs.Book.{BookValue, find_transaction, find_label}
+use Rattle.qs_machine.specs.Lawful.{effect}
+use Rattle.qs_machine.specs.Transaction.{TransactionValue}
+use Rattle.qs_machine.specs.declared.transaction.Cell.TheVariants as cells
 use Rattle.qs_text.specs.declared.script.Script.{Script}
 
 -- what a client's first command that is not answered has made so far

@@ -8,9 +8,9 @@ use Rattle.qs_ops.specs.declared.file.File.{File}
 use Rattle.qs_journal.specs.declared.entry.Act.{Act}
 use Rattle.qs_journal.specs.declared.entry.Act.TheVariants as acts
 use Rattle.qs_journal.specs.declared.entry.Entry.{Entry}
-use Rattle.qs_book.specs.Book.{BookValue, find_transaction}
-use Rattle.qs_book.specs.Nodes.{NodeValue}
-use Rattle.qs_transaction.specs.Transaction.{TransactionValue, is_commit, is_abort}
+use Rattle.qs_machine.specs.Book.{BookValue, find_transaction}
+use Rattle.qs_machine.specs.Nodes.{NodeValue}
+use Rattle.qs_machine.specs.Transaction.{TransactionValue, is_commit, is_abort}
 use Rattle.qs_text.specs.Answers.{told_text}
 use Rattle.qs_text.specs.Journal.{journal_text}
 use Rattle.qs_text.specs.declared.script.Script.{Script}

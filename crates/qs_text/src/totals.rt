@@ -5,7 +5,8 @@ ghost use Rattle.qs_text.specs.Output.{transactions_of, is_begun, is_committed, 
 
 use qs_book::Book;
 use qs_journal::{Act, Entry};
-use qs_transaction::{Cell, Transaction};
+use qs_machine::Cell;
+use qs_book_transactions::Transaction;
 
 /// How many transactions were begun.
 pub fn begun(book: &Book) -> usize

@@ -2,8 +2,8 @@
 use Rattle.std.proofs.Common.{◌≡◌, ℕ, ◌+◌, List, [], ◌∷◌, Option, Some, None, refl, sym, subst}
 use Rattle.std.specs.Prelude.{◌↔◌}
 use Rattle.qs_journal.specs.declared.entry.Entry.{Entry}
-use Rattle.qs_book.specs.Book.{BookValue}
-use Rattle.qs_book.specs.Lawful.{broken, effect, IsLawful}
+use Rattle.qs_machine.specs.Book.{BookValue}
+use Rattle.qs_machine.specs.Lawful.{broken, effect, IsLawful}
 use Rattle.qs_tools.specs.Checked.{first_broken_line}
 
 abbrev from_first : ℕ → Option ℕ → Option (ℕ × ℕ) → Option (ℕ × ℕ)

@@ -2,7 +2,7 @@
 use Rattle.std.proofs.Common.{◌≡◌, ◌≤◌, ℕ, ◌+◌, suc, List, [], ◌∷◌, ◌++◌, length, Result, Ok, Err, refl, ◌∙◌, ap, arith, length-append}
 use Rattle.std.specs.Prelude.{IfOk, IsErrOf, MatchResult}
 use Rattle.qs_journal.specs.declared.entry.Entry.{Entry}
-use Rattle.qs_book.specs.declared.opened.Opened.{Opened}
+use Rattle.qs_machine.specs.declared.opened.Opened.{Opened}
 use Rattle.qs_text.specs.Lines.{lines_of}
 use Rattle.qs_tools.specs.Journal.{opening_lines, AreLines, IsJournal, IsFault, IsRead}
 use Rattle.qs_tools.specs.declared.journal.Journal.{Journal}

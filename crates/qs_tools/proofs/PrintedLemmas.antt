@@ -6,7 +6,7 @@ use Rattle.std.proofs.lemmas.Bool.Decides.{nat_tests}
 use Rattle.std.proofs.lemmas.List.{append-nil, nil_from_length, map-append}
 use Rattle.qs_base.specs.declared.identifiers.Tid.{Tid}
 use Rattle.qs_journal.specs.declared.entry.Entry.{Entry}
-use Rattle.qs_book.specs.declared.opened.Opened.{Opened}
+use Rattle.qs_machine.specs.declared.opened.Opened.{Opened}
 use Rattle.qs_ops.specs.declared.file.File.{File as FileValue}
 use Rattle.qs_text.specs.Journal.{entry_line}
 use Rattle.qs_tools.specs.Journal.{nodes_line, node_line, file_line, note_line, item_line, commit_line, opened_lines, nodes_lines, AreRising, IsFile, IsOpened, IsLine, AreLines, IsJournal}

@@ -4,7 +4,7 @@ use Rattle.std.specs.Ordering.{is_lt}
 use Rattle.qs_base.specs.Order.{bytes_cmp}
 use Rattle.qs_base.specs.declared.identifiers.Tid.{Tid}
 use Rattle.qs_journal.specs.declared.entry.Entry.{Entry}
-use Rattle.qs_book.specs.declared.opened.Opened.{Opened}
+use Rattle.qs_machine.specs.declared.opened.Opened.{Opened}
 use Rattle.qs_ops.specs.declared.file.File.{File}
 use Rattle.qs_text.specs.Answers.{tid_text, list_text}
 use Rattle.qs_text.specs.Journal.{entry_line}

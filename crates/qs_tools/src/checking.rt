@@ -1,7 +1,7 @@
 //! The checker of histories.
 ghost use Rattle.std.specs.Prelude.{◌≡◌, ◌↔◌, ◌+◌, ◌≤◌, None, IfOk, length};
-ghost use Rattle.qs_book.specs.Lawful.{IsLawful, broken, effect};
-ghost use Rattle.qs_book.specs.Opening.{opening};
+ghost use Rattle.qs_machine.specs.Lawful.{IsLawful, broken, effect};
+ghost use Rattle.qs_machine.specs.Opening.{opening};
 ghost use Rattle.qs_tools.specs.Checked.{first_broken_line};
 
 use crate::journal::Journal;

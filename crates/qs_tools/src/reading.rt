@@ -1,7 +1,7 @@
 //! Reads a history.
 ghost use Rattle.std.specs.Prelude.{◌≡◌, ◌≤◌, ◌+◌, ℕ, List, length, IfOk, IsErrOf, OnOk, MatchResult};
 ghost use Rattle.qs_journal.specs.declared.entry.Entry.{Entry};
-ghost use Rattle.qs_book.specs.declared.opened.Opened.{Opened};
+ghost use Rattle.qs_machine.specs.declared.opened.Opened.{Opened};
 ghost use Rattle.qs_text.specs.Lines.{lines_of};
 ghost use Rattle.qs_tools.specs.Journal.{IsFault, IsJournal, IsRead, opening_lines};
 ghost use Rattle.qs_tools.specs.Reader.{reading_of};

@@ -15,16 +15,16 @@ use Rattle.qs_journal.specs.declared.entry.Entry.{Entry}
 use Rattle.qs_journal.specs.declared.script_line.Command.{Command}
 use Rattle.qs_journal.specs.declared.script_line.Command.TheVariants as commands
 use Rattle.qs_journal.specs.declared.script_line.ScriptLine.{ScriptLine}
-use Rattle.qs_book.specs.Book.{BookValue, find_label, find_transaction}
-use Rattle.qs_book.specs.Clauses.{is_for}
-use Rattle.qs_book.specs.Nodes.{NodeValue}
-use Rattle.qs_book.specs.declared.state.Owner.{Owner}
-use Rattle.qs_servers.specs.Table.{reply_to, has_changes}
-use Rattle.qs_transaction.specs.Transaction.{TransactionValue, next_number, part_of}
-use Rattle.qs_transaction.specs.declared.state.Cell.{Cell}
-use Rattle.qs_transaction.specs.declared.state.Cell.TheVariants as cells
-use Rattle.qs_transaction.specs.declared.state.Life.{Life}
-use Rattle.qs_transaction.specs.declared.state.Part.{Part}
+use Rattle.qs_machine.specs.Book.{BookValue, find_label, find_transaction}
+use Rattle.qs_machine.specs.Clauses.{is_for}
+use Rattle.qs_machine.specs.Nodes.{NodeValue}
+use Rattle.qs_machine.specs.declared.state.Owner.{Owner}
+use Rattle.qs_ops.specs.Table.{reply_to, has_changes}
+use Rattle.qs_machine.specs.Transaction.{TransactionValue, next_number, part_of}
+use Rattle.qs_machine.specs.declared.transaction.Cell.{Cell}
+use Rattle.qs_machine.specs.declared.transaction.Cell.TheVariants as cells
+use Rattle.qs_machine.specs.declared.transaction.Life.{Life}
+use Rattle.qs_machine.specs.declared.transaction.Part.{Part}
 use Rattle.qs_text.specs.Fits.{FitsLine, is_plain, is_plain_op}
 use Rattle.qs_text.specs.Lines.{files_of_node_0}
 use Rattle.qs_text.specs.Script.{may_name}

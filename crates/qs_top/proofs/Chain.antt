@@ -9,12 +9,12 @@ use Rattle.qs_ops.specs.declared.answer.Cause.TheVariants as causes
 use Rattle.qs_ops.specs.declared.reply.Reply.{Reply}
 use Rattle.qs_journal.specs.declared.entry.Entry.{Entry}
 use Rattle.qs_journal.specs.declared.script_line.ScriptLine.{ScriptLine}
-use Rattle.qs_book.specs.Book.{BookValue, find_label, find_transaction}
-use Rattle.qs_book.specs.Lawful.{broken, effect}
-use Rattle.qs_book.specs.Nodes.{NodeValue}
-use Rattle.qs_book.specs.declared.state.Owner.{Owner}
-use Rattle.qs_transaction.specs.Transaction.{TransactionValue}
-use Rattle.qs_transaction.specs.declared.state.Cell.TheVariants as cells
+use Rattle.qs_machine.specs.Book.{BookValue, find_label, find_transaction}
+use Rattle.qs_machine.specs.Lawful.{broken, effect}
+use Rattle.qs_machine.specs.Nodes.{NodeValue}
+use Rattle.qs_machine.specs.declared.state.Owner.{Owner}
+use Rattle.qs_machine.specs.Transaction.{TransactionValue}
+use Rattle.qs_machine.specs.declared.transaction.Cell.TheVariants as cells
 use Rattle.qs_text.specs.Fits.{begins_line}
 use Rattle.qs_text.specs.Kept.{Made, nothing, issued, Progress, Progresses, with_progress, makes, owner_makes, owner_of, progress_after, progress_of, Keeps, IsKept, current, seat_of, CarriesOut, CarriesOutFor, OwnerCarriesOut, outcome_answer, request_answer, labelled}
 use Rattle.qs_text.specs.declared.script.Script.{Script}

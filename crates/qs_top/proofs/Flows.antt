@@ -17,16 +17,16 @@ use Rattle.qs_journal.specs.declared.entry.Entry.{Entry}
 use Rattle.qs_journal.specs.declared.script_line.Command.{Command}
 use Rattle.qs_journal.specs.declared.script_line.Command.TheVariants as commands
 use Rattle.qs_journal.specs.declared.script_line.ScriptLine.{ScriptLine}
-use Rattle.qs_book.specs.Book.{BookValue, find_label, find_transaction, told, vote_node, learn_node}
-use Rattle.qs_book.specs.Clauses.{is_known, may_ask, may_decide, may_learn, is_vote_due, broken_outcome}
-use Rattle.qs_book.specs.Lawful.{effect}
-use Rattle.qs_book.specs.Nodes.{NodeValue}
-use Rattle.qs_book.specs.declared.state.Owner.{Owner}
-use Rattle.qs_servers.specs.Table.{has_changes}
-use Rattle.qs_transaction.specs.Transaction.{TransactionValue, asked_at, voted, voted_part, decided_at, learnt, part_of, is_covering, is_let_go}
-use Rattle.qs_transaction.specs.declared.state.Cell.TheVariants as cells
-use Rattle.qs_transaction.specs.declared.state.Life.{Life}
-use Rattle.qs_transaction.specs.declared.state.Part.{Part}
+use Rattle.qs_machine.specs.Book.{BookValue, find_label, find_transaction, told, vote_node, learn_node}
+use Rattle.qs_machine.specs.Clauses.{is_known, may_ask, may_decide, may_learn, is_vote_due, broken_outcome}
+use Rattle.qs_machine.specs.Lawful.{effect}
+use Rattle.qs_machine.specs.Nodes.{NodeValue}
+use Rattle.qs_machine.specs.declared.state.Owner.{Owner}
+use Rattle.qs_ops.specs.Table.{has_changes}
+use Rattle.qs_machine.specs.Transaction.{TransactionValue, asked_at, voted, voted_part, decided_at, learnt, part_of, is_covering, is_let_go}
+use Rattle.qs_machine.specs.declared.transaction.Cell.TheVariants as cells
+use Rattle.qs_machine.specs.declared.transaction.Life.{Life}
+use Rattle.qs_machine.specs.declared.transaction.Part.{Part}
 use Rattle.qs_text.specs.Fits.{begins_line}
 use Rattle.qs_text.specs.Script.{is_begin}
 use Rattle.qs_text.specs.Kept.{Made, nothing, began, Progress, Progresses, with_progress, makes, current, seat_of, Answers, due_answer, OwnerCarriesOut, labelled}

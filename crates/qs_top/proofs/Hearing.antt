@@ -6,15 +6,15 @@ use Rattle.qs_base.specs.Order.{tid_cmp}
 use Rattle.qs_base.specs.declared.identifiers.Tid.{Tid}
 use Rattle.qs_ops.specs.declared.answer.Answer.{Answer}
 use Rattle.qs_journal.specs.declared.entry.Entry.{Entry}
-use Rattle.qs_book.specs.Book.{BookValue, find_transaction, hear, inc_at, waiting_of, with_owner}
-use Rattle.qs_book.specs.Clauses.{is_known}
-use Rattle.qs_book.specs.Lawful.{broken, effect}
-use Rattle.qs_book.specs.Nodes.{NodeValue}
-use Rattle.qs_book.specs.declared.state.Asking.{Asking}
-use Rattle.qs_book.specs.declared.state.Owner.{Owner}
-use Rattle.qs_transaction.specs.Transaction.{TransactionValue, changed_value, heard}
-use Rattle.qs_transaction.specs.declared.state.Cell.{Cell}
-use Rattle.qs_transaction.specs.declared.state.Cell.TheVariants as cells
+use Rattle.qs_machine.specs.Book.{BookValue, find_transaction, hear, inc_at, waiting_of, with_owner}
+use Rattle.qs_machine.specs.Clauses.{is_known}
+use Rattle.qs_machine.specs.Lawful.{broken, effect}
+use Rattle.qs_machine.specs.Nodes.{NodeValue}
+use Rattle.qs_machine.specs.declared.state.Asking.{Asking}
+use Rattle.qs_machine.specs.declared.state.Owner.{Owner}
+use Rattle.qs_machine.specs.Transaction.{TransactionValue, changed_value, heard}
+use Rattle.qs_machine.specs.declared.transaction.Cell.{Cell}
+use Rattle.qs_machine.specs.declared.transaction.Cell.TheVariants as cells
 use Rattle.qs_top.specs.Node.{answered}
 use Rattle.qs_top.specs.Rest.{AtRest, IsTold, Resting}
 use Rattle.qs_top.proofs.MapSteps.{unchanged}

@@ -21,18 +21,18 @@ use Rattle.qs_journal.specs.declared.entry.Entry.{Entry}
 use Rattle.qs_journal.specs.declared.script_line.Command.{Command}
 use Rattle.qs_journal.specs.declared.script_line.Command.TheVariants as commands
 use Rattle.qs_journal.specs.declared.script_line.ScriptLine.{ScriptLine}
-use Rattle.qs_book.specs.Book.{BookValue, find_label, find_transaction, ticks_at}
-use Rattle.qs_book.specs.Clauses.{is_for, is_known}
-use Rattle.qs_book.specs.Lawful.{broken, effect}
-use Rattle.qs_book.specs.Nodes.{NodeValue, with_table}
-use Rattle.qs_book.specs.declared.state.Owner.{Owner}
-use Rattle.qs_servers.proofs.IndexSteps.{tid_total, tid_exact, same_tid-cmp}
-use Rattle.qs_servers.specs.Table.{reply_to, served}
-use Rattle.qs_transaction.specs.Transaction.{TransactionValue, begun, learnt_abort, next_number}
-use Rattle.qs_transaction.specs.declared.state.Cell.{Cell}
-use Rattle.qs_transaction.specs.declared.state.Cell.TheVariants as cells
-use Rattle.qs_transaction.specs.declared.state.Life.{Life}
-use Rattle.qs_transaction.specs.declared.state.Part.{Part}
+use Rattle.qs_machine.specs.Book.{BookValue, find_label, find_transaction, ticks_at}
+use Rattle.qs_machine.specs.Clauses.{is_for, is_known}
+use Rattle.qs_machine.specs.Lawful.{broken, effect}
+use Rattle.qs_machine.specs.Nodes.{NodeValue, with_table}
+use Rattle.qs_machine.specs.declared.state.Owner.{Owner}
+use Rattle.qs_base.proofs.TidOrder.{tid_total, tid_exact, same_tid-cmp}
+use Rattle.qs_ops.specs.Table.{reply_to, served}
+use Rattle.qs_machine.specs.Transaction.{TransactionValue, begun, learnt_abort, next_number}
+use Rattle.qs_machine.specs.declared.transaction.Cell.{Cell}
+use Rattle.qs_machine.specs.declared.transaction.Cell.TheVariants as cells
+use Rattle.qs_machine.specs.declared.transaction.Life.{Life}
+use Rattle.qs_machine.specs.declared.transaction.Part.{Part}
 use Rattle.qs_text.specs.Fits.{begins_line}
 use Rattle.qs_text.specs.Kept.{Made, Progress, Progresses, with_progress, makes, current, seat_of, after_served, served_made, is_seat, request_answer, labelled, due_answer, commands_of, CarriesOut, CarriesOutFor, IssuesFor}
 use Rattle.qs_text.specs.Kept as kept

@@ -3,9 +3,9 @@ use Rattle.std.proofs.Common.{◌≡◌, ℕ, List, [], ◌∷◌, refl}
 use Rattle.std.proofs.lemmas.Cmp.{nat_cmp_total, tied_itself}
 use Rattle.std.specs.BTreeMap.{insert_entry, is_at}
 use Rattle.std.specs.declared.cmp.Ordering.TheVariants.{Equal}
-use Rattle.qs_transaction.specs.Transaction.{TransactionValue, changed_value, part_of, life, life_cmp}
-use Rattle.qs_transaction.specs.declared.state.Life.{Life}
-use Rattle.qs_transaction.specs.declared.state.Part.{Part}
+use Rattle.qs_machine.specs.Transaction.{TransactionValue, changed_value, part_of, life, life_cmp}
+use Rattle.qs_machine.specs.declared.transaction.Life.{Life}
+use Rattle.qs_machine.specs.declared.transaction.Part.{Part}
 use Rattle.qs_top.specs.Node.{files_0}
 use Rattle.qs_top.proofs.MapSteps.{only_changed}
 

@@ -4,9 +4,9 @@ use Rattle.std.proofs.lemmas.Bool.Decides.{nat_tests}
 use Rattle.std.specs.Option.{is_some}
 use Rattle.qs_journal.specs.declared.entry.Entry.{Entry}
 use Rattle.qs_journal.specs.declared.script_line.ScriptLine.{ScriptLine}
-use Rattle.qs_book.specs.Book.{BookValue, find_label}
-use Rattle.qs_book.specs.Lawful.{IsLawful, book_after, effect}
-use Rattle.qs_book.specs.Opening.{opened_node, no_owner}
+use Rattle.qs_machine.specs.Book.{BookValue, find_label}
+use Rattle.qs_machine.specs.Lawful.{IsLawful, book_after, effect}
+use Rattle.qs_machine.specs.Opening.{opened_node, no_owner}
 use Rattle.qs_text.specs.Fits.{Fits, IsSeated, begins_line}
 use Rattle.qs_text.specs.Kept.{Progress, Progresses, at_start, commands_of, IsAnswered, IsKept, progress_after, progress_of}
 use Rattle.qs_text.specs.declared.script.Script.{Script}

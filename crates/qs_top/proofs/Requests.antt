@@ -20,20 +20,20 @@ use Rattle.qs_ops.specs.declared.reply.Reply.{Reply}
 use Rattle.qs_ops.specs.declared.reply.Reply.TheVariants.{Done, Value, Left, Names, Notes, Busy, Absent, TooMany, TooLong}
 use Rattle.qs_journal.specs.declared.entry.Act.TheVariants as acts
 use Rattle.qs_journal.specs.declared.entry.Entry.{Entry}
-use Rattle.qs_book.specs.Book.{BookValue, find_transaction, inc_at, with_crossing, with_waiting, with_transaction, crosses, serve_node, is_done}
-use Rattle.qs_book.specs.Clauses.{is_for, is_numbered, is_owner_of, may_issue, may_issue_as_borrower, is_reply}
-use Rattle.qs_book.specs.Lawful.{broken, effect}
-use Rattle.qs_book.specs.Nodes.{NodeValue, with_table}
-use Rattle.qs_book.specs.declared.state.Owner.{Owner}
-use Rattle.qs_servers.specs.Table.{reply_to, served}
-use Rattle.qs_transaction.proofs.Present.{request_total}
-use Rattle.qs_transaction.specs.Transaction.{TransactionValue, changed_value, is_served, is_standing, issued, mark_served, next_number, request_cmp, requests_at, served_in, standing_request, learnt_abort, is_open, is_commit, all_served, life, life_cmp, serving_part, no_part as no_part_yet}
-use Rattle.qs_transaction.specs.declared.state.Cell.{Cell}
-use Rattle.qs_transaction.specs.declared.state.Cell.TheVariants as cells
-use Rattle.qs_transaction.specs.declared.state.Life.{Life}
-use Rattle.qs_transaction.specs.declared.state.Part.{Part}
-use Rattle.qs_transaction.specs.declared.state.Request.{Request}
-use Rattle.qs_transaction.specs.declared.state.RequestNo.{RequestNo}
+use Rattle.qs_machine.specs.Book.{BookValue, find_transaction, inc_at, with_crossing, with_waiting, with_transaction, crosses, serve_node, is_done}
+use Rattle.qs_machine.specs.Clauses.{is_for, is_numbered, is_owner_of, may_issue, may_issue_as_borrower, is_reply}
+use Rattle.qs_machine.specs.Lawful.{broken, effect}
+use Rattle.qs_machine.specs.Nodes.{NodeValue, with_table}
+use Rattle.qs_machine.specs.declared.state.Owner.{Owner}
+use Rattle.qs_ops.specs.Table.{reply_to, served}
+use Rattle.qs_machine.proofs.Present.{request_total}
+use Rattle.qs_machine.specs.Transaction.{TransactionValue, changed_value, is_served, is_standing, issued, mark_served, next_number, request_cmp, requests_at, served_in, standing_request, learnt_abort, is_open, is_commit, all_served, life, life_cmp, serving_part, no_part as no_part_yet}
+use Rattle.qs_machine.specs.declared.transaction.Cell.{Cell}
+use Rattle.qs_machine.specs.declared.transaction.Cell.TheVariants as cells
+use Rattle.qs_machine.specs.declared.transaction.Life.{Life}
+use Rattle.qs_machine.specs.declared.transaction.Part.{Part}
+use Rattle.qs_machine.specs.declared.transaction.Request.{Request}
+use Rattle.qs_machine.specs.declared.transaction.RequestNo.{RequestNo}
 use Rattle.qs_top.specs.Node.{entry, client_0, files_0, issuer_0, link_0, node_0}
 use Rattle.qs_top.proofs.MapSteps.{lookup_put}
 use Rattle.qs_top.proofs.Parts.{same_life, put_part}

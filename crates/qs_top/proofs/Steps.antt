@@ -13,7 +13,7 @@ use Rattle.std.specs.declared.cmp.Ordering.TheVariants.{Less, Equal, Greater}
 use Rattle.qs_base.specs.Order.{tid_cmp}
 use Rattle.qs_base.proofs.Same.{same_tid-true}
 use Rattle.qs_base.specs.declared.identifiers.Tid.{Tid}
-use Rattle.qs_servers.proofs.IndexSteps.{tid_total, same_tid-cmp}
+use Rattle.qs_base.proofs.TidOrder.{tid_total, same_tid-cmp}
 use Rattle.qs_ops.specs.Alike.{same_cause}
 use Rattle.qs_base.specs.declared.identifiers.Outcome.{Outcome}
 use Rattle.qs_base.specs.declared.identifiers.Outcome.TheVariants as outcomes
@@ -23,16 +23,16 @@ use Rattle.qs_ops.specs.declared.vote.Vote.{Vote}
 use Rattle.qs_ops.specs.declared.vote.Vote.TheVariants as votes
 use Rattle.qs_journal.specs.declared.entry.Act.TheVariants as acts
 use Rattle.qs_journal.specs.declared.entry.Entry.{Entry}
-use Rattle.qs_book.specs.Book.{BookValue, find_transaction, find_label, inc_at, changed_at, crossed_in, vote_node, learn_node, told}
-use Rattle.qs_book.proofs.CauseOrder.{among_causes}
-use Rattle.qs_book.specs.Causes.{cause_cmp}
-use Rattle.qs_book.specs.Clauses.{may_ask, is_vote_due, is_server_vote, is_vote, may_decide, broken_outcome, may_learn}
-use Rattle.qs_book.specs.Lawful.{broken, broken_node, effect, is_in_order}
-use Rattle.qs_book.specs.Nodes.{NodeValue}
-use Rattle.qs_book.specs.declared.state.Owner.{Owner}
-use Rattle.qs_transaction.specs.Transaction.{TransactionValue, changed_value, asked_at, part_of, is_covering, is_crossed, is_let_go, voted, decided_at, learnt}
-use Rattle.qs_transaction.specs.declared.state.Cell.{Cell}
-use Rattle.qs_transaction.specs.declared.state.Cell.TheVariants as cells
+use Rattle.qs_machine.specs.Book.{BookValue, find_transaction, find_label, inc_at, changed_at, crossed_in, vote_node, learn_node, told}
+use Rattle.qs_machine.proofs.CauseOrder.{among_causes}
+use Rattle.qs_machine.specs.Causes.{cause_cmp}
+use Rattle.qs_machine.specs.Clauses.{may_ask, is_vote_due, is_server_vote, is_vote, may_decide, broken_outcome, may_learn}
+use Rattle.qs_machine.specs.Lawful.{broken, broken_node, effect, is_in_order}
+use Rattle.qs_machine.specs.Nodes.{NodeValue}
+use Rattle.qs_machine.specs.declared.state.Owner.{Owner}
+use Rattle.qs_machine.specs.Transaction.{TransactionValue, changed_value, asked_at, part_of, is_covering, is_crossed, is_let_go, voted, decided_at, learnt}
+use Rattle.qs_machine.specs.declared.transaction.Cell.{Cell}
+use Rattle.qs_machine.specs.declared.transaction.Cell.TheVariants as cells
 use Rattle.qs_top.specs.Node.{entry, client_0, files_0, node_0}
 use Rattle.qs_top.specs.Rest.{AtRest, IsTold, Resting}
 use Rattle.qs_top.proofs.MapSteps.{lookup_changed, lookup_apart}

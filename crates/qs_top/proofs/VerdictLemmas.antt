@@ -2,7 +2,7 @@
 use Rattle.std.proofs.Common.{◌≡◌, ◌≤◌, ◌+◌, ◌==◌, ℕ, suc, Bool, true, false, cond, List, [], ◌∷◌, ◌++◌, length, ◌∙◌, ap, arith, length-append}
 use Rattle.std.specs.List.{slice_split, onto_first}
 use Rattle.qs_journal.specs.declared.entry.Entry.{Entry}
-use Rattle.qs_book.specs.declared.opened.Opened.{Opened}
+use Rattle.qs_machine.specs.declared.opened.Opened.{Opened}
 use Rattle.qs_text.specs.Lines.{lines_of, without_empty_end}
 use Rattle.qs_tools.specs.Journal.{opening_lines, AreLines, IsJournal}
 

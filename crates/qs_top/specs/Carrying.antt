@@ -2,12 +2,12 @@
 use Rattle.std.specs.Prelude.{◌≡◌, ℕ, ◌+◌, ◌==◌, false, List, [], ◌∷◌, length, drop, is_some, slice_get, Some, ◌<◌, ◌^◌}
 use Rattle.qs_journal.specs.declared.entry.Entry.{Entry}
 use Rattle.qs_journal.specs.declared.script_line.ScriptLine.{ScriptLine}
-use Rattle.qs_book.specs.Book.{BookValue, find_label}
-use Rattle.qs_book.specs.Lawful.{IsLawful, book_after}
-use Rattle.qs_book.specs.Nodes.{NodeValue}
-use Rattle.qs_book.specs.Opening.{opening as opening_over}
-use Rattle.qs_book.specs.declared.opened.Opened.{Opened}
-use Rattle.qs_book.specs.declared.state.Owner.{Owner}
+use Rattle.qs_machine.specs.Book.{BookValue, find_label}
+use Rattle.qs_machine.specs.Lawful.{IsLawful, book_after}
+use Rattle.qs_machine.specs.Nodes.{NodeValue}
+use Rattle.qs_machine.specs.Opening.{opening as opening_over}
+use Rattle.qs_machine.specs.declared.opened.Opened.{Opened}
+use Rattle.qs_machine.specs.declared.state.Owner.{Owner}
 use Rattle.qs_text.specs.Fits.{Fits, IsSeated}
 use Rattle.qs_text.specs.Kept.{nothing, Progresses, at_start, commands_of, IsKept, progress_of}
 use Rattle.qs_text.specs.declared.script.Script.{Script}

@@ -19,13 +19,13 @@ use Rattle.qs_journal.specs.declared.entry.Entry.{Entry}
 use Rattle.qs_journal.specs.declared.script_line.Command.{Command}
 use Rattle.qs_journal.specs.declared.script_line.Command.TheVariants as commands
 use Rattle.qs_journal.specs.declared.script_line.ScriptLine.{ScriptLine}
-use Rattle.qs_book.specs.Book.{BookValue, find_transaction, find_label}
-use Rattle.qs_book.specs.Nodes.{NodeValue}
-use Rattle.qs_servers.specs.Table.{reply_to, has_changes}
-use Rattle.qs_transaction.specs.Transaction.{TransactionValue, next_number, part_of}
-use Rattle.qs_transaction.specs.declared.state.Cell.TheVariants as cells
-use Rattle.qs_transaction.specs.declared.state.Link.{Link}
-use Rattle.qs_transaction.specs.declared.state.Part.{Part}
+use Rattle.qs_machine.specs.Book.{BookValue, find_transaction, find_label}
+use Rattle.qs_machine.specs.Nodes.{NodeValue}
+use Rattle.qs_ops.specs.Table.{reply_to, has_changes}
+use Rattle.qs_machine.specs.Transaction.{TransactionValue, next_number, part_of}
+use Rattle.qs_machine.specs.declared.transaction.Cell.TheVariants as cells
+use Rattle.qs_machine.specs.declared.transaction.Link.{Link}
+use Rattle.qs_machine.specs.declared.transaction.Part.{Part}
 
 -- ---- the node, its client, its files
 

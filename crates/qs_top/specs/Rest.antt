@@ -4,14 +4,14 @@ use Rattle.std.specs.List.{list_any}
 use Rattle.qs_base.specs.declared.identifiers.Tid.{Tid}
 use Rattle.qs_ops.specs.Alike.{same_cause}
 use Rattle.qs_ops.specs.declared.answer.Cause.TheVariants as causes
-use Rattle.qs_book.specs.Book.{BookValue, find_transaction, find_label}
-use Rattle.qs_book.specs.Nodes.{NodeValue}
-use Rattle.qs_book.specs.declared.state.Owner.{Owner}
-use Rattle.qs_transaction.specs.Transaction.{TransactionValue, all_served, life}
-use Rattle.qs_transaction.specs.declared.state.Cell.{Cell}
-use Rattle.qs_transaction.specs.declared.state.Cell.TheVariants as cells
-use Rattle.qs_transaction.specs.declared.state.Life.{Life}
-use Rattle.qs_transaction.specs.declared.state.Part.{Part}
+use Rattle.qs_machine.specs.Book.{BookValue, find_transaction, find_label}
+use Rattle.qs_machine.specs.Nodes.{NodeValue}
+use Rattle.qs_machine.specs.declared.state.Owner.{Owner}
+use Rattle.qs_machine.specs.Transaction.{TransactionValue, all_served, life}
+use Rattle.qs_machine.specs.declared.transaction.Cell.{Cell}
+use Rattle.qs_machine.specs.declared.transaction.Cell.TheVariants as cells
+use Rattle.qs_machine.specs.declared.transaction.Life.{Life}
+use Rattle.qs_machine.specs.declared.transaction.Part.{Part}
 use Rattle.qs_top.specs.Node.{client_0, files_0}
 
 -- ---- a transaction at rest

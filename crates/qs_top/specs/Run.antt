@@ -9,7 +9,7 @@ use Rattle.qs_io.specs.Streams.{IsWholeOrLonger, GivesPart}
 use Rattle.qs_log.specs.Image.{IsDamaged}
 use Rattle.qs_log.specs.declared.fault.OpenFault.{OpenFault}
 use Rattle.qs_log.specs.declared.fault.OpenFault.TheVariants as faults
-use Rattle.qs_book.specs.Lawful.{IsLawful, book_after}
+use Rattle.qs_machine.specs.Lawful.{IsLawful, book_after}
 use Rattle.qs_text.specs.Kept.{at_start, IsAnswered, IsKept}
 use Rattle.qs_text.specs.Output.{out_of}
 use Rattle.qs_text.specs.Script.{script_of}

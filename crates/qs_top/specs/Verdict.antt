@@ -1,9 +1,9 @@
 -- What the form `check` promises: of the history that was read, and of the verdict that was given.
 use Rattle.std.specs.Prelude.{◌≡◌, ◌≤◌, ℕ, ◌+◌, List, length, Some, ⊤}
 use Rattle.qs_journal.specs.declared.entry.Entry.{Entry}
-use Rattle.qs_book.specs.Lawful.{IsLawful}
-use Rattle.qs_book.specs.Opening.{opening}
-use Rattle.qs_book.specs.declared.opened.Opened.{Opened}
+use Rattle.qs_machine.specs.Lawful.{IsLawful}
+use Rattle.qs_machine.specs.Opening.{opening}
+use Rattle.qs_machine.specs.declared.opened.Opened.{Opened}
 use Rattle.qs_text.specs.Lines.{lines_of}
 use Rattle.qs_text.specs.StatusLine.{lawful_text}
 use Rattle.qs_text.specs.declared.status.Status.{Status}

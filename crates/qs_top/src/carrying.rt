@@ -1,6 +1,6 @@
 //! A script is carried out command by command, and every entry is taken into the book.
 ghost use Rattle.std.specs.Prelude.{◌≡◌, [], ◌∷◌, false, None, OnOk, IfOk};
-ghost use Rattle.qs_book.specs.Lawful.{IsLawful, book_after, broken, effect};
+ghost use Rattle.qs_machine.specs.Lawful.{IsLawful, book_after, broken, effect};
 ghost use Rattle.qs_text.specs.Fits.{Fits, IsSeated};
 ghost use Rattle.qs_top.specs.Carrying.{Makes, Ready, empty_log};
 

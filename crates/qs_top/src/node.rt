@@ -1,7 +1,7 @@
 //! What the only node makes of a command: the entries of the steps in which it is carried out.
 ghost use Rattle.std.specs.Prelude.{◌≡◌, ◌+◌, ◌<◌, ◌^◌, IfOk, Some, None};
 ghost use Rattle.qs_base.specs.declared.identifiers.Outcome.TheVariants as outcomes;
-ghost use Rattle.qs_transaction.specs.Transaction.{next_number};
+ghost use Rattle.qs_machine.specs.Transaction.{next_number};
 ghost use Rattle.qs_journal.specs.declared.entry.Act.TheVariants as acts;
 ghost use Rattle.qs_ops.specs.declared.answer.Cause.TheVariants as causes;
 ghost use Rattle.std.specs.Option.{option_copied};
@@ -13,7 +13,8 @@ use qs_base::{
 use qs_book::{Book, NodeState};
 use qs_journal::{Act, Command, Entry, ScriptLine};
 use qs_ops::{Answer, Cause, Op, Reply, Vote, answer_of};
-use qs_transaction::{Cell, Link, Part, Transaction};
+use qs_machine::{Cell, Link, Part};
+use qs_book_transactions::Transaction;
 use std::alloc::Global;
 
 /// The only node.

@@ -2,7 +2,7 @@
 ghost use Rattle.std.specs.Prelude.{◌≡◌, ◌≢◌, ◌↔◌, ◌≤◌, ℕ, [], Ok, Err, None, Some, IfOk, length};
 ghost use Rattle.std.specs.Io.KnownBytes.{Appends};
 ghost use Rattle.qs_base.specs.declared.identifiers.NodeNo.{NodeNo};
-ghost use Rattle.qs_book.specs.Lawful.{IsLawful, book_after};
+ghost use Rattle.qs_machine.specs.Lawful.{IsLawful, book_after};
 ghost use Rattle.qs_base.specs.Causes.{Rose};
 ghost use Rattle.qs_io.specs.Streams.{TakesAtMost, GivesPart};
 ghost use Rattle.std.specs.Prelude.{false};

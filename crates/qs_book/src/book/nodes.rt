@@ -1,16 +1,17 @@
 //! What entries do to the nodes.
 ghost use Rattle.std.specs.Prelude.{◌≡◌, OnOk, IfOk, map};
 ghost use Rattle.std.specs.Option.{option_copied};
-ghost use Rattle.qs_book.specs.Book.{changed_at, server_serve, crossed_serve, serve_node, vote_node, learn_node, doubts_after, end_node, tick_node, crash_node};
-ghost use Rattle.qs_book.specs.Restart.{with_votes, restarted_node};
-ghost use Rattle.qs_book.specs.Nodes.{bound_names, crossed_node};
-ghost use Rattle.qs_transaction.specs.declared.state.Request.{Request};
+ghost use Rattle.qs_machine.specs.Book.{changed_at, server_serve, crossed_serve, serve_node, vote_node, learn_node, doubts_after, end_node, tick_node, crash_node};
+ghost use Rattle.qs_machine.specs.Restart.{with_votes, restarted_node};
+ghost use Rattle.qs_machine.specs.Nodes.{bound_names, crossed_node};
+ghost use Rattle.qs_machine.specs.declared.transaction.Request.{Request};
 
 use crate::node::{NodeState, bound_names};
-use crate::state::{OnRecord, Reopened, Voter};
+use qs_machine::{OnRecord, Reopened, Voter};
 use qs_base::{Bytes, Copied, List, Member, NoMemory, NodeNo, Outcome, ServerNo, Stamp, Tid};
 use qs_ops::{Op, Reply, Vote};
-use qs_transaction::{Request, RequestNo, Transaction};
+use qs_machine::{Request, RequestNo};
+use qs_book_transactions::Transaction;
 use std::alloc::Global;
 
 /// So many transactions were begun at the node in its incarnation.

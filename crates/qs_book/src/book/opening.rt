@@ -1,19 +1,20 @@
 //! The opening of the machine: what the logs name stands in it.
 ghost use Rattle.std.specs.Prelude.{◌≡◌, IfOk, OnOk, length};
 ghost use Rattle.std.specs.List.{fold, list_any};
-ghost use Rattle.qs_book.specs.Restart.{member_at};
-ghost use Rattle.qs_transaction.specs.Transaction.{found_at};
-ghost use Rattle.qs_book.specs.Book.{with_transaction};
-ghost use Rattle.qs_book.specs.Opening.{opening, has_commit, name_all, name_from, name_pending, name_transaction, opened_transaction};
+ghost use Rattle.qs_machine.specs.Restart.{member_at};
+ghost use Rattle.qs_machine.specs.Transaction.{found_at};
+ghost use Rattle.qs_machine.specs.Book.{with_transaction};
+ghost use Rattle.qs_machine.specs.Opening.{opening, has_commit, name_all, name_from, name_pending, name_transaction, opened_transaction};
 
 use super::restarting::member_at;
 use super::{Book, transactions};
 use crate::node::NodeState;
-use crate::opened::{Opened, Pending};
+use qs_machine::{Opened, Pending};
 use crate::opening::{no_owners, opened_nodes};
 use qs_base::{NoMemory, NodeNo, Tid};
 use qs_ops::Cause;
-use qs_transaction::{Cell, Transaction};
+use qs_machine::Cell;
+use qs_book_transactions::Transaction;
 use std::alloc::Global;
 use std::collections::BTreeMap;
 

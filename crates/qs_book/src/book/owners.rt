@@ -1,9 +1,9 @@
 //! What entries do to what the clients may be told.
 ghost use Rattle.std.specs.Prelude.{◌≡◌, ◌++◌, ◌∷◌, [], OnOk, slice_get};
 ghost use Rattle.std.specs.Option.{option_copied};
-ghost use Rattle.qs_book.specs.Book.{changed_at, told, told_owner, waiting_of};
+ghost use Rattle.qs_machine.specs.Book.{changed_at, told, told_owner, waiting_of};
 
-use crate::state::{Asking, Owner};
+use qs_machine::{Asking, Owner};
 use qs_base::{ClientNo, Copied, List, NoMemory, Outcome};
 use qs_ops::Cause;
 use std::alloc::Global;

@@ -3,20 +3,21 @@ ghost use Rattle.std.specs.Prelude.{◌≡◌, not, cond, true, IfOk, OnOk};
 ghost use Rattle.std.specs.List.{list_any, list_all};
 ghost use Rattle.std.specs.BTreeMap.{is_at};
 ghost use Rattle.std.specs.Option.{option_copied};
-ghost use Rattle.qs_transaction.specs.Transaction.{is_empty};
-ghost use Rattle.qs_book.specs.Nodes.{is_recoverable, pending_at, voter_cmp};
-ghost use Rattle.qs_book.specs.Restart.{member_at, is_among, is_on_record, could_vote, is_new_vote, was_applied, is_seen, voter_of, votes_once, may_be_lost, is_found_as, is_committed, is_open_here, is_found_vote, is_kept, is_found_commit, broken_restart};
-ghost use Rattle.qs_book.specs.declared.state.OnRecord.{OnRecord};
+ghost use Rattle.qs_machine.specs.Transaction.{is_empty};
+ghost use Rattle.qs_machine.specs.Nodes.{is_recoverable, pending_at, voter_cmp};
+ghost use Rattle.qs_machine.specs.Restart.{member_at, is_among, is_on_record, could_vote, is_new_vote, was_applied, is_seen, voter_of, votes_once, may_be_lost, is_found_as, is_committed, is_open_here, is_found_vote, is_kept, is_found_commit, broken_restart};
+ghost use Rattle.qs_machine.specs.declared.state.OnRecord.{OnRecord};
 
 use super::Book;
 use crate::clauses::{
     FOUND_COMMITS_ARE_COMMITS, FOUND_VOTES_ARE_VOTES, INCARNATION_RISES, NO_VOTE_IS_LOST,
 };
 use crate::node::NodeState;
-use crate::state::Voter;
+use qs_machine::Voter;
 use qs_base::{Member, NoMemory, NodeNo, ServerNo, Tid};
 use qs_journal::Found;
-use qs_transaction::{Cell, Transaction};
+use qs_machine::Cell;
+use qs_book_transactions::Transaction;
 use std::alloc::Global;
 use std::collections::BTreeSet;
 

@@ -2,19 +2,19 @@
 ghost use Rattle.std.specs.Prelude.{◌≡◌, ◌++◌, ◌∷◌, [], fold, length, IfOk, OnOk, slice_get};
 ghost use Rattle.std.specs.List.{flat_map};
 ghost use Rattle.std.specs.Option.{option_copied};
-ghost use Rattle.qs_transaction.specs.Transaction.{found_at, with_learnt};
-ghost use Rattle.qs_book.specs.Book.{changed_at, find_transaction, with_node, with_transaction, decide, crossed_in, inc_at};
-ghost use Rattle.qs_book.specs.Nodes.{changes_of};
-ghost use Rattle.qs_book.specs.Restart.{new_vote, new_votes_at, new_votes, put_new_votes, with_votes, record_at, changes_at, is_kept_at, has_record, add_commit, commits_found, keep_found, reopened, restarted_node, learn_found, decide_found, commit_found, vote_found, abort_begun, begun_tid, begun_at, up_to, restart_found, restart, member_at};
+ghost use Rattle.qs_machine.specs.Transaction.{found_at, with_learnt};
+ghost use Rattle.qs_machine.specs.Book.{changed_at, find_transaction, with_node, with_transaction, decide, crossed_in, inc_at};
+ghost use Rattle.qs_machine.specs.Nodes.{changes_of};
+ghost use Rattle.qs_machine.specs.Restart.{new_vote, new_votes_at, new_votes, put_new_votes, with_votes, record_at, changes_at, is_kept_at, has_record, add_commit, commits_found, keep_found, reopened, restarted_node, learn_found, decide_found, commit_found, vote_found, abort_begun, begun_tid, begun_at, up_to, restart_found, restart, member_at};
 
 use super::restarting::{is_among, is_new_vote, is_open_here, member_at};
 use super::{Book, find, nodes, transactions};
 use crate::node::NodeState;
-use crate::state::{OnRecord, Reopened, Voter};
+use qs_machine::{OnRecord, Reopened, Voter};
 use qs_base::{Copied, List, NoMemory, NodeNo, Outcome, ServerNo, Tid};
 use qs_journal::Found;
 use qs_ops::{Cause, Op};
-use qs_servers::Kept;
+use qs_ops::Kept;
 
 const FILES: ServerNo = ServerNo(0);
 

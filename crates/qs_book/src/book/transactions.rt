@@ -4,11 +4,12 @@ ghost use Rattle.std.specs.BTreeMap.{insert_entry, is_at};
 ghost use Rattle.std.specs.Map.{lookup};
 ghost use Rattle.std.specs.Option.{option_copied};
 ghost use Rattle.qs_base.specs.Order.{tid_cmp};
-ghost use Rattle.qs_transaction.specs.Transaction.{changed_value, asked_at, decided_at, counted, heard, ended, issued, served_in, voted, learnt, with_learnt, lent, given_back, found_at};
+ghost use Rattle.qs_machine.specs.Transaction.{changed_value, asked_at, decided_at, counted, heard, ended, issued, served_in, voted, learnt, with_learnt, lent, given_back, found_at};
 
 use qs_base::{Member, NoMemory, NodeNo, Outcome, Stamp, Tid};
 use qs_ops::{Cause, Vote};
-use qs_transaction::{Link, Request, RequestNo, Transaction};
+use qs_machine::{Link, Request, RequestNo};
+use qs_book_transactions::Transaction;
 use std::collections::BTreeMap;
 
 /// What is kept of a transaction; `None` exactly where it is unknown.

@@ -1,7 +1,7 @@
 //! Ask, counted and decide.
 ghost use Rattle.std.specs.Prelude.{◌≡◌};
 ghost use Rattle.std.specs.Option.{option_copied};
-ghost use Rattle.qs_book.specs.Clauses.{may_ask, broken_ask, may_count, broken_counted, may_decide, has_no_record, is_room_cause, is_old, is_gone_cause, is_cause, broken_outcome, broken_decide};
+ghost use Rattle.qs_machine.specs.Clauses.{may_ask, broken_ask, may_count, broken_counted, may_decide, has_no_record, is_room_cause, is_old, is_gone_cause, is_cause, broken_outcome, broken_decide};
 
 use crate::clauses::{
     ABORT_HAS_ITS_CAUSE, ASK_ONCE, COUNTED_PEER, DECIDE_ONCE_AT_HOME, UNANIMOUS_COMMIT,
@@ -9,7 +9,8 @@ use crate::clauses::{
 use crate::node::NodeState;
 use qs_base::{NodeNo, Outcome, ServerNo, Stamp, Tid};
 use qs_ops::Cause;
-use qs_transaction::{Cell, Link, Transaction};
+use qs_machine::{Cell, Link};
+use qs_book_transactions::Transaction;
 
 /// The first clause that asking for commit at `here` breaks.
 pub fn broken_ask(here: NodeNo, tid: Tid, tx: Option<&Transaction>) -> Option<u16>

@@ -3,18 +3,19 @@ ghost use Rattle.std.specs.Prelude.{◌≡◌};
 ghost use Rattle.std.specs.List.{list_any};
 ghost use Rattle.std.specs.Option.{option_copied};
 ghost use Rattle.qs_ops.specs.Members.{class_of};
-ghost use Rattle.qs_book.specs.Clauses.{is_known, broken_answer, borrower_at, may_lend, may_yield, broken_loan, broken_yield, may_end, broken_ending, may_learn, waits_for, earlier_servers, broken_learn, is_crash, broken_crash};
+ghost use Rattle.qs_machine.specs.Clauses.{is_known, broken_answer, borrower_at, may_lend, may_yield, broken_loan, broken_yield, may_end, broken_ending, may_learn, waits_for, earlier_servers, broken_learn, is_crash, broken_crash};
 
 use crate::clauses::{
     ANSWER_IS_THE_CELL, ANSWERS_IN_ORDER, DISK_COUNT_ROSE, ENDING_IS_DUE, LEARNING_ORDER,
     LEARNS_THE_CELL, LOAN_FOLLOWS_ITS_LEND, READ_ONLY_LEARNS_NOTHING, YIELD_OF_A_STANDING_LOAN,
 };
 use crate::node::NodeState;
-use crate::state::Owner;
+use qs_machine::Owner;
 use qs_base::{Class, ClientNo, Member, NodeNo, Outcome, ServerNo, Stamp};
 use qs_journal::CrashCause;
 use qs_ops::{Answer, class_of, learns_outcome};
-use qs_transaction::{Cell, Part, Transaction, cell_of};
+use qs_machine::{Cell, Part};
+use qs_book_transactions::{Transaction, cell_of};
 
 /// The first clause that an answer to a client breaks.
 pub fn broken_answer(owner: Option<&Owner>, line: u32, answer: &Answer) -> Option<u16>

@@ -1,7 +1,7 @@
 //! Begin and issue.
 ghost use Rattle.std.specs.Prelude.{◌≡◌, ◌==◌, IfOk, length};
 ghost use Rattle.std.specs.Option.{option_copied};
-ghost use Rattle.qs_book.specs.Clauses.{broken_begin, is_next_tid, broken_issue, broken_issuer, is_numbered, is_for, is_client_here, is_files_here, is_owner_of, may_issue, may_issue_as_owner, may_issue_as_borrower, note_text, is_note, is_note_due, files_count, link_to};
+ghost use Rattle.qs_machine.specs.Clauses.{broken_begin, is_next_tid, broken_issue, broken_issuer, is_numbered, is_for, is_client_here, is_files_here, is_owner_of, may_issue, may_issue_as_owner, may_issue_as_borrower, note_text, is_note, is_note_due, files_count, link_to};
 
 use crate::clauses::{
     AUDIT_NOTE_DUE, CLIENT_MAY_ISSUE, FRESH_LABEL, ISSUE_NUMBERING, NEXT_IDENTIFIER,
@@ -9,7 +9,8 @@ use crate::clauses::{
 use crate::node::NodeState;
 use qs_base::{Bytes, ClientNo, Member, NoMemory, NodeNo, ServerNo, Tid};
 use qs_ops::{Op, server_of};
-use qs_transaction::{Cell, Link, Noted, Transaction};
+use qs_machine::{Cell, Link, Noted};
+use qs_book_transactions::Transaction;
 use std::alloc::Global;
 use std::collections::BTreeMap;
 

@@ -1,15 +1,16 @@
 //! Serve.
 ghost use Rattle.std.specs.Prelude.{◌≡◌, IfOk};
 ghost use Rattle.std.specs.Option.{option_copied};
-ghost use Rattle.qs_book.specs.Clauses.{broken_serve, broken_request, request_here, has_reply, holds_as, may_hold, takes_lock, is_crossed_busy, is_table_reply, is_server_reply, is_reply};
+ghost use Rattle.qs_machine.specs.Clauses.{broken_serve, broken_request, request_here, has_reply, holds_as, may_hold, takes_lock, is_crossed_busy, is_table_reply, is_server_reply, is_reply};
 
 use crate::book::find;
 use crate::clauses::{NO_SERVE_AFTER_ABORT, REPLY_BY_THE_RULES, SERVE_OF_A_STANDING_ISSUE};
 use crate::node::NodeState;
 use qs_base::{Member, NoMemory, NodeNo, ServerNo, Tid};
 use qs_ops::{Op, Reply};
-use qs_servers::Table;
-use qs_transaction::{Link, Request, RequestNo, Transaction};
+use qs_book_tables::Table;
+use qs_machine::{Link, Request, RequestNo};
+use qs_book_transactions::Transaction;
 use std::collections::BTreeMap;
 
 /// Which member serves which request, with what reply.

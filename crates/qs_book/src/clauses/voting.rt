@@ -1,15 +1,16 @@
 //! Vote.
 ghost use Rattle.std.specs.Prelude.{◌≡◌, IfOk};
 ghost use Rattle.std.specs.Option.{option_copied};
-ghost use Rattle.qs_book.specs.Clauses.{broken_vote, is_vote_due, is_log_full, is_files_vote, is_audit_vote, is_name, is_taken_name, is_names_vote, is_server_vote, has_vote, is_vote, is_extra_vote};
-ghost use Rattle.qs_transaction.specs.Transaction.{part_of};
+ghost use Rattle.qs_machine.specs.Clauses.{broken_vote, is_vote_due, is_log_full, is_files_vote, is_audit_vote, is_name, is_taken_name, is_names_vote, is_server_vote, has_vote, is_vote, is_extra_vote};
+ghost use Rattle.qs_machine.specs.Transaction.{part_of};
 
 use crate::clauses::{VOTE_BY_THE_RULES, VOTE_COVERS, VOTE_IS_DUE};
 use crate::node::NodeState;
 use qs_base::{Bytes, Member, NoMemory, NodeNo, ServerNo, Tid};
 use qs_ops::{Reason, Vote, class_of, is_two_phase};
-use qs_servers::Table;
-use qs_transaction::{Cell, Transaction};
+use qs_book_tables::Table;
+use qs_machine::Cell;
+use qs_book_transactions::Transaction;
 
 /// How a member votes, for so many requests.
 #[derive(Clone, Copy, Debug)]

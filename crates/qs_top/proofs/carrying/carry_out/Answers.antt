@@ -1,5 +1,5 @@
 use Rattle.std.proofs.Common.{◌≡◌, ◌++◌, ◌∙◌, List, ap}
-use Rattle.qs_book.specs.Lawful.{book_after}
+use Rattle.qs_machine.specs.Lawful.{book_after}
 use Rattle.qs_journal.specs.declared.entry.Entry.{Entry}
 use Rattle.qs_top.proofs.Ready.{makes_lawful, makes_ready}
 use Rattle.qs_top.proofs.carrying.carry_out.Goals as goal

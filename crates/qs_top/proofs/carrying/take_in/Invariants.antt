@@ -1,5 +1,5 @@
 use Rattle.std.proofs.Common.{◌≡◌, length}
-use Rattle.qs_book.specs.Lawful.{IsLawful, book_after}
+use Rattle.qs_machine.specs.Lawful.{IsLawful, book_after}
 use Rattle.qs_top.proofs.carrying.take_in.Given as goal
 
 abbrev pub invariant-loop-rest : goal.invariant-loop-rest

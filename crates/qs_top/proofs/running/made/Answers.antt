@@ -1,6 +1,6 @@
 use Rattle.std.proofs.Common.{◌∙◌, List, ap, sym, false}
-use Rattle.qs_book.specs.Book.{BookValue}
-use Rattle.qs_book.specs.Lawful.{book_after}
+use Rattle.qs_machine.specs.Book.{BookValue}
+use Rattle.qs_machine.specs.Lawful.{book_after}
 use Rattle.qs_journal.specs.declared.entry.Entry.{Entry}
 use Rattle.qs_text.specs.Output.{out_of}
 use Rattle.qs_top.specs.Carrying.{opening}

@@ -1,6 +1,6 @@
 use Rattle.std.proofs.Common.{◌≡◌, [], take}
 use Rattle.std.specs.List.{fold}
-use Rattle.qs_book.specs.Restart.{add_commit}
+use Rattle.qs_machine.specs.Restart.{add_commit}
 use Rattle.qs_book.proofs.book.reviving.commits_found.Given as goal
 
 abbrev pub invariant-loop-tid : goal.invariant-loop-tid

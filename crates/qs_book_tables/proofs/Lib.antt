@@ -1,0 +1,7 @@
+pub mod Following
+pub mod IndexSteps
+pub mod Restarted
+pub mod ShareSteps
+pub mod Staging
+pub mod Taken
+pub mod Texts

@@ -1,0 +1,7 @@
+pub mod Edits
+pub mod Held
+pub mod Index
+pub mod Refusals
+pub mod Restarts
+pub mod Staged
+pub mod Views

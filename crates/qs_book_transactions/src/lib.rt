@@ -1,0 +1,13 @@
+//! What the reference machine keeps of one transaction.
+#![tactic(auto)]
+
+mod cells;
+mod part;
+mod requests;
+mod sending;
+#[cfg(test)]
+mod tests;
+mod transaction;
+
+pub use cells::cell_of;
+pub use transaction::Transaction;

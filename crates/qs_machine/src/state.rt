@@ -1,0 +1,53 @@
+//! What the machine keeps of each client, and what is on record.
+
+use crate::causes::Causes;
+use qs_base::{List, NodeNo, ServerNo, Tid};
+use qs_ops::{Changes, Kept};
+
+/// A transaction at a server of a node.
+#[derive(Clone, Copy, Debug, PartialEq, Eq, PartialOrd, Ord)]
+pub struct Voter {
+    pub tid: Tid,
+    pub server: ServerNo,
+}
+
+/// The changes and covers of a recoverable vote.
+#[derive(Debug, Drop, PartialEq, Eq)]
+pub struct OnRecord {
+    pub changes: Changes,
+    pub covers: u32,
+}
+
+/// What files and audit of a restarted node begin with.
+#[derive(Debug, Drop)]
+pub struct Reopened {
+    /// The new incarnation.
+    pub inc: u64,
+    /// The changes of files in the Commits that were found, in their order.
+    pub files: Changes,
+    /// The votes of files that are pending again.
+    pub files_kept: List<Kept>,
+    /// And the same of audit.
+    pub audit: Changes,
+    pub audit_kept: List<Kept>,
+}
+
+/// What a client may be told, and up to which line it was answered.
+#[derive(Debug, Drop)]
+pub struct Owner {
+    /// The line of its last answer; 0 before the first.
+    pub line: u32,
+    /// Whether a transaction of its was committed.
+    pub committed: bool,
+    /// Why its transactions were aborted.
+    pub causes: Causes,
+    /// Its requests since its last answer, by transaction and member's node.
+    pub waiting: List<Asking>,
+}
+
+/// A transaction of which a request went to a node.
+#[derive(Clone, Copy, Debug, PartialEq, Eq)]
+pub struct Asking {
+    pub tid: Tid,
+    pub node: NodeNo,
+}

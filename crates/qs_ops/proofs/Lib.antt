@@ -1,0 +1,2 @@
+pub mod FileOrder
+pub mod Written

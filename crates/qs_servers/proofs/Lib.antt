@@ -1,9 +1,0 @@
-pub mod FileOrder
-pub mod Following
-pub mod IndexSteps
-pub mod Restarted
-pub mod ShareSteps
-pub mod Staging
-pub mod Taken
-pub mod Texts
-pub mod Written
