@@ -1,6 +1,6 @@
 -- How the members of a transaction take part in its commit. A member is a server of a node, or a client to whom the
 -- transaction was lent.
-use Rattle.std.specs.Prelude.{ℕ, ◌==◌, Bool, true, false, nat_lt, if◌then◌else◌}
+use Rattle.std.specs.Prelude.{ℕ, ◌==◌, Bool, true, false, if◌then◌else◌}
 use Rattle.qs_base.specs.declared.identifiers.Class.{Class}
 use Rattle.qs_base.specs.declared.identifiers.Class.TheVariants.{Recoverable, Volatile, Immediate, Standard, Delayed, Activity}
 use Rattle.qs_ops.specs.Servers.{names_no, timers_no, windows_no, scratch_no, is_client_no}

@@ -1,7 +1,6 @@
 -- A server of a node, seen through the trait: which it is, what it holds, and what each call makes of that. The laws of
 -- `Server` cite these functions, and so does whoever speaks of a node's servers without knowing which they are.
-use Rattle.std.specs.Prelude.{◌≡◌, ℕ, ◌+◌, ◌<◌, ◌==◌, Bool, true, false, ◌&&◌, List, [], ◌∷◌, ◌++◌, length, map, take, drop, Option, Some, None, nat_lt, if◌then◌else◌}
-use Rattle.qs_base.specs.declared.identifiers.ServerNo.{ServerNo}
+use Rattle.std.specs.Prelude.{◌≡◌, ℕ, ◌+◌, ◌<◌, ◌==◌, Bool, true, false, List, [], ◌∷◌, ◌++◌, length, map, take, drop, Option, Some, None, nat_lt, if◌then◌else◌}
 use Rattle.qs_base.specs.declared.identifiers.Tid.{Tid}
 use Rattle.qs_ops.specs.Operations.{server_of}
 use Rattle.qs_ops.specs.Spelled.{prepare_length}
