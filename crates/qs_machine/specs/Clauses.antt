@@ -276,13 +276,13 @@ is_server_vote node server tid vote =
     else if server == names_no then is_names_vote node tid vote
     else (server == extra_no) && is_extra_vote vote
 
--- the votes that a server has
+-- the votes that a server has: of files alone a quota that the bytes pass, of files and audit a room that the need passes
 abbrev pub has_vote : ℕ → Vote → Bool
 has_vote server votes.ReadOnly = true
 has_vote server votes.Volatile = server == names_no
 has_vote server votes.Recoverable = (server == files_no) || (server == audit_no)
-has_vote server (votes.Abort (reasons.Quota bytes limit)) = server == files_no
-has_vote server (votes.Abort (reasons.LogRoom need room)) = (server == files_no) || (server == audit_no)
+has_vote server (votes.Abort (reasons.Quota bytes limit)) = (server == files_no) && nat_lt limit bytes
+has_vote server (votes.Abort (reasons.LogRoom need room)) = ((server == files_no) || (server == audit_no)) && nat_lt room need
 has_vote server (votes.Abort (reasons.Taken name)) = server == names_no
 has_vote server (votes.Abort (reasons.Code code)) = false
 
