@@ -50,7 +50,7 @@ count_of book tid member inc = unwrap_or (option_map (count_in member inc) (find
 
 -- ---- lives
 
-life_equal : (l m : Life) → life_cmp l m ≡ Equal → l ≡ m
+pub life_equal : (l m : Life) → life_cmp l m ≡ Equal → l ≡ m
 life_equal l m e =
     let pairs = exact_pairs member_cmp nat_cmp member_equal exact_unsigned (l.member, l.inc) (m.member, m.inc) e in
     ap made pairs
@@ -69,7 +69,7 @@ life_exact l m = by (life_cmp l m) refl
 pub life_itself : (l : Life) → life_cmp l l ≡ Equal
 life_itself l = rw (tied_itself nat_cmp_total l.member.node.0, tied_itself nat_cmp_total l.member.server.0, tied_itself nat_cmp_total l.inc) refl
 
-life_other : (member other : Member) (inc k : ℕ) → same_member other member ≡ false → is_at (life_cmp (life member inc)) (life other k) ≡ false
+pub life_other : (member other : Member) (inc k : ℕ) → same_member other member ≡ false → is_at (life_cmp (life member inc)) (life other k) ≡ false
 life_other member other inc k h = by (is_at (life_cmp (life member inc)) (life other k)) refl
   where
     by : (b : Bool) → is_at (life_cmp (life member inc)) (life other k) ≡ b → b ≡ false

@@ -253,7 +253,7 @@ no_vote here node tid (Some tx) other ballot covers is h =
 -- ---- a step
 
 -- another transaction than one that is changed
-apart_tid : (t tid : Tid) → same_tid t tid ≡ false → (k : Tid) → is_at (tid_cmp tid) k ≡ true → is_at (tid_cmp t) k ≡ false
+pub apart_tid : (t tid : Tid) → same_tid t tid ≡ false → (k : Tid) → is_at (tid_cmp tid) k ≡ true → is_at (tid_cmp t) k ≡ false
 apart_tid t tid other k is = subst (λ (x : Tid). is_at (tid_cmp t) x ≡ false) (at_exact tid k is) (at_other t tid (same_tid_swapped t tid other))
 
 other_seal : (t tid : Tid) (f : TransactionValue → TransactionValue) (book : BookValue) → same_tid t tid ≡ false → seal_at (with_transaction t f book) tid ≡ seal_at book tid
