@@ -19,7 +19,7 @@ use Rattle.qs_ops.specs.declared.vote.Vote.{Vote}
 use Rattle.qs_ops.specs.declared.vote.Vote.TheVariants as votes
 use Rattle.qs_ops.specs.Table.{served, released, committed, with_vote}
 use Rattle.qs_ops.specs.Timers.{timer_served, ticked, timers_ended}
-use Rattle.qs_machine.specs.Transaction.{TransactionValue, changed_value, begun, issued, served_in, voted, decided_at, learnt, heard, is_crossed, standing_request, requests_at, counted, ended, lent, given_back}
+use Rattle.qs_machine.specs.Transaction.{TransactionValue, part_of, changed_value, begun, issued, served_in, voted, decided_at, learnt, heard, is_crossed, standing_request, requests_at, counted, ended, lent, given_back}
 use Rattle.qs_machine.specs.declared.transaction.Cell.{Cell}
 use Rattle.qs_machine.specs.declared.transaction.Request.{Request}
 use Rattle.qs_machine.specs.declared.transaction.RequestNo.{RequestNo}
@@ -183,24 +183,37 @@ serve here tid member from number stamp reply book =
     at = record { link = record { from = from; to = member.node }; number = number }
 
 -- a read-only vote ends the reads; a volatile one claims the names; a recoverable one goes on record
-abbrev pub vote_node : Bool → Tid → ℕ → Vote → ℕ → NodeValue → NodeValue
-vote_node crossed tid server votes.ReadOnly covers node = with_table server (λ table. released table tid) node
-vote_node true tid server (votes.Abort reason) covers node = node
-vote_node false tid server (votes.Abort reason) covers node = with_table server (λ table. with_vote table tid false) node
-vote_node true tid server votes.Volatile covers node = node
-vote_node false tid server votes.Volatile covers node = with_table server (λ table. with_vote table tid true) node
-vote_node crossed tid server votes.Recoverable covers node = record node {
-  records = insert_entry voter_cmp node.records (voter tid server) (record { changes = pending_at node tid server; covers = covers });
+-- with its covers and the count of the changes that the member has pending
+abbrev pub vote_node : ℕ → Bool → Tid → ℕ → Vote → ℕ → NodeValue → NodeValue
+vote_node count crossed tid server votes.ReadOnly covers node = with_table server (λ table. released table tid) node
+vote_node count true tid server (votes.Abort reason) covers node = node
+vote_node count false tid server (votes.Abort reason) covers node = with_table server (λ table. with_vote table tid false) node
+vote_node count true tid server votes.Volatile covers node = node
+vote_node count false tid server votes.Volatile covers node = with_table server (λ table. with_vote table tid true) node
+vote_node count crossed tid server votes.Recoverable covers node = record node {
+  records = insert_entry voter_cmp node.records (voter tid server)
+      (record { changes = pending_at node tid server; covers = covers; pending = count });
 }
 
 abbrev pub crossed_in : Option TransactionValue → Member → Bool
 crossed_in None member = false
 crossed_in (Some tx) member = is_crossed tx member
 
+-- how many changes the member has pending in that incarnation
+abbrev pub pending_in : Option TransactionValue → Member → ℕ → ℕ
+pending_in None member inc = 0
+pending_in (Some tx) member inc = (part_of tx member inc).pending
+
+-- a member of this node votes
+abbrev pub vote_here : ℕ → Tid → Member → Vote → ℕ → Option TransactionValue → BookValue → BookValue
+vote_here here tid member ballot covers tx book =
+    with_node here
+    (vote_node (pending_in tx member (inc_at book (record { 0 = here }))) (crossed_in tx member) tid member.server.0 ballot covers) book
+
 abbrev pub vote : ℕ → Tid → Member → Vote → ℕ → BookValue → BookValue
 vote here tid member ballot covers book =
     with_transaction tid (voted member (inc_at book (record { 0 = here })) ballot)
-    (with_node here (vote_node (crossed_in (find_transaction book tid) member) tid member.server.0 ballot covers) book)
+    (vote_here here tid member ballot covers (find_transaction book tid) book)
 
 -- commit applies what is pending, and is on record no more; abort drops it
 abbrev pub learn_node : Outcome → Tid → ℕ → NodeValue → NodeValue

@@ -275,13 +275,13 @@ is_server_vote node server tid vote =
     else if server == 2 then is_names_vote node tid vote
     else (server == 6) && is_extra_vote vote
 
--- the votes that a server has
+-- the votes that a server has: of files alone a quota that the bytes pass, of files and audit a room that the need passes
 abbrev pub has_vote : ℕ → Vote → Bool
 has_vote server votes.ReadOnly = true
 has_vote server votes.Volatile = server == 2
 has_vote server votes.Recoverable = (server == 0) || (server == 1)
-has_vote server (votes.Abort (reasons.Quota bytes limit)) = server == 0
-has_vote server (votes.Abort (reasons.LogRoom need room)) = (server == 0) || (server == 1)
+has_vote server (votes.Abort (reasons.Quota bytes limit)) = (server == 0) && nat_lt limit bytes
+has_vote server (votes.Abort (reasons.LogRoom need room)) = ((server == 0) || (server == 1)) && nat_lt room need
 has_vote server (votes.Abort (reasons.Taken name)) = server == 2
 has_vote server (votes.Abort (reasons.Code code)) = false
 

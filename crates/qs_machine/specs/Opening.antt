@@ -39,7 +39,7 @@ note_of text = Note text
 abbrev pub put_record : List (Voter × OnRecord) → Pending → List (Voter × OnRecord)
 put_record records pending =
     insert_entry voter_cmp records (voter pending.tid pending.server.0)
-    (record { changes = pending.changes; covers = pending.covers })
+    (record { changes = pending.changes; covers = pending.covers; pending = length pending.changes })
 
 abbrev pub put_tid : List Tid → Tid → List Tid
 put_tid tids tid = insert_key tid_cmp tids tid

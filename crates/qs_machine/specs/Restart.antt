@@ -1,5 +1,5 @@
 -- A restart: what its found lists have to be, and what it does.
-use Rattle.std.specs.Prelude.{ℕ, ◌==◌, Bool, true, false, not, ◌&&◌, ◌||◌, List, [], ◌∷◌, ◌++◌, length, fold, Option, Some, None, is_some, nat_lt, nat_le, suc, zero, slice_get, if◌then◌else◌}
+use Rattle.std.specs.Prelude.{ℕ, ◌==◌, Bool, true, false, not, ◌&&◌, ◌||◌, List, [], ◌∷◌, ◌++◌, fold, Option, Some, None, is_some, nat_lt, nat_le, suc, zero, slice_get, if◌then◌else◌}
 use Rattle.std.specs.List.{list_any, list_all, flat_map}
 use Rattle.std.specs.BTreeMap.{insert_entry, is_at}
 use Rattle.std.specs.BTreeSet.{insert_key}
@@ -10,12 +10,14 @@ use Rattle.qs_base.specs.declared.identifiers.Outcome.TheVariants as outcomes
 use Rattle.qs_base.specs.declared.identifiers.Tid.{Tid}
 use Rattle.qs_ops.specs.declared.answer.Cause.TheVariants as causes
 use Rattle.qs_ops.specs.declared.operation.Op.{Op}
+use Rattle.qs_ops.specs.declared.vote.Vote.TheVariants as votes
 use Rattle.qs_journal.specs.declared.entry.Found.{Found}
 use Rattle.qs_ops.specs.Table.{no_table, restarted}
 use Rattle.qs_ops.specs.Timers.{no_timers}
 use Rattle.qs_ops.specs.declared.share.Kept.{Kept}
 use Rattle.qs_machine.specs.Transaction.{TransactionValue, is_open, is_commit, is_abort, part_of, was_crossed, is_covering, is_unanimous, has_learnt, with_learnt, found_at, was_in_commit, is_empty}
-use Rattle.qs_machine.specs.Book.{BookValue, find_transaction, with_node, with_transaction, decide, crossed_in, inc_at}
+use Rattle.qs_machine.specs.Clauses.{has_vote}
+use Rattle.qs_machine.specs.Book.{BookValue, find_transaction, with_node, with_transaction, decide, crossed_in, pending_in, inc_at}
 use Rattle.qs_machine.specs.Nodes.{NodeValue, without_record, record_of, changes_of, pending_at, is_recoverable, voter, voter_cmp}
 use Rattle.qs_machine.specs.declared.state.Reopened.{Reopened}
 use Rattle.qs_machine.specs.declared.state.OnRecord.{OnRecord}
@@ -37,14 +39,15 @@ is_on_record node found = elim (record_of node found.tid found.server.0) [
   | Some rec ↦ rec.covers == found.covers
 ]
 
--- as the node stopped, its member could vote recoverable: asked and not committed, something served since its last vote,
--- covers that count, something pending or the transaction crossed there
+-- as the node stopped, its member could vote recoverable: a vote that its server has; asked and not committed, something
+-- served since its last vote, covers that count, something pending or the transaction crossed there
 abbrev pub could_vote : ℕ → NodeValue → TransactionValue → Found → Bool
 could_vote here node tx found =
-    was_in_commit node.stopped tx
+    has_vote found.server.0 votes.Recoverable
+    && (was_in_commit node.stopped tx
     && ((nat_lt (part_of tx (member_at here found.server.0) node.inc).voted (part_of tx (member_at here found.server.0) node.inc).served
     && is_covering tx (member_at here found.server.0) node.inc found.covers)
-    && (was_crossed node.stopped tx (member_at here found.server.0) || not (is_empty (pending_at node found.tid found.server.0))))
+    && (was_crossed node.stopped tx (member_at here found.server.0) || not (is_empty (pending_at node found.tid found.server.0)))))
 
 abbrev pub is_new_vote : ℕ → NodeValue → Option TransactionValue → Found → Bool
 is_new_vote here node None found = false
@@ -117,11 +120,19 @@ broken_restart here book node inc pend done =
 
 -- ---- what it does
 
--- a vote that was found and is new goes on record, with what was pending as the node stopped
+-- the vote with what was pending as the node stopped
+abbrev pub vote_as_stopped : ℕ → BookValue → NodeValue → Found → OnRecord
+vote_as_stopped here book node found = record {
+  changes = pending_at node found.tid found.server.0;
+  covers = found.covers;
+  pending = pending_in (find_transaction book found.tid) (member_at here found.server.0) node.inc;
+}
+
+-- a vote that was found and is new goes on record
 abbrev pub new_vote : ℕ → BookValue → NodeValue → Found → List (Voter × OnRecord)
 new_vote here book node found =
     if is_new_vote here node (find_transaction book found.tid) found
-    then (voter found.tid found.server.0, record { changes = pending_at node found.tid found.server.0; covers = found.covers }) ∷ []
+    then (voter found.tid found.server.0, vote_as_stopped here book node found) ∷ []
     else []
 
 abbrev pub new_votes_at : ℕ → BookValue → Option NodeValue → List Found → List (Voter × OnRecord)
@@ -219,12 +230,17 @@ abbrev pub commit_found : ℕ → BookValue → Tid → BookValue
 commit_found here book tid =
     decide_found here tid (learn_found here tid 6 (learn_found here tid 1 (learn_found here tid 0 book)))
 
+-- how many changes were pending at the vote; the changes of a crossed member are not known, and their count is
+abbrev pub count_of : Option OnRecord → ℕ
+count_of None = 0
+count_of (Some rec) = rec.pending
+
 -- a member whose vote is pending again
 abbrev pub vote_found : ℕ → ℕ → List Tid → BookValue → Found → BookValue
 vote_found here inc done book found =
     if is_among done found.tid then book
     else with_transaction found.tid
-    (found_at (member_at here found.server.0) inc found.covers (length (changes_at here book found.server.0 found.tid))) book
+    (found_at (member_at here found.server.0) inc found.covers (count_of (record_at here book found.tid found.server.0))) book
 
 -- a transaction that was begun in the incarnation that ended, and is open still, is aborted
 abbrev pub begun_tid : ℕ → ℕ → ℕ → Tid

@@ -11,11 +11,15 @@ pub struct Voter {
     pub server: ServerNo,
 }
 
-/// The changes and covers of a recoverable vote.
+/// A recoverable vote that can still be committed or dropped.
 #[derive(Debug, Drop, PartialEq, Eq)]
 pub struct OnRecord {
+    /// The changes that it stands for; of a crossed member they are not known, and there are none.
     pub changes: Changes,
+    /// For how many served requests it stands.
     pub covers: u32,
+    /// How many changes the member had pending, also where it is crossed.
+    pub pending: u64,
 }
 
 /// What files and audit of a restarted node begin with.
