@@ -28,7 +28,7 @@ use Rattle.qs_machine.specs.Book.{BookValue, find_transaction, with_owner, with_
 use Rattle.qs_machine.specs.Clauses.{link_to, borrower_at}
 use Rattle.qs_machine.specs.Lawful.{is_in_order, broken_act, broken_node, broken_at, broken, effect_act, effect}
 use Rattle.qs_machine.specs.Nodes.{NodeValue}
-use Rattle.qs_machine.specs.Restart.{restart, put_new_votes, changes_at, up_to, begun_at, abort_begun, vote_found, commit_found, learn_found, decide_found, is_among, is_open_here, begun_tid, record_at, member_at}
+use Rattle.qs_machine.specs.Restart.{restart, put_new_votes, changes_at, up_to, begun_at, abort_begun, vote_found, commit_found, learn_found, decide_found, is_among, is_open_here, begun_tid, record_at, member_at, count_of as pending_of}
 use Rattle.qs_machine.specs.declared.state.Asking.{Asking}
 use Rattle.qs_machine.specs.declared.state.Owner.{Owner}
 use Rattle.qs_laws.proofs.Alikes.{at_exact}
@@ -127,10 +127,10 @@ module _ (tid : Tid) where
 
     kept_vote : (done : List Tid) (book : BookValue) (found : Found) → Stands tid P book → Stands tid P (vote_found here inc done book found)
     kept_vote done book found s =
-        kept_if P (is_among done found.tid) book (with_transaction found.tid f book) s (kept_by P book found.tid f (v.found found.server.0 found.covers (length (changes_at here book found.server.0 found.tid))) s)
+        kept_if P (is_among done found.tid) book (with_transaction found.tid f book) s (kept_by P book found.tid f (v.found found.server.0 found.covers (pending_of (record_at here book found.tid found.server.0))) s)
       where
         f : TransactionValue → TransactionValue
-        f = found_at (member_at here found.server.0) inc found.covers (length (changes_at here book found.server.0 found.tid))
+        f = found_at (member_at here found.server.0) inc found.covers (pending_of (record_at here book found.tid found.server.0))
 
     kept_abort : (old : ℕ) (book : BookValue) (seq : ℕ) → Stands tid P book → Stands tid P (abort_begun here old book seq)
     kept_abort old book seq s =
