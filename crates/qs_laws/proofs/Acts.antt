@@ -18,7 +18,7 @@ use Rattle.qs_machine.specs.declared.transaction.Request.{Request}
 use Rattle.qs_machine.specs.declared.transaction.RequestNo.{RequestNo}
 use Rattle.qs_machine.specs.Clauses.{link_to, borrower_at}
 use Rattle.qs_machine.specs.Nodes.{NodeValue, with_table, crossed_node, crossed_server, crossed_names, crossed_table}
-use Rattle.qs_machine.specs.Book.{BookValue, find_transaction, with_node, with_transaction, with_waiting, with_crossing, crosses, issue, serve, serve_node, server_serve, crossed_serve, is_done, vote, vote_node, crossed_in, learn, learn_node, doubts_after, hear, answer, waiting_of, tick_node, crash_node, count, end, end_node, loan, loan_to, give_back, give_back_from, inc_at}
+use Rattle.qs_machine.specs.Book.{BookValue, find_transaction, with_node, with_transaction, with_waiting, with_crossing, crosses, issue, serve, serve_node, server_serve, crossed_serve, is_done, vote, vote_node, crossed_in, learn, learn_node, doubts_after, hear, answer, waiting_of, tick_node, crash_node, count, end, end_node, loan, loan_to, give_back, give_back_from, inc_at, pending_in}
 use Rattle.qs_machine.specs.declared.state.Asking.{Asking}
 use Rattle.qs_laws.proofs.Faces.{face, age, Alike, alike_self, alike_then, transaction_alike, node_alike, owner_alike, either_way, either_alike}
 
@@ -63,13 +63,13 @@ serve_age (Some tx) at tid member reply node =
     of None = refl
     of (Some request) = server_serve_age member.server.0 tid request.op reply node
 
-vote_age : (crossed : Bool) (tid : Tid) (server : ℕ) (ballot : Vote) (covers : ℕ) (node : NodeValue) → age (vote_node crossed tid server ballot covers node) ≡ age node
-vote_age crossed tid server votes.ReadOnly covers node = with_table_age server (λ table. released table tid) node
-vote_age true tid server (votes.Abort reason) covers node = refl
-vote_age false tid server (votes.Abort reason) covers node = with_table_age server (λ table. with_vote table tid false) node
-vote_age true tid server votes.Volatile covers node = refl
-vote_age false tid server votes.Volatile covers node = with_table_age server (λ table. with_vote table tid true) node
-vote_age crossed tid server votes.Recoverable covers node = refl
+vote_age : (count : ℕ) (crossed : Bool) (tid : Tid) (server : ℕ) (ballot : Vote) (covers : ℕ) (node : NodeValue) → age (vote_node count crossed tid server ballot covers node) ≡ age node
+vote_age count crossed tid server votes.ReadOnly covers node = with_table_age server (λ table. released table tid) node
+vote_age count true tid server (votes.Abort reason) covers node = refl
+vote_age count false tid server (votes.Abort reason) covers node = with_table_age server (λ table. with_vote table tid false) node
+vote_age count true tid server votes.Volatile covers node = refl
+vote_age count false tid server votes.Volatile covers node = with_table_age server (λ table. with_vote table tid true) node
+vote_age count crossed tid server votes.Recoverable covers node = refl
 
 learn_age : (outcome : Outcome) (tid : Tid) (server : ℕ) (node : NodeValue) → age (learn_node outcome tid server node) ≡ age node
 learn_age outcomes.Commit tid server node = with_table_age server (λ table. committed table tid) node
@@ -113,7 +113,7 @@ by_ask tid book = transaction_alike tid _ (λ tx. refl) book
 
 pub by_vote : (here : ℕ) (tid : Tid) (member : Member) (ballot : Vote) (covers : ℕ) (book : BookValue) → Alike book (vote here tid member ballot covers book)
 by_vote here tid member ballot covers book =
-    alike_then book _ _ (node_alike here _ (vote_age (crossed_in (find_transaction book tid) member) tid member.server.0 ballot covers) book) (transaction_alike tid _ (λ tx. refl) _)
+    alike_then book _ _ (node_alike here _ (vote_age (pending_in (find_transaction book tid) member (inc_at book (record { 0 = here }))) (crossed_in (find_transaction book tid) member) tid member.server.0 ballot covers) book) (transaction_alike tid _ (λ tx. refl) _)
 
 pub by_count : (here : ℕ) (tid : Tid) (peer : NodeNo) (up_to : ℕ) (book : BookValue) → Alike book (count here tid peer up_to book)
 by_count here tid peer up_to book = transaction_alike tid _ (λ tx. refl) book

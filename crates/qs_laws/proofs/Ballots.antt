@@ -37,6 +37,7 @@ use Rattle.qs_laws.proofs.Shares.{number, table}
 use Rattle.qs_laws.proofs.StillActs as still
 use Rattle.qs_laws.proofs.Steps.{passed, past}
 use Rattle.qs_laws.proofs.Tidy.{IsTidy, IsTidyTable}
+use Rattle.qs_laws.proofs.Faces.{vote_by, recorded_by, pending_now}
 
 -- all that was served is covered
 abbrev pub IsEven : Count → Type 0
@@ -116,11 +117,11 @@ module _ (tid : Tid) (member : Member) where
         subst (λ (a : Act). SameMark tid member book (effect_act entry.stamp entry.node.0 a book)) (sym act_is)
         (still_mark tid member book (vote entry.node.0 tid member ballot covers book) (still.by_vote entry.node.0 tid member ballot covers book off) (alike.by_vote entry.node.0 tid member ballot covers book))
 
-    node_after : slice_get (effect book entry).nodes member.node.0 ≡ Some (vote_node (crossed_in (find_transaction book tid) member) tid member.server.0 ballot covers at_node.0)
+    node_after : slice_get (effect book entry).nodes member.node.0 ≡ Some (vote_by book entry.node.0 tid member ballot covers at_node.0)
     node_after =
         ap (λ (a : Act). slice_get (effect_act entry.stamp entry.node.0 a book).nodes member.node.0) act_is
-        ∙ subst (λ (n : ℕ). slice_get (changed_at n (vote_node (crossed_in (find_transaction book tid) member) tid member.server.0 ballot covers) book.nodes) member.node.0 ≡ Some (vote_node (crossed_in (find_transaction book tid) member) tid member.server.0 ballot covers at_node.0)) near
-        (changed_at_here (vote_node (crossed_in (find_transaction book tid) member) tid member.server.0 ballot covers) book.nodes member.node.0 at_node.0 there)
+        ∙ subst (λ (n : ℕ). slice_get (changed_at n (vote_by book entry.node.0 tid member ballot covers) book.nodes) member.node.0 ≡ Some (vote_by book entry.node.0 tid member ballot covers at_node.0)) near
+        (changed_at_here (vote_by book entry.node.0 tid member ballot covers) book.nodes member.node.0 at_node.0 there)
 
   -- a vote against commit changes neither
   pub against_leaves : (book : BookValue) (entry : Entry) (ballot : Vote) (covers : ℕ) → entry.act ≡ acts.Vote tid member ballot covers → is_for_commit ballot ≡ false → broken book entry ≡ None → Leaves tid member book (effect book entry)
@@ -141,12 +142,12 @@ module _ (tid : Tid) (member : Member) where
 
   -- a vote that goes on record
   pub recorded_mark : (book : BookValue) (entry : Entry) (covers : ℕ) (mark : Mark) → entry.act ≡ acts.Vote tid member votes.Recoverable covers → broken book entry ≡ None → mark_of book tid member ≡ Some mark
-      → mark_of (effect book entry) tid member ≡ Some (record { inc = mark.inc; rec = Some (record { changes = held_at book tid member; covers = covers }) })
+      → mark_of (effect book entry) tid member ≡ Some (record { inc = mark.inc; rec = Some (recorded_by book entry.node.0 tid member covers (held_at book tid member)) })
   recorded_mark book entry covers mark act_is h marked =
       ap (λ (o : Option NodeValue). option_map (mark_in tid member.server.0) o) (node_after book entry votes.Recoverable covers h act_is)
-      ∙ (ap (λ (o : Option OnRecord). Some (made node.inc o)) (lookup_put voter_cmp (voter tid member.server.0) (record { changes = pending_at node tid member.server.0; covers = covers }) (voter_itself (voter tid member.server.0)) node.records)
-      ∙ (ap (λ (inc : ℕ). Some (made inc (Some (record { changes = pending_at node tid member.server.0; covers = covers })))) (sym (inc_is book entry votes.Recoverable covers h act_is mark marked))
-      ∙ ap (λ (ops : List Op). Some (made mark.inc (Some (record { changes = ops; covers = covers })))) (sym (held_there book tid member node (there book entry votes.Recoverable covers h act_is)))))
+      ∙ (ap (λ (o : Option OnRecord). Some (made node.inc o)) (lookup_put voter_cmp (voter tid member.server.0) (recorded_by book entry.node.0 tid member covers (pending_at node tid member.server.0)) (voter_itself (voter tid member.server.0)) node.records)
+      ∙ (ap (λ (inc : ℕ). Some (made inc (Some (recorded_by book entry.node.0 tid member covers (pending_at node tid member.server.0))))) (sym (inc_is book entry votes.Recoverable covers h act_is mark marked))
+      ∙ ap (λ (ops : List Op). Some (made mark.inc (Some (recorded_by book entry.node.0 tid member covers ops)))) (sym (held_there book tid member node (there book entry votes.Recoverable covers h act_is)))))
     where
       node : NodeValue
       node = (at_node book entry votes.Recoverable covers h act_is).0
@@ -158,15 +159,15 @@ module _ (tid : Tid) (member : Member) where
   pub lets_all_go : (b : Bool) → member.server.0 ≡ number b → (book : BookValue) (entry : Entry) (covers : ℕ) → entry.act ≡ acts.Vote tid member votes.ReadOnly covers → broken book entry ≡ None
       → ((node : NodeValue) → slice_get book.nodes member.node.0 ≡ Some node → IsTidy node) → held_at (effect book entry) tid member ≡ []
   lets_all_go b is book entry covers act_is h tidy =
-      held_there (effect book entry) tid member (vote_node (crossed_in (find_transaction book tid) member) tid member.server.0 votes.ReadOnly covers node) (node_after book entry votes.ReadOnly covers h act_is)
+      held_there (effect book entry) tid member (vote_by book entry.node.0 tid member votes.ReadOnly covers node) (node_after book entry votes.ReadOnly covers h act_is)
       ∙ (held_by b member.server.0 is ∙ (with_table_gives b tid member.server.0 (λ t. released t tid) is node ∙ gone (table b node) (tidy_table b)))
     where
       node : NodeValue
       node = (at_node book entry votes.ReadOnly covers h act_is).0
 
-      held_by : (c : Bool) (s : ℕ) → s ≡ number c → pending_at (vote_node (crossed_in (find_transaction book tid) member) tid s votes.ReadOnly covers node) tid s ≡ changes_in c tid (vote_node (crossed_in (find_transaction book tid) member) tid s votes.ReadOnly covers node)
-      held_by true s e = subst (λ (n : ℕ). pending_at (vote_node (crossed_in (find_transaction book tid) member) tid n votes.ReadOnly covers node) tid n ≡ changes_in true tid (vote_node (crossed_in (find_transaction book tid) member) tid n votes.ReadOnly covers node)) (sym e) refl
-      held_by false s e = subst (λ (n : ℕ). pending_at (vote_node (crossed_in (find_transaction book tid) member) tid n votes.ReadOnly covers node) tid n ≡ changes_in false tid (vote_node (crossed_in (find_transaction book tid) member) tid n votes.ReadOnly covers node)) (sym e) refl
+      held_by : (c : Bool) (s : ℕ) → s ≡ number c → pending_at (vote_node (pending_now book entry.node.0 tid member) (crossed_in (find_transaction book tid) member) tid s votes.ReadOnly covers node) tid s ≡ changes_in c tid (vote_node (pending_now book entry.node.0 tid member) (crossed_in (find_transaction book tid) member) tid s votes.ReadOnly covers node)
+      held_by true s e = subst (λ (n : ℕ). pending_at (vote_node (pending_now book entry.node.0 tid member) (crossed_in (find_transaction book tid) member) tid n votes.ReadOnly covers node) tid n ≡ changes_in true tid (vote_node (pending_now book entry.node.0 tid member) (crossed_in (find_transaction book tid) member) tid n votes.ReadOnly covers node)) (sym e) refl
+      held_by false s e = subst (λ (n : ℕ). pending_at (vote_node (pending_now book entry.node.0 tid member) (crossed_in (find_transaction book tid) member) tid n votes.ReadOnly covers node) tid n ≡ changes_in false tid (vote_node (pending_now book entry.node.0 tid member) (crossed_in (find_transaction book tid) member) tid n votes.ReadOnly covers node)) (sym e) refl
 
       node_tidy : IsTidy node
       node_tidy = tidy node (there book entry votes.ReadOnly covers h act_is)

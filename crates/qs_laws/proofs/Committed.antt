@@ -32,6 +32,7 @@ use Rattle.qs_laws.proofs.StillActs as of
 use Rattle.qs_laws.proofs.Stills.{Still, transaction_still}
 use Rattle.qs_laws.proofs.Takes.{takes_none, leaves_still, takes_over, at_node, learn_takes, learn_changes, some_same}
 use Rattle.qs_laws.proofs.Votes.{vote_changes}
+use Rattle.qs_laws.proofs.Faces.{vote_by, recorded_by}
 
 -- what a step does to committed files and notes, and that what is shut stays so
 pub record Takes (book new : BookValue) (quiet : Bool) : Type 0 where
@@ -61,11 +62,11 @@ vote_takes book here node tid member covers shut at_here h kept =
     leaving book (vote here tid member votes.Recoverable covers book) true
     (shut_step book (vote here tid member votes.Recoverable covers book) shut kept
     (λ q at s. (transaction_still tid (voted member (inc_at book (record { 0 = here })) votes.Recoverable) (λ tx. refl) (with_node here on_record book)).asks q ∙ s.asks)
-    (node_before here on_record book node at_here (vote_changes book here node tid member votes.Recoverable covers (record { changes = pending_at node tid member.server.0; covers = covers }) h)))
+    (node_before here on_record book node at_here (vote_changes book here node tid member votes.Recoverable covers (recorded_by book here tid member covers (pending_at node tid member.server.0)) h)))
     (at_node here on_record book node LeavesCommitted at_here (record { contents = refl; notes = refl }) leaves_self)
   where
     on_record : NodeValue → NodeValue
-    on_record = vote_node (crossed_in (find_transaction book tid) member) tid member.server.0 votes.Recoverable covers
+    on_record = vote_by book here tid member votes.Recoverable covers
 
 learn_commit_takes : (book : BookValue) (here : ℕ) (node : NodeValue) (tid : Tid) (member : Member) → Shut book → slice_get book.nodes here ≡ Some node
     → broken_learn here node (find_transaction book tid) member outcomes.Commit ≡ None → Kept book (learn here tid member outcomes.Commit book) → Takes book (learn here tid member outcomes.Commit book) false

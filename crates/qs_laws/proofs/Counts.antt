@@ -27,7 +27,7 @@ use Rattle.qs_machine.specs.declared.transaction.Part.{Part}
 use Rattle.qs_machine.specs.declared.transaction.RequestNo.{RequestNo}
 use Rattle.qs_machine.specs.Book.{BookValue, find_transaction, with_transaction, decide, hear, loan_to, give_back_from, inc_at}
 use Rattle.qs_ops.specs.declared.answer.Cause.TheVariants as causes
-use Rattle.qs_machine.specs.Restart.{changes_at, up_to, begun_at, abort_begun, vote_found, commit_found, learn_found, decide_found, is_among, is_open_here, begun_tid, record_at, member_at}
+use Rattle.qs_machine.specs.Restart.{changes_at, up_to, begun_at, abort_begun, vote_found, commit_found, learn_found, decide_found, is_among, is_open_here, begun_tid, record_at, member_at, count_of as pending_of}
 use Rattle.qs_machine.specs.declared.state.Asking.{Asking}
 use Rattle.qs_laws.proofs.Holding.{member_equal, clash, settled}
 use Rattle.qs_laws.proofs.Maps.{changed_alike, changed_apart, changed_none, lookup_changed, lookup_put, lookup_put_apart}
@@ -50,7 +50,7 @@ count_of book tid member inc = unwrap_or (option_map (count_in member inc) (find
 
 -- ---- lives
 
-life_equal : (l m : Life) → life_cmp l m ≡ Equal → l ≡ m
+pub life_equal : (l m : Life) → life_cmp l m ≡ Equal → l ≡ m
 life_equal l m e =
     let pairs = exact_pairs member_cmp nat_cmp member_equal exact_unsigned (l.member, l.inc) (m.member, m.inc) e in
     ap made pairs
@@ -69,7 +69,7 @@ life_exact l m = by (life_cmp l m) refl
 pub life_itself : (l : Life) → life_cmp l l ≡ Equal
 life_itself l = rw (tied_itself nat_cmp_total l.member.node.0, tied_itself nat_cmp_total l.member.server.0, tied_itself nat_cmp_total l.inc) refl
 
-life_other : (member other : Member) (inc k : ℕ) → same_member other member ≡ false → is_at (life_cmp (life member inc)) (life other k) ≡ false
+pub life_other : (member other : Member) (inc k : ℕ) → same_member other member ≡ false → is_at (life_cmp (life member inc)) (life other k) ≡ false
 life_other member other inc k h = by (is_at (life_cmp (life member inc)) (life other k)) refl
   where
     by : (b : Bool) → is_at (life_cmp (life member inc)) (life other k) ≡ b → b ≡ false
@@ -241,9 +241,9 @@ module _ (tid : Tid) (member : Member) where
 
   vote_counted : (here inc : ℕ) (done : List Tid) → (here == member.node.0) ≡ false → (book : BookValue) (f : Found) → Counted book (vote_found here inc done book f)
   vote_counted here inc done far book f =
-      counted_if (is_among done f.tid) book book (with_transaction f.tid (found_at (member_at here f.server.0) inc f.covers (length (changes_at here book f.server.0 f.tid))) book) (λ k. refl)
-      (of_transaction f.tid (found_at (member_at here f.server.0) inc f.covers (length (changes_at here book f.server.0 f.tid)))
-      (λ k tx. put_apart member (member_at here f.server.0) k inc (found_part f.covers (length (changes_at here book f.server.0 f.tid))) tx (rw far refl)) book)
+      counted_if (is_among done f.tid) book book (with_transaction f.tid (found_at (member_at here f.server.0) inc f.covers (pending_of (record_at here book f.tid f.server.0))) book) (λ k. refl)
+      (of_transaction f.tid (found_at (member_at here f.server.0) inc f.covers (pending_of (record_at here book f.tid f.server.0)))
+      (λ k tx. put_apart member (member_at here f.server.0) k inc (found_part f.covers (pending_of (record_at here book f.tid f.server.0))) tx (rw far refl)) book)
 
   pub abort_counted : (here inc : ℕ) (book : BookValue) (seq : ℕ) → Counted book (abort_begun here inc book seq)
   abort_counted here inc book seq =

@@ -42,6 +42,7 @@ use Rattle.qs_laws.proofs.Openings.{opening_holds}
 use Rattle.qs_laws.proofs.Outcomes.{Inv, Moves}
 use Rattle.qs_laws.proofs.Shares.{number}
 use Rattle.qs_laws.proofs.Steps.{held, stepped, ran, after_both, lawful_front, lawful_rest}
+use Rattle.qs_laws.proofs.Faces.{vote_by, recorded_by}
 
 -- ---- the vote
 
@@ -68,8 +69,8 @@ first_covers book entry tid member covers h is same =
     lawful_node book entry (acts.Vote tid member votes.Recoverable covers) is (λ node. refl) h in
     let e : member.node.0 ≡ entry.node.0 = vote_here entry.node.0 at.0 tid (find_transaction book tid) member votes.Recoverable covers at.2 in
     let there : slice_get book.nodes member.node.0 ≡ Some at.0 = ap (slice_get book.nodes) e ∙ at.1 in
-    let rec : OnRecord = record { changes = pending_at at.0 tid member.server.0; covers = covers } in
-    let f : NodeValue → NodeValue = vote_node (crossed_in (find_transaction book tid) member) tid member.server.0 votes.Recoverable covers in
+    let rec : OnRecord = recorded_by book entry.node.0 tid member covers (pending_at at.0 tid member.server.0) in
+    let f : NodeValue → NodeValue = vote_by book entry.node.0 tid member votes.Recoverable covers in
     let changed : slice_get (effect_act entry.stamp entry.node.0 (acts.Vote tid member votes.Recoverable covers) book).nodes member.node.0 ≡ Some (f at.0) =
     subst (λ (n : ℕ). slice_get (changed_at n f book.nodes) member.node.0 ≡ Some (f at.0)) e (changed_at_here f book.nodes member.node.0 at.0 there) in
     let last : slice_get (effect book entry).nodes member.node.0 ≡ Some (f at.0) =

@@ -109,8 +109,8 @@ module _ (tid : Tid) (member : Member) where
           (λ v. keeps v (λ e. split (same_tid t tid) (other.node.0 == member.node.0) (other.server.0 == member.server.0) apart near (equal other.server.0 member.server.0 e))) nodes other.node.0 member.node.0
 
   -- a vote that goes on record
-  pub put_mark : (t : Tid) (k : ℕ) (crossed : Bool) (covers : ℕ) (v : NodeValue) → (k ≡ member.server.0 → same_tid t tid ≡ false) → mark_in tid member.server.0 (vote_node crossed t k votes.Recoverable covers v) ≡ mark_in tid member.server.0 v
-  put_mark t k crossed covers v apart =
+  pub put_mark : (t : Tid) (k count : ℕ) (crossed : Bool) (covers : ℕ) (v : NodeValue) → (k ≡ member.server.0 → same_tid t tid ≡ false) → mark_in tid member.server.0 (vote_node count crossed t k votes.Recoverable covers v) ≡ mark_in tid member.server.0 v
+  put_mark t k count crossed covers v apart =
       ap (made v.inc) (lookup_put_apart voter_cmp (voter t k) _ (λ x. voter_equal (voter t k) x) (is_at (voter_cmp (voter tid member.server.0))) (voter_apart tid t member.server.0 k apart) v.records)
     where
       made : ℕ → Option OnRecord → Mark

@@ -27,6 +27,7 @@ use Rattle.qs_laws.proofs.Maps.{lookup_put, changed_at_here}
 use Rattle.qs_laws.proofs.Shares.{number}
 use Rattle.qs_laws.proofs.Steps.{held, passed, past}
 use Rattle.qs_laws.proofs.Takes.{some_same}
+use Rattle.qs_laws.proofs.Faces.{vote_by, recorded_by}
 
 at_up : (book : BookValue) (stamp here : ℕ) (o : Option NodeValue) (act : Act) → ((node : NodeValue) → broken_node book stamp here node act ≡ (if node.up then broken_act book stamp here node act else Some 2))
     → broken_at book stamp here o act ≡ None → (node : NodeValue) × (o ≡ Some node) × (broken_act book stamp here node act ≡ None)
@@ -47,14 +48,14 @@ held_there book tid member node at = ap (λ (o : Option NodeValue). unwrap_or (o
 -- ---- a vote
 
 pub puts_on_record : (book : BookValue) (entry : Entry) (tid : Tid) (member : Member) (covers : ℕ) → broken book entry ≡ None → entry.act ≡ acts.Vote tid member votes.Recoverable covers
-    → record_at member.node.0 (effect book entry) tid member.server.0 ≡ Some (record { changes = held_at book tid member; covers = covers })
+    → record_at member.node.0 (effect book entry) tid member.server.0 ≡ Some (recorded_by book entry.node.0 tid member covers (held_at book tid member))
 puts_on_record book entry tid member covers h is =
     let at : (node : NodeValue) × (slice_get book.nodes entry.node.0 ≡ Some node) × (broken_act book entry.stamp entry.node.0 node (acts.Vote tid member votes.Recoverable covers) ≡ None) =
     lawful_node book entry (acts.Vote tid member votes.Recoverable covers) is (λ node. refl) h in
     let e : member.node.0 ≡ entry.node.0 = vote_here entry.node.0 at.0 tid (find_transaction book tid) member votes.Recoverable covers at.2 in
     let there : slice_get book.nodes member.node.0 ≡ Some at.0 = ap (slice_get book.nodes) e ∙ at.1 in
-    let rec : OnRecord = record { changes = pending_at at.0 tid member.server.0; covers = covers } in
-    let f : NodeValue → NodeValue = vote_node (crossed_in (find_transaction book tid) member) tid member.server.0 votes.Recoverable covers in
+    let rec : OnRecord = recorded_by book entry.node.0 tid member covers (pending_at at.0 tid member.server.0) in
+    let f : NodeValue → NodeValue = vote_by book entry.node.0 tid member votes.Recoverable covers in
     let changed : slice_get (effect_act entry.stamp entry.node.0 (acts.Vote tid member votes.Recoverable covers) book).nodes member.node.0 ≡ Some (f at.0) =
     subst (λ (n : ℕ). slice_get (changed_at n f book.nodes) member.node.0 ≡ Some (f at.0)) e (changed_at_here f book.nodes member.node.0 at.0 there) in
     let last : slice_get (effect book entry).nodes member.node.0 ≡ Some (f at.0) =
@@ -67,7 +68,7 @@ puts_on_record book entry tid member covers h is =
     on_record o = elim o [ None ↦ None | Some v ↦ record_of v tid member.server.0 ]
 
     made : List Op → OnRecord
-    made ops = record { changes = ops; covers = covers }
+    made ops = recorded_by book entry.node.0 tid member covers ops
 
 nothing_there : (table : TableValue) (tid : Tid) → not (has_changes table tid) ≡ true → (share_of table tid).changes ≡ []
 nothing_there table tid h = by (share_of table tid).changes h

@@ -10,10 +10,14 @@ use Rattle.qs_base.specs.declared.identifiers.Tid.{Tid}
 use Rattle.qs_ops.specs.declared.answer.Cause.{Cause}
 use Rattle.qs_machine.specs.Transaction.{TransactionValue}
 use Rattle.qs_machine.specs.declared.transaction.Cell.{Cell}
-use Rattle.qs_machine.specs.Book.{BookValue, find_transaction, with_node, with_transaction, with_owner}
+use Rattle.qs_machine.specs.Book.{BookValue, find_transaction, with_node, with_transaction, with_owner, pending_in, crossed_in, inc_at, vote_node}
 use Rattle.qs_machine.specs.Nodes.{NodeValue}
 use Rattle.qs_machine.specs.declared.state.Owner.{Owner}
 use Rattle.qs_laws.proofs.Maps.{changed_alike, changed_at_alike}
+use Rattle.qs_base.specs.declared.identifiers.Member.{Member}
+use Rattle.qs_ops.specs.declared.vote.Vote.{Vote}
+use Rattle.qs_ops.specs.declared.operation.Op.{Op}
+use Rattle.qs_machine.specs.declared.state.OnRecord.{OnRecord}
 
 pub record Face : Type 0 where
   pub cell : Cell
@@ -91,3 +95,17 @@ either_way g false x y z p q = q
 pub either_alike : (b : Bool) (old x y : BookValue) → Alike old x → Alike old y → Alike old (if b then x else y)
 either_alike true old x y p q = p
 either_alike false old x y p q = q
+
+-- ---- a vote
+
+-- how many changes the member has pending, in the incarnation of the node `here`
+abbrev pub pending_now : BookValue → ℕ → Tid → Member → ℕ
+pending_now book here tid member = pending_in (find_transaction book tid) member (inc_at book (record { 0 = here }))
+
+-- what its vote does to that node
+abbrev pub vote_by : BookValue → ℕ → Tid → Member → Vote → ℕ → NodeValue → NodeValue
+vote_by book here tid member ballot covers = vote_node (pending_now book here tid member) (crossed_in (find_transaction book tid) member) tid member.server.0 ballot covers
+
+-- and puts on record
+abbrev pub recorded_by : BookValue → ℕ → Tid → Member → ℕ → List Op → OnRecord
+recorded_by book here tid member covers ops = record { changes = ops; covers = covers; pending = pending_now book here tid member }

@@ -26,7 +26,7 @@ use Rattle.qs_machine.specs.Book.{BookValue, find_transaction, crossed_in, with_
 use Rattle.qs_machine.specs.Clauses.{link_to, borrower_at}
 use Rattle.qs_machine.specs.Lawful.{is_in_order, broken_act, broken_node, broken_at, broken, effect_act, effect}
 use Rattle.qs_machine.specs.Nodes.{NodeValue}
-use Rattle.qs_machine.specs.Restart.{restart, put_new_votes, changes_at, up_to, begun_at, abort_begun, vote_found, commit_found, learn_found, decide_found, is_among, is_open_here, begun_tid, record_at, member_at}
+use Rattle.qs_machine.specs.Restart.{restart, put_new_votes, changes_at, up_to, begun_at, abort_begun, vote_found, commit_found, learn_found, decide_found, is_among, is_open_here, begun_tid, record_at, member_at, count_of as pending_of}
 use Rattle.qs_machine.specs.declared.state.Asking.{Asking}
 use Rattle.qs_machine.specs.declared.state.Owner.{Owner}
 use Rattle.qs_laws.specs.Served.{crossed_at}
@@ -199,8 +199,8 @@ module _ (tid : Tid) (member : Member) where
 
   vote_alters : (here inc : ℕ) (done : List Tid) (book : BookValue) (f : Found) → Alters book (vote_found here inc done book f)
   vote_alters here inc done book f =
-      alters_if (is_among done f.tid) book book (with_transaction f.tid (found_at (member_at here f.server.0) inc f.covers (length (changes_at here book f.server.0 f.tid))) book) (alters_self book)
-      (alters_transaction f.tid (found_at (member_at here f.server.0) inc f.covers (length (changes_at here book f.server.0 f.tid))) (λ tx h. h) book)
+      alters_if (is_among done f.tid) book book (with_transaction f.tid (found_at (member_at here f.server.0) inc f.covers (pending_of (record_at here book f.tid f.server.0))) book) (alters_self book)
+      (alters_transaction f.tid (found_at (member_at here f.server.0) inc f.covers (pending_of (record_at here book f.tid f.server.0))) (λ tx h. h) book)
 
   pub abort_alters : (here inc : ℕ) (book : BookValue) (seq : ℕ) → Alters book (abort_begun here inc book seq)
   abort_alters here inc book seq =

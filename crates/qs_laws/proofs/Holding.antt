@@ -29,14 +29,14 @@ use Rattle.qs_ops.specs.Members.{class_of, is_two_phase}
 use Rattle.qs_machine.specs.Transaction.{TransactionValue, standing_request, part_of, issued, crossed_by, crossed_from, is_outcome}
 use Rattle.qs_machine.specs.declared.transaction.Request.{Request}
 use Rattle.qs_machine.specs.declared.transaction.RequestNo.{RequestNo}
-use Rattle.qs_machine.specs.Book.{BookValue, find_transaction, changed_at, with_owner, with_transaction, with_waiting, with_crossing, crosses, issue, serve_node, vote_node, crossed_in, learn_node, doubts_after, hear, answer, waiting_of, loan_to, give_back_from, inc_at, end_node, tick_node, crash_node}
+use Rattle.qs_machine.specs.Book.{BookValue, find_transaction, changed_at, with_owner, with_transaction, with_waiting, with_crossing, crosses, issue, serve_node, vote_node, crossed_in, learn_node, doubts_after, hear, answer, waiting_of, loan_to, give_back_from, inc_at, end_node, tick_node, crash_node, pending_in}
 use Rattle.qs_machine.specs.Clauses.{link_to, borrower_at, broken_serve, broken_vote, is_vote_due, broken_learn, may_learn}
 use Rattle.qs_machine.specs.Lawful.{is_in_order, broken_act, broken_node, broken_at, broken, effect_act, effect, IsLawful, book_after}
 use Rattle.qs_machine.specs.Nodes.{NodeValue, pending_at}
 use Rattle.qs_machine.specs.Restart.{restart, put_new_votes, new_votes, with_votes, restarted_node, reopened, abort_begun, vote_found, commit_found, learn_found, decide_found, up_to, begun_at, is_among, is_open_here, begun_tid, record_at}
 use Rattle.qs_machine.specs.declared.state.Owner.{Owner}
 use Rattle.qs_laws.specs.Served.{is_share, change_of_request, standing_at, change_served, changes_served, lets_go, IsHolding, held_at, crossed_at, keeps_contents}
-use Rattle.qs_laws.proofs.Faces.{either_way}
+use Rattle.qs_laws.proofs.Faces.{either_way, vote_by}
 use Rattle.qs_laws.proofs.Maps.{lookup_changed, lookup_put}
 use Rattle.qs_laws.proofs.Shares.{number}
 use Rattle.qs_laws.proofs.Steps.{passed, held}
@@ -243,15 +243,15 @@ module _ (b : Bool) (tid : Tid) (member : Member) (is : member.server.0 ≡ numb
           (subst (λ (x : Member). here_as book x.node.0 (serve_node (find_transaction book tid) (request_no from number x) tid x reply) (change_of_request (standing_at (find_transaction book tid) (request_no from number x) x) reply)) (sym f)
           (serve_mine book node (find_transaction book tid) (request_no from number member) reply (subst (λ (x : Member). slice_get book.nodes x.node.0 ≡ Some node) f at_here) plain)))
 
-  votes_on : (book : BookValue) (t : Tid) (other : Member) (crossed : Bool) (ballot : Vote) (covers : ℕ) → lets_go tid member other.node.0 (acts.Vote t other ballot covers) ≡ false
-      → here_as book other.node.0 (vote_node crossed t other.server.0 ballot covers) []
-  votes_on book t other crossed ballot covers keeps = of ballot keeps ∙ sym (append-nil (held_in b tid member.node.0 book.nodes))
+  votes_on : (book : BookValue) (t : Tid) (other : Member) (count : ℕ) (crossed : Bool) (ballot : Vote) (covers : ℕ) → lets_go tid member other.node.0 (acts.Vote t other ballot covers) ≡ false
+      → here_as book other.node.0 (vote_node count crossed t other.server.0 ballot covers) []
+  votes_on book t other count crossed ballot covers keeps = of ballot keeps ∙ sym (append-nil (held_in b tid member.node.0 book.nodes))
     where
-      plain : (ballot : Vote) → (ballot ≡ votes.ReadOnly → ⊥) → held_in b tid member.node.0 (changed_at other.node.0 (vote_node crossed t other.server.0 ballot covers) book.nodes) ≡ held_in b tid member.node.0 book.nodes
-      plain ballot not_read = holds_same b tid member.node.0 other.node.0 (vote_node crossed t other.server.0 ballot covers) (λ v. vote_holds b tid t crossed other.server.0 ballot covers v (λ e. absurd (not_read e))) book.nodes
+      plain : (ballot : Vote) → (ballot ≡ votes.ReadOnly → ⊥) → held_in b tid member.node.0 (changed_at other.node.0 (vote_node count crossed t other.server.0 ballot covers) book.nodes) ≡ held_in b tid member.node.0 book.nodes
+      plain ballot not_read = holds_same b tid member.node.0 other.node.0 (vote_node count crossed t other.server.0 ballot covers) (λ v. vote_holds b tid t count crossed other.server.0 ballot covers v (λ e. absurd (not_read e))) book.nodes
 
-      of : (ballot : Vote) → lets_go tid member other.node.0 (acts.Vote t other ballot covers) ≡ false → held_in b tid member.node.0 (changed_at other.node.0 (vote_node crossed t other.server.0 ballot covers) book.nodes) ≡ held_in b tid member.node.0 book.nodes
-      of votes.ReadOnly apart = at_share b tid member is t other (vote_node crossed t other.server.0 votes.ReadOnly covers) (λ v h. vote_holds b tid t crossed other.server.0 votes.ReadOnly covers v (λ read. h)) apart book.nodes
+      of : (ballot : Vote) → lets_go tid member other.node.0 (acts.Vote t other ballot covers) ≡ false → held_in b tid member.node.0 (changed_at other.node.0 (vote_node count crossed t other.server.0 ballot covers) book.nodes) ≡ held_in b tid member.node.0 book.nodes
+      of votes.ReadOnly apart = at_share b tid member is t other (vote_node count crossed t other.server.0 votes.ReadOnly covers) (λ v h. vote_holds b tid t count crossed other.server.0 votes.ReadOnly covers v (λ read. h)) apart book.nodes
       of (votes.Abort reason) apart = plain (votes.Abort reason) (λ e. absurd (cc e))
       of votes.Volatile apart = plain votes.Volatile (λ e. absurd (cc e))
       of votes.Recoverable apart = plain votes.Recoverable (λ e. absurd (cc e))
@@ -287,8 +287,8 @@ module _ (b : Bool) (tid : Tid) (member : Member) (is : member.server.0 ≡ numb
       (serves book node t other from number reply (subst (λ (n : ℕ). slice_get book.nodes n ≡ Some node) (sym e) at) was)
   acted_holds book stamp here node (acts.Vote t other ballot covers) at h keeps was after =
       let e : other.node.0 ≡ here = vote_here here node t (find_transaction book t) other ballot covers h in
-      subst (λ (n : ℕ). here_as book n (vote_node (crossed_in (find_transaction book t) other) t other.server.0 ballot covers) []) e
-      (votes_on book t other (crossed_in (find_transaction book t) other) ballot covers (subst (λ (n : ℕ). lets_go tid member n (acts.Vote t other ballot covers) ≡ false) (sym e) keeps))
+      subst (λ (n : ℕ). here_as book n (vote_by book here t other ballot covers) []) e
+      (votes_on book t other (pending_in (find_transaction book t) other (inc_at book (record { 0 = here }))) (crossed_in (find_transaction book t) other) ballot covers (subst (λ (n : ℕ). lets_go tid member n (acts.Vote t other ballot covers) ≡ false) (sym e) keeps))
   acted_holds book stamp here node (Ask t) at h keeps was after = same_nodes book book refl
   acted_holds book stamp here node (Counted t peer up_to) at h keeps was after = same_nodes book book refl
   acted_holds book stamp here node (Decide t outcome cause) at h keeps was after = same_nodes book book refl

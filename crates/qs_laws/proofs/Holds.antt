@@ -192,15 +192,15 @@ serve_gives b t (Some tx) at member reply is plain v = rw plain (of (standing_re
 -- ---- voting and learning
 
 -- a vote that it has something to commit, or that it can't, leaves all; a read-only one leaves what others have
-pub vote_holds : (b : Bool) (tid t : Tid) (crossed : Bool) (s : ℕ) (ballot : Vote) (covers : ℕ) (v : NodeValue) → ((ballot ≡ votes.ReadOnly) → s ≡ number b → same_tid t tid ≡ false)
-    → changes_in b tid (vote_node crossed t s ballot covers v) ≡ changes_in b tid v
-vote_holds b tid t crossed s votes.ReadOnly covers v apart = with_table_holds b tid s (λ table. released table t) (λ e x. ap (λ (share : Share). share.changes) (share_released_other x t tid (apart refl e))) v
-vote_holds b tid t true s (votes.Abort reason) covers v apart = refl
-vote_holds b tid t false s (votes.Abort reason) covers v apart = with_table_holds b tid s (λ table. with_vote table t false) (λ e x. share_voted x t tid false) v
-vote_holds b tid t true s votes.Volatile covers v apart = refl
-vote_holds b tid t false s votes.Volatile covers v apart = with_table_holds b tid s (λ table. with_vote table t true) (λ e x. share_voted x t tid true) v
-vote_holds true tid t crossed s votes.Recoverable covers v apart = refl
-vote_holds false tid t crossed s votes.Recoverable covers v apart = refl
+pub vote_holds : (b : Bool) (tid t : Tid) (count : ℕ) (crossed : Bool) (s : ℕ) (ballot : Vote) (covers : ℕ) (v : NodeValue) → ((ballot ≡ votes.ReadOnly) → s ≡ number b → same_tid t tid ≡ false)
+    → changes_in b tid (vote_node count crossed t s ballot covers v) ≡ changes_in b tid v
+vote_holds b tid t count crossed s votes.ReadOnly covers v apart = with_table_holds b tid s (λ table. released table t) (λ e x. ap (λ (share : Share). share.changes) (share_released_other x t tid (apart refl e))) v
+vote_holds b tid t count true s (votes.Abort reason) covers v apart = refl
+vote_holds b tid t count false s (votes.Abort reason) covers v apart = with_table_holds b tid s (λ table. with_vote table t false) (λ e x. share_voted x t tid false) v
+vote_holds b tid t count true s votes.Volatile covers v apart = refl
+vote_holds b tid t count false s votes.Volatile covers v apart = with_table_holds b tid s (λ table. with_vote table t true) (λ e x. share_voted x t tid true) v
+vote_holds true tid t count crossed s votes.Recoverable covers v apart = refl
+vote_holds false tid t count crossed s votes.Recoverable covers v apart = refl
 
 doubts_hold : (b : Bool) (tid t : Tid) (s : ℕ) (v : NodeValue) → changes_in b tid (doubts_after t s v) ≡ changes_in b tid v
 doubts_hold true tid t s v = either_way (changes_in true tid) (s == 2) _ _ _ refl refl

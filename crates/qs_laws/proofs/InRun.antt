@@ -22,6 +22,7 @@ use Rattle.qs_machine.specs.declared.state.Owner.{Owner}
 use Rattle.qs_laws.specs.Laws.{IsCoherent}
 use Rattle.qs_laws.proofs.Holding.{waiting_nodes, fold_nodes, loan_nodes, yield_nodes, restart_nodes}
 use Rattle.qs_laws.proofs.Openings.{opening_names}
+use Rattle.qs_laws.proofs.Faces.{vote_by}
 
 set_length : {X : Type 0} (xs : List X) (i : ℕ) (w : X) → length (slice_set xs i w) ≡ length xs
 set_length [] i w = refl
@@ -54,7 +55,7 @@ act_run stamp here (Issue tid issuer member n op) book =
         book
 act_run stamp here (Serve tid member from n reply) book =
     changed_length (serve_node (find_transaction book tid) (record { link = record { from = from; to = member.node }; number = n }) tid member reply) book.nodes here
-act_run stamp here (acts.Vote tid member ballot covers) book = changed_length (vote_node (crossed_in (find_transaction book tid) member) tid member.server.0 ballot covers) book.nodes here
+act_run stamp here (acts.Vote tid member ballot covers) book = changed_length (vote_by book here tid member ballot covers) book.nodes here
 act_run stamp here (Ask tid) book = refl
 act_run stamp here (Counted tid peer so_far) book = refl
 act_run stamp here (Decide tid outcome cause) book = refl

@@ -32,7 +32,7 @@ use Rattle.qs_laws.proofs.Covered.{one_more}
 use Rattle.qs_laws.proofs.Covering.{nothing_served}
 use Rattle.qs_laws.proofs.Covers.{Mark, mark_of}
 use Rattle.qs_laws.proofs.Ends.{lawful_node, has_nothing}
-use Rattle.qs_laws.proofs.Faces.{Face, face}
+use Rattle.qs_laws.proofs.Faces.{Face, face, recorded_by}
 use Rattle.qs_laws.proofs.Grows.{Grows, step_grows}
 use Rattle.qs_laws.proofs.Holding.{left_of, right_of, clash, which}
 use Rattle.qs_laws.proofs.Leaves.{Leaves, serves_on, step_leaves}
@@ -255,7 +255,7 @@ module _ (tid : Tid) (member : Member) where
     recorded covers act_is =
         let same : held_at later tid member ≡ held_at book tid member = held_same (ap (lets_go tid member entry.node.0) act_is) (idle_vote votes.Recoverable covers act_is) in
         unserved (idle_vote votes.Recoverable covers act_is)
-        (voting_keeps book later changes (Some (record { changes = held_at book tid member; covers = covers })) k (ballot_evens tid member book entry votes.Recoverable covers h act_is refl) (known_vote votes.Recoverable covers act_is) same
+        (voting_keeps book later changes (Some (recorded_by book entry.node.0 tid member covers (held_at book tid member))) k (ballot_evens tid member book entry votes.Recoverable covers h act_is refl) (known_vote votes.Recoverable covers act_is) same
         (recorded_mark tid member book entry covers k.mark act_is h k.at) (sym same))
 
     refuses : (ballot : Vote) (covers : ℕ) → entry.act ≡ acts.Vote tid member ballot covers → lets_go tid member entry.node.0 (acts.Vote tid member ballot covers) ≡ false → is_for_commit ballot ≡ false → Stays

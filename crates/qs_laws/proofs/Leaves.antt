@@ -34,7 +34,7 @@ use Rattle.qs_laws.specs.Served.{is_share, lets_go, votes_on}
 use Rattle.qs_laws.proofs.Acts as alike
 use Rattle.qs_laws.proofs.Alikes.{tid_itself, at_exact}
 use Rattle.qs_laws.proofs.Counts.{count_of, count_in, no_count, Counted as SameCount, of_transaction, of_decide, of_hear, of_loan, of_yield, of_settled, changed_counts, learnt_counts, put_apart, voted_apart}
-use Rattle.qs_laws.proofs.Faces.{face, Alike, either_way}
+use Rattle.qs_laws.proofs.Faces.{face, Alike, either_way, vote_by, pending_now}
 use Rattle.qs_laws.proofs.Holding.{vote_here, learn_here, restart_nodes, crossing_transactions, waiting_transactions}
 use Rattle.qs_laws.proofs.Holds.{elsewhere}
 use Rattle.qs_laws.proofs.Maps.{changed_at_alike, lookup_put, lookup_put_apart}
@@ -110,11 +110,11 @@ module _ (tid : Tid) (member : Member) where
       of votes.Volatile h = plain votes.Volatile refl
       of votes.Recoverable h =
           let e : other.node.0 ≡ here = vote_here here node t (find_transaction book t) other votes.Recoverable covers h in
-          let f : NodeValue → NodeValue = vote_node (crossed_in (find_transaction book t) other) t other.server.0 votes.Recoverable covers in
+          let f : NodeValue → NodeValue = vote_by book here t other votes.Recoverable covers in
           record {
             mark =
-                subst (λ (n : ℕ). option_map (mark_in tid member.server.0) (slice_get (changed_at n (vote_node (crossed_in (find_transaction book t) other) t other.server.0 votes.Recoverable covers) book.nodes) member.node.0) ≡ mark_of book tid member) e
-                (share_mark tid member t other f (λ v far. put_mark tid member t other.server.0 (crossed_in (find_transaction book t) other) covers v far) apart book.nodes);
+                subst (λ (n : ℕ). option_map (mark_in tid member.server.0) (slice_get (changed_at n (vote_by book here t other votes.Recoverable covers) book.nodes) member.node.0) ≡ mark_of book tid member) e
+                (share_mark tid member t other f (λ v far. put_mark tid member t other.server.0 (pending_now book here t other) (crossed_in (find_transaction book t) other) covers v far) apart book.nodes);
             count = vote_count book here t other votes.Recoverable covers apart;
           }
 

@@ -45,3 +45,5 @@ pub mod Living
 pub mod LiveOpenings
 pub mod AtCommit
 pub mod Serving
+pub mod Turns
+pub mod Parts

@@ -93,7 +93,7 @@ module _ (tid : Tid) where
   no_record s [] all es none = none
   no_record s (p ∷ pending) all es none =
       no_record s pending all.1 (put_record es p)
-      (lookup_put_apart voter_cmp (voter p.tid p.server.0) (record { changes = p.changes; covers = p.covers }) (λ x. voter_equal (voter p.tid p.server.0) x) (is_at (voter_cmp (voter tid s))) (voter_apart tid p.tid s p.server.0 (λ same. all.0)) es ∙ none)
+      (lookup_put_apart voter_cmp (voter p.tid p.server.0) (record { changes = p.changes; covers = p.covers; pending = length p.changes }) (λ x. voter_equal (voter p.tid p.server.0) x) (is_at (voter_cmp (voter tid s))) (voter_apart tid p.tid s p.server.0 (λ same. all.0)) es ∙ none)
 
   no_share : (s : ℕ) (pending : List Pending) → AllApart pending → (t : TableValue) → (share_of t tid).changes ≡ [] → (share_of (fold kept t (flat_map (keep_pending s) pending)) tid).changes ≡ []
   no_share s [] all t none = none

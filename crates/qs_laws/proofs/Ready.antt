@@ -34,7 +34,7 @@ use Rattle.qs_machine.specs.Book.{BookValue, find_transaction, crossed_in, cell_
 use Rattle.qs_machine.specs.Clauses.{link_to, borrower_at, broken_issue, is_numbered, broken_issuer, broken_serve, broken_request, request_here, broken_vote, is_vote_due}
 use Rattle.qs_machine.specs.Lawful.{is_in_order, broken_act, broken_node, broken_at, broken, effect_act, effect}
 use Rattle.qs_machine.specs.Nodes.{NodeValue}
-use Rattle.qs_machine.specs.Restart.{is_among, member_at, record_at, changes_at, is_open_here, learn_found, decide_found, commit_found, vote_found, begun_tid, abort_begun, up_to, begun_at, put_new_votes, restart}
+use Rattle.qs_machine.specs.Restart.{is_among, member_at, record_at, changes_at, is_open_here, learn_found, decide_found, commit_found, vote_found, begun_tid, abort_begun, up_to, begun_at, put_new_votes, restart, count_of as pending_of}
 use Rattle.qs_machine.specs.declared.state.Owner.{Owner}
 use Rattle.qs_laws.specs.Laws.{IsCommitted}
 use Rattle.qs_laws.specs.Served.{crossed_at}
@@ -109,7 +109,7 @@ vote_found_seals here inc done book found =
     either_seals (is_among done found.tid) book book (with_transaction found.tid f book) (λ tid. refl) (transaction_seals found.tid f (λ tx. refl) book)
   where
     f : TransactionValue → TransactionValue
-    f = found_at (member_at here found.server.0) inc found.covers (length (changes_at here book found.server.0 found.tid))
+    f = found_at (member_at here found.server.0) inc found.covers (pending_of (record_at here book found.tid found.server.0))
 
 abort_begun_seals : (here inc : ℕ) (book : BookValue) (seq : ℕ) → Seals book (abort_begun here inc book seq)
 abort_begun_seals here inc book seq =
@@ -253,7 +253,7 @@ no_vote here node tid (Some tx) other ballot covers is h =
 -- ---- a step
 
 -- another transaction than one that is changed
-apart_tid : (t tid : Tid) → same_tid t tid ≡ false → (k : Tid) → is_at (tid_cmp tid) k ≡ true → is_at (tid_cmp t) k ≡ false
+pub apart_tid : (t tid : Tid) → same_tid t tid ≡ false → (k : Tid) → is_at (tid_cmp tid) k ≡ true → is_at (tid_cmp t) k ≡ false
 apart_tid t tid other k is = subst (λ (x : Tid). is_at (tid_cmp t) x ≡ false) (at_exact tid k is) (at_other t tid (same_tid_swapped t tid other))
 
 other_seal : (t tid : Tid) (f : TransactionValue → TransactionValue) (book : BookValue) → same_tid t tid ≡ false → seal_at (with_transaction t f book) tid ≡ seal_at book tid

@@ -21,7 +21,7 @@ use Rattle.qs_machine.specs.Transaction.{TransactionValue, was_crossed, is_befor
 use Rattle.qs_machine.specs.Book.{BookValue, find_transaction, cell_of_transaction, crossed_in}
 use Rattle.qs_machine.specs.Lawful.{broken, effect_act, effect}
 use Rattle.qs_machine.specs.Nodes.{NodeValue, pending_at, record_of, changes_of, voter, voter_cmp, without_record}
-use Rattle.qs_machine.specs.Restart.{restart, reopened, restarted_node, put_new_votes, new_vote, is_new_vote, new_votes, new_votes_at, with_votes, with_vote, record_at, changes_at, is_among, member_at, without_records, keep_found, is_kept_at, is_on_record, broken_restart}
+use Rattle.qs_machine.specs.Restart.{restart, reopened, restarted_node, put_new_votes, new_vote, is_new_vote, new_votes, new_votes_at, with_votes, with_vote, record_at, changes_at, is_among, member_at, without_records, keep_found, is_kept_at, is_on_record, broken_restart, vote_as_stopped}
 use Rattle.qs_machine.specs.declared.state.OnRecord.{OnRecord}
 use Rattle.qs_machine.specs.declared.state.Voter.{Voter}
 use Rattle.qs_laws.specs.Durable.{IsKept, IsGone, Applies}
@@ -36,6 +36,8 @@ use Rattle.qs_laws.proofs.Rising.{removed}
 use Rattle.qs_laws.proofs.Shares.{number, share_put, share_put_other}
 use Rattle.qs_laws.proofs.Tidy.{IsTidy, AllTidy, without_tidy, votes_tidy}
 use Rattle.qs_laws.proofs.Unanimous.{Decides, restart_back}
+use Rattle.qs_ops.specs.declared.vote.Vote.TheVariants as votes
+use Rattle.qs_machine.specs.Clauses.{has_vote}
 
 -- ---- no vote is new of a member that has nothing pending
 
@@ -47,18 +49,19 @@ not_new : (here : ℕ) (node : NodeValue) (o : Option TransactionValue) (found :
     → is_new_vote here node o found ≡ false
 not_new here node None found plain nothing = refl
 not_new here node (Some tx) found plain nothing =
-    off (not (is_on_record node found)) (was_in_commit node.stopped tx)
+    off (not (is_on_record node found)) (has_vote found.server.0 votes.Recoverable) (was_in_commit node.stopped tx)
     (nat_lt (part_of tx (member_at here found.server.0) node.inc).voted (part_of tx (member_at here found.server.0) node.inc).served && is_covering tx (member_at here found.server.0) node.inc found.covers)
     (was_crossed node.stopped tx (member_at here found.server.0)) (is_empty (pending_at node found.tid found.server.0))
     (no_crossing node.stopped (lookup (is_at (member_cmp (member_at here found.server.0))) tx.crossed) plain) (ap is_empty nothing)
   where
-    off : (a b c d e : Bool) → d ≡ false → e ≡ true → (a && (b && (c && (d || not e)))) ≡ false
-    off a b c true e p q = absurd (cc p)
-    off a b c false false p q = absurd (cc q)
-    off false b c false true p q = refl
-    off true false c false true p q = refl
-    off true true false false true p q = refl
-    off true true true false true p q = refl
+    off : (a b c d e f : Bool) → e ≡ false → f ≡ true → (a && (b && (c && (d && (e || not f))))) ≡ false
+    off a b c d true f p q = absurd (cc p)
+    off a b c d false false p q = absurd (cc q)
+    off false b c d false true p q = refl
+    off true false c d false true p q = refl
+    off true true false d false true p q = refl
+    off true true true false false true p q = refl
+    off true true true true false true p q = refl
 
 module _ (here : ℕ) (book : BookValue) (node : NodeValue) (tid : Tid) (s : ℕ)
     (plain : crossed_in (find_transaction book tid) (member_at here s) ≡ false) (nothing : pending_at node tid s ≡ []) where
@@ -66,7 +69,7 @@ module _ (here : ℕ) (book : BookValue) (node : NodeValue) (tid : Tid) (s : ℕ
   one_vote found v = by (is_new_vote here node (find_transaction book found.tid) found) refl
     where
       vote : Voter × OnRecord
-      vote = (voter found.tid found.server.0, record { changes = pending_at node found.tid found.server.0; covers = found.covers })
+      vote = (voter found.tid found.server.0, vote_as_stopped here book node found)
 
       apart : is_new_vote here node (find_transaction book found.tid) found ≡ true → (b : Bool) → is_at (voter_cmp (voter tid s)) vote.0 ≡ b → record_of (with_vote v vote) tid s ≡ record_of v tid s
       apart new false other = lookup_put_apart voter_cmp vote.0 vote.1 (λ x. voter_equal vote.0 x) (is_at (voter_cmp (voter tid s))) other v.records

@@ -17,7 +17,7 @@ use Rattle.qs_ops.specs.declared.share.Kept.{Kept as KeptShare}
 use Rattle.qs_machine.specs.Transaction.{TransactionValue, decided_at, with_learnt, found_at}
 use Rattle.qs_machine.specs.Book.{BookValue, find_transaction, with_node, with_transaction, decide, inc_at}
 use Rattle.qs_machine.specs.Nodes.{NodeValue, without_record, record_of, pending_at, changes_of, voter, voter_cmp}
-use Rattle.qs_machine.specs.Restart.{is_among, member_at, record_at, changes_at, has_record, add_commit, commits_found, votes_once, is_found_vote, is_kept, is_found_commit, broken_restart, commit_found, vote_found, abort_begun, up_to, begun_at, restarted_node, reopened, restart, with_votes, new_votes, new_votes_at, is_open_here, learn_found, decide_found, begun_tid, without_records}
+use Rattle.qs_machine.specs.Restart.{is_among, member_at, record_at, changes_at, has_record, add_commit, commits_found, votes_once, is_found_vote, is_kept, is_found_commit, broken_restart, commit_found, vote_found, abort_begun, up_to, begun_at, restarted_node, reopened, restart, with_votes, new_votes, new_votes_at, is_open_here, learn_found, decide_found, begun_tid, without_records, count_of as pending_of}
 use Rattle.qs_machine.specs.declared.state.OnRecord.{OnRecord}
 use Rattle.qs_machine.specs.declared.state.Reopened.{Reopened}
 use Rattle.qs_machine.specs.declared.state.Voter.{Voter}
@@ -110,7 +110,7 @@ commit_still here book tid =
 
 vote_still : (here inc : ℕ) (done : List Tid) (book : BookValue) (found : Found) → Still book (vote_found here inc done book found)
 vote_still here inc done book found =
-    let f : TransactionValue → TransactionValue = found_at (member_at here found.server.0) inc found.covers (length (changes_at here book found.server.0 found.tid)) in
+    let f : TransactionValue → TransactionValue = found_at (member_at here found.server.0) inc found.covers (pending_of (record_at here book found.tid found.server.0)) in
     either_still (is_among done found.tid) book book (with_transaction found.tid f book) (still_self book) (transaction_still found.tid f (λ tx. refl) book)
 
 abort_still : (here inc : ℕ) (book : BookValue) (seq : ℕ) → Still book (abort_begun here inc book seq)

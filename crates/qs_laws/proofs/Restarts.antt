@@ -11,7 +11,7 @@ use Rattle.qs_journal.specs.declared.entry.Found.{Found}
 use Rattle.qs_machine.specs.Transaction.{TransactionValue, is_open, with_learnt, found_at}
 use Rattle.qs_machine.specs.Book.{BookValue, find_transaction, with_node, with_transaction, decide, inc_at, changed_at}
 use Rattle.qs_machine.specs.Nodes.{NodeValue}
-use Rattle.qs_machine.specs.Restart.{is_among, member_at, record_at, changes_at, is_open_here, learn_found, decide_found, commit_found, vote_found, begun_tid, abort_begun, up_to, begun_at, restarted_node, reopened, restart_found, restart, with_votes, with_vote, new_votes}
+use Rattle.qs_machine.specs.Restart.{is_among, member_at, record_at, changes_at, is_open_here, learn_found, decide_found, commit_found, vote_found, begun_tid, abort_begun, up_to, begun_at, restarted_node, reopened, restart_found, restart, with_votes, with_vote, new_votes, count_of as pending_of}
 use Rattle.qs_machine.specs.declared.state.OnRecord.{OnRecord}
 use Rattle.qs_machine.specs.declared.state.Voter.{Voter}
 use Rattle.qs_laws.proofs.Faces.{Face, face, Age, age, face_at, age_at, Alike, transaction_alike, node_alike}
@@ -76,7 +76,7 @@ commit_settles here book tid i =
 
 pub vote_settles : (here inc : ℕ) (done : List Tid) (book : BookValue) (found : Found) → Inv book → Settles book (vote_found here inc done book found)
 vote_settles here inc done book found i =
-    let f : TransactionValue → TransactionValue = found_at (member_at here found.server.0) inc found.covers (length (changes_at here book found.server.0 found.tid)) in
+    let f : TransactionValue → TransactionValue = found_at (member_at here found.server.0) inc found.covers (pending_of (record_at here book found.tid found.server.0)) in
     settles_if (is_among done found.tid) book book (with_transaction found.tid f book)
     (λ is. settles_self book i) (transaction_settles found.tid f (λ tx. refl) book i)
 

@@ -19,7 +19,7 @@ use Rattle.qs_machine.specs.declared.transaction.Cell.{Cell}
 use Rattle.qs_machine.specs.declared.transaction.Cell.TheVariants as cells
 use Rattle.qs_machine.specs.Book.{BookValue, find_transaction, crossed_in, with_transaction, inc_at, cell_of_transaction}
 use Rattle.qs_machine.specs.Nodes.{NodeValue, pending_at, record_of, changes_of, voter, voter_cmp}
-use Rattle.qs_machine.specs.Restart.{restart, reopened, restarted_node, put_new_votes, new_votes, new_votes_at, new_vote, is_new_vote, with_votes, with_vote, changes_at, keep_found, is_found_as, may_be_lost, broken_restart, is_among, member_at, without_records, vote_found, commit_found, abort_begun, up_to, begun_at}
+use Rattle.qs_machine.specs.Restart.{restart, reopened, restarted_node, put_new_votes, new_votes, new_votes_at, new_vote, is_new_vote, with_votes, with_vote, changes_at, keep_found, is_found_as, may_be_lost, broken_restart, is_among, member_at, without_records, vote_found, commit_found, abort_begun, up_to, begun_at, record_at, count_of as pending_of, vote_as_stopped}
 use Rattle.qs_machine.specs.declared.state.OnRecord.{OnRecord}
 use Rattle.qs_machine.specs.declared.state.Voter.{Voter}
 use Rattle.qs_laws.specs.Served.{held_at}
@@ -85,9 +85,9 @@ module _ (tid : Tid) (member : Member) (here inc : ℕ) (done : List Tid) where
   vote_same : (book : BookValue) (f : Found) → count_of book tid member inc ≡ no_count → Counted tid member book (vote_found here inc done book f)
   vote_same book f none = by (is_among done f.tid)
     where
-      by : (b : Bool) → Counted tid member book (if b then book else with_transaction f.tid (found_at (member_at here f.server.0) inc f.covers (length (changes_at here book f.server.0 f.tid))) book)
+      by : (b : Bool) → Counted tid member book (if b then book else with_transaction f.tid (found_at (member_at here f.server.0) inc f.covers (pending_of (record_at here book f.tid f.server.0))) book)
       by true = λ k. refl
-      by false = found_same f.tid (member_at here f.server.0) f.covers (length (changes_at here book f.server.0 f.tid)) book none
+      by false = found_same f.tid (member_at here f.server.0) f.covers (pending_of (record_at here book f.tid f.server.0)) book none
 
   votes_same : (pend : List Found) (book : BookValue) → count_of book tid member inc ≡ no_count → Counted tid member book (fold (vote_found here inc done) book pend)
   votes_same [] book none k = refl
@@ -134,7 +134,7 @@ module _ (here : ℕ) (book : BookValue) (node : NodeValue) (tid : Tid) (s : ℕ
   votes_found (f ∷ pend) v h = by (is_new_vote here node (find_transaction book f.tid) f) refl h (votes_found pend v) (votes_found pend (with_vote v vote))
     where
       vote : Voter × OnRecord
-      vote = (voter f.tid f.server.0, record { changes = pending_at node f.tid f.server.0; covers = f.covers })
+      vote = (voter f.tid f.server.0, vote_as_stopped here book node f)
 
       later : IsFound pend → IsFound (f ∷ pend)
       later (among, known) = (or_right (is_found_as (voter tid s) 0 f) (list_any (is_found_as (voter tid s) 0) pend) among, known)

@@ -163,26 +163,26 @@ pub serving_stands : (node : NodeValue) (server : ServerValue) (tid : Tid) (op :
 serving_stands node server tid op reply stands = served_as server.kind node server tid op reply stands
 
 -- a vote that puts something on record leaves the tables
-voted_as : (kind : Kind) (node : NodeValue) (server : ServerValue) (tid : Tid) (ballot : Vote) (covers : ℕ) → is_two_phase (class_of (number_of kind)) ≡ true → StandsAs kind node server → StandsAs kind (vote_node false tid (number_of kind) ballot covers node) (voted_by kind tid ballot server)
-voted_as (Files quota) node server tid votes.ReadOnly covers two stands = mapped (λ t. released t tid) node.files server.table stands
-voted_as (Files quota) node server tid votes.Volatile covers two stands = mapped (λ t. with_vote t tid true) node.files server.table stands
-voted_as (Files quota) node server tid votes.Recoverable covers two stands = stands
-voted_as (Files quota) node server tid (votes.Abort reason) covers two stands = mapped (λ t. with_vote t tid false) node.files server.table stands
-voted_as Audit node server tid votes.ReadOnly covers two stands = mapped (λ t. released t tid) node.audit server.table stands
-voted_as Audit node server tid votes.Volatile covers two stands = mapped (λ t. with_vote t tid true) node.audit server.table stands
-voted_as Audit node server tid votes.Recoverable covers two stands = stands
-voted_as Audit node server tid (votes.Abort reason) covers two stands = mapped (λ t. with_vote t tid false) node.audit server.table stands
-voted_as Names node server tid votes.ReadOnly covers two stands = mapped (λ t. released t tid) node.names server.table stands
-voted_as Names node server tid votes.Volatile covers two stands = mapped (λ t. with_vote t tid true) node.names server.table stands
-voted_as Names node server tid votes.Recoverable covers two stands = stands
-voted_as Names node server tid (votes.Abort reason) covers two stands = mapped (λ t. with_vote t tid false) node.names server.table stands
-voted_as Timers node server tid ballot covers two stands = absurd (cc two)
-voted_as Windows node server tid ballot covers two stands = absurd (cc two)
-voted_as Scratch node server tid ballot covers two stands = absurd (cc two)
-voted_as Nothing node server tid ballot covers two stands = tt
+voted_as : (kind : Kind) (node : NodeValue) (server : ServerValue) (tid : Tid) (ballot : Vote) (covers count : ℕ) → is_two_phase (class_of (number_of kind)) ≡ true → StandsAs kind node server → StandsAs kind (vote_node count false tid (number_of kind) ballot covers node) (voted_by kind tid ballot server)
+voted_as (Files quota) node server tid votes.ReadOnly covers count two stands = mapped (λ t. released t tid) node.files server.table stands
+voted_as (Files quota) node server tid votes.Volatile covers count two stands = mapped (λ t. with_vote t tid true) node.files server.table stands
+voted_as (Files quota) node server tid votes.Recoverable covers count two stands = stands
+voted_as (Files quota) node server tid (votes.Abort reason) covers count two stands = mapped (λ t. with_vote t tid false) node.files server.table stands
+voted_as Audit node server tid votes.ReadOnly covers count two stands = mapped (λ t. released t tid) node.audit server.table stands
+voted_as Audit node server tid votes.Volatile covers count two stands = mapped (λ t. with_vote t tid true) node.audit server.table stands
+voted_as Audit node server tid votes.Recoverable covers count two stands = stands
+voted_as Audit node server tid (votes.Abort reason) covers count two stands = mapped (λ t. with_vote t tid false) node.audit server.table stands
+voted_as Names node server tid votes.ReadOnly covers count two stands = mapped (λ t. released t tid) node.names server.table stands
+voted_as Names node server tid votes.Volatile covers count two stands = mapped (λ t. with_vote t tid true) node.names server.table stands
+voted_as Names node server tid votes.Recoverable covers count two stands = stands
+voted_as Names node server tid (votes.Abort reason) covers count two stands = mapped (λ t. with_vote t tid false) node.names server.table stands
+voted_as Timers node server tid ballot covers count two stands = absurd (cc two)
+voted_as Windows node server tid ballot covers count two stands = absurd (cc two)
+voted_as Scratch node server tid ballot covers count two stands = absurd (cc two)
+voted_as Nothing node server tid ballot covers count two stands = tt
 
-pub voting_stands : (node : NodeValue) (server : ServerValue) (tid : Tid) (ballot : Vote) (covers : ℕ) → is_two_phase (class_of (number_of server.kind)) ≡ true → StandsFor node server → StandsAs server.kind (vote_node false tid (number_of server.kind) ballot covers node) (after_vote server tid ballot)
-voting_stands node server tid ballot covers two stands = voted_as server.kind node server tid ballot covers two stands
+pub voting_stands : (node : NodeValue) (server : ServerValue) (tid : Tid) (ballot : Vote) (covers count : ℕ) → is_two_phase (class_of (number_of server.kind)) ≡ true → StandsFor node server → StandsAs server.kind (vote_node count false tid (number_of server.kind) ballot covers node) (after_vote server tid ballot)
+voting_stands node server tid ballot covers count two stands = voted_as server.kind node server tid ballot covers count two stands
 
 learnt_as : (kind : Kind) (node : NodeValue) (server : ServerValue) (tid : Tid) (outcome : Outcome) → StandsAs kind node server → StandsAs kind (learn_node outcome tid (number_of kind) node) (noted_by kind (notice_of outcome) tid server)
 learnt_as (Files quota) node server tid outcomes.Commit stands = mapped (λ t. committed t tid) node.files server.table stands

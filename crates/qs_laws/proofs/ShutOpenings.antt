@@ -270,7 +270,7 @@ none_pending one tid among server (p ∷ pending) all es none =
         let has : is_among one.committed p.tid ≡ true = ap (is_among one.committed) (sym tid_is) ∙ among in
         let none : is_among one.committed p.tid ≡ false = all_head (HasNoCommit one) p pending all in
         absurd (cc (has, none))
-    by false other = lookup_put_apart voter_cmp (voter p.tid p.server.0) (record { changes = p.changes; covers = p.covers }) exact (is_at (voter_cmp (voter tid server))) other es ∙ none
+    by false other = lookup_put_apart voter_cmp (voter p.tid p.server.0) (record { changes = p.changes; covers = p.covers; pending = length p.changes }) exact (is_at (voter_cmp (voter tid server))) other es ∙ none
 
 -- ---- the whole
 

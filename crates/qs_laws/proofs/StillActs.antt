@@ -20,7 +20,7 @@ use Rattle.qs_machine.specs.declared.transaction.Request.{Request}
 use Rattle.qs_machine.specs.declared.transaction.RequestNo.{RequestNo}
 use Rattle.qs_machine.specs.Clauses.{link_to, borrower_at}
 use Rattle.qs_machine.specs.Nodes.{NodeValue, with_table, crossed_node, crossed_server, crossed_names, crossed_table}
-use Rattle.qs_machine.specs.Book.{BookValue, find_transaction, with_node, with_transaction, with_waiting, with_crossing, crosses, issue, serve, serve_node, server_serve, crossed_serve, is_done, vote, vote_node, crossed_in, learn, learn_node, doubts_after, hear, answer, waiting_of, tick_node, crash_node, count, end, end_node, loan, loan_to, give_back, give_back_from, inc_at}
+use Rattle.qs_machine.specs.Book.{BookValue, find_transaction, with_node, with_transaction, with_waiting, with_crossing, crosses, issue, serve, serve_node, server_serve, crossed_serve, is_done, vote, vote_node, crossed_in, learn, learn_node, doubts_after, hear, answer, waiting_of, tick_node, crash_node, count, end, end_node, loan, loan_to, give_back, give_back_from, inc_at, pending_in}
 use Rattle.qs_machine.specs.declared.state.Asking.{Asking}
 use Rattle.qs_laws.proofs.Faces.{either_way}
 use Rattle.qs_laws.proofs.Stills.{facet, asked_of, Still, still_self, still_then, transaction_still, node_still, owner_still, either_still}
@@ -85,13 +85,13 @@ abbrev pub goes_on_record : Vote → Bool
 goes_on_record votes.Recoverable = true
 goes_on_record ballot = false
 
-vote_facet : (crossed : Bool) (tid : Tid) (server : ℕ) (ballot : Vote) (covers : ℕ) (node : NodeValue) → goes_on_record ballot ≡ false → facet (vote_node crossed tid server ballot covers node) ≡ facet node
-vote_facet crossed tid server votes.ReadOnly covers node h = with_table_facet server (λ table. released table tid) (released_leaves tid) node
-vote_facet true tid server (votes.Abort reason) covers node h = refl
-vote_facet false tid server (votes.Abort reason) covers node h = with_table_facet server (λ table. with_vote table tid false) (vote_leaves tid false) node
-vote_facet true tid server votes.Volatile covers node h = refl
-vote_facet false tid server votes.Volatile covers node h = with_table_facet server (λ table. with_vote table tid true) (vote_leaves tid true) node
-vote_facet crossed tid server votes.Recoverable covers node h = absurd (cc h)
+vote_facet : (count : ℕ) (crossed : Bool) (tid : Tid) (server : ℕ) (ballot : Vote) (covers : ℕ) (node : NodeValue) → goes_on_record ballot ≡ false → facet (vote_node count crossed tid server ballot covers node) ≡ facet node
+vote_facet count crossed tid server votes.ReadOnly covers node h = with_table_facet server (λ table. released table tid) (released_leaves tid) node
+vote_facet count true tid server (votes.Abort reason) covers node h = refl
+vote_facet count false tid server (votes.Abort reason) covers node h = with_table_facet server (λ table. with_vote table tid false) (vote_leaves tid false) node
+vote_facet count true tid server votes.Volatile covers node h = refl
+vote_facet count false tid server votes.Volatile covers node h = with_table_facet server (λ table. with_vote table tid true) (vote_leaves tid true) node
+vote_facet count crossed tid server votes.Recoverable covers node h = absurd (cc h)
 
 pub doubts_facet : (tid : Tid) (server : ℕ) (node : NodeValue) → facet (doubts_after tid server node) ≡ facet node
 doubts_facet tid server node = either_way facet (server == 2) _ _ _ refl refl
@@ -128,7 +128,7 @@ by_serve here tid member from number stamp reply book =
 
 pub by_vote : (here : ℕ) (tid : Tid) (member : Member) (ballot : Vote) (covers : ℕ) (book : BookValue) → goes_on_record ballot ≡ false → Still book (vote here tid member ballot covers book)
 by_vote here tid member ballot covers book h =
-    still_then book _ _ (node_still here _ (λ node. vote_facet (crossed_in (find_transaction book tid) member) tid member.server.0 ballot covers node h) book) (transaction_still tid _ (λ tx. refl) _)
+    still_then book _ _ (node_still here _ (λ node. vote_facet (pending_in (find_transaction book tid) member (inc_at book (record { 0 = here }))) (crossed_in (find_transaction book tid) member) tid member.server.0 ballot covers node h) book) (transaction_still tid _ (λ tx. refl) _)
 
 pub by_count : (here : ℕ) (tid : Tid) (peer : NodeNo) (up_to : ℕ) (book : BookValue) → Still book (count here tid peer up_to book)
 by_count here tid peer up_to book = transaction_still tid _ (λ tx. refl) book

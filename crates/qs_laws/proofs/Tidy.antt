@@ -24,7 +24,7 @@ use Rattle.qs_ops.specs.declared.share.Kept.{Kept}
 use Rattle.qs_machine.specs.Transaction.{TransactionValue, is_crossed, standing_request, requests_at, issued}
 use Rattle.qs_machine.specs.declared.transaction.Request.{Request}
 use Rattle.qs_machine.specs.declared.transaction.RequestNo.{RequestNo}
-use Rattle.qs_machine.specs.Book.{BookValue, find_transaction, changed_at, with_owner, with_transaction, with_waiting, with_crossing, crosses, serve_node, server_serve, crossed_serve, is_done, vote_node, crossed_in, learn_node, doubts_after, hear, answer, waiting_of, inc_at, end_node, tick_node, crash_node, loan_to, give_back_from}
+use Rattle.qs_machine.specs.Book.{BookValue, find_transaction, changed_at, with_owner, with_transaction, with_waiting, with_crossing, crosses, serve_node, server_serve, crossed_serve, is_done, vote_node, crossed_in, learn_node, doubts_after, hear, answer, waiting_of, inc_at, end_node, tick_node, crash_node, loan_to, give_back_from, pending_in}
 use Rattle.qs_machine.specs.Clauses.{link_to, borrower_at}
 use Rattle.qs_machine.specs.Lawful.{effect_act, effect}
 use Rattle.qs_machine.specs.Nodes.{NodeValue, with_table, crossed_node, crossed_server, crossed_names, with_doubts, without_doubts, without_record, bound_names, pending_at, voter, voter_cmp}
@@ -42,6 +42,7 @@ use Rattle.qs_laws.proofs.Maps.{changed_at_either}
 use Rattle.qs_laws.proofs.Openings.{first_book, opening_names}
 use Rattle.qs_laws.proofs.Rising.{IsRising, put_rises, remove_rises, voter_total}
 use Rattle.qs_laws.proofs.Takes.{some_same}
+use Rattle.qs_laws.proofs.Faces.{vote_by}
 
 abbrev pub IsTidyTable : TableValue → Type 0
 IsTidyTable table = IsRising tid_cmp table.shares
@@ -124,13 +125,13 @@ serve_tidy (Some tx) at tid member reply v t =
     of None = t
     of (Some request) = server_serve_tidy member.server.0 tid request.op reply v t
 
-vote_node_tidy : (crossed : Bool) (tid : Tid) (s : ℕ) (ballot : Vote) (covers : ℕ) (v : NodeValue) → IsTidy v → IsTidy (vote_node crossed tid s ballot covers v)
-vote_node_tidy crossed tid s votes.ReadOnly covers v t = with_table_tidy s (λ table. released table tid) (released_tidy tid) v t
-vote_node_tidy true tid s (votes.Abort reason) covers v t = t
-vote_node_tidy false tid s (votes.Abort reason) covers v t = with_table_tidy s (λ table. with_vote table tid false) (vote_tidy tid false) v t
-vote_node_tidy true tid s votes.Volatile covers v t = t
-vote_node_tidy false tid s votes.Volatile covers v t = with_table_tidy s (λ table. with_vote table tid true) (vote_tidy tid true) v t
-vote_node_tidy crossed tid s votes.Recoverable covers v t = record { files = t.files; audit = t.audit; records = put_rises voter_cmp voter_total (voter tid s) _ v.records t.records }
+vote_node_tidy : (count : ℕ) (crossed : Bool) (tid : Tid) (s : ℕ) (ballot : Vote) (covers : ℕ) (v : NodeValue) → IsTidy v → IsTidy (vote_node count crossed tid s ballot covers v)
+vote_node_tidy count crossed tid s votes.ReadOnly covers v t = with_table_tidy s (λ table. released table tid) (released_tidy tid) v t
+vote_node_tidy count true tid s (votes.Abort reason) covers v t = t
+vote_node_tidy count false tid s (votes.Abort reason) covers v t = with_table_tidy s (λ table. with_vote table tid false) (vote_tidy tid false) v t
+vote_node_tidy count true tid s votes.Volatile covers v t = t
+vote_node_tidy count false tid s votes.Volatile covers v t = with_table_tidy s (λ table. with_vote table tid true) (vote_tidy tid true) v t
+vote_node_tidy count crossed tid s votes.Recoverable covers v t = record { files = t.files; audit = t.audit; records = put_rises voter_cmp voter_total (voter tid s) _ v.records t.records }
 
 pub without_tidy : (tid : Tid) (s : ℕ) (v : NodeValue) → IsTidy v → IsTidy (without_record tid s v)
 without_tidy tid s v t = record { files = t.files; audit = t.audit; records = remove_rises voter_cmp (is_at (voter_cmp (voter tid s))) v.records t.records }
@@ -211,7 +212,7 @@ acted_tidy book stamp here (Serve t other from number reply) all = changed_tidy 
     no : RequestNo
     no = record { link = record { from = from; to = other.node }; number = number }
 acted_tidy book stamp here (acts.Vote t other ballot covers) all =
-    changed_tidy here (vote_node (crossed_in (find_transaction book t) other) t other.server.0 ballot covers) (vote_node_tidy (crossed_in (find_transaction book t) other) t other.server.0 ballot covers) book.nodes all
+    changed_tidy here (vote_by book here t other ballot covers) (vote_node_tidy (pending_in (find_transaction book t) other (inc_at book (record { 0 = here }))) (crossed_in (find_transaction book t) other) t other.server.0 ballot covers) book.nodes all
 acted_tidy book stamp here (Ask t) all = all
 acted_tidy book stamp here (Counted t peer up_to) all = all
 acted_tidy book stamp here (Decide t outcome cause) all = all

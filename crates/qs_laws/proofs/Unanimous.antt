@@ -25,7 +25,7 @@ use Rattle.qs_machine.specs.Clauses.{broken_decide, may_decide, broken_outcome}
 use Rattle.qs_machine.specs.Lawful.{is_in_order, broken_act, broken_node, broken_at, broken, effect_act, effect, IsLawful, book_after}
 use Rattle.qs_machine.specs.Nodes.{NodeValue}
 use Rattle.qs_machine.specs.Opening.{opening}
-use Rattle.qs_machine.specs.Restart.{is_among, member_at, changes_at, is_open_here, commit_found, vote_found, begun_tid, abort_begun, up_to, begun_at, put_new_votes, restart, is_committed, is_found_commit, broken_restart}
+use Rattle.qs_machine.specs.Restart.{is_among, member_at, changes_at, is_open_here, commit_found, vote_found, begun_tid, abort_begun, up_to, begun_at, put_new_votes, restart, is_committed, is_found_commit, broken_restart, record_at, count_of as pending_of}
 use Rattle.qs_machine.specs.declared.opened.Opened.{Opened}
 use Rattle.qs_laws.specs.Laws.{IsCommitted, IsCoherent}
 use Rattle.qs_laws.proofs.Acts as alike
@@ -130,7 +130,7 @@ module _ (here : ℕ) (tid : Tid) where
       (votes_alike inc done pend (vote_found here inc done book found))
     where
       f : TransactionValue → TransactionValue
-      f = found_at (member_at here found.server.0) inc found.covers (length (changes_at here book found.server.0 found.tid))
+      f = found_at (member_at here found.server.0) inc found.covers (pending_of (record_at here book found.tid found.server.0))
 
   aborts_back : (inc : ℕ) (seqs : List ℕ) (book : BookValue) → IsCommitted (fold (abort_begun here inc) book seqs) tid → IsCommitted book tid
   aborts_back inc [] book is = is

@@ -12,9 +12,9 @@ use Rattle.qs_journal.specs.declared.entry.Found.{Found}
 use Rattle.qs_ops.specs.Members.{class_of, is_two_phase}
 use Rattle.qs_machine.specs.Transaction.{TransactionValue, is_commit, part_of, was_in_commit, was_committed, is_before}
 use Rattle.qs_machine.specs.Book.{BookValue, find_transaction}
-use Rattle.qs_machine.specs.Clauses.{broken_vote, is_vote_due}
+use Rattle.qs_machine.specs.Clauses.{broken_vote, is_vote_due, has_vote}
 use Rattle.qs_machine.specs.Nodes.{NodeValue, voter, voter_cmp, record_of, pending_at, changes_of}
-use Rattle.qs_machine.specs.Restart.{new_vote, is_new_vote, is_on_record, could_vote, with_votes, with_vote}
+use Rattle.qs_machine.specs.Restart.{new_vote, is_new_vote, is_on_record, could_vote, with_votes, with_vote, vote_as_stopped}
 use Rattle.qs_machine.specs.declared.state.OnRecord.{OnRecord}
 use Rattle.qs_machine.specs.declared.state.Voter.{Voter}
 use Rattle.qs_laws.proofs.Alikes.{voter_exact, voter_equal, voter_itself}
@@ -22,6 +22,7 @@ use Rattle.qs_laws.proofs.Maps.{lookup_put, lookup_put_apart}
 use Rattle.qs_laws.proofs.Shut.{Changes, changes_none, put_changes}
 use Rattle.qs_laws.proofs.Steps.{passed}
 use Rattle.qs_laws.proofs.Stills.{Facet, facet, asked_of, asks_at}
+use Rattle.qs_ops.specs.declared.vote.Vote.TheVariants as votes
 
 left_of : (a b : Bool) → (a && b) ≡ true → a ≡ true
 left_of true b h = refl
@@ -70,7 +71,7 @@ asked_new : (here : ℕ) (node : NodeValue) (o : Option TransactionValue) (found
 asked_new here node None found h asks = absurd (cc h)
 asked_new here node (Some tx) found h asks =
     let could : could_vote here node tx found ≡ true = right_of (not (is_on_record node found)) (could_vote here node tx found) h in
-    let was : was_in_commit node.stopped tx ≡ true = left_of (was_in_commit node.stopped tx) _ could in
+    let was : was_in_commit node.stopped tx ≡ true = left_of (was_in_commit node.stopped tx) _ (right_of (has_vote found.server.0 votes.Recoverable) _ could) in
     let before : is_before node.stopped tx.asked ≡ true = left_of (is_before node.stopped tx.asked) (not (was_committed node.stopped tx)) was in
     not_before node.stopped tx.asked before (none_of tx.asked asks)
 
@@ -78,7 +79,7 @@ new_made : (book : BookValue) (here : ℕ) (node : NodeValue) (found : Found) (m
 new_made book here node found more all = by (is_new_vote here node (find_transaction book found.tid) found) refl
   where
     vote : Voter × OnRecord
-    vote = (voter found.tid found.server.0, record { changes = pending_at node found.tid found.server.0; covers = found.covers })
+    vote = (voter found.tid found.server.0, vote_as_stopped here book node found)
 
     by : (b : Bool) → is_new_vote here node (find_transaction book found.tid) found ≡ b → AllByRecursion (IsNew book node) ((if b then vote ∷ [] else []) ++ more)
     by true is = (record { asked = asked_new here node (find_transaction book found.tid) found is; changes = refl }, all)

@@ -13,7 +13,7 @@ ghost use Rattle.qs_journal.specs.declared.entry.Found.{Found};
 ghost use Rattle.qs_machine.specs.Transaction.{cell_of};
 ghost use Rattle.qs_machine.specs.declared.transaction.Cell.{Cell};
 ghost use Rattle.qs_machine.specs.declared.transaction.Cell.TheVariants as cells;
-ghost use Rattle.qs_machine.specs.Book.{BookValue, find_transaction, cell_of_transaction};
+ghost use Rattle.qs_machine.specs.Book.{BookValue, find_transaction, cell_of_transaction, pending_in, inc_at};
 ghost use Rattle.qs_machine.specs.Lawful.{IsLawful, broken, book_after, effect};
 ghost use Rattle.qs_machine.specs.Nodes.{NodeValue, changes_of};
 ghost use Rattle.qs_machine.specs.Opening.{opening};
@@ -49,7 +49,7 @@ pub fn nothing_of_an_aborted_transaction()
 pub fn served_changes_are_kept()
     ensures held { (book : BookValue) (entries : List Entry) (tid : Tid) (member : Member) → keeps_contents member.server.0 ≡ true → IsLawful book entries → IsHolding book tid member entries → held_at (book_after book entries) tid member ≡ held_at book tid member ++ changes_served book tid member entries }
     ensures let_go { (book : BookValue) (entry : Entry) (tid : Tid) (member : Member) (covers : ℕ) → keeps_contents member.server.0 ≡ true → broken book entry ≡ None → crossed_at book tid member ≡ false → entry.act ≡ acts.Vote tid member votes.ReadOnly covers → held_at book tid member ≡ [] }
-    ensures voted { (book : BookValue) (entry : Entry) (tid : Tid) (member : Member) (covers : ℕ) → broken book entry ≡ None → entry.act ≡ acts.Vote tid member votes.Recoverable covers → record_at member.node.0 (effect book entry) tid member.server.0 ≡ Some (record { changes = held_at book tid member; covers = covers }) }
+    ensures voted { (book : BookValue) (entry : Entry) (tid : Tid) (member : Member) (covers : ℕ) → broken book entry ≡ None → entry.act ≡ acts.Vote tid member votes.Recoverable covers → record_at member.node.0 (effect book entry) tid member.server.0 ≡ Some (record { changes = held_at book tid member; covers = covers; pending = pending_in (find_transaction book tid) member (inc_at book entry.node) }) }
     ensures applied { (book : BookValue) (entry : Entry) (tid : Tid) (member : Member) (was now : NodeValue) → keeps_contents member.server.0 ≡ true → broken book entry ≡ None → entry.act ≡ acts.Learn tid member outcomes.Commit → slice_get book.nodes member.node.0 ≡ Some was → slice_get (effect book entry).nodes member.node.0 ≡ Some now → HasApplied member.server.0 (held_at book tid member) was now }
 {}
 
