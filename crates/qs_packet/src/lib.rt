@@ -4,6 +4,7 @@
 mod fault;
 mod message;
 mod packet;
+mod source;
 
 pub use fault::PacketFault;
 pub use message::Message;
