@@ -47,3 +47,5 @@ pub mod AtCommit
 pub mod Serving
 pub mod Turns
 pub mod Parts
+pub mod Lives
+pub mod Requests
