@@ -49,3 +49,6 @@ pub mod Turns
 pub mod Parts
 pub mod Lives
 pub mod Requests
+pub mod Always
+pub mod Answered
+pub mod Voted

@@ -48,7 +48,7 @@ request_equal r s e =
     made : (ℕ × ℕ) × ℕ → RequestNo
     made p = record { link = record { from = record { 0 = p.0.0 }; to = record { 0 = p.0.1 } }; number = p.1 }
 
-request_exact : (r s : RequestNo) → is_at (request_cmp r) s ≡ true → r ≡ s
+pub request_exact : (r s : RequestNo) → is_at (request_cmp r) s ≡ true → r ≡ s
 request_exact r s = by (request_cmp r s) refl
   where
     by : (o : Ordering) → request_cmp r s ≡ o → is_at (request_cmp r) s ≡ true → r ≡ s
@@ -119,7 +119,7 @@ module _ (at : RequestNo) (member : Member) where
   abbrev pub IsStanding : TransactionValue → Type 0
   IsStanding tx = is_some (standing_request tx at member) ≡ true
 
-  put_stands : (tx : TransactionValue) (other : RequestNo) (request : Request) → IsStanding tx → stands_in (requests_in (insert_entry request_cmp tx.requests other (requests_at tx other ++ request ∷ [])) at) ≡ true
+  pub put_stands : (tx : TransactionValue) (other : RequestNo) (request : Request) → IsStanding tx → stands_in (requests_in (insert_entry request_cmp tx.requests other (requests_at tx other ++ request ∷ [])) at) ≡ true
   put_stands tx other request stands = by (is_at (request_cmp at) other) refl
     where
       new : RequestNo → List (RequestNo × List Request)
@@ -138,7 +138,7 @@ module _ (at : RequestNo) (member : Member) where
       ap (λ (o : Option (List Request)). stands_in (unwrap_or o [])) (lookup_put request_cmp at (requests_at tx at ++ request ∷ []) (request_itself at) tx.requests)
       ∙ stands_last (requests_at tx at) request is
 
-  mark_stands : (tx : TransactionValue) (other : RequestNo) (m : Member) → (is_at (request_cmp other) at ≡ true → same_member m member ≡ false) → IsStanding tx
+  pub mark_stands : (tx : TransactionValue) (other : RequestNo) (m : Member) → (is_at (request_cmp other) at ≡ true → same_member m member ≡ false) → IsStanding tx
       → stands_in (requests_in (changed_value (is_at (request_cmp other)) (mark_served m) tx.requests) at) ≡ true
   mark_stands tx other m apart stands = by (is_at (request_cmp other) at) refl
     where
