@@ -31,7 +31,7 @@ use Rattle.qs_laws.proofs.Openings.{first_book}
 use Rattle.qs_laws.proofs.Outcomes.{Inv}
 use Rattle.qs_laws.proofs.Steps.{stepped}
 use Rattle.qs_laws.proofs.Takes.{some_same}
-use Rattle.qs_laws.proofs.Turns.{Stands, Obliged, step_turns, kept_by}
+use Rattle.qs_laws.proofs.Turns.{Stands, kept_by}
 
 module _ (tid : Tid) (P : TransactionValue → Type 0) where
   -- where the transaction is known, it holds
@@ -73,12 +73,12 @@ module _ (tid : Tid) (P : TransactionValue → Type 0) where
   -- ---- a step
 
   pub step_so : (book : BookValue) (entry : Entry) → Inv book → broken book entry ≡ None → ((label : List ℕ) (client : ClientNo) (ticks : ℕ) → P (begun label client ticks))
-      → Obliged tid P P book entry.stamp entry.node.0 entry.act → IsSo book → IsSo (effect book entry)
-  step_so book entry i h first owes so = by (find_transaction book tid) refl
+      → (Stands tid P book → Stands tid P (effect book entry)) → IsSo book → IsSo (effect book entry)
+  step_so book entry i h first keeps so = by (find_transaction book tid) refl
     where
       by : (o : Option TransactionValue) → find_transaction book tid ≡ o → IsSo (effect book entry)
       by None none = unknown book entry h first none
-      by (Some tx) found = so_of (effect book entry) (step_turns tid P P book entry i h owes (record { tx = tx; found = found; holds = so tx found }))
+      by (Some tx) found = so_of (effect book entry) (keeps (record { tx = tx; found = found; holds = so tx found }))
 
   -- ---- the opening
 

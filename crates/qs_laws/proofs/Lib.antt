@@ -52,3 +52,4 @@ pub mod Requests
 pub mod Always
 pub mod Answered
 pub mod Voted
+pub mod Voting

@@ -135,3 +135,66 @@ module _ (tid : Tid) (member : Member) (inc : ℕ) (part : Part) where
   step_part book entry i h far s =
       step_turns tid (IsPart tid member inc part part) (IsPart tid member inc part (part_after tid member inc (inc_at book entry.node) entry.stamp entry.node.0 entry.act part)) book entry i h
       (all_owe book entry.stamp entry.node.0 (slice_get book.nodes entry.node.0) entry.act refl (held (is_in_order book entry) 1 _ h).1 far) s
+
+-- ---- what every act leaves of a part
+
+module _ (tid : Tid) (member : Member) (inc : ℕ) (Q : Part → Type 0) (found : (covers changes : ℕ) → Q (found_part covers changes)) where
+  abbrev pub OfPart : TransactionValue → Type 0
+  OfPart tx = Q (part_of tx member inc)
+
+  -- also through a restart that begins that life
+  pub left_survives : (here new : ℕ) → Survives OfPart here new
+  left_survives here new = record {
+    learnt = λ m tx p. p;
+    decided = λ place outcome cause tx p. p;
+    found = λ server covers changes tx p.
+        subst Q (sym (put_part member inc tx (member_at here server) new (found_part covers changes)))
+        (by (same_member (member_at here server) member && (new == inc)) (found_part covers changes) (part_of tx member inc) (found covers changes) p);
+  }
+    where
+      by : (b : Bool) (x y : Part) → Q x → Q y → Q (if b then x else y)
+      by true x y p q = p
+      by false x y p q = q
+
+  pub part_left : (each : (now stamp here : ℕ) (act : Act) (part : Part) → Q part → Q (part_after tid member inc now stamp here act part)) → (book : BookValue) (entry : Entry) → Inv book → broken book entry ≡ None
+      → Stands tid OfPart book → Stands tid OfPart (effect book entry)
+  part_left each book entry i h s = by (starts_life member inc entry.node.0 entry.act) refl
+    where
+      of_restart : (act : Act) → starts_life member inc entry.node.0 act ≡ true → Obliged tid OfPart OfPart book entry.stamp entry.node.0 act
+      of_restart (Restart new pend done) is = (left_survives entry.node.0 new, λ tx p. p)
+      of_restart act is = absurd (cc is)
+
+      by : (b : Bool) → starts_life member inc entry.node.0 entry.act ≡ b → Stands tid OfPart (effect book entry)
+      by true is = step_turns tid OfPart OfPart book entry i h (of_restart entry.act is) s
+      by false is =
+          let last : Stands tid (IsPart tid member inc (part_of s.tx member inc) (part_after tid member inc (inc_at book entry.node) entry.stamp entry.node.0 entry.act (part_of s.tx member inc))) (effect book entry) =
+          step_part tid member inc (part_of s.tx member inc) book entry i h is (record { tx = s.tx; found = s.found; holds = refl }) in
+          record {
+            tx = last.tx;
+            found = last.found;
+            holds = subst Q (sym last.holds) (each (inc_at book entry.node) entry.stamp entry.node.0 entry.act (part_of s.tx member inc) s.holds);
+          }
+
+-- ---- which life an entry begins
+
+module _ (member : Member) (inc : ℕ) (entry : Entry) where
+  pub none_born : restarts member.node entry ≡ false → starts_life member inc entry.node.0 entry.act ≡ false
+  none_born = of entry.act
+    where
+      far : (b c : Bool) → (b && true) ≡ false → (b && c) ≡ false
+      far true c h = absurd (cc h)
+      far false c h = refl
+
+      of : (act : Act) → ((entry.node.0 == member.node.0) && is_restart act) ≡ false → starts_life member inc entry.node.0 act ≡ false
+      of (Restart new pend done) h = far (entry.node.0 == member.node.0) (new == inc) h
+      of act h = refl
+
+  pub later_born : (new : ℕ) (pend : List Found) (done : List Tid) → entry.act ≡ acts.Restart new pend done → inc < new → starts_life member inc entry.node.0 entry.act ≡ false
+  later_born new pend done is later = ap (starts_life member inc entry.node.0) is ∙ off (entry.node.0 == member.node.0)
+    where
+      unlike : (a b : ℕ) → a < b → (b == a) ≡ false
+      unlike a b h = grind (arith, nat_tests)
+
+      off : (b : Bool) → (b && (new == inc)) ≡ false
+      off true = unlike inc new later
+      off false = refl

@@ -70,7 +70,7 @@ agreed member inc tx all = by (lookup (is_at (life_cmp (life member inc))) tx.pa
 abbrev pub IsOwed : Part → Type 0
 IsOwed part = part.covered < part.served
 
-two_covers : (class : Class) (part : Part) → is_two_phase class ≡ true → agrees_in class part ≡ true → part.covered ≡ part.served
+pub two_covers : (class : Class) (part : Part) → is_two_phase class ≡ true → agrees_in class part ≡ true → part.covered ≡ part.served
 two_covers classes.Recoverable part two h = same_number part.covered part.served h
 two_covers classes.Volatile part two h = same_number part.covered part.served h
 two_covers classes.Immediate part two h = absurd (cc two)
@@ -126,7 +126,7 @@ choose_for tid member inc t (Some other) now f part p q = choose (is_own tid mem
 
 module _ (tid : Tid) (member : Member) (inc : ℕ) where
   -- an act that is no vote of its for commit in this life
-  still_owed : (now stamp here : ℕ) (act : Act) (part : Part) → ((now == inc) ≡ true → votes_for tid member act ≡ false) → IsOwed part → IsOwed (part_after tid member inc now stamp here act part)
+  pub still_owed : (now stamp here : ℕ) (act : Act) (part : Part) → ((now == inc) ≡ true → votes_for tid member act ≡ false) → IsOwed part → IsOwed (part_after tid member inc now stamp here act part)
   still_owed now stamp here (Serve t other from n reply) part not_for h =
       choose (is_own tid member inc t other now) (serving_part (class_of other.server.0) stamp (is_done reply) part) part (λ own. owes_more (class_of other.server.0) stamp (is_done reply) part (below part.covered part.served h)) h
   still_owed now stamp here (acts.Vote t other ballot covers) part not_for h = choose (is_own tid member inc t other now) (voted_part ballot part) part (λ own. against_owes ballot part (it_is own (is_against ballot) refl) h) h
