@@ -53,3 +53,5 @@ pub mod Always
 pub mod Answered
 pub mod Voted
 pub mod Voting
+pub mod Ended
+pub mod Opposed
