@@ -55,3 +55,4 @@ pub mod Voted
 pub mod Voting
 pub mod Ended
 pub mod Opposed
+pub mod Lent
