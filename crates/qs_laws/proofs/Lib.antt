@@ -56,3 +56,5 @@ pub mod Voting
 pub mod Ended
 pub mod Opposed
 pub mod Lent
+pub mod Returned
+pub mod AllAgreed
