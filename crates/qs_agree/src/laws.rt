@@ -1,8 +1,9 @@
 //! What holds of every run of the commit protocol.
-ghost use Rattle.std.specs.Prelude.{◌≡◌, ℕ, List};
+ghost use Rattle.std.specs.Prelude.{◌≡◌, ◌++◌, ℕ, true, List, ◌∷◌};
 ghost use Rattle.qs_agree.specs.World.{World, Opening, IsOpening, Committed, start};
-ghost use Rattle.qs_agree.specs.Step.{Event};
+ghost use Rattle.qs_agree.specs.Step.{Event, Refuse, Answer_running};
 ghost use Rattle.qs_agree.specs.Laws.{Run, IsSettled, IsAnswered, IsInvolved, IsAgreed, IsSilenced};
+ghost use Rattle.qs_agree.specs.Events.{Happens, IsOpposed, NeverCommits, IsRemembered};
 
 /// Once commit is decided, every request was served and stands before a vote, and no vote was against it.
 pub fn unanimity()
@@ -23,4 +24,15 @@ pub fn agreement()
 /// Whoever was told abort serves nothing more of the transaction, and votes on nothing.
 pub fn abort_is_final()
     ensures silenced { (opening : Opening) (before after : List Event) (mid new : World) → IsOpening opening → Run (start opening) before mid → Run mid after new → IsSilenced mid new }
+{}
+
+/// A run in which a server votes abort never commits: no event decides it, and nobody is told it, learns it or is answered so. Nor where an engaged place takes a refusal, or waits for a reply that never comes.
+pub fn abort_votes_are_heeded()
+    ensures voted { (opening : Opening) (events : List Event) (new : World) → IsOpening opening → Run (start opening) events new → IsOpposed events → NeverCommits events new }
+    ensures refused { (opening : Opening) (before after : List Event) (q : ℕ) (mid new : World) → IsOpening opening → Run (start opening) before mid → mid.engaged q ≡ true → Run mid (Refuse q ∷ after) new → NeverCommits (before ++ Refuse q ∷ after) new }
+{}
+
+/// Whoever inquired while the home ran the transaction is told what the home decides: a Commit names its node, and stands until that acknowledges; where the home aborts, it is to tell the node.
+pub fn inquirers_are_told()
+    ensures remembered { (opening : Opening) (events : List Event) (q : ℕ) (new : World) → IsOpening opening → Run (start opening) events new → Happens events (Answer_running q) → IsRemembered events new (new.node q) }
 {}

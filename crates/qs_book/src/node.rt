@@ -353,13 +353,22 @@ impl NodeState {
     }
 
     /// A recoverable vote goes on record. After a refusal all is as it was.
-    pub fn put_record(&mut self, tid: Tid, server: ServerNo, covers: u32) -> Result<(), NoMemory>
-        ensures ok { OnOk result (self.new ≡ record self.old { records = insert_entry voter_cmp self.old.records (voter tid server.0) (record { changes = pending_at self.old tid server.0; covers = covers }) }) }
+    fn put_record(
+        &mut self,
+        tid: Tid,
+        server: ServerNo,
+        covers: u32,
+        pending: u64,
+    ) -> Result<(), NoMemory>
+        ensures ok { OnOk result (self.new ≡ record self.old { records = insert_entry voter_cmp self.old.records (voter tid server.0) (record { changes = pending_at self.old tid server.0; covers = covers; pending = pending }) }) }
         ensures err { OnErr result (self.new ≡ self.old) }
     {
-        let changes = self.pending(tid, server)?;
-        self.records
-            .insert(Voter { tid, server }, OnRecord { changes, covers })?;
+        let kept = OnRecord {
+            changes: self.pending(tid, server)?,
+            covers,
+            pending,
+        };
+        self.records.insert(Voter { tid, server }, kept)?;
         Ok(())
     }
 
@@ -370,16 +379,17 @@ impl NodeState {
         self.records.remove(&Voter { tid, server });
     }
 
-    /// A member votes. After a refusal all is as it was.
+    /// A member with so many changes pending votes. After a refusal all is as it was.
     pub fn vote(
         &mut self,
+        pending: u64,
         crossed: bool,
         tid: Tid,
         server: ServerNo,
         vote: &Vote,
         covers: u32,
     ) -> Result<(), NoMemory>
-        ensures ok { OnOk result (self.new ≡ vote_node crossed tid server.0 vote.now covers self.old) }
+        ensures ok { OnOk result (self.new ≡ vote_node pending crossed tid server.0 vote.now covers self.old) }
         ensures err { OnErr result (self.new ≡ self.old) }
     {
         match (vote, crossed) {
@@ -390,7 +400,7 @@ impl NodeState {
             (Vote::Abort { .. }, false) => self.set_vote(server, tid, false),
             (Vote::Volatile, false) => self.set_vote(server, tid, true),
             (Vote::Abort { .. } | Vote::Volatile, true) => Ok(()),
-            (Vote::Recoverable, _) => self.put_record(tid, server, covers),
+            (Vote::Recoverable, _) => self.put_record(tid, server, covers, pending),
         }
     }
 

@@ -141,6 +141,7 @@ fn add_record(records: &mut BTreeMap<Voter, OnRecord>, vote: &Pending) -> Result
     let kept = OnRecord {
         changes: vote.changes.copy()?,
         covers: vote.covers,
+        pending: vote.changes.len() as u64,
     };
     records.insert(voter, kept)?;
     Ok(())

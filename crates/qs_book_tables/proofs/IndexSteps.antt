@@ -13,6 +13,7 @@ use Rattle.std.specs.BTreeMap.{is_at}
 use Rattle.std.specs.BTreeSet.{BTreeSet}
 use Rattle.std.proofs.lemmas.Cmp.{nat_cmp_total, on_total, then_total, tied_itself}
 use Rattle.std.proofs.lemmas.Map.Lookups.{exact_bytes, exact_unsigned, exact_pairs}
+use Rattle.qs_base.proofs.TidOrder.{same_tid-cmp, tid_total, or-false}
 use Rattle.qs_base.specs.Order.{bytes_cmp, same_bytes, tid_cmp, same_tid}
 use Rattle.qs_base.specs.declared.identifiers.Tid.{Tid}
 use Rattle.qs_book_tables.specs.Index.{Index, tids_of, holders_of, with_tid, without_tid, ChangesHolders, SameHolders}

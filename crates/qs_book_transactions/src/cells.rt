@@ -2,8 +2,8 @@
 ghost use Rattle.std.specs.Prelude.{◌≡◌};
 ghost use Rattle.qs_machine.specs.Transaction.{cell_of};
 
-use qs_machine::Cell;
 use qs_base::Outcome;
+use qs_machine::Cell;
 
 /// The cell of an outcome.
 pub fn cell_of(outcome: Outcome) -> Cell

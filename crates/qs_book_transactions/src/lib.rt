@@ -10,4 +10,5 @@ mod tests;
 mod transaction;
 
 pub use cells::cell_of;
+pub use part::{is_let_go, may_learn_still};
 pub use transaction::Transaction;

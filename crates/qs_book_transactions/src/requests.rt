@@ -4,8 +4,8 @@ ghost use Rattle.std.specs.Option.{option_copied};
 ghost use Rattle.std.specs.List.{list_all, find, position};
 ghost use Rattle.qs_machine.specs.Transaction.{is_standing};
 
-use qs_machine::Request;
 use qs_base::{Member, NoMemory};
+use qs_machine::Request;
 use std::alloc::Global;
 use std::marker::Model;
 

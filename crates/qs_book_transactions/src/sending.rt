@@ -1,57 +1,49 @@
 //! What a request changes of what was sent and of what is open towards a node.
 ghost use Rattle.std.specs.Prelude.{◌≡◌, IfOk};
-ghost use Rattle.qs_machine.specs.Transaction.{is_by_files, is_by_client, sent_more, reached_by, note_of};
+ghost use Rattle.qs_machine.specs.Transaction.{is_by_files, is_by_client, sent_more, reached_by, note_of, with_counted, heard_by, with_reached};
 
-use qs_machine::{Noted, Peer, Request, Sent};
 use qs_base::{Copied, NoMemory};
+use qs_machine::{Noted, Peer, Request, Sent};
 use qs_ops::Op;
 
-impl Sent {
-    ghost use Rattle.qs_machine.specs.Transaction.{with_counted};
+/// Nothing was ever open towards the node.
+pub const NO_PEER: Peer = Peer {
+    waiting: 0,
+    reached: 0,
+};
 
-    /// The peer's answer is counted up to that number, where it was sent in this incarnation. A
-    /// count never falls.
-    pub fn counted_to(self, inc: u64, up_to: u32) -> Sent
-        ensures { result ≡ with_counted inc up_to self }
-    {
-        if self.inc == inc && self.counted < up_to {
-            Sent {
-                counted: up_to,
-                ..self
-            }
-        } else {
-            self
+/// The peer's answer is counted up to that number, where it was sent in this incarnation. A count
+/// never falls.
+pub fn with_counted(sent: Sent, inc: u64, up_to: u32) -> Sent
+    ensures { result ≡ with_counted inc up_to sent }
+{
+    if sent.inc == inc && sent.counted < up_to {
+        Sent {
+            counted: up_to,
+            ..sent
         }
+    } else {
+        sent
     }
 }
 
-impl Peer {
-    ghost use Rattle.qs_machine.specs.Transaction.{heard_by, with_reached};
-
-    /// Nothing was ever open.
-    pub const NONE: Peer = Peer {
-        waiting: 0,
-        reached: 0,
-    };
-
-    /// It is in that incarnation with what was seen open.
-    pub fn reached_in(self, inc: u64) -> Peer
-        ensures { result ≡ with_reached inc self }
-    {
-        Peer {
-            reached: inc,
-            ..self
-        }
+/// The peer is in that incarnation with what was seen open.
+pub fn with_reached(peer: Peer, inc: u64) -> Peer
+    ensures { result ≡ with_reached inc peer }
+{
+    Peer {
+        reached: inc,
+        ..peer
     }
+}
 
-    /// A client that sent a request to it, in this incarnation of its, got an answer.
-    pub fn heard(self, inc: u64) -> Peer
-        ensures { result ≡ heard_by inc self }
-    {
-        Peer {
-            waiting: self.waiting.saturating_sub(1),
-            reached: inc,
-        }
+/// A client that sent a request to the peer, in this incarnation of its, got an answer.
+pub fn heard_by(peer: Peer, inc: u64) -> Peer
+    ensures { result ≡ heard_by inc peer }
+{
+    Peer {
+        waiting: peer.waiting.saturating_sub(1),
+        reached: inc,
     }
 }
 

@@ -1,5 +1,6 @@
 //! Short lives of a transaction, with values that were reckoned by hand.
-use crate::{Transaction, cell_of};
+use crate::part::NO_PART;
+use crate::{Transaction, cell_of, may_learn_still};
 use qs_base::{Bytes, Class, ClientNo, Copied, Member, NoMemory, NodeNo, Outcome, ServerNo};
 use qs_machine::{Cell, Link, Noted, Part, Request, RequestNo};
 use qs_ops::{Cause, Op, Reason, Vote, class_of, is_two_phase, learns_outcome};
@@ -288,13 +289,13 @@ fn commit(tx: &mut Transaction) -> [bool; 4] {
 
 // Whether each incarnation has something to learn, and whether files learnt it, which the second does.
 fn learn_commit(tx: &mut Transaction) -> Result<[bool; 4], NoMemory> {
-    let first = tx.part(FILES, 1).may_learn_still();
-    let second = tx.part(FILES, 2).may_learn_still();
+    let first = may_learn_still(&tx.part(FILES, 1));
+    let second = may_learn_still(&tx.part(FILES, 2));
     tx.learn(FILES, 2, Outcome::Commit)?;
     Ok([
         first,
         second,
-        tx.part(FILES, 2).may_learn_still(),
+        may_learn_still(&tx.part(FILES, 2)),
         tx.has_learnt(FILES),
     ])
 }
@@ -480,7 +481,7 @@ fn what_stood_at_the_opening_has_none(rt: HostRuntime) -> Result<(), Fail> {
     let ended = Part {
         served: 1,
         step: 5,
-        ..Part::NONE
+        ..NO_PART
     };
     assert_eq!(rt; end(&mut tx), Ok(ended));
     Ok(())

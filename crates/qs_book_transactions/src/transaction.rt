@@ -6,9 +6,10 @@ mod changes;
 mod judging;
 mod requesting;
 
+use crate::part::NO_PART;
 use crate::requests::Requests;
-use qs_machine::{Cell, Life, Link, Noted, Part, Peer, Refusal, Request, RequestNo, Sent, Start};
 use qs_base::{Bytes, ClientNo, List, Member, NodeNo};
+use qs_machine::{Cell, Life, Link, Noted, Part, Peer, Refusal, Request, RequestNo, Sent, Start};
 use qs_ops::Cause;
 use std::alloc::Global;
 use std::collections::{BTreeMap, BTreeSet};
@@ -162,7 +163,7 @@ impl Transaction {
         self.parts
             .get(&Life { member, inc })
             .copied()
-            .unwrap_or(Part::NONE)
+            .unwrap_or(NO_PART)
     }
 
     /// How many requests went over that link in that incarnation of its sender.

@@ -67,9 +67,10 @@ impl Cells {
         }
     }
 
-    // What a read gives.
+    // What a read gives, which is an image.
     pub fn content(&self) -> &[u8]
-        ensures { result.now ≡ self.now.content }
+        ensures value { result.now ≡ self.now.content }
+        ensures image { IsImage self.now.now self.now.content }
     {
         self.content.as_slice()
     }

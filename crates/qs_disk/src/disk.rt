@@ -1,7 +1,7 @@
 //! A disk, as the layers above it see it.
 ghost use Rattle.std.specs.Prelude.{◌≡◌, ◌≤◌, ◌+◌, ℕ, length, is_ok};
 ghost use Rattle.qs_base.specs.Causes.{HasCause};
-ghost use Rattle.qs_disk.specs.Disk.{DiskState, IsSize, Reads, Writes, Syncs, Cuts};
+ghost use Rattle.qs_disk.specs.Disk.{DiskState, IsImage, IsSize, Reads, Writes, Syncs, Cuts};
 
 use thiserror::Error;
 
@@ -13,8 +13,9 @@ pub struct DiskFailed;
 /// A disk of fixed size that a power cut may interrupt at any moment.
 ///
 /// Between two syncs each range that was written may hold any bytes in an image, also where the
-/// write failed; other bytes are those of the last sync. What `state` says of content and images is
-/// promised where `told` holds, as it does of disks in memory.
+/// write failed; other bytes are those of the last sync. The content is one of the images at each
+/// moment between two calls (`size` says so). What `state` says of content and images is promised
+/// where `told` holds, as it does of disks in memory.
 pub trait Disk {
     /// Whether content and images are told.
     ghost told: { Type 0 };
@@ -31,7 +32,10 @@ pub trait Disk {
     /// How many bytes it has, which never changes: a multiple of 4,096 from 65,536 to 16,777,216.
     fn size(&self) -> u64
         ensures value { result ≡ byte_count self.now }
-        ensures allowed { IsSize result };
+        ensures allowed { IsSize result }
+
+        // A power cut may leave the content.
+        ensures image { told → IsImage (state self.now).now (state self.now).content };
 
     /// How many calls failed, at most 2^64 - 1.
     fn faults(&self) -> u64

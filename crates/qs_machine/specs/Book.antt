@@ -1,5 +1,5 @@
 -- The reference machine: its state, the lawful step, what a step does, and lawful histories.
-use Rattle.std.specs.Prelude.{ℕ, ◌-◌, ◌==◌, Bool, true, false, ◌&&◌, List, [], ◌∷◌, ◌++◌, fold, Option, Some, None, nat_lt, slice_get, slice_set, map, if◌then◌else◌}
+use Rattle.std.specs.Prelude.{ℕ, ◌-◌, ◌==◌, Bool, true, false, ◌&&◌, List, [], ◌∷◌, ◌++◌, fold, Option, Some, None, slice_get, slice_set, map, if◌then◌else◌}
 use Rattle.std.specs.Map.{lookup}
 use Rattle.std.specs.BTreeMap.{insert_entry, is_at}
 use Rattle.std.specs.BTreeSet.{insert_key}
@@ -19,6 +19,7 @@ use Rattle.qs_ops.specs.declared.vote.Vote.{Vote}
 use Rattle.qs_ops.specs.declared.vote.Vote.TheVariants as votes
 use Rattle.qs_ops.specs.Table.{served, released, committed, with_vote}
 use Rattle.qs_ops.specs.Timers.{timer_served, ticked, timers_ended}
+use Rattle.qs_ops.specs.Servers.{names_no, timers_no, is_client_no}
 use Rattle.qs_machine.specs.Transaction.{TransactionValue, part_of, changed_value, begun, issued, served_in, voted, decided_at, learnt, heard, is_crossed, standing_request, requests_at, counted, ended, lent, given_back}
 use Rattle.qs_machine.specs.declared.transaction.Cell.{Cell}
 use Rattle.qs_machine.specs.declared.transaction.Request.{Request}
@@ -122,7 +123,7 @@ begin here tid label client book = record (with_node here (λ node. record node 
 -- a client waits for the answer to its request
 abbrev pub with_waiting : Tid → Member → Member → BookValue → BookValue
 with_waiting tid issuer member book =
-    if nat_lt 31 issuer.server.0
+    if is_client_no issuer.server.0
     then with_owner (issuer.server.0 - 32)
     (λ owner. record owner { waiting = owner.waiting ++ record { tid = tid; node = member.node } ∷ [] }) book
     else book
@@ -155,13 +156,13 @@ is_done reply = false
 -- what a serve does at its server
 abbrev pub server_serve : ℕ → Tid → Op → Reply → NodeValue → NodeValue
 server_serve server tid op reply node =
-    if server == 3 then record node { timers = timer_served node.timers tid op reply }
+    if server == timers_no then record node { timers = timer_served node.timers tid op reply }
     else with_table server (λ table. served table tid op reply) node
 
 -- a crossed transaction may have bound the name of any request of that number
 abbrev pub crossed_serve : ℕ → Tid → List Request → Reply → NodeValue → NodeValue
 crossed_serve server tid requests reply node =
-    if (server == 2) && is_done reply
+    if (server == names_no) && is_done reply
     then with_doubts tid (bound_names (map (λ (request : Request). request.op) requests)) node
     else node
 
@@ -222,7 +223,7 @@ learn_node outcomes.Abort tid server node = with_table server (λ table. release
 
 -- and nothing is in doubt at names any more
 abbrev pub doubts_after : Tid → ℕ → NodeValue → NodeValue
-doubts_after tid server node = if server == 2 then without_doubts tid node else node
+doubts_after tid server node = if server == names_no then without_doubts tid node else node
 
 abbrev pub learn : ℕ → Tid → Member → Outcome → BookValue → BookValue
 learn here tid member outcome book =

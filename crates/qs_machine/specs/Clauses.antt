@@ -32,6 +32,7 @@ use Rattle.qs_journal.specs.declared.entry.CrashCause.{CrashCause}
 use Rattle.qs_journal.specs.declared.entry.CrashCause.TheVariants as crashes
 use Rattle.qs_ops.specs.Table.{TableValue, is_due, reply_to, share_of, has_changes, view_bytes, least_taken, changes_name}
 use Rattle.qs_ops.specs.Timers.{timer_reply_to}
+use Rattle.qs_ops.specs.Servers.{files_no, audit_no, names_no, timers_no, windows_no, scratch_no, extra_no, client_no, is_client_no}
 use Rattle.qs_machine.specs.Transaction.{TransactionValue, is_open, is_commit, is_abort, is_outcome, part_of, is_crossed, sent_in, sent_on, next_number, standing_request, has_note, is_gone, is_covering, has_refusal, borrower, has_loan, is_loan_due, is_unanimous, is_let_go, may_learn_still, learnt_abort}
 use Rattle.qs_machine.specs.declared.transaction.Link.{Link}
 use Rattle.qs_machine.specs.declared.transaction.Noted.{Noted}
@@ -73,16 +74,16 @@ is_numbered here node nodes tx member number op =
 
 -- a client of this node, as the one who issues
 abbrev pub is_client_here : ℕ → Member → Bool
-is_client_here here issuer = (issuer.node.0 == here) && nat_lt 31 issuer.server.0
+is_client_here here issuer = (issuer.node.0 == here) && is_client_no issuer.server.0
 
 -- files of this node, as the one who issues
 abbrev pub is_files_here : ℕ → Member → Bool
-is_files_here here issuer = (issuer.node.0 == here) && (issuer.server.0 == 0)
+is_files_here here issuer = (issuer.node.0 == here) && (issuer.server.0 == files_no)
 
 -- the client of that server number
 abbrev pub is_owner_of : ℕ → Option ClientNo → Bool
 is_owner_of server None = false
-is_owner_of server (Some owner) = owner.0 + 32 == server
+is_owner_of server (Some owner) = client_no owner.0 == server
 
 -- 21 client may issue: the owner at the home before it asks and before the decision, ..
 abbrev pub may_issue_as_owner : ℕ → Tid → TransactionValue → Member → Bool
@@ -113,7 +114,7 @@ note_here here node text = record { node = record { 0 = here }; inc = node.inc; 
 
 -- the pending changes of the transaction at files here
 abbrev pub files_count : ℕ → NodeValue → TransactionValue → ℕ
-files_count here node tx = (part_of tx (record { node = record { 0 = here }; server = record { 0 = 0 } }) node.inc).pending
+files_count here node tx = (part_of tx (record { node = record { 0 = here }; server = record { 0 = files_no } }) node.inc).pending
 
 -- 22 audit note due: commit was asked for, and the note tells how many changes files here holds;
 -- no such note that files issued in this incarnation was served
@@ -145,15 +146,15 @@ request_here here tx member from number =
 
 -- the replies that a server has: those that it may give to some operation of its own
 abbrev pub has_reply : ℕ → Reply → Bool
-has_reply server replies.Done = not (server == 6)
-has_reply server (replies.Value text) = (server == 0) || ((server == 2) || ((server == 4) || (server == 5)))
-has_reply server (replies.Left ticks) = server == 3
-has_reply server (replies.Names list) = server == 0
-has_reply server (replies.Notes list) = server == 1
-has_reply server (replies.Busy holder) = server == 0
-has_reply server replies.Absent = not (server == 1) && nat_lt server 32
-has_reply server replies.TooMany = nat_lt server 6
-has_reply server replies.TooLong = server == 0
+has_reply server replies.Done = not (server == extra_no)
+has_reply server (replies.Value text) = (server == files_no) || ((server == names_no) || ((server == windows_no) || (server == scratch_no)))
+has_reply server (replies.Left ticks) = server == timers_no
+has_reply server (replies.Names list) = server == files_no
+has_reply server (replies.Notes list) = server == audit_no
+has_reply server (replies.Busy holder) = server == files_no
+has_reply server replies.Absent = not (server == audit_no) && nat_lt server (client_no 0)
+has_reply server replies.TooMany = nat_lt server extra_no
+has_reply server replies.TooLong = server == files_no
 
 -- a transaction that is crossed at files may hold any name
 abbrev pub holds_as : Option TransactionValue → Member → ℕ → Bool
@@ -163,7 +164,7 @@ holds_as (Some tx) files inc = is_crossed tx files && (part_of tx files inc).due
 abbrev pub may_hold : ℕ → NodeValue → List (Tid × TransactionValue) → Tid → Bool
 may_hold here node transactions holder =
     holds_as (lookup (is_at (tid_cmp holder)) transactions)
-    (record { node = record { 0 = here }; server = record { 0 = 0 } }) node.inc
+    (record { node = record { 0 = here }; server = record { 0 = files_no } }) node.inc
 
 -- an operation that another transaction can keep back
 abbrev pub takes_lock : Op → Bool
@@ -189,9 +190,9 @@ is_table_reply (Some table) tid op reply = is_due (reply_to table tid op) reply
 -- and a client takes each loan
 abbrev pub is_server_reply : NodeValue → ℕ → Tid → Op → Reply → Bool
 is_server_reply node server tid op reply =
-    if server == 3 then is_due (timer_reply_to node.timers tid op) reply
-    else if server == 6 then same_reply replies.Absent reply
-    else if nat_lt 31 server then same_reply replies.Done reply
+    if server == timers_no then is_due (timer_reply_to node.timers tid op) reply
+    else if server == extra_no then same_reply replies.Absent reply
+    else if is_client_no server then same_reply replies.Done reply
     else is_table_reply (table_of node server) tid op reply
 
 -- 31 reply by the rules; where the transaction is crossed, any that the server has
@@ -199,7 +200,7 @@ abbrev pub is_reply : ℕ → NodeValue → List (Tid × TransactionValue) → T
 is_reply here node transactions tid tx member op reply =
     if is_crossed tx member then has_reply member.server.0 reply
     else is_server_reply node member.server.0 tid op reply
-    || ((member.server.0 == 0) && is_crossed_busy here node transactions tid op reply)
+    || ((member.server.0 == files_no) && is_crossed_busy here node transactions tid op reply)
 
 -- 30 serve of a standing issue, 31 reply by the rules, 32 no serve after abort
 abbrev pub broken_request : ℕ → NodeValue → List (Tid × TransactionValue) → Tid → TransactionValue → Member → Option Request → Reply → Option ℕ
@@ -270,19 +271,19 @@ is_extra_vote _ = false
 
 abbrev pub is_server_vote : NodeValue → ℕ → Tid → Vote → Bool
 is_server_vote node server tid vote =
-    if server == 0 then is_files_vote node tid vote
-    else if server == 1 then is_audit_vote node tid vote
-    else if server == 2 then is_names_vote node tid vote
-    else (server == 6) && is_extra_vote vote
+    if server == files_no then is_files_vote node tid vote
+    else if server == audit_no then is_audit_vote node tid vote
+    else if server == names_no then is_names_vote node tid vote
+    else (server == extra_no) && is_extra_vote vote
 
 -- the votes that a server has: of files alone a quota that the bytes pass, of files and audit a room that the need passes
 abbrev pub has_vote : ℕ → Vote → Bool
 has_vote server votes.ReadOnly = true
-has_vote server votes.Volatile = server == 2
-has_vote server votes.Recoverable = (server == 0) || (server == 1)
-has_vote server (votes.Abort (reasons.Quota bytes limit)) = (server == 0) && nat_lt limit bytes
-has_vote server (votes.Abort (reasons.LogRoom need room)) = ((server == 0) || (server == 1)) && nat_lt room need
-has_vote server (votes.Abort (reasons.Taken name)) = server == 2
+has_vote server votes.Volatile = server == names_no
+has_vote server votes.Recoverable = (server == files_no) || (server == audit_no)
+has_vote server (votes.Abort (reasons.Quota bytes limit)) = (server == files_no) && nat_lt limit bytes
+has_vote server (votes.Abort (reasons.LogRoom need room)) = ((server == files_no) || (server == audit_no)) && nat_lt room need
+has_vote server (votes.Abort (reasons.Taken name)) = server == names_no
 has_vote server (votes.Abort (reasons.Code code)) = false
 
 -- 42 vote by the rules; where the transaction is crossed, any that the server has
@@ -329,7 +330,7 @@ may_decide here tid tx = (tid.home.0 == here) && is_open tx.cell
 -- no member of the home voted recoverable
 abbrev pub has_no_record : NodeValue → Tid → Bool
 has_no_record node tid =
-    is_none (record_of node tid 0) && (is_none (record_of node tid 1) && is_none (record_of node tid 6))
+    is_none (record_of node tid files_no) && (is_none (record_of node tid audit_no) && is_none (record_of node tid extra_no))
 
 -- the bytes of a Commit that tells no node, with its batch and what is kept
 abbrev pub commit_base : NodeValue → ℕ
@@ -439,8 +440,8 @@ waits_for tx member inc server = may_learn_still (part_of tx (record member { se
 
 -- two-phase members learn first, then standard ones, then delayed ones
 abbrev pub earlier_servers : Class → List ℕ
-earlier_servers classes.Standard = 0 ∷ 1 ∷ 2 ∷ 6 ∷ []
-earlier_servers classes.Delayed = 0 ∷ 1 ∷ 2 ∷ 6 ∷ 4 ∷ []
+earlier_servers classes.Standard = files_no ∷ audit_no ∷ names_no ∷ extra_no ∷ []
+earlier_servers classes.Delayed = files_no ∷ audit_no ∷ names_no ∷ extra_no ∷ windows_no ∷ []
 earlier_servers _ = []
 
 -- 96 read-only learns nothing, 97 learning order

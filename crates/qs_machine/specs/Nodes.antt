@@ -11,6 +11,7 @@ use Rattle.qs_ops.specs.declared.operation.Op.{Op}
 use Rattle.qs_ops.specs.declared.operation.Op.TheVariants.{Bind}
 use Rattle.qs_ops.specs.Table.{TableValue, share_of, released}
 use Rattle.qs_ops.specs.Timers.{TimersValue, timers_ended}
+use Rattle.qs_ops.specs.Servers.{files_no, audit_no, names_no, timers_no, windows_no, scratch_no, extra_no}
 use Rattle.qs_machine.specs.declared.state.OnRecord.{OnRecord}
 use Rattle.qs_machine.specs.declared.state.Voter.{Voter}
 
@@ -47,25 +48,25 @@ keep_of format = if format == 1 then 128 else 144
 
 abbrev pub table_of : NodeValue → ℕ → Option TableValue
 table_of node server =
-    if server == 0 then Some node.files
-    else if server == 1 then Some node.audit
-    else if server == 2 then Some node.names
-    else if server == 4 then Some node.windows
-    else if server == 5 then Some node.scratch
+    if server == files_no then Some node.files
+    else if server == audit_no then Some node.audit
+    else if server == names_no then Some node.names
+    else if server == windows_no then Some node.windows
+    else if server == scratch_no then Some node.scratch
     else None
 
 abbrev pub with_table : ℕ → (TableValue → TableValue) → NodeValue → NodeValue
 with_table server f node =
-    if server == 0 then record node { files = f node.files }
-    else if server == 1 then record node { audit = f node.audit }
-    else if server == 2 then record node { names = f node.names }
-    else if server == 4 then record node { windows = f node.windows }
-    else if server == 5 then record node { scratch = f node.scratch }
+    if server == files_no then record node { files = f node.files }
+    else if server == audit_no then record node { audit = f node.audit }
+    else if server == names_no then record node { names = f node.names }
+    else if server == windows_no then record node { windows = f node.windows }
+    else if server == scratch_no then record node { scratch = f node.scratch }
     else node
 
 -- a server whose changes a log keeps: files, audit and the further server
 abbrev pub is_recoverable : ℕ → Bool
-is_recoverable server = (server == 0) || ((server == 1) || (server == 6))
+is_recoverable server = (server == files_no) || ((server == audit_no) || (server == extra_no))
 
 -- ---- what is on record
 
@@ -125,12 +126,12 @@ abbrev pub crossed_table : Tid → ℕ → NodeValue → NodeValue
 crossed_table tid server node = with_table server (λ table. released table tid) node
 
 abbrev pub crossed_names : Tid → NodeValue → NodeValue
-crossed_names tid node = crossed_table tid 2 (with_doubts tid (bound_names (pending_at node tid 2)) node)
+crossed_names tid node = crossed_table tid names_no (with_doubts tid (bound_names (pending_at node tid names_no)) node)
 
 abbrev pub crossed_server : Tid → ℕ → NodeValue → NodeValue
 crossed_server tid server node =
-    if server == 2 then crossed_names tid node
-    else if server == 3 then record node { timers = timers_ended node.timers tid }
+    if server == names_no then crossed_names tid node
+    else if server == timers_no then record node { timers = timers_ended node.timers tid }
     else crossed_table tid server node
 
 -- while its node is down, the server stays as it stopped

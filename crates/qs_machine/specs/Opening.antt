@@ -12,6 +12,7 @@ use Rattle.qs_ops.specs.declared.file.File.{File}
 use Rattle.qs_ops.specs.Table.{no_table, restarted}
 use Rattle.qs_ops.specs.Timers.{no_timers}
 use Rattle.qs_ops.specs.declared.share.Kept.{Kept}
+use Rattle.qs_ops.specs.Servers.{files_no, audit_no}
 use Rattle.qs_machine.specs.Transaction.{TransactionValue, opened_as, found_at}
 use Rattle.qs_machine.specs.declared.transaction.Cell.TheVariants as cells
 use Rattle.qs_machine.specs.Book.{BookValue, find_transaction, with_transaction}
@@ -54,8 +55,8 @@ opened_node opened = record {
   format = opened.format;
   ticked = 0;
   stopped = 0;
-  files = restarted no_table (map put_of opened.files) (flat_map (keep_pending 0) opened.pending);
-  audit = restarted no_table (map note_of opened.audit) (flat_map (keep_pending 1) opened.pending);
+  files = restarted no_table (map put_of opened.files) (flat_map (keep_pending files_no) opened.pending);
+  audit = restarted no_table (map note_of opened.audit) (flat_map (keep_pending audit_no) opened.pending);
   names = no_table;
   windows = no_table;
   scratch = no_table;

@@ -15,6 +15,7 @@ use Rattle.qs_journal.specs.declared.entry.Found.{Found}
 use Rattle.qs_ops.specs.Table.{no_table, restarted}
 use Rattle.qs_ops.specs.Timers.{no_timers}
 use Rattle.qs_ops.specs.declared.share.Kept.{Kept}
+use Rattle.qs_ops.specs.Servers.{files_no, audit_no, extra_no}
 use Rattle.qs_machine.specs.Transaction.{TransactionValue, is_open, is_commit, is_abort, part_of, was_crossed, is_covering, is_unanimous, has_learnt, with_learnt, found_at, was_in_commit, is_empty}
 use Rattle.qs_machine.specs.Clauses.{has_vote}
 use Rattle.qs_machine.specs.Book.{BookValue, find_transaction, with_node, with_transaction, decide, crossed_in, pending_in, inc_at}
@@ -169,7 +170,7 @@ keep_found here book server done found =
 
 -- the transactions with something on record whose Commits are found, each once, in their order
 abbrev pub has_record : ℕ → BookValue → Tid → Bool
-has_record here book tid = is_some (record_at here book tid 0) || is_some (record_at here book tid 1)
+has_record here book tid = is_some (record_at here book tid files_no) || is_some (record_at here book tid audit_no)
 
 abbrev pub add_commit : ℕ → BookValue → List Tid → Tid → List Tid
 add_commit here book tids tid = if has_record here book tid && not (is_among tids tid) then tids ++ tid ∷ [] else tids
@@ -181,15 +182,15 @@ commits_found here book done = fold (add_commit here book) [] done
 abbrev pub reopened : ℕ → ℕ → List Found → List Tid → BookValue → Reopened
 reopened here inc pend done book = record {
   inc = inc;
-  files = flat_map (changes_at here book 0) (commits_found here book done);
-  files_kept = flat_map (keep_found here book 0 done) pend;
-  audit = flat_map (changes_at here book 1) (commits_found here book done);
-  audit_kept = flat_map (keep_found here book 1 done) pend;
+  files = flat_map (changes_at here book files_no) (commits_found here book done);
+  files_kept = flat_map (keep_found here book files_no done) pend;
+  audit = flat_map (changes_at here book audit_no) (commits_found here book done);
+  audit_kept = flat_map (keep_found here book audit_no done) pend;
 }
 
 -- what is on record of a transaction whose Commit is found is so no more
 abbrev pub without_records : NodeValue → Tid → NodeValue
-without_records node tid = without_record tid 6 (without_record tid 1 (without_record tid 0 node))
+without_records node tid = without_record tid extra_no (without_record tid audit_no (without_record tid files_no node))
 
 -- the node in its new incarnation: found commits applied, found votes pending again, what is volatile gone
 abbrev pub reopened_node : Reopened → NodeValue → NodeValue
@@ -228,7 +229,7 @@ decide_found here tid book =
 
 abbrev pub commit_found : ℕ → BookValue → Tid → BookValue
 commit_found here book tid =
-    decide_found here tid (learn_found here tid 6 (learn_found here tid 1 (learn_found here tid 0 book)))
+    decide_found here tid (learn_found here tid extra_no (learn_found here tid audit_no (learn_found here tid files_no book)))
 
 -- how many changes were pending at the vote; the changes of a crossed member are not known, and their count is
 abbrev pub count_of : Option OnRecord → ℕ

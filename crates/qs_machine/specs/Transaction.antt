@@ -22,6 +22,7 @@ use Rattle.qs_ops.specs.declared.operation.Op.TheVariants.{Note}
 use Rattle.qs_ops.specs.declared.vote.Reason.{Reason}
 use Rattle.qs_ops.specs.declared.vote.Vote.{Vote}
 use Rattle.qs_ops.specs.declared.vote.Vote.TheVariants as votes
+use Rattle.qs_ops.specs.Servers.{files_no, audit_no, names_no, windows_no, scratch_no, extra_no, client_no, is_client_no}
 use Rattle.qs_machine.specs.declared.transaction.Cell.{Cell}
 use Rattle.qs_machine.specs.declared.transaction.Cell.TheVariants as cells
 use Rattle.qs_machine.specs.declared.transaction.Life.{Life}
@@ -195,10 +196,10 @@ abbrev pub standing_request : TransactionValue → RequestNo → Member → Opti
 standing_request tx at member = find (is_standing member) (requests_at tx at)
 
 abbrev pub is_by_files : Request → Bool
-is_by_files request = request.issuer.server.0 == 0
+is_by_files request = request.issuer.server.0 == files_no
 
 abbrev pub is_by_client : Request → Bool
-is_by_client request = nat_lt 31 request.issuer.server.0
+is_by_client request = is_client_no request.issuer.server.0
 
 -- one more request was sent in this incarnation; after a restart what was not counted stays so
 abbrev pub sent_more : Request → Option Sent → Sent
@@ -412,7 +413,7 @@ has_refusal tx member reason = list_any (is_refusal member reason) tx.refusals
 -- ---- loans
 
 abbrev pub borrower : ClientNo → NodeNo → Member
-borrower client node = record { node = node; server = record { 0 = client.0 + 32 } }
+borrower client node = record { node = node; server = record { 0 = client_no client.0 } }
 
 -- a loan to the client was made at the node in this incarnation, and is not yielded
 abbrev pub has_loan : TransactionValue → Member → ℕ → Bool
@@ -532,4 +533,4 @@ may_learn_still part = part.due && not (is_let_go part)
 abbrev pub learnt_abort : TransactionValue → NodeNo → ℕ → Bool
 learnt_abort tx node inc =
     list_any (λ server. (part_of tx (record { node = node; server = record { 0 = server } }) inc).aborted)
-    (0 ∷ 1 ∷ 2 ∷ 4 ∷ 5 ∷ 6 ∷ [])
+    (files_no ∷ audit_no ∷ names_no ∷ windows_no ∷ scratch_no ∷ extra_no ∷ [])

@@ -1,6 +1,6 @@
 -- The changes that write contents, applied in order to empty contents, give them again.
-use Rattle.std.proofs.Common.{◌≡◌, ℕ, ◌++◌, List, [], ◌∷◌, take, drop, Some, refl, sym, ap, subst, ◌∙◌}
-use Rattle.std.specs.Prelude.{true, map, ⊤}
+use Rattle.std.proofs.Common.{◌≡◌, ℕ, ◌++◌, List, [], ◌∷◌, take, drop, Some, refl, sym, ap, ◌∙◌}
+use Rattle.std.specs.Prelude.{map, ⊤}
 use Rattle.std.specs.List.{fold}
 use Rattle.std.specs.declared.cmp.Ordering.{Ordering}
 use Rattle.std.specs.declared.cmp.Ordering.TheVariants.{Less, Equal, Greater}
@@ -11,11 +11,11 @@ use Rattle.qs_base.specs.Order.{bytes_cmp}
 use Rattle.qs_base.proofs.Same.{same_bytes-self}
 use Rattle.qs_ops.specs.declared.file.File.{File}
 use Rattle.qs_ops.specs.declared.operation.Op.{Op}
-use Rattle.qs_ops.specs.declared.operation.Op.TheVariants.{Put, Append}
+use Rattle.qs_ops.specs.declared.operation.Op.TheVariants.{Append}
 use Rattle.qs_ops.specs.Files.{file_text, put_file}
 use Rattle.qs_ops.specs.Places.{IsBelowAll, IsInOrder}
 use Rattle.qs_ops.specs.Server.{AreAppends, IsFileWritten, AreFilesWritten, none, next, note_of}
-use Rattle.qs_ops.specs.Table.{apply_change, apply_note, text_or_empty}
+use Rattle.qs_ops.specs.Table.{apply_change, apply_note}
 use Rattle.qs_ops.proofs.FileOrder.{new_file, bytes_total, greater_from_less, same_bytes-less}
 
 -- each file has a name below this one

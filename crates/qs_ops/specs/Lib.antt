@@ -4,6 +4,7 @@ pub mod Members
 pub mod Operations
 pub mod Places
 pub mod Server
+pub mod Servers
 pub mod Spelled
 pub mod Table
 pub mod Timers

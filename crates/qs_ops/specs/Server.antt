@@ -1,7 +1,6 @@
 -- A server of a node, seen through the trait: which it is, what it holds, and what each call makes of that. The laws of
 -- `Server` cite these functions, and so does whoever speaks of a node's servers without knowing which they are.
-use Rattle.std.specs.Prelude.{◌≡◌, ℕ, ◌+◌, ◌<◌, ◌==◌, Bool, true, false, ◌&&◌, List, [], ◌∷◌, ◌++◌, length, map, take, drop, Option, Some, None, nat_lt, if◌then◌else◌}
-use Rattle.qs_base.specs.declared.identifiers.ServerNo.{ServerNo}
+use Rattle.std.specs.Prelude.{◌≡◌, ℕ, ◌+◌, ◌<◌, ◌==◌, Bool, true, false, List, [], ◌∷◌, ◌++◌, length, map, take, drop, Option, Some, None, nat_lt, if◌then◌else◌}
 use Rattle.qs_base.specs.declared.identifiers.Tid.{Tid}
 use Rattle.qs_ops.specs.Operations.{server_of}
 use Rattle.qs_ops.specs.Spelled.{prepare_length}
@@ -19,6 +18,7 @@ use Rattle.qs_ops.specs.Table.{TableValue, no_table, share_of, has_changes, view
 use Rattle.qs_ops.specs.Timers.{TimersValue, no_timers, timer_reply_to, timer_served, timers_ended}
 use Rattle.qs_ops.specs.declared.server.Kind.{Kind}
 use Rattle.qs_ops.specs.declared.server.Kind.TheVariants.{Files, Audit, Names, Timers, Windows, Scratch, Nothing}
+use Rattle.qs_ops.specs.Servers.{files_no, audit_no, names_no, timers_no, windows_no, scratch_no, extra_no}
 
 pub record ServerValue : Type 0 where
   pub kind : Kind
@@ -27,13 +27,13 @@ pub record ServerValue : Type 0 where
 
 -- its number among the servers of its node
 abbrev pub number_of : Kind → ℕ
-number_of (Files quota) = 0
-number_of Audit = 1
-number_of Names = 2
-number_of Timers = 3
-number_of Windows = 4
-number_of Scratch = 5
-number_of Nothing = 6
+number_of (Files quota) = files_no
+number_of Audit = audit_no
+number_of Names = names_no
+number_of Timers = timers_no
+number_of Windows = windows_no
+number_of Scratch = scratch_no
+number_of Nothing = extra_no
 
 -- the operation is one of its own
 abbrev pub is_own : Kind → Op → Bool

@@ -2,19 +2,20 @@
 ghost use Rattle.std.specs.Prelude.{◌≡◌};
 ghost use Rattle.qs_ops.specs.Members.{class_of, is_two_phase, learns_outcome};
 
+use crate::servers::{FIRST_CLIENT, NAMES, SCRATCH, TIMERS, WINDOWS};
 use qs_base::{Class, ServerNo};
 
 /// The class of the members of that server number.
 pub fn class_of(server: ServerNo) -> Class
     ensures { result ≡ class_of server.0 }
 {
-    match server.0 {
-        2 => Class::Volatile,
-        3 => Class::Immediate,
-        4 => Class::Standard,
-        5 => Class::Delayed,
-        0..=31 => Class::Recoverable,
-        _ => Class::Activity,
+    match server {
+        NAMES => Class::Volatile,
+        TIMERS => Class::Immediate,
+        WINDOWS => Class::Standard,
+        SCRATCH => Class::Delayed,
+        client if client >= FIRST_CLIENT => Class::Activity,
+        _ => Class::Recoverable,
     }
 }
 

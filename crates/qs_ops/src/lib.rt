@@ -9,6 +9,7 @@ mod no_server;
 mod operation;
 mod reply;
 mod server;
+pub mod servers;
 mod share;
 mod spelling;
 mod vote;

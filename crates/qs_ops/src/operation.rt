@@ -2,6 +2,7 @@
 ghost use Rattle.std.specs.Prelude.{◌≡◌, IfOk};
 ghost use Rattle.qs_ops.specs.Operations.{server_of, borrower};
 
+use crate::servers::{AUDIT, EXTRA, FILES, FIRST_CLIENT, NAMES, SCRATCH, TIMERS, WINDOWS};
 use qs_base::{Bytes, ClientNo, Copied, List, NoMemory, ServerNo};
 
 /// An operation. Names have 1 to 64 bytes, texts 1 to 4,096, ticks are at most 1,000,000.
@@ -91,31 +92,32 @@ impl Copied for Op {
     }
 }
 
-/// The server whose operation it is: 0 files, 1 audit, 2 names, 3 timers, 4 windows, 5 scratch,
-/// 6 the further server, and for a loan to client k the borrower 32 + k; `None` for a loan to a
-/// client that no server number stands for, 224 or above.
+/// The server whose operation it is, and for a loan to a client the client as borrower; `None` for
+/// a loan to a client that no server number stands for, 224 or above.
 pub fn server_of(op: &Op) -> Option<ServerNo>
     ensures { result ≡ server_of op.now }
 {
-    let number = match op {
-        Op::Put { .. } | Op::Append { .. } | Op::Del { .. } | Op::Get { .. } | Op::Listing => 0,
-        Op::Note { .. } | Op::Notes => 1,
-        Op::Bind { .. } | Op::Find { .. } => 2,
-        Op::Timer { .. } | Op::Left { .. } => 3,
-        Op::Window { .. } | Op::Title { .. } => 4,
-        Op::Keep { .. } | Op::Fetch { .. } => 5,
-        Op::Extra { .. } => 6,
+    Some(match op {
+        Op::Put { .. } | Op::Append { .. } | Op::Del { .. } | Op::Get { .. } | Op::Listing => FILES,
+        Op::Note { .. } | Op::Notes => AUDIT,
+        Op::Bind { .. } | Op::Find { .. } => NAMES,
+        Op::Timer { .. } | Op::Left { .. } => TIMERS,
+        Op::Window { .. } | Op::Title { .. } => WINDOWS,
+        Op::Keep { .. } | Op::Fetch { .. } => SCRATCH,
+        Op::Extra { .. } => EXTRA,
         Op::Lend { client } => return borrower(*client),
-    };
-    Some(ServerNo(number))
+    })
 }
+
+/// Clients from this number on have no server number.
+const CLIENTS_WITH_NUMBER: u8 = 224;
 
 /// The server number of a client as borrower.
 fn borrower(client: ClientNo) -> Option<ServerNo>
     ensures { result ≡ borrower client.0 }
 {
-    if client.0 < 224 {
-        Some(ServerNo(client.0 + 32))
+    if client.0 < CLIENTS_WITH_NUMBER {
+        Some(ServerNo(FIRST_CLIENT.0 + client.0))
     } else {
         None
     }

@@ -17,7 +17,7 @@ use qs_book_transactions::Transaction;
 use std::collections::BTreeMap;
 
 impl Book {
-    ghost use Rattle.qs_machine.specs.Book.{find_transaction, inc_at, ticks_at, begin, with_waiting, crosses, with_crossing, issue, serve, vote, decide, learn, answer, crossed_in, serve_node, with_node, with_transaction, loan, give_back, count, end};
+    ghost use Rattle.qs_machine.specs.Book.{find_transaction, inc_at, ticks_at, begin, with_waiting, crosses, with_crossing, issue, serve, vote, decide, learn, answer, crossed_in, pending_in, serve_node, with_node, with_transaction, loan, give_back, count, end};
     ghost use Rattle.qs_machine.specs.Clauses.{borrower_at};
     ghost use Rattle.qs_machine.specs.Lawful.{effect_act, effect_told};
 
@@ -178,12 +178,22 @@ impl Book {
         )
     }
 
-    pub fn is_crossed(&self, tid: Tid, member: Member) -> bool
+    pub(crate) fn is_crossed(&self, tid: Tid, member: Member) -> bool
         ensures { result ≡ crossed_in (find_transaction self.now tid) member }
     {
         match self.transaction(tid) {
             Some(tx) => tx.is_crossed(member),
             None => false,
+        }
+    }
+
+    /// How many changes the member has pending in that incarnation.
+    pub(crate) fn pending_in(&self, tid: Tid, member: Member, inc: u64) -> u64
+        ensures { result ≡ pending_in (find_transaction self.now tid) member inc }
+    {
+        match self.transaction(tid) {
+            Some(tx) => tx.part(member, inc).pending,
+            None => 0,
         }
     }
 
@@ -199,9 +209,11 @@ impl Book {
     {
         let crossed = self.is_crossed(tid, member);
         let inc = self.inc_at(here);
+        let pending = self.pending_in(tid, member, inc);
         nodes::vote(
             &mut self.nodes,
             here,
+            pending,
             crossed,
             tid,
             member.server,
@@ -211,7 +223,7 @@ impl Book {
         transactions::vote(&mut self.transactions, tid, member, inc, ballot)
     }
 
-    pub fn decide(
+    pub(crate) fn decide(
         &mut self,
         tid: Tid,
         outcome: Outcome,
@@ -294,7 +306,7 @@ impl Book {
     }
 
     /// Takes in what happened at a node, in a step of this stamp.
-    pub fn take_act(&mut self, stamp: Stamp, here: NodeNo, act: &Act) -> Result<(), NoMemory>
+    pub(crate) fn take_act(&mut self, stamp: Stamp, here: NodeNo, act: &Act) -> Result<(), NoMemory>
         ensures { OnOk result (self.new ≡ effect_act stamp here.0 act.now self.old) }
     {
         match act {

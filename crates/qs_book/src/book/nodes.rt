@@ -35,21 +35,22 @@ pub fn cross(nodes: &mut Vec<NodeState>, tid: Tid, member: Member) -> Result<(),
     Ok(())
 }
 
-/// A member of the node votes.
+/// A member of the node with so many changes pending votes.
 pub fn vote(
     nodes: &mut Vec<NodeState>,
     here: NodeNo,
+    pending: u64,
     crossed: bool,
     tid: Tid,
     server: ServerNo,
     vote: &Vote,
     covers: u32,
 ) -> Result<(), NoMemory>
-    ensures { OnOk result (nodes.new.items ≡ changed_at here.0 (vote_node crossed tid server.0 vote.now covers) nodes.old.items) }
+    ensures { OnOk result (nodes.new.items ≡ changed_at here.0 (vote_node pending crossed tid server.0 vote.now covers) nodes.old.items) }
 {
     let place = usize::from(here.0);
     if place < nodes.len() {
-        nodes[place].vote(crossed, tid, server, vote, covers)?;
+        nodes[place].vote(pending, crossed, tid, server, vote, covers)?;
     }
     Ok(())
 }

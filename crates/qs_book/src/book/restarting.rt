@@ -10,13 +10,14 @@ ghost use Rattle.qs_machine.specs.declared.state.OnRecord.{OnRecord};
 
 use super::Book;
 use crate::clauses::{
-    FOUND_COMMITS_ARE_COMMITS, FOUND_VOTES_ARE_VOTES, INCARNATION_RISES, NO_VOTE_IS_LOST,
+    FOUND_COMMITS_ARE_COMMITS, FOUND_VOTES_ARE_VOTES, INCARNATION_RISES, NO_VOTE_IS_LOST, has_vote,
 };
 use crate::node::NodeState;
 use qs_machine::Voter;
 use qs_base::{Member, NoMemory, NodeNo, ServerNo, Tid};
 use qs_journal::Found;
 use qs_machine::Cell;
+use qs_ops::Vote;
 use qs_book_transactions::Transaction;
 use std::alloc::Global;
 use std::collections::BTreeSet;
@@ -62,7 +63,8 @@ fn could_vote(here: NodeNo, node: &NodeState, tx: &Transaction, found: Found) ->
 {
     let member = member_at(here, found.server);
     let part = tx.part(member, node.inc());
-    tx.was_in_commit(node.stopped())
+    has_vote(found.server, &Vote::Recoverable)
+        && tx.was_in_commit(node.stopped())
         && part.voted < part.served
         && tx.is_covering(member, node.inc(), u64::from(found.covers))
         && (tx.was_crossed(node.stopped(), member) || has_pending(node, found))
@@ -208,7 +210,7 @@ impl Book {
     }
 
     /// The first clause that a restart at `here` breaks.
-    pub fn broken_restart(
+    pub(crate) fn broken_restart(
         &self,
         here: NodeNo,
         node: &NodeState,

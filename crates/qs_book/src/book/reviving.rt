@@ -1,11 +1,11 @@
 //! What a restart does: found votes go on record, found commits are applied, what is open is aborted.
-ghost use Rattle.std.specs.Prelude.{◌≡◌, ◌++◌, ◌∷◌, [], fold, length, IfOk, OnOk, slice_get};
+ghost use Rattle.std.specs.Prelude.{◌≡◌, ◌++◌, ◌∷◌, [], fold, IfOk, OnOk, slice_get};
 ghost use Rattle.std.specs.List.{flat_map};
 ghost use Rattle.std.specs.Option.{option_copied};
 ghost use Rattle.qs_machine.specs.Transaction.{found_at, with_learnt};
-ghost use Rattle.qs_machine.specs.Book.{changed_at, find_transaction, with_node, with_transaction, decide, crossed_in, inc_at};
+ghost use Rattle.qs_machine.specs.Book.{changed_at, find_transaction, with_node, with_transaction, decide, crossed_in, pending_in, inc_at};
 ghost use Rattle.qs_machine.specs.Nodes.{changes_of};
-ghost use Rattle.qs_machine.specs.Restart.{new_vote, new_votes_at, new_votes, put_new_votes, with_votes, record_at, changes_at, is_kept_at, has_record, add_commit, commits_found, keep_found, reopened, restarted_node, learn_found, decide_found, commit_found, vote_found, abort_begun, begun_tid, begun_at, up_to, restart_found, restart, member_at};
+ghost use Rattle.qs_machine.specs.Restart.{new_vote, vote_as_stopped, count_of, new_votes_at, new_votes, put_new_votes, with_votes, record_at, changes_at, is_kept_at, has_record, add_commit, commits_found, keep_found, reopened, restarted_node, learn_found, decide_found, commit_found, vote_found, abort_begun, begun_tid, begun_at, up_to, restart_found, restart, member_at};
 
 use super::restarting::{is_among, is_new_vote, is_open_here, member_at};
 use super::{Book, find, nodes, transactions};
@@ -38,11 +38,26 @@ impl Book {
                 tid: found.tid,
                 server: found.server,
             };
-            let changes = node.pending(found.tid, found.server)?;
-            let covers = found.covers;
-            votes.push((voter, OnRecord { changes, covers }))?;
+            votes.push((voter, self.vote_as_stopped(here, node, found)?))?;
         }
         Ok(())
+    }
+
+    /// A vote that was found with what was pending as the node stopped.
+    fn vote_as_stopped(
+        &self,
+        here: NodeNo,
+        node: &NodeState,
+        found: &Found,
+    ) -> Result<OnRecord, NoMemory>
+        ensures { IfOk result (λ vote. vote ≡ vote_as_stopped here.0 self.now node.now found.now) }
+    {
+        let member = member_at(here, found.server);
+        Ok(OnRecord {
+            changes: node.pending(found.tid, found.server)?,
+            covers: found.covers,
+            pending: self.pending_in(found.tid, member, node.inc()),
+        })
     }
 
     /// The votes that were found and are new.
@@ -73,12 +88,12 @@ impl Book {
         self.nodes.get(usize::from(here.0))?.record(tid, server)
     }
 
-    /// How many changes of a transaction the log of a node holds at a server.
-    fn change_count(&self, here: NodeNo, tid: Tid, server: ServerNo) -> usize
-        ensures { result ≡ length (changes_at here.0 self.now server.0 tid) }
+    /// How many changes were pending at the vote that the log of a node holds.
+    fn count_of(&self, here: NodeNo, tid: Tid, server: ServerNo) -> u64
+        ensures { result ≡ count_of (record_at here.0 self.now tid server.0) }
     {
         match self.record_at(here, tid, server) {
-            Some(record) => record.changes.len(),
+            Some(record) => record.pending,
             None => 0,
         }
     }
@@ -217,7 +232,7 @@ impl Book {
         if is_among(done, found.tid) {
             return Ok(());
         }
-        let changes = self.change_count(here, found.tid, found.server) as u64;
+        let changes = self.count_of(here, found.tid, found.server);
         let member = member_at(here, found.server);
         let covers = u64::from(found.covers);
         transactions::find_vote(
@@ -279,7 +294,7 @@ impl Book {
     }
 
     /// The node restarts in that incarnation, with these found lists.
-    pub fn restart(
+    pub(crate) fn restart(
         &mut self,
         here: NodeNo,
         inc: u64,

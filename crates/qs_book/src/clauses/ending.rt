@@ -15,7 +15,7 @@ use qs_base::{Class, ClientNo, Member, NodeNo, Outcome, ServerNo, Stamp};
 use qs_journal::CrashCause;
 use qs_ops::{Answer, class_of, learns_outcome};
 use qs_machine::{Cell, Part};
-use qs_book_transactions::{Transaction, cell_of};
+use qs_book_transactions::{Transaction, cell_of, is_let_go, may_learn_still};
 
 /// The first clause that an answer to a client breaks.
 pub fn broken_answer(owner: Option<&Owner>, line: u32, answer: &Answer) -> Option<u16>
@@ -146,7 +146,7 @@ pub fn broken_learn(
     if !may_learn(here, tx, member, &part, outcome) {
         return Some(LEARNS_THE_CELL);
     }
-    if part.is_let_go() {
+    if is_let_go(&part) {
         return Some(READ_ONLY_LEARNS_NOTHING);
     }
     if some_wait(tx, member, node.inc()) {
@@ -186,7 +186,7 @@ fn waits_for(tx: &Transaction, member: Member, inc: u64, server: u8) -> bool
         server: ServerNo(server),
         ..member
     };
-    tx.part(member, inc).may_learn_still()
+    may_learn_still(&tx.part(member, inc))
 }
 
 /// The first clause that a crash breaks.

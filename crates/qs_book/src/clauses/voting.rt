@@ -161,7 +161,7 @@ fn is_read_only(vote: &Vote) -> bool
 }
 
 /// Whether it is a vote that a server may make for something.
-fn has_vote(server: ServerNo, vote: &Vote) -> bool
+pub fn has_vote(server: ServerNo, vote: &Vote) -> bool
     ensures { result ≡ has_vote server.0 vote.now }
 {
     let server = server.0;
@@ -170,8 +170,8 @@ fn has_vote(server: ServerNo, vote: &Vote) -> bool
         Vote::Volatile => server == 2,
         Vote::Recoverable => server == 0 || server == 1,
         Vote::Abort { reason } => match reason {
-            Reason::Quota { .. } => server == 0,
-            Reason::LogRoom { .. } => server == 0 || server == 1,
+            Reason::Quota { bytes, limit } => server == 0 && *limit < *bytes,
+            Reason::LogRoom { need, room } => (server == 0 || server == 1) && *room < *need,
             Reason::Taken { .. } => server == 2,
             Reason::Code { .. } => false,
         },

@@ -4,9 +4,11 @@ ghost use Rattle.std.specs.BTreeMap.{is_at};
 ghost use Rattle.qs_machine.specs.Transaction.{changed_value, link_cmp, node_cmp, with_counted, with_reached};
 
 use crate::cells::cell_of;
-use qs_machine::{Life, Link, Part, Peer, Refusal, Sent, Start};
+use crate::part::{ended_part, found_part, learnt_part, made_part, voted_part, yielded_part};
+use crate::sending::{heard_by, with_counted, with_reached};
 use crate::transaction::Transaction;
 use qs_base::{Copied, Member, NoMemory, NodeNo, Outcome};
+use qs_machine::{Life, Link, Part, Peer, Refusal, Sent, Start};
 use qs_ops::{Cause, Vote};
 use std::collections::BTreeMap;
 
@@ -44,7 +46,7 @@ impl Transaction {
         ensures { self.new ≡ heard node inc self.old }
     {
         if let Some(peer) = self.peers.get_mut(&node) {
-            *peer = peer.heard(inc);
+            *peer = heard_by(*peer, inc);
         }
     }
 
@@ -66,7 +68,7 @@ impl Transaction {
             Vote::Volatile | Vote::Recoverable => {}
         }
         if let Some(part) = self.parts.get_mut(&life) {
-            *part = part.voted(vote);
+            *part = voted_part(*part, vote);
         }
         Ok(())
     }
@@ -82,7 +84,7 @@ impl Transaction {
             member: client,
             inc,
         }) {
-            *part = part.loan_made()?;
+            *part = made_part(*part)?;
         }
         Ok(())
     }
@@ -98,7 +100,7 @@ impl Transaction {
             member: client,
             inc,
         }) {
-            *part = part.loan_yielded()?;
+            *part = yielded_part(*part)?;
         }
         Ok(())
     }
@@ -114,7 +116,7 @@ impl Transaction {
             Outcome::Abort => {}
         }
         if let Some(part) = self.parts.get_mut(&Life { member, inc }) {
-            *part = part.learnt(outcome);
+            *part = learnt_part(*part, outcome);
         }
         Ok(())
     }
@@ -134,7 +136,7 @@ impl Transaction {
         ensures { self.new ≡ ended member inc self.old }
     {
         if let Some(part) = self.parts.get_mut(&Life { member, inc }) {
-            *part = part.ended();
+            *part = ended_part(*part);
         }
     }
 
@@ -151,7 +153,7 @@ impl Transaction {
         ensures err { OnErr result (self.new ≡ self.old) }
     {
         self.parts
-            .insert(Life { member, inc }, Part::found(covers, changes))?;
+            .insert(Life { member, inc }, found_part(covers, changes))?;
         Ok(())
     }
 }
@@ -161,7 +163,7 @@ fn count_on(sent: &mut BTreeMap<Link, Sent>, link: Link, inc: u64, up_to: u32)
     ensures { sent.new.entries ≡ changed_value (is_at (link_cmp link)) (with_counted inc up_to) sent.old.entries }
 {
     if let Some(sent) = sent.get_mut(&link) {
-        *sent = sent.counted_to(inc, up_to);
+        *sent = with_counted(*sent, inc, up_to);
     }
 }
 
@@ -170,6 +172,6 @@ fn reach(peers: &mut BTreeMap<NodeNo, Peer>, node: NodeNo, inc: u64)
     ensures { peers.new.entries ≡ changed_value (is_at (node_cmp node)) (with_reached inc) peers.old.entries }
 {
     if let Some(peer) = peers.get_mut(&node) {
-        *peer = peer.reached_in(inc);
+        *peer = with_reached(*peer, inc);
     }
 }

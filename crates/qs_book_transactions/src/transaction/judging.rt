@@ -3,9 +3,11 @@ ghost use Rattle.std.specs.Prelude.{◌≡◌, is_some};
 ghost use Rattle.std.specs.List.{list_all, list_any};
 ghost use Rattle.qs_machine.specs.Transaction.{is_empty, is_open_link, is_refusal, is_start, is_before, agrees, peer_of};
 
-use qs_machine::{Cell, Life, Link, Part, Peer, Refusal, Sent, Start};
+use crate::part::agrees_in;
+use crate::sending::NO_PEER;
 use crate::transaction::Transaction;
 use qs_base::{List, Member, NodeNo, ServerNo};
+use qs_machine::{Cell, Life, Link, Part, Peer, Refusal, Sent, Start};
 use qs_ops::{Reason, class_of};
 use std::collections::BTreeSet;
 
@@ -94,7 +96,7 @@ impl Transaction {
     pub(super) fn peer(&self, node: NodeNo) -> Peer
         ensures { result ≡ peer_of self.now node }
     {
-        self.peers.get(&node).copied().unwrap_or(Peer::NONE)
+        self.peers.get(&node).copied().unwrap_or(NO_PEER)
     }
 
     /// Whether a loan to the client was made at its node in that incarnation and is not yielded.
@@ -172,7 +174,7 @@ fn has_start(starts: &BTreeSet<Start>, member: Member, inc: u64, served: u64, co
 fn agrees(life: &Life, part: &Part) -> bool
     ensures { result ≡ agrees (life.now, part.now) }
 {
-    part.agrees_in(class_of(life.member.server))
+    agrees_in(part, class_of(life.member.server))
 }
 
 /// Whether there is no refusal.

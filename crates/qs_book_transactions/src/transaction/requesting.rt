@@ -5,11 +5,12 @@ ghost use Rattle.std.specs.List.{find};
 ghost use Rattle.std.specs.BTreeMap.{insert_entry, is_at};
 ghost use Rattle.qs_machine.specs.Transaction.{requests_in, life_cmp, node_cmp, request_cmp, crossed_by, crossed_from, is_standing, with_note_of, changed_value, mark_served};
 
+use crate::part::serving_part;
 use crate::requests::Requests;
 use crate::sending::{note_of, reached_by, sent_more};
-use qs_machine::{Life, Noted, Part, Peer, Request, RequestNo, Sent};
 use crate::transaction::Transaction;
 use qs_base::{Member, NoMemory, NodeNo};
+use qs_machine::{Life, Noted, Part, Peer, Request, RequestNo, Sent};
 use qs_ops::class_of;
 use std::alloc::Global;
 use std::collections::btree_map::Entry;
@@ -94,9 +95,8 @@ impl Transaction {
         ensures ok { OnOk result (self.new ≡ served_in at member inc stamp done self.old) }
         ensures err { OnErr result (self.new ≡ self.old) }
     {
-        let part = self
-            .part(member, inc)
-            .serving(class_of(member.server), stamp, done)?;
+        let before = self.part(member, inc);
+        let part = serving_part(before, class_of(member.server), stamp, done)?;
         let request = standing_in(&self.requests, at, member);
         put_part(
             &mut self.parts,

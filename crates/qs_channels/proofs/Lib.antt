@@ -1,0 +1,15 @@
+pub mod Lists
+pub mod Grown
+pub mod CrashShown
+pub mod SendShown
+pub mod TickShown
+pub mod ReceiveShown
+pub mod RunShown
+pub mod NothingCrosses
+pub mod Greeting
+pub mod Meeting
+pub mod Spots
+pub mod Counting
+pub mod Numbering
+pub mod Streaming
+pub mod Saying

@@ -1,0 +1,9 @@
+pub mod End
+pub mod Network
+pub mod Channels
+pub mod Shown
+pub mod Laws
+pub mod Counts
+pub mod Numbered
+pub mod Streams
+pub mod Rows

@@ -1,0 +1,2 @@
+pub mod Engage
+pub mod Nodes

@@ -1,0 +1,10 @@
+//! Whom a node answers to in one transaction, and which requests to and from other nodes are open.
+#![tactic(auto)]
+
+mod engage;
+mod nodes;
+#[cfg(test)]
+mod tests;
+
+pub use engage::{Engage, Engaged, PeerPart};
+pub use nodes::{ALL_NODES, NODE_COUNT, Nodes};

@@ -1,0 +1,3 @@
+-- Which bytes spell a packet, and what a reader of bytes finds.
+pub mod Grammar
+pub mod Reading

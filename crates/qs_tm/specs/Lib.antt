@@ -1,0 +1,4 @@
+pub mod Members
+pub mod Participant
+pub mod Outcomes
+pub mod Manager
