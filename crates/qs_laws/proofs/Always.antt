@@ -60,7 +60,7 @@ module _ (tid : Tid) (P : TransactionValue → Type 0) where
       subst P (some_same new tx (sym last ∙ found)) (first label client (ticks_at (slice_get book.nodes entry.node.0)))
   begun_there book entry act is same first = absurd (cc same)
 
-  unknown : (book : BookValue) (entry : Entry) → broken book entry ≡ None → ((label : List ℕ) (client : ClientNo) (ticks : ℕ) → P (begun label client ticks)) → find_transaction book tid ≡ None → IsSo (effect book entry)
+  pub unknown : (book : BookValue) (entry : Entry) → broken book entry ≡ None → ((label : List ℕ) (client : ClientNo) (ticks : ℕ) → P (begun label client ticks)) → find_transaction book tid ≡ None → IsSo (effect book entry)
   unknown book entry h first none = by (begins tid entry.act) refl
     where
       any : Member

@@ -58,3 +58,6 @@ pub mod Opposed
 pub mod Lent
 pub mod Returned
 pub mod AllAgreed
+pub mod ReadyCommits
+pub mod Final
+pub mod Order

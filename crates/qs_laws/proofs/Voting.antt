@@ -130,7 +130,7 @@ module _ (tid : Tid) (member : Member) (inc : ℕ) where
 
 -- ---- a serve
 
-known_serve : (book : BookValue) (here : ℕ) (node : NodeValue) (tid : Tid) (o : Option TransactionValue) (member : Member) (from n : ℕ) (reply : Reply) → broken_serve here node book.transactions tid o member from n reply ≡ None → (tx : TransactionValue) × (o ≡ Some tx)
+pub known_serve : (book : BookValue) (here : ℕ) (node : NodeValue) (tid : Tid) (o : Option TransactionValue) (member : Member) (from n : ℕ) (reply : Reply) → broken_serve here node book.transactions tid o member from n reply ≡ None → (tx : TransactionValue) × (o ≡ Some tx)
 known_serve book here node tid None member from n reply h = absurd (cc h)
 known_serve book here node tid (Some tx) member from n reply h = (tx, refl)
 

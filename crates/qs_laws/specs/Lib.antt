@@ -1,4 +1,5 @@
 pub mod Durable
+pub mod Endings
 pub mod Laws
 pub mod Lives
 pub mod Served
