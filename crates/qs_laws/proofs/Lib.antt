@@ -61,3 +61,4 @@ pub mod AllAgreed
 pub mod ReadyCommits
 pub mod Final
 pub mod Order
+pub mod Reopening
