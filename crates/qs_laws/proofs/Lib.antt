@@ -62,3 +62,4 @@ pub mod ReadyCommits
 pub mod Final
 pub mod Order
 pub mod Reopening
+pub mod Coherent

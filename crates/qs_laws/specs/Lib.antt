@@ -1,3 +1,4 @@
+pub mod Coherence
 pub mod Durable
 pub mod Endings
 pub mod Laws

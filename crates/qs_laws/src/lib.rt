@@ -3,6 +3,7 @@
 
 mod endings;
 mod laws;
+mod opening;
 mod servers;
 
 pub use endings::{
@@ -13,4 +14,5 @@ pub use laws::{
     committed_changes_are_durable, nothing_of_an_aborted_transaction, one_outcome,
     served_changes_are_kept,
 };
+pub use opening::coherent_logs_open_soundly;
 pub use servers::servers_go_by_the_rules;
