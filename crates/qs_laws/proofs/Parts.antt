@@ -43,7 +43,7 @@ module _ (member : Member) (inc : ℕ) where
   found_in parts = unwrap_or (lookup (is_at (life_cmp (life member inc))) parts) no_part
 
   -- a part that is put in its place
-  put_part : (tx : TransactionValue) (other : Member) (k : ℕ) (part : Part)
+  pub put_part : (tx : TransactionValue) (other : Member) (k : ℕ) (part : Part)
       → unwrap_or (lookup (is_at (life_cmp (life member inc))) (insert_entry life_cmp tx.parts (life other k) part)) no_part ≡ (if same_member other member && (k == inc) then part else part_of tx member inc)
   put_part tx other k part = by (same_member other member) (k == inc) refl refl
     where

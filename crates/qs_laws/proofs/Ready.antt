@@ -203,7 +203,7 @@ none_standing member (request ∷ requests) h =
     by true true is at served more = rw (at, is) more
     by true false is at served more = rw at more
 
-served_standing : (tx : TransactionValue) (at : RequestNo) (member : Member) → all_served tx ≡ true → standing_request tx at member ≡ None
+pub served_standing : (tx : TransactionValue) (at : RequestNo) (member : Member) → all_served tx ≡ true → standing_request tx at member ≡ None
 served_standing tx at member h = by (lookup (is_at (request_cmp at)) tx.requests) refl
   where
     each : RequestNo × List Request → Bool

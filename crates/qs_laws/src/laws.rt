@@ -21,6 +21,7 @@ ghost use Rattle.qs_machine.specs.Restart.{record_at, is_among};
 ghost use Rattle.qs_machine.specs.declared.opened.Opened.{Opened};
 ghost use Rattle.qs_laws.specs.Durable.{IsDurable};
 ghost use Rattle.qs_laws.specs.Served.{held_at, crossed_at, changes_served, keeps_contents, IsHolding, NeverVotes, HasApplied, IsLogged, PendsAgain, CommitsOnce};
+ghost use Rattle.qs_laws.specs.Unanimity.{IsUnanimous};
 ghost use Rattle.qs_laws.specs.Laws.{IsCoherent, IsCommitted, IsDecided, IsTrueAnswer, TakesCommitted, LeavesCommitted, may_take};
 
 /// A transaction has one outcome: its cell, once decided, never changes; every member learns the outcome that the cell
@@ -74,4 +75,12 @@ pub fn a_commit_covers_what_was_served()
 /// transaction is pending there, or on record, so that nothing applies them again.
 pub fn committed_changes_are_durable()
     ensures { (opened : List Opened) (before after : List Entry) (entry : Entry) (tid : Tid) (member : Member) → IsCoherent opened → keeps_contents member.server.0 ≡ true → nat_lt member.node.0 (length opened) ≡ true → IsLawful (opening opened) (before ++ (entry ∷ after)) → cell_of_transaction (find_transaction (book_after (opening opened) before) tid) ≡ Some cells.Open → IsCommitted (effect (book_after (opening opened) before) entry) tid → IsDurable (book_after (opening opened) before) tid member (changes_served (opening opened) tid member before) (entry ∷ after) }
+{}
+
+/// A commit is unanimous. As it is decided, at its home or by a restart of its home that finds the Commit: commit was asked
+/// for; each request was served, none crossing another; each that a two-phase member served stands before a vote of it for
+/// commit in the same life of its node; no member ever voted against commit; and each loan was made and given back.
+pub fn a_commit_is_unanimous()
+    ensures decided { (opened : List Opened) (before after : List Entry) (entry : Entry) (tid : Tid) → IsCoherent opened → IsLawful (opening opened) (before ++ (entry ∷ after)) → entry.act ≡ acts.Decide tid outcomes.Commit None → IsUnanimous tid before }
+    ensures committed { (opened : List Opened) (before after : List Entry) (entry : Entry) (tid : Tid) → IsCoherent opened → IsLawful (opening opened) (before ++ (entry ∷ after)) → cell_of_transaction (find_transaction (book_after (opening opened) before) tid) ≡ Some cells.Open → IsCommitted (effect (book_after (opening opened) before) entry) tid → IsUnanimous tid before }
 {}
