@@ -3,5 +3,7 @@
 
 mod audit;
 mod notes;
+#[cfg(test)]
+mod tests;
 
 pub use audit::Audit;

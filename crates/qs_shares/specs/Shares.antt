@@ -1,8 +1,8 @@
 -- What the transactions hold at a server, each under its identifier, and sums over all of them.
-use Rattle.std.specs.Prelude.{◌≡◌, ℕ, ◌+◌, false, List, [], length, sum_by, unwrap_or}
+use Rattle.std.specs.Prelude.{◌≡◌, ℕ, ◌+◌, false, List, [], length, sum_by, unwrap_or, if◌then◌else◌}
 use Rattle.std.specs.Map.{lookup, values_of}
 use Rattle.std.specs.BTreeMap.{is_at}
-use Rattle.qs_base.specs.Order.{tid_cmp}
+use Rattle.qs_base.specs.Order.{tid_cmp, same_tid}
 use Rattle.qs_base.specs.declared.identifiers.Tid.{Tid}
 use Rattle.qs_ops.specs.Table.{nothing_held}
 use Rattle.qs_ops.specs.declared.operation.Op.{Op}
@@ -24,6 +24,10 @@ total weight shares = sum_by weight (values_of shares)
 abbrev pub IsReplaced : Share → Share → List (Tid × Share) → List (Tid × Share) → Type 0
 IsReplaced before after old new =
     (weight : Share → ℕ) → weight nothing_held ≡ 0 → total weight new + weight before ≡ total weight old + weight after
+
+-- one transaction holds this share, and the others hold what they did
+abbrev pub IsHeld : Tid → Share → List (Tid × Share) → List (Tid × Share) → Type 0
+IsHeld tid share old new = (t : Tid) → share_in new t ≡ (if same_tid tid t then share else share_in old t)
 
 -- how many changes are pending in a share
 abbrev pub change_count : Share → ℕ

@@ -7,7 +7,7 @@ ghost use Rattle.qs_ops.specs.Server.{vote_in_room};
 ghost use Rattle.qs_ops.specs.Spelled.{op_length};
 ghost use Rattle.qs_ops.specs.Table.{TableValue, after_serve, change_by, nothing_held};
 ghost use Rattle.qs_ops.specs.declared.reply.Reply.TheVariants.{Done};
-ghost use Rattle.qs_shares.specs.Shares.{share_in, kept_share, IsReplaced};
+ghost use Rattle.qs_shares.specs.Shares.{share_in, kept_share, IsHeld, IsReplaced};
 
 use crate::lengths::{add, changes_length, op_length};
 use qs_base::{Copied, List, NoMemory, Tid, copy_list};
@@ -259,6 +259,7 @@ impl Shares {
     /// memory too; after a refusal all hold what they did.
     pub fn serve(&mut self, tid: Tid, op: &Op, reply: &Reply) -> Result<(), NoMemory>
         ensures ok { OnOk result (self.new ≡ insert_entry tid_cmp self.old tid (after_serve (share_in self.old tid) op.now reply.now)) }
+        ensures held { OnOk result (IsHeld tid (after_serve (share_in self.old tid) op.now reply.now) self.old self.new) }
         ensures sums { OnOk result (IsReplaced (share_in self.old tid) (after_serve (share_in self.old tid) op.now reply.now) self.old self.new) }
         ensures err { OnErr result (self.new ≡ self.old) }
     {
@@ -269,6 +270,7 @@ impl Shares {
     /// did; none comes where the transaction holds something.
     pub fn set_vote(&mut self, tid: Tid, voted: bool) -> Result<(), NoMemory>
         ensures ok { OnOk result (self.new ≡ insert_entry tid_cmp self.old tid (record (share_in self.old tid) { voted = voted })) }
+        ensures held { OnOk result (IsHeld tid (record (share_in self.old tid) { voted = voted }) self.old self.new) }
         ensures sums { OnOk result (IsReplaced (share_in self.old tid) (record (share_in self.old tid) { voted = voted }) self.old self.new) }
         ensures err { OnErr result (self.new ≡ self.old) }
     {
@@ -279,6 +281,7 @@ impl Shares {
     /// passes its type is a refusal of memory too; after a refusal all hold what they did.
     pub fn keep(&mut self, tid: Tid, changes: &Changes) -> Result<(), NoMemory>
         ensures ok { OnOk result (self.new ≡ insert_entry tid_cmp self.old tid (kept_share changes.now)) }
+        ensures held { OnOk result (IsHeld tid (kept_share changes.now) self.old self.new) }
         ensures sums { OnOk result (IsReplaced (share_in self.old tid) (kept_share changes.now) self.old self.new) }
         ensures err { OnErr result (self.new ≡ self.old) }
     {
@@ -291,6 +294,7 @@ impl Shares {
     pub fn release(&mut self, tid: Tid) -> Share
         ensures value { result ≡ share_in self.old tid }
         ensures left { self.new ≡ remove_entry (is_at (tid_cmp tid)) self.old }
+        ensures held { IsHeld tid nothing_held self.old self.new }
         ensures sums { IsReplaced (share_in self.old tid) nothing_held self.old self.new }
     {
         match self.held.remove(&tid) {
