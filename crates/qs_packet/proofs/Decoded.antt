@@ -1,11 +1,9 @@
 -- What a reader of whole packets answers, and that no packet's spelling is a front of another's.
-use Rattle.std.proofs.Common.{◌≡◌, ◌+◌, ◌-◌, ◌≤◌, ◌<◌, ℕ, List, [], ◌∷◌, ◌++◌, length, drop, nat_lt, true, false, Result, Ok, Err, IsErrAnd, MatchResult, refl, ap, ◌∙◌, sym, append-nil, length-append, arith}
-use Rattle.std.proofs.Math.Seq.{drop-append_seam}
+use Rattle.std.proofs.Common.{◌≡◌, ◌+◌, ◌<◌, ℕ, List, [], ◌++◌, length, nat_lt, true, false, Result, Ok, Err, IsErrAnd, MatchResult, refl, ap, ◌∙◌, sym, append-nil, arith}
 use Rattle.std.proofs.lemmas.Bool.{le-ltb, lt-ltb}
 use Rattle.std.proofs.lemmas.List.{length-drop, nil_from_length}
-use Rattle.qs_codec.specs.declared.fault.CodecFault.{CodecFault}
 use Rattle.qs_codec.specs.Reading.{Reading, reading_at, reading_after, left_of}
-use Rattle.qs_packet.specs.Grammar.{SpellsParts, packet_parts, IsNumbered, SpellsPacket}
+use Rattle.qs_packet.specs.Grammar.{packet_parts, IsNumbered, SpellsPacket}
 use Rattle.qs_packet.specs.Reading.{TakesParts, GivesIfRoom, fault_of, packet_at, decoded}
 use Rattle.qs_packet.specs.declared.fault.PacketFault.{PacketFault}
 use Rattle.qs_packet.specs.declared.fault.PacketFault.TheVariants as packets

@@ -11,7 +11,7 @@ use Rattle.qs_codec.specs.Reading.{Reading, left_of, reading_after, integer_at, 
 use Rattle.qs_ops.specs.Spelled.{IsText}
 use Rattle.qs_packet.specs.Grammar.{Part, ATag, ANode, AServer, AWord, ANumber, AText, Texts, ATid, AMember, Nodes, AnOp, AreTexts, SpellsPart, SpellsParts}
 use Rattle.qs_packet.specs.Reading.{node_at, server_at, texts_behind, texts_at}
-use Rattle.qs_record.specs.Grammar.{Joined, SpellsAll, is_node, is_server}
+use Rattle.qs_record.specs.Grammar.{SpellsAll, is_node, is_server}
 use Rattle.qs_record.specs.Reading.{then_at, tid_at, member_at, nodes_at, op_at}
 use Rattle.qs_record.proofs.Ahead.{tid_found, member_found, nodes_found, op_found}
 use Rattle.qs_record.proofs.Found.{IsFoundBy, byte_found, word_found, number_found, text_found, where_found, last_found, joined_found, found_then, counted_found}

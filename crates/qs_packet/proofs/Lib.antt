@@ -1,3 +1,4 @@
+pub mod Adding
 pub mod Decoded
 pub mod Found
 pub mod Messages

@@ -1,5 +1,5 @@
 -- Parts that are taken, or added, one behind the other.
-use Rattle.std.proofs.Common.{◌≡◌, ℕ, List, [], ◌∷◌, ◌++◌, refl, ap, ◌∙◌, sym, append_assoc, append-nil, Result, Ok, Err, IfOk}
+use Rattle.std.proofs.Common.{ℕ, List, [], ◌∷◌, refl, Result, Ok, Err, IfOk}
 use Rattle.qs_codec.specs.Reading.{Reading}
 use Rattle.qs_ops.specs.declared.answer.Cause.{Cause}
 use Rattle.qs_ops.specs.declared.reply.Reply.{Reply}
@@ -8,7 +8,6 @@ use Rattle.qs_packet.specs.Grammar.{Part, ATag, SpellsPart, SpellsParts, reply_p
 use Rattle.qs_packet.specs.declared.message.Message.{Message}
 use Rattle.qs_record.specs.declared.fault.RecordFault.{RecordFault}
 use Rattle.qs_packet.specs.Reading.{TakesPart, TakesParts, TakesBehind}
-use Rattle.qs_record.specs.Grammar.{Joined}
 use Rattle.qs_record.proofs.Readers.{takes_none, takes_joined}
 
 -- ---- taken

@@ -1,5 +1,5 @@
 -- Where its parts are found, so is the message, and the packet.
-use Rattle.std.proofs.Common.{◌≡◌, ◌==◌, ℕ, List, [], ◌∷◌, true, false, Ok, Err, refl}
+use Rattle.std.proofs.Common.{◌≡◌, Ok, refl}
 use Rattle.qs_codec.specs.Reading.{Reading}
 use Rattle.qs_ops.specs.declared.answer.Cause.{Cause}
 use Rattle.qs_ops.specs.declared.answer.Cause.TheVariants as causes

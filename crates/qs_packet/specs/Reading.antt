@@ -1,5 +1,5 @@
 -- What is found in bytes: the packet that they spell, or the first fault from the left.
-use Rattle.std.specs.Prelude.{◌≡◌, ℕ, zero, suc, ◌≤◌, List, [], ◌∷◌, length, map, All, Bool, ◌==◌, nat_le, nat_lt, if◌then◌else◌, Result, Ok, Err, ⊤}
+use Rattle.std.specs.Prelude.{◌≡◌, ℕ, zero, suc, List, [], ◌∷◌, length, map, All, Bool, ◌==◌, nat_le, nat_lt, if◌then◌else◌, Result, Ok, Err, ⊤}
 use Rattle.std.specs.Int.{w8, w32}
 use Rattle.qs_base.specs.declared.identifiers.NodeNo.{NodeNo}
 use Rattle.qs_base.specs.declared.identifiers.Outcome.{Outcome}

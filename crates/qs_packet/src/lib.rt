@@ -3,14 +3,17 @@
 
 mod body;
 mod decoding;
+mod encoding;
 mod fault;
 mod laws;
 mod message;
 mod packet;
+mod part;
 mod source;
 mod tag;
 
 pub use decoding::decode_packet;
+pub use encoding::encode_packet;
 pub use fault::PacketFault;
 pub use laws::{no_prefix, one_spelling, reads_back, valid};
 pub use message::Message;

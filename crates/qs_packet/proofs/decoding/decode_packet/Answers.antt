@@ -1,6 +1,4 @@
-use Rattle.std.proofs.Common.{rules, ◌≡◌, ◌<◌, length, Ok, Err, arith}
-use Rattle.qs_codec.specs.Reading.{left_of}
-use Rattle.qs_packet.specs.Reading.{decoded}
+use Rattle.std.proofs.Common.{rules, Ok, Err, arith}
 use Rattle.qs_packet.specs.declared.fault.PacketFault.TheVariants.{Trailing}
 use Rattle.qs_packet.proofs.Decoded.{refused, trailing, answered, spelled, only}
 use Rattle.qs_packet.proofs.decoding.decode_packet.Goals as goal
