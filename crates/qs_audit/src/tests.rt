@@ -12,6 +12,7 @@ use std::test::Fail;
 
 /// What a Prepare record of one note of one byte needs beside its frame.
 const NEED: u64 = 23 + 6;
+
 const FRAME: u64 = 169;
 
 fn tid(seq: u32) -> Tid {
