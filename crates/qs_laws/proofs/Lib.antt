@@ -63,3 +63,5 @@ pub mod Final
 pub mod Order
 pub mod Reopening
 pub mod Coherent
+pub mod Unanswered
+pub mod Waiting
