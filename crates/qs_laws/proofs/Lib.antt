@@ -65,3 +65,4 @@ pub mod Reopening
 pub mod Coherent
 pub mod Unanswered
 pub mod Waiting
+pub mod Reaching
