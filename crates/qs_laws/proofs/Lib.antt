@@ -63,3 +63,6 @@ pub mod Final
 pub mod Order
 pub mod Reopening
 pub mod Coherent
+pub mod Unanswered
+pub mod Waiting
+pub mod Reaching
