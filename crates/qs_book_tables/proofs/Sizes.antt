@@ -5,7 +5,7 @@ use Rattle.std.specs.List.{fold}
 use Rattle.std.specs.declared.cmp.Ordering.TheVariants.{Less, Equal, Greater}
 use Rattle.std.specs.Ordering.{is_eq}
 use Rattle.std.specs.Cmp.Lexicographic.{texts_ties}
-use Rattle.std.proofs.lemmas.List.Sums.{fold_more}
+use Rattle.std.proofs.lemmas.List.Sums.{fold_more, sum_by-cons}
 use Rattle.qs_base.specs.Order.{bytes_cmp, same_bytes}
 use Rattle.qs_base.proofs.Same.{same_bytes-true, same_bytes-self}
 use Rattle.qs_ops.specs.declared.operation.Op.{Op}
@@ -31,16 +31,17 @@ text-below name (f ∷ fs) all =
 
 bytes-remove_file : (fs : List File) (name : List ℕ) → IsInOrder fs → files_bytes fs ≡ files_bytes (remove_file fs name) + text_bytes (file_text fs name)
 bytes-remove_file [] name sorted = refl
-bytes-remove_file (f ∷ fs) name sorted = by (same_bytes f.name name) refl
+bytes-remove_file (f ∷ fs) name sorted = by (bytes-remove_file fs name sorted.1) (same_bytes f.name name) refl
   where
-    rest : files_bytes fs ≡ files_bytes (remove_file fs name) + text_bytes (file_text fs name)
-    rest = bytes-remove_file fs name sorted.1
+    first : (gs : List File) → files_bytes (f ∷ gs) ≡ length f.content + files_bytes gs
+    first gs = sum_by-cons (λ (file : File). length file.content) f gs
 
-    by : (b : Bool) → same_bytes f.name name ≡ b → files_bytes (f ∷ fs) ≡ files_bytes (remove_file (f ∷ fs) name) + text_bytes (file_text (f ∷ fs) name)
-    by true is =
+    by : files_bytes fs ≡ files_bytes (remove_file fs name) + text_bytes (file_text fs name)
+        → (b : Bool) → same_bytes f.name name ≡ b → files_bytes (f ∷ fs) ≡ files_bytes (remove_file (f ∷ fs) name) + text_bytes (file_text (f ∷ fs) name)
+    by rest true is =
         let none : text_bytes (file_text fs name) ≡ 0 = ap text_bytes (text-below name fs (subst (λ n. IsBelowAll n fs) (same_bytes-true f.name name is) sorted.0)) in
-        rw is (omega (arith, rest, none))
-    by false is = rw is (omega (arith, rest))
+        rw is (omega (arith, first fs, rest, none))
+    by rest false is = rw is (omega (arith, first fs, first (remove_file fs name), rest))
 
 -- ---- a file is put: the others are those that are left without it
 
@@ -100,27 +101,25 @@ unchanged fs op e = refl
 -- ---- changes that are gathered in order
 
 -- the texts so far, one more change, and the texts after it
-pub staged_more : (files : List File) (ops : List Op) (i : ℕ) (d : Op) (old new : Texts) → i < length ops
-    → AreStaged files (take i ops) old → IsStaged files (get_or ops i d) old new → AreStaged files (take (i + 1) ops) new
-staged_more files ops i d old new lt staged step name =
+pub staged_more : (files : List File) (ops : List Op) (i : ℕ) (op : Op) (old new : Texts) → i < length ops → op ≡ get_or ops i op
+    → AreStaged files (take i ops) old → IsStaged files op old new → AreStaged files (take (i + 1) ops) new
+staged_more files ops i op old new lt is staged step name =
     step name
-    ∙ ap (λ (o : Option (List ℕ)). changed_at name o (get_or ops i d)) (staged name)
-    ∙ sym (fold_more (changed_at name) (file_text files name) ops i d lt)
+    ∙ ap (λ (o : Option (List ℕ)). changed_at name o op) (staged name)
+    ∙ ap (changed_at name (fold (changed_at name) (file_text files name) (take i ops))) is
+    ∙ sym (fold_more (changed_at name) (file_text files name) ops i op lt)
 
 -- and the bytes of what they make of the files
-pub counted_more : (files : List File) (ops : List Op) (i : ℕ) (d : Op) (texts : Texts) (before after : ℕ) → i < length ops → IsInOrder files
+pub counted_more : (files : List File) (ops : List Op) (i : ℕ) (op : Op) (texts : Texts) (before after : ℕ) → i < length ops → op ≡ get_or ops i op → IsInOrder files
     → AreStaged files (take i ops) texts → before ≡ files_bytes (fold apply_change files (take i ops))
-    → CountsChange (text_staged texts files) (get_or ops i d) before after → after ≡ files_bytes (fold apply_change files (take (i + 1) ops))
-counted_more files ops i d texts before after lt order staged was counts = by (changed_name op) refl counts
+    → CountsChange (text_staged texts files) op before after → after ≡ files_bytes (fold apply_change files (take (i + 1) ops))
+counted_more files ops i op texts before after lt is order staged was counts = by (changed_name op) refl counts
   where
-    op : Op
-    op = get_or ops i d
-
     view : List File
     view = fold apply_change files (take i ops)
 
     next : files_bytes (apply_change view op) ≡ files_bytes (fold apply_change files (take (i + 1) ops))
-    next = ap files_bytes (sym (fold_more apply_change files ops i d lt))
+    next = ap (λ (o : Op). files_bytes (apply_change view o)) is ∙ ap files_bytes (sym (fold_more apply_change files ops i op lt))
 
     seen : (name : List ℕ) → text_staged texts files name ≡ file_text view name
     seen name = staged name ∙ sym (file_text-fold (take i ops) files name)
@@ -129,8 +128,8 @@ counted_more files ops i d texts before after lt order staged was counts = by (c
     by None e same = same ∙ was ∙ ap files_bytes (sym (unchanged view op e)) ∙ next
     by (Some name) e count =
         let there : after + text_bytes (file_text view name) ≡ before + text_bytes (text_by (file_text view name) op) =
-            subst (λ (o : Option (List ℕ)). after + text_bytes o ≡ before + text_bytes (text_by o op)) (seen name) count in
+        subst (λ (o : Option (List ℕ)). after + text_bytes o ≡ before + text_bytes (text_by o op)) (seen name) count in
         let changed : files_bytes (apply_change view op) + text_bytes (file_text view name) ≡ files_bytes view + text_bytes (text_by (file_text view name) op) =
-            bytes-changed view op name (in_order-fold (take i ops) files order) e in
-        let is : after ≡ files_bytes (apply_change view op) = omega (arith, there, changed, was) in
-        is ∙ next
+        bytes-changed view op name (in_order-fold (take i ops) files order) e in
+        let same : after ≡ files_bytes (apply_change view op) = omega (arith, there, changed, was) in
+        same ∙ next
