@@ -3,12 +3,13 @@ use Rattle.std.specs.Prelude.{◌≡◌, ◌⊎◌, ◌<◌, ◌==◌, ℕ, Bool
 use Rattle.qs_base.specs.Order.{same_bytes}
 use Rattle.qs_base.specs.declared.identifiers.Member.{Member}
 use Rattle.qs_base.specs.declared.identifiers.NodeNo.{NodeNo}
+use Rattle.qs_ops.specs.Servers.{files_no}
 use Rattle.qs_ops.specs.declared.operation.Op.{Op}
 use Rattle.qs_ops.specs.declared.operation.Op.TheVariants.{Put, Get}
 use Rattle.qs_journal.specs.declared.script_line.Command.{Command}
 use Rattle.qs_journal.specs.declared.script_line.Command.TheVariants.{Begin, Commit, Abort, Request}
 use Rattle.qs_journal.specs.declared.script_line.ScriptLine.{ScriptLine}
-use Rattle.qs_script.specs.Script.{is_begin, may_name}
+use Rattle.qs_script.specs.Script.{client_0, is_begin, may_name}
 use Rattle.qs_script.specs.declared.script.Script.{Script}
 
 -- an operation of files that this stage knows; a file has at most 65,536 bytes
@@ -19,7 +20,7 @@ is_plain_op _ = false
 
 -- the files of one of so many nodes
 abbrev pub is_files_below : ℕ → Member → Bool
-is_files_below nodes member = (member.server.0 == 0) && nat_lt member.node.0 nodes
+is_files_below nodes member = (member.server.0 == files_no) && nat_lt member.node.0 nodes
 
 abbrev pub is_plain : ℕ → Command → Bool
 is_plain nodes Begin = true
@@ -48,7 +49,7 @@ Fits nodes begun above (line ∷ lines) =
 pub record SitsBelow (nodes : ℕ) (script : Script) : Type 0 where
   pub node : NodeNo
   pub below : node.0 < nodes
-  pub seats : script.seats ≡ record { client = record { 0 = 0 }; node = node } ∷ []
+  pub seats : script.seats ≡ record { client = client_0; node = node } ∷ []
 
 -- it does, unless there are no commands
 abbrev pub IsSeated : ℕ → Script → Type 0

@@ -1,11 +1,12 @@
 -- A history keeps to a script: what each client made and was answered is what its lines command, in order.
-use Rattle.std.specs.Prelude.{◌≡◌, ℕ, ◌+◌, ◌-◌, ◌==◌, Bool, false, ◌&&◌, List, [], ◌∷◌, length, filter, find, Option, Some, None, option_map, nat_lt, slice_get, if◌then◌else◌, ⊤}
+use Rattle.std.specs.Prelude.{◌≡◌, ℕ, ◌+◌, ◌-◌, ◌==◌, Bool, false, ◌&&◌, List, [], ◌∷◌, length, filter, find, Option, Some, None, option_map, slice_get, if◌then◌else◌, ⊤}
 use Rattle.qs_base.specs.Order.{same_tid, same_member}
 use Rattle.qs_base.specs.declared.identifiers.Member.{Member}
 use Rattle.qs_base.specs.declared.identifiers.Outcome.{Outcome}
 use Rattle.qs_base.specs.declared.identifiers.Outcome.TheVariants as outcomes
 use Rattle.qs_base.specs.declared.identifiers.Tid.{Tid}
 use Rattle.qs_ops.specs.Operations.{answer_of}
+use Rattle.qs_ops.specs.Servers.{client_no, is_client_no}
 use Rattle.qs_ops.specs.declared.answer.Answer.{Answer}
 use Rattle.qs_ops.specs.declared.answer.Answer.TheVariants as answers
 use Rattle.qs_ops.specs.declared.answer.Cause.{Cause}
@@ -143,7 +144,7 @@ pub record Answers (script : Script) (book : BookValue) (progress : Progresses) 
 -- a request is issued by a client
 pub record IssuesFor (script : Script) (book : BookValue) (progress : Progresses) (node : ℕ) (tid : Tid) (issuer member : Member) (command : Command) : Type 0 where
   pub client : ℕ
-  pub issuer_is : issuer.server.0 ≡ client + 32
+  pub issuer_is : issuer.server.0 ≡ client_no client
   pub carries : CarriesOutFor script book progress node client tid command
 
 -- a vote for a commit is made: read-only, or recoverable by what a log keeps; no server has a ground against one yet
@@ -214,7 +215,7 @@ after_served script progress tid member from number reply client =
 abbrev pub progress_after : Script → BookValue → Progresses → Act → Progresses
 progress_after script book progress (acts.Begin tid label client) = makes progress client.0 began
 progress_after script book progress (acts.Issue tid issuer member number op) =
-    if nat_lt 31 issuer.server.0 then makes progress (issuer.server.0 - 32) (issued tid member number None) else progress
+    if is_client_no issuer.server.0 then makes progress (issuer.server.0 - client_no 0) (issued tid member number None) else progress
 progress_after script book progress (acts.Serve tid member from number reply) =
     after_served script progress tid member from.0 number reply
 progress_after script book progress (acts.Ask tid) = owner_makes progress (owner_of (find_transaction book tid)) asked

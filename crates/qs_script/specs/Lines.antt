@@ -7,6 +7,7 @@ use Rattle.qs_base.specs.declared.identifiers.Member.{Member}
 use Rattle.qs_base.specs.declared.identifiers.NodeNo.{NodeNo}
 use Rattle.qs_journal.specs.declared.script_line.Command.{Command}
 use Rattle.qs_journal.specs.declared.script_line.Command.TheVariants.{Begin, Commit, Abort, Request}
+use Rattle.qs_ops.specs.Servers.{files_no}
 use Rattle.qs_ops.specs.declared.operation.Op.{Op}
 use Rattle.qs_ops.specs.declared.operation.Op.TheVariants.{Put, Get}
 use Rattle.qs_script.specs.Words.{below, number_of}
@@ -64,7 +65,7 @@ node_of nodes word = numbered (below nodes (number_of word))
 
 -- the files of a node
 abbrev pub files_of : NodeNo → Member
-files_of node = record { node = node; server = record { 0 = 0 } }
+files_of node = record { node = node; server = record { 0 = files_no } }
 
 -- the commands without further words
 abbrev pub short_command : List ℕ → Option Command

@@ -2,6 +2,7 @@
 use Rattle.std.specs.Prelude.{ℕ, ◌+◌, Bool, true, false, not, ◌&&◌, ◌==◌, List, [], ◌∷◌, ◌++◌, length, take, map, Option, Some, None, is_some, Result, Ok, Err, nat_lt, if◌then◌else◌}
 use Rattle.std.specs.List.{list_any, count_by}
 use Rattle.qs_base.specs.Order.{same_bytes}
+use Rattle.qs_base.specs.declared.identifiers.ClientNo.{ClientNo}
 use Rattle.qs_base.specs.declared.identifiers.NodeNo.{NodeNo}
 use Rattle.qs_journal.specs.declared.script_line.ScriptLine.{ScriptLine}
 use Rattle.qs_journal.specs.declared.script_line.Command.{Command}
@@ -58,17 +59,21 @@ bad_line before (line ∷ lines) =
 
 -- ---- the script
 
+-- the one client of a script at this stage
+abbrev pub client_0 : ClientNo
+client_0 = record { 0 = 0 }
+
 -- the commands of lines of which the first has that number
 abbrev pub commands : ℕ → List Said → List ScriptLine
 commands number [] = []
 commands number (saids.Order label command ∷ lines) =
-    record { client = record { 0 = 0 }; line = number; label = label; command = command } ∷ commands (number + 1) lines
+    record { client = client_0; line = number; label = label; command = command } ∷ commands (number + 1) lines
 commands number (_ ∷ lines) = commands (number + 1) lines
 
 -- client 0 at its node, where its line was read
 abbrev pub seats : Option NodeNo → List Seat
 seats None = []
-seats (Some node) = record { client = record { 0 = 0 }; node = node } ∷ []
+seats (Some node) = record { client = client_0; node = node } ∷ []
 
 abbrev pub script_read : Option NodeNo → List ScriptLine → ℕ → Script
 script_read seat lines count =

@@ -6,13 +6,11 @@ ghost use Rattle.qs_base.specs.Order.{same_bytes};
 ghost use Rattle.qs_script.specs.Lines.{lines_of, words_of, is_printable, is_label, is_skipped, line_says, words_say, said_by, short_command, said_seat, said_short, said_get, said_put, request, names_file, node_of, files_of, seat_at, is_name, is_text};
 
 use crate::number::number_of;
-use qs_base::{Bytes, Member, NoMemory, NodeNo, ServerNo};
+use qs_base::{Bytes, Member, NoMemory, NodeNo};
 use qs_journal::Command;
 use qs_ops::Op;
+use qs_ops::servers::FILES;
 use std::alloc::{AllocError, Global};
-
-/// The files, as a server of a node.
-const FILES: ServerNo = ServerNo(0);
 
 /// What a line says.
 #[derive(Debug, Drop, PartialEq, Eq)]
