@@ -1,5 +1,5 @@
 -- Facts about the nodes of an output.
-use Rattle.std.proofs.Common.{◌≡◌, ◌<◌, ◌≤◌, ℕ, ◌+◌, zero, suc, List, [], ◌∷◌, ◌++◌, drop, Some, None, refl, sym, ◌∙◌, append_assoc, add-one, arith}
+use Rattle.std.proofs.Common.{◌≡◌, ◌<◌, ◌≤◌, ℕ, ◌+◌, zero, suc, List, [], ◌∷◌, ◌++◌, drop, Some, None, refl, sym, ap, ◌∙◌, append_assoc, add-one, arith}
 use Rattle.std.specs.Prelude.{slice_get}
 use Rattle.std.proofs.Math.Seq.{drop-nil}
 use Rattle.std.proofs.lemmas.Bool.{lt-ltb, le-ltb}
@@ -45,14 +45,33 @@ no_node out start number nodes none whole = sym (append-nil out) ∙ (rw (at_end
 -- ---- the clients
 
 -- the clients from one on, in two parts
-pub client_more : (seats : List Seat) (history : List Entry) (book : BookValue) (left number : ℕ)
+client_more : (seats : List Seat) (history : List Entry) (book : BookValue) (left number : ℕ)
     → clients_text seats history book number (left + 1) ≡ clients_text seats history book number left ++ client_part seats history book (number + left)
+unfolding clients_text
 client_more seats history book zero number = let e : number + 0 ≡ number = omega arith in rw e (append-nil (client_part seats history book number))
 client_more seats history book (suc left) number =
     let e : number + 1 + left ≡ number + suc left = omega arith in
     let n : suc left + 1 ≡ suc (left + 1) = omega arith in
     rw (n, client_more seats history book left (number + 1), e)
     (sym (append_assoc (client_part seats history book number) (clients_text seats history book (number + 1) left) (client_part seats history book (number + suc left))))
+
+pub no_client : (seats : List Seat) (history : List Entry) (book : BookValue) (out : List ℕ) → out ≡ out ++ clients_text seats history book 0 0
+unfolding clients_text
+no_client seats history book out = sym (append-nil out)
+
+pub next_client : (seats : List Seat) (history : List Entry) (book : BookValue) (start now new : List ℕ) (number : ℕ) → now ≡ start ++ clients_text seats history book 0 number
+    → new ≡ now ++ client_part seats history book number → new ≡ start ++ clients_text seats history book 0 (number + 1)
+next_client seats history book start now new number so_far is =
+    is ∙ (ap (λ (xs : List ℕ). xs ++ client_part seats history book number) so_far
+    ∙ (append_assoc start (clients_text seats history book 0 number) (client_part seats history book number)
+    ∙ ap (λ (xs : List ℕ). start ++ xs) (sym (client_more seats history book number 0 ∙ same))))
+  where
+    same : clients_text seats history book 0 number ++ client_part seats history book (0 + number) ≡ clients_text seats history book 0 number ++ client_part seats history book number
+    same = let e : 0 + number ≡ number = omega arith in rw e refl
+
+pub all_clients : (seats : List Seat) (history : List Entry) (book : BookValue) (start now : List ℕ) (number : ℕ) → number ≡ 256 → now ≡ start ++ clients_text seats history book 0 number
+    → now ≡ start ++ clients_text seats history book 0 256
+all_clients seats history book start now number end so_far = rw (← end) so_far
 
 four_parts : (first second third fourth a b c d e : List ℕ) → a ≡ [] → b ≡ a ++ first → c ≡ b ++ second → d ≡ c ++ third → e ≡ d ++ fourth
     → e ≡ first ++ (second ++ (third ++ fourth))

@@ -52,7 +52,7 @@ client_part seats history book number =
     if list_any (is_seat_of number) seats then client_text history book (record { 0 = number }) else []
 
 -- so many numbers from one on
-abbrev pub clients_text : List Seat → List Entry → BookValue → ℕ → ℕ → List ℕ
+unfoldable pub clients_text : List Seat → List Entry → BookValue → ℕ → ℕ → List ℕ
 clients_text seats history book number zero = []
 clients_text seats history book number (suc left) =
     client_part seats history book number ++ clients_text seats history book (number + 1) left
