@@ -66,3 +66,5 @@ pub mod Coherent
 pub mod Unanswered
 pub mod Waiting
 pub mod Reaching
+pub mod Pace
+pub mod Paces

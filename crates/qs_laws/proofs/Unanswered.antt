@@ -115,7 +115,7 @@ times_more tid node (x ∷ ws) w =
 
 -- ---- peers
 
-node_itself : (n : NodeNo) → node_cmp n n ≡ Equal
+pub node_itself : (n : NodeNo) → node_cmp n n ≡ Equal
 node_itself n = tied_itself nat_cmp_total n.0
 
 pub node_exact : (m n : NodeNo) → is_at (node_cmp m) n ≡ true → m ≡ n
