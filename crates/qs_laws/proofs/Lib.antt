@@ -68,3 +68,5 @@ pub mod Waiting
 pub mod Reaching
 pub mod Pace
 pub mod Paces
+pub mod Gone
+pub mod StoodOpen

@@ -47,13 +47,13 @@ AreWaiting owners ws = (c : ℕ) (o : Owner) → slice_get owners c ≡ Some o �
 
 -- ---- what leaves the clients waiting
 
-abbrev waits_of : Owner → List Asking
+abbrev pub waits_of : Owner → List Asking
 waits_of owner = owner.waiting
 
-abbrev SameWaits : List Owner → List Owner → Type 0
+abbrev pub SameWaits : List Owner → List Owner → Type 0
 SameWaits old new = (c : ℕ) → option_map waits_of (slice_get new c) ≡ option_map waits_of (slice_get old c)
 
-still_waiting : (old new : List Owner) (ws : List Waits) → SameWaits old new → AreWaiting old ws → AreWaiting new ws
+pub still_waiting : (old new : List Owner) (ws : List Waits) → SameWaits old new → AreWaiting old ws → AreWaiting new ws
 still_waiting old new ws same are c o is = of (slice_get old c) refl (sym (same c) ∙ ap (option_map waits_of) is)
   where
     of : (x : Option Owner) → slice_get old c ≡ x → option_map waits_of x ≡ Some o.waiting → o.waiting ≡ own_of c ws
@@ -65,7 +65,7 @@ told_waits outcomes.Commit cause owner = refl
 told_waits outcomes.Abort None owner = refl
 told_waits outcomes.Abort (Some cause) owner = refl
 
-owner_told : (o : Option ClientNo) (outcome : Outcome) (cause : Option Cause) (owners : List Owner) → SameWaits owners (told_owner o outcome cause owners)
+pub owner_told : (o : Option ClientNo) (outcome : Outcome) (cause : Option Cause) (owners : List Owner) → SameWaits owners (told_owner o outcome cause owners)
 owner_told None outcome cause owners c = refl
 owner_told (Some client) outcome cause owners c = changed_at_alike waits_of (told outcome cause) (told_waits outcome cause) owners client.0 c
 
@@ -100,7 +100,7 @@ abort_same here inc book seq =
     if_same (is_open_here here (begun_tid here inc seq) (find_transaction book (begun_tid here inc seq))) book.owners (decide (begun_tid here inc seq) outcomes.Abort (Some (causes.Home inc)) book) book
     (owner_told (owner_of (find_transaction book (begun_tid here inc seq))) outcomes.Abort (Some (causes.Home inc)) book.owners) (λ c. refl)
 
-restart_same : (here inc : ℕ) (pend : List Found) (done : List Tid) (book : BookValue) → SameWaits book.owners (restart here inc pend done book).owners
+pub restart_same : (here inc : ℕ) (pend : List Found) (done : List Tid) (book : BookValue) → SameWaits book.owners (restart here inc pend done book).owners
 restart_same here inc pend done book c =
     all_same (abort_begun here old) (abort_same here old) (up_to (begun_at here mid)) (fold (vote_found here inc done) (fold (commit_found here) mid done) pend) c
     ∙ (all_same (vote_found here inc done) (vote_same here inc done) pend (fold (commit_found here) mid done) c ∙ all_same (commit_found here) (commit_same here) done mid c)
@@ -117,7 +117,7 @@ hear_same asks book = all_same hear (λ b ask c. refl) asks book
 -- ---- each act
 
 -- an issue and an answer
-asked_waits : (book : BookValue) (t : Tid) (issuer member : Member) (mid : BookValue) → mid.owners ≡ book.owners → (ws : List Waits) → AreWaiting book.owners ws
+pub asked_waits : (book : BookValue) (t : Tid) (issuer member : Member) (mid : BookValue) → mid.owners ≡ book.owners → (ws : List Waits) → AreWaiting book.owners ws
     → AreWaiting (with_waiting t issuer member mid).owners (if is_client_no issuer.server.0 then ws ++ record { client = issuer.server.0 - 32; asking = record { tid = t; node = member.node } } ∷ [] else ws)
 asked_waits book t issuer member mid same ws are = by (is_client_no issuer.server.0)
   where
@@ -183,7 +183,7 @@ asked_waits book t issuer member mid same ws are = by (is_client_no issuer.serve
     by true = changed
     by false = there
 
-answered_waits : (book : BookValue) (client : ClientNo) (line : ℕ) (ws : List Waits) → AreWaiting book.owners ws → AreWaiting (answer client line book).owners (without client.0 ws)
+pub answered_waits : (book : BookValue) (client : ClientNo) (line : ℕ) (ws : List Waits) → AreWaiting book.owners ws → AreWaiting (answer client line book).owners (without client.0 ws)
 answered_waits book client line ws are =
     still_waiting first.owners (answer client line book).owners (without client.0 ws) (hear_same (waiting_of (slice_get book.owners client.0)) first) emptied
   where
