@@ -1,20 +1,15 @@
 -- The incarnation of a node that the machine has as the last in which a request to it was open is the last of those moments.
-use Rattle.std.proofs.Common.{◌≡◌, ◌⊎◌, inl, inr, ℕ, ◌+◌, ◌-◌, ◌<◌, ◌≤◌, ◌==◌, ◌&&◌, ◌||◌, Bool, true, false, List, [], ◌∷◌, ◌++◌, Option, Some, None, refl, sym, ap, subst, ◌∙◌, if◌then◌else◌, arith}
+use Rattle.std.proofs.Common.{◌≡◌, ◌⊎◌, inl, inr, ℕ, ◌+◌, ◌-◌, ◌<◌, ◌≤◌, ◌==◌, ◌&&◌, Bool, true, false, List, [], ◌∷◌, ◌++◌, Option, Some, None, refl, sym, ap, subst, ◌∙◌, if◌then◌else◌, arith}
 use Rattle.std.proofs.lemmas.Bool.Decides.{nat_tests}
-use Rattle.std.specs.Prelude.{is_some, slice_get, unwrap_or, nat_lt, length, replicate}
-use Rattle.std.specs.List.{list_any}
+use Rattle.std.specs.Prelude.{slice_get, unwrap_or, nat_lt, length}
 use Rattle.std.specs.Option.{option_map}
 use Rattle.qs_base.specs.Order.{same_tid}
-use Rattle.qs_base.specs.declared.identifiers.ClientNo.{ClientNo}
 use Rattle.qs_base.specs.declared.identifiers.Member.{Member}
 use Rattle.qs_base.specs.declared.identifiers.NodeNo.{NodeNo}
-use Rattle.qs_base.specs.declared.identifiers.Outcome.TheVariants as outcomes
 use Rattle.qs_base.specs.declared.identifiers.Tid.{Tid}
 use Rattle.qs_base.proofs.Same.{same_tid-true}
 use Rattle.qs_ops.specs.Servers.{is_client_no}
 use Rattle.qs_ops.specs.declared.answer.Answer.{Answer as Said}
-use Rattle.qs_ops.specs.declared.answer.Cause.TheVariants as causes
-use Rattle.qs_ops.specs.declared.operation.Op.{Op}
 use Rattle.qs_journal.specs.declared.entry.Act.{Act}
 use Rattle.qs_journal.specs.declared.entry.Act.TheVariants.{Begin, Issue, Serve, Ask, Counted, Decide, Ending, Learn, Answer, Loan, Yield, Tick, Crash, Restart}
 use Rattle.qs_journal.specs.declared.entry.Act.TheVariants as acts
@@ -24,29 +19,24 @@ use Rattle.qs_machine.specs.Transaction.{TransactionValue, is_gone, is_open_to, 
 use Rattle.qs_machine.specs.declared.transaction.Request.{Request}
 use Rattle.qs_machine.specs.declared.transaction.RequestNo.{RequestNo}
 use Rattle.qs_machine.specs.Book.{BookValue, find_transaction, with_transaction, with_waiting, with_crossing, crosses, loan_to, give_back_from, inc_at, owner_of}
-use Rattle.qs_machine.specs.Clauses.{link_to, borrower_at, broken_issue, broken_answer, is_gone_cause, is_cause, broken_decide, broken_outcome, may_decide}
-use Rattle.qs_machine.specs.Lawful.{is_in_order, broken_act, broken_node, broken_at, broken, effect_act, effect, IsLawful, book_after}
+use Rattle.qs_machine.specs.Clauses.{link_to, borrower_at, broken_issue, broken_answer}
+use Rattle.qs_machine.specs.Lawful.{is_in_order, broken_act, broken_at, broken, effect_act, effect}
 use Rattle.qs_machine.specs.Nodes.{NodeValue}
-use Rattle.qs_machine.specs.Opening.{opening, no_owner}
-use Rattle.qs_machine.specs.declared.opened.Opened.{Opened}
-use Rattle.qs_machine.specs.declared.state.Asking.{Asking}
 use Rattle.qs_machine.specs.declared.state.Owner.{Owner}
-use Rattle.qs_laws.specs.Gone.{is_open_in, stands_open, StoodOpen}
-use Rattle.qs_laws.specs.Laws.{IsCoherent}
+use Rattle.qs_laws.specs.Gone.{is_open_in, stands_open}
 use Rattle.qs_laws.specs.Lives.{is_restart, restarts}
-use Rattle.qs_laws.proofs.Always.{unknown, opening_so}
+use Rattle.qs_laws.proofs.Always.{unknown}
 use Rattle.qs_laws.proofs.Begun.{inc_in}
 use Rattle.qs_laws.proofs.Faces.{Age, age}
-use Rattle.qs_laws.proofs.Holding.{left_of, right_of, clash}
+use Rattle.qs_laws.proofs.Holding.{clash}
 use Rattle.qs_laws.proofs.Lives.{same_life, Reborn, reborn, Restarting, restarting}
-use Rattle.qs_laws.proofs.Openings.{opening_holds, opening_names, same_of}
 use Rattle.qs_laws.proofs.Outcomes.{Inv}
-use Rattle.qs_laws.proofs.Pace.{Before, After, stay, restarted}
+use Rattle.qs_laws.proofs.Pace.{stay, restarted}
 use Rattle.qs_laws.proofs.Paces.{Goes, Went, count, act_owed, answer_goes}
-use Rattle.qs_laws.proofs.Steps.{held, stepped, ran, after_both, lawful_front, lawful_rest, rises}
+use Rattle.qs_laws.proofs.Steps.{held}
 use Rattle.qs_laws.proofs.Takes.{some_same}
-use Rattle.qs_laws.proofs.Turns.{Stands, Same, Survives, Obliged, step_turns, stands_by, stands_as}
-use Rattle.qs_laws.proofs.Unanswered.{Waits, is_to, times, all_of, own_of, without, times_split, times_more}
+use Rattle.qs_laws.proofs.Turns.{Stands, Same, Obliged, step_turns, stands_by, stands_as}
+use Rattle.qs_laws.proofs.Unanswered.{Waits, times, own_of, without, times_split, times_more}
 use Rattle.qs_laws.proofs.Waiting.{waits_after, AreWaiting, asked_waits, answered_waits, still_waiting, owner_told, restart_same}
 
 -- ---- clients

@@ -1,20 +1,20 @@
 -- What is known of a transaction towards a node, through each act: what waits, which incarnation was reached, and whether a
 -- request was open when the node restarted from an incarnation, or later.
-use Rattle.std.proofs.Common.{◌≡◌, ◌⊎◌, inl, inr, ℕ, ◌+◌, ◌-◌, ◌<◌, ◌≤◌, ◌==◌, ◌&&◌, ◌||◌, Bool, true, false, not, List, [], ◌∷◌, Option, Some, None, refl, sym, ap, subst, ◌∙◌, if◌then◌else◌, arith}
+use Rattle.std.proofs.Common.{◌≡◌, ◌⊎◌, inl, inr, ℕ, ◌+◌, ◌-◌, ◌<◌, ◌≤◌, ◌==◌, ◌&&◌, ◌||◌, Bool, true, false, List, Option, Some, None, refl, sym, ap, subst, ◌∙◌, if◌then◌else◌, arith}
 use Rattle.std.proofs.lemmas.Bool.Decides.{nat_tests}
-use Rattle.std.specs.Prelude.{is_some, unwrap_or, nat_lt}
+use Rattle.std.specs.Prelude.{is_some, nat_lt}
 use Rattle.std.specs.List.{list_any}
 use Rattle.std.specs.Option.{option_map}
 use Rattle.std.specs.Map.{lookup}
 use Rattle.std.specs.BTreeMap.{is_at, insert_entry}
 use Rattle.qs_base.specs.declared.identifiers.NodeNo.{NodeNo}
-use Rattle.qs_machine.specs.Transaction.{TransactionValue, at_first, changed_value, peer_of, no_peer, node_cmp, heard, heard_by, reached_by, is_by_client, is_by_files, is_open_link, is_open_to, reached, is_gone, issued, counted, with_counted, with_reached}
+use Rattle.qs_machine.specs.Transaction.{TransactionValue, at_first, changed_value, peer_of, node_cmp, heard, heard_by, reached_by, is_by_client, is_by_files, is_open_link, is_open_to, reached, is_gone, issued, counted, with_reached}
 use Rattle.qs_machine.specs.declared.transaction.Link.{Link}
 use Rattle.qs_machine.specs.declared.transaction.Peer.{Peer}
 use Rattle.qs_machine.specs.declared.transaction.Request.{Request}
 use Rattle.qs_machine.specs.declared.transaction.RequestNo.{RequestNo}
 use Rattle.qs_machine.specs.declared.transaction.Sent.{Sent}
-use Rattle.qs_laws.proofs.Holding.{clash, same_number}
+use Rattle.qs_laws.proofs.Holding.{clash}
 use Rattle.qs_laws.proofs.Maps.{changed_alike, lookup_put, put_known}
 use Rattle.qs_laws.proofs.Reaching.{has_peer, issued_peer, issued_opens, issued_apart, counted_closes, counted_peer, counted_apart, heard_peer}
 use Rattle.qs_laws.proofs.Unanswered.{same_node, node_itself}

@@ -1,8 +1,6 @@
 -- Through every lawful step: what waits, what is open and what was reached towards a node, of a transaction.
-use Rattle.std.proofs.Common.{◌≡◌, ◌⊎◌, inl, inr, ℕ, ◌+◌, ◌-◌, ◌<◌, ◌≤◌, ◌==◌, ◌&&◌, ◌||◌, Bool, true, false, not, List, [], ◌∷◌, ◌++◌, Option, Some, None, refl, sym, ap, subst, ◌∙◌, fold, if◌then◌else◌, arith}
-use Rattle.std.proofs.lemmas.Bool.Decides.{nat_tests}
-use Rattle.std.specs.Prelude.{is_some, slice_get, unwrap_or, nat_lt, length}
-use Rattle.std.specs.Option.{option_map}
+use Rattle.std.proofs.Common.{◌≡◌, ℕ, ◌+◌, ◌-◌, ◌==◌, ◌&&◌, ◌||◌, Bool, true, false, List, [], ◌∷◌, ◌++◌, Option, Some, None, refl, sym, ap, subst, ◌∙◌, fold, if◌then◌else◌, arith}
+use Rattle.std.specs.Prelude.{slice_get, length}
 use Rattle.qs_base.specs.Order.{same_tid}
 use Rattle.qs_base.specs.declared.identifiers.ClientNo.{ClientNo}
 use Rattle.qs_base.specs.declared.identifiers.Member.{Member}
@@ -17,23 +15,20 @@ use Rattle.qs_ops.specs.declared.operation.Op.{Op}
 use Rattle.qs_journal.specs.declared.entry.Act.{Act}
 use Rattle.qs_journal.specs.declared.entry.Act.TheVariants.{Begin, Issue, Serve, Ask, Counted, Decide, Ending, Learn, Answer, Loan, Yield, Tick, Crash, Restart}
 use Rattle.qs_journal.specs.declared.entry.Act.TheVariants as acts
-use Rattle.qs_journal.specs.declared.entry.Entry.{Entry}
-use Rattle.qs_journal.specs.declared.entry.Found.{Found}
-use Rattle.qs_machine.specs.Transaction.{TransactionValue, heard, learnt, lent, given_back, issued, is_by_files, is_by_client, is_gone, is_open_to, counted}
+use Rattle.qs_machine.specs.Transaction.{TransactionValue, heard, learnt, lent, given_back, issued, is_by_client, counted}
 use Rattle.qs_machine.specs.declared.transaction.Link.{Link}
 use Rattle.qs_machine.specs.declared.transaction.Request.{Request}
 use Rattle.qs_machine.specs.declared.transaction.RequestNo.{RequestNo}
-use Rattle.qs_machine.specs.declared.transaction.Sent.{Sent}
 use Rattle.qs_machine.specs.Book.{BookValue, find_transaction, with_owner, answer, hear, waiting_of, inc_at}
-use Rattle.qs_machine.specs.Clauses.{link_to, borrower_at, broken_issue, is_numbered, broken_issuer, is_files_here, is_client_here, may_issue, may_issue_as_owner, may_issue_as_borrower}
-use Rattle.qs_machine.specs.Lawful.{is_in_order, broken_act, broken_at, broken, effect_act, effect}
+use Rattle.qs_machine.specs.Clauses.{link_to, borrower_at, broken_issue, is_numbered, broken_issuer, is_files_here, is_client_here, may_issue}
+use Rattle.qs_machine.specs.Lawful.{broken_act}
 use Rattle.qs_machine.specs.Nodes.{NodeValue}
 use Rattle.qs_machine.specs.declared.state.Asking.{Asking}
 use Rattle.qs_machine.specs.declared.state.Owner.{Owner}
-use Rattle.qs_laws.proofs.Holding.{left_of, right_of, clash}
-use Rattle.qs_laws.proofs.Pace.{Before, After, stay, restarted, issued_near, issued_far, counted_near, counted_far, heard_near, heard_far}
+use Rattle.qs_laws.proofs.Holding.{left_of, right_of}
+use Rattle.qs_laws.proofs.Pace.{Before, After, stay, issued_near, issued_far, counted_near, counted_far, heard_near, heard_far}
 use Rattle.qs_laws.proofs.Steps.{held}
-use Rattle.qs_laws.proofs.Turns.{Stands, Same, Gives, GivesFor, Survives, Obliged, turn, stands_as, stands_by}
+use Rattle.qs_laws.proofs.Turns.{Stands, Gives, GivesFor, Obliged, turn, stands_as, stands_by}
 use Rattle.qs_laws.proofs.Unanswered.{Waits, is_to, times, all_of, own_of, without, times_split, times_more, same_node}
 use Rattle.qs_laws.proofs.Waiting.{waits_after}
 

@@ -1,18 +1,15 @@
 -- A transaction is one that a node's restart cost exactly where, at some moment later than that, a request to the node was open.
 use Rattle.std.proofs.Common.{◌≡◌, ◌⊎◌, inl, inr, ℕ, ◌<◌, ◌==◌, ◌&&◌, Bool, true, false, List, [], ◌∷◌, ◌++◌, Option, Some, None, refl, sym, ap, subst, ◌∙◌, if◌then◌else◌, arith}
 use Rattle.std.proofs.lemmas.Bool.Decides.{nat_tests}
-use Rattle.std.specs.Prelude.{slice_get, nat_lt, replicate}
+use Rattle.std.specs.Prelude.{slice_get, nat_lt}
 use Rattle.std.specs.List.{list_any}
 use Rattle.qs_base.specs.declared.identifiers.NodeNo.{NodeNo}
-use Rattle.qs_base.specs.declared.identifiers.Outcome.TheVariants as outcomes
 use Rattle.qs_base.specs.declared.identifiers.Tid.{Tid}
-use Rattle.qs_ops.specs.declared.answer.Cause.TheVariants as causes
-use Rattle.qs_journal.specs.declared.entry.Act.TheVariants as acts
 use Rattle.qs_journal.specs.declared.entry.Entry.{Entry}
-use Rattle.qs_machine.specs.Transaction.{TransactionValue, peer_of, is_gone, is_open_to}
+use Rattle.qs_machine.specs.Transaction.{TransactionValue, peer_of, is_gone}
 use Rattle.qs_machine.specs.Book.{BookValue, find_transaction, inc_at}
-use Rattle.qs_machine.specs.Clauses.{is_gone_cause, is_cause, broken_decide, broken_outcome, may_decide}
-use Rattle.qs_machine.specs.Lawful.{broken_act, broken, effect, IsLawful, book_after}
+use Rattle.qs_machine.specs.Clauses.{is_gone_cause}
+use Rattle.qs_machine.specs.Lawful.{effect, IsLawful, book_after}
 use Rattle.qs_machine.specs.Nodes.{NodeValue}
 use Rattle.qs_machine.specs.Opening.{opening, no_owner}
 use Rattle.qs_machine.specs.declared.opened.Opened.{Opened}
@@ -20,13 +17,11 @@ use Rattle.qs_machine.specs.declared.state.Owner.{Owner}
 use Rattle.qs_laws.specs.Gone.{is_open_in, stands_open, StoodOpen}
 use Rattle.qs_laws.specs.Laws.{IsCoherent}
 use Rattle.qs_laws.proofs.Always.{opening_so}
-use Rattle.qs_laws.proofs.Ends.{lawful_node}
 use Rattle.qs_laws.proofs.Gone.{gone_in, IsPast, Keeps, Moved, IsBare, bare_goes, bare_past, moved}
-use Rattle.qs_laws.proofs.Holding.{left_of, right_of, clash}
+use Rattle.qs_laws.proofs.Holding.{right_of, clash}
 use Rattle.qs_laws.proofs.Openings.{opening_holds, opening_names, same_of}
 use Rattle.qs_laws.proofs.Outcomes.{Inv}
-use Rattle.qs_laws.proofs.Steps.{held, stepped, ran, after_both, lawful_front, lawful_rest, rises}
-use Rattle.qs_laws.proofs.Takes.{some_same}
+use Rattle.qs_laws.proofs.Steps.{stepped, ran, after_both, lawful_front, lawful_rest, rises}
 use Rattle.qs_laws.proofs.Unanswered.{Waits}
 use Rattle.qs_laws.proofs.Waiting.{waits_after}
 

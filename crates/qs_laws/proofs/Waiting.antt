@@ -1,36 +1,25 @@
 -- Through every lawful history, what waits towards a node of a transaction is counted over the requests that clients wait for.
-use Rattle.std.proofs.Common.{◌≡◌, ℕ, ◌+◌, ◌-◌, ◌<◌, ◌==◌, ◌&&◌, Bool, true, false, not, List, [], ◌∷◌, ◌++◌, Option, Some, None, refl, sym, ap, subst, ◌∙◌, ◌⊎◌, inl, inr, fold, map, replicate, if◌then◌else◌, arith}
+use Rattle.std.proofs.Common.{◌≡◌, ℕ, ◌-◌, ◌==◌, Bool, true, false, List, [], ◌∷◌, ◌++◌, Option, Some, None, refl, sym, ap, subst, ◌∙◌, ◌⊎◌, inl, inr, fold, if◌then◌else◌, arith}
 use Rattle.std.proofs.lemmas.Bool.Decides.{nat_tests}
-use Rattle.std.specs.Prelude.{is_some, slice_get, slice_set, unwrap_or, nat_lt, length}
+use Rattle.std.specs.Prelude.{is_some, slice_get, slice_set}
 use Rattle.std.specs.Option.{option_map}
-use Rattle.qs_base.specs.Order.{same_tid}
 use Rattle.qs_base.specs.declared.identifiers.ClientNo.{ClientNo}
 use Rattle.qs_base.specs.declared.identifiers.Member.{Member}
-use Rattle.qs_base.specs.declared.identifiers.NodeNo.{NodeNo}
 use Rattle.qs_base.specs.declared.identifiers.Outcome.{Outcome}
 use Rattle.qs_base.specs.declared.identifiers.Outcome.TheVariants as outcomes
 use Rattle.qs_base.specs.declared.identifiers.Tid.{Tid}
-use Rattle.qs_base.proofs.Same.{same_tid-true}
 use Rattle.qs_ops.specs.Servers.{is_client_no}
 use Rattle.qs_ops.specs.declared.answer.Cause.{Cause}
 use Rattle.qs_ops.specs.declared.answer.Cause.TheVariants as causes
-use Rattle.qs_ops.specs.declared.operation.Op.{Op}
 use Rattle.qs_journal.specs.declared.entry.Act.{Act}
-use Rattle.qs_journal.specs.declared.entry.Act.TheVariants.{Begin, Issue, Serve, Ask, Counted, Decide, Ending, Learn, Answer, Loan, Yield, Tick, Crash, Restart}
-use Rattle.qs_journal.specs.declared.entry.Act.TheVariants as acts
-use Rattle.qs_journal.specs.declared.entry.Entry.{Entry}
+use Rattle.qs_journal.specs.declared.entry.Act.TheVariants.{Issue, Answer}
 use Rattle.qs_journal.specs.declared.entry.Found.{Found}
-use Rattle.qs_machine.specs.Book.{BookValue, find_transaction, changed_at, with_owner, with_waiting, with_crossing, crosses, told, told_owner, owner_of, decide, issue, answer, hear, waiting_of, inc_at}
-use Rattle.qs_machine.specs.Clauses.{link_to}
-use Rattle.qs_machine.specs.Lawful.{is_in_order, broken_act, broken_node, broken_at, broken, effect_act, effect, IsLawful, book_after}
-use Rattle.qs_machine.specs.Nodes.{NodeValue}
-use Rattle.qs_machine.specs.Restart.{restart, put_new_votes, up_to, begun_at, abort_begun, vote_found, commit_found, learn_found, decide_found, is_among, is_open_here, begun_tid, record_at, member_at}
+use Rattle.qs_machine.specs.Book.{BookValue, find_transaction, changed_at, with_owner, with_waiting, told, told_owner, owner_of, decide, answer, hear, waiting_of, inc_at}
+use Rattle.qs_machine.specs.Restart.{restart, put_new_votes, up_to, begun_at, abort_begun, vote_found, commit_found, learn_found, decide_found, is_among, is_open_here, begun_tid, record_at}
 use Rattle.qs_machine.specs.declared.state.Asking.{Asking}
 use Rattle.qs_machine.specs.declared.state.Owner.{Owner}
-use Rattle.qs_laws.proofs.Faces.{either_way}
-use Rattle.qs_laws.proofs.Holding.{clash, same_number}
+use Rattle.qs_laws.proofs.Holding.{same_number}
 use Rattle.qs_laws.proofs.Maps.{changed_at_alike, changed_at_either, changed_at_here}
-use Rattle.qs_laws.proofs.Steps.{held}
 use Rattle.qs_laws.proofs.Takes.{some_same}
 use Rattle.qs_laws.proofs.Unanswered.{Waits, own_of, without, own_without, own_others, own_more}
 
@@ -159,7 +148,6 @@ asked_waits book t issuer member mid same ws are = by (is_client_no issuer.serve
         unlike owner h true near k same =
             let e : w.client ≡ c = same_number w.client c near in
             here owner h (sym e) (sym (changed_at_here f mid.owners w.client owner h) ∙ (ap (slice_get (changed_at w.client f mid.owners)) e ∙ is))
-
 
         at : (x : Option Owner) → slice_get mid.owners w.client ≡ x → o.waiting ≡ own_of c (ws ++ w ∷ [])
         at None h = none (w.client == c) refl
