@@ -32,8 +32,9 @@ pub use transactions::find;
 pub enum BookFault {
     /// The first clause of the lawful step that it breaks.
     Unlawful { clause: u16 },
-    /// Memory was asked for and refused, or a counter stands at its last value. The book is then
-    /// good for nothing but to be dropped.
+    /// Memory was asked for and refused, or a counter stands at its last value. The book may have
+    /// taken in a part of the entry, and is then neither what it was nor what it should be: it is
+    /// good only to be dropped.
     NoMemory,
 }
 
@@ -333,7 +334,8 @@ impl Book {
     }
 
     /// Takes an entry in, where it is a lawful step. Where it is not, the book is as it was, and the
-    /// fault tells the first clause that it breaks.
+    /// fault tells the first clause that it breaks. After [`BookFault::NoMemory`] nothing is said of
+    /// what the book holds, which may be a part of the entry: drop it. Nothing else changes a book.
     pub fn apply(&mut self, entry: &Entry) -> Result<(), BookFault>
         ensures lawful { OnOk result (broken self.old entry.now ≡ None) }
         ensures effect { OnOk result (self.new ≡ effect self.old entry.now) }

@@ -3,6 +3,7 @@
 
 mod book;
 mod clauses;
+mod found;
 mod node;
 mod opening;
 

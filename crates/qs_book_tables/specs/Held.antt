@@ -16,6 +16,7 @@ use Rattle.qs_ops.specs.Files.{or_else}
 use Rattle.qs_ops.specs.Table.{nothing_held, is_change_of, changes_name, reads_name}
 use Rattle.qs_book_tables.specs.Index.{Index, holders_of, first_other, ChangesHolders, SameHolders, IsIndexOf}
 use Rattle.qs_ops.specs.Places.{IsInOrder}
+use Rattle.qs_book_tables.specs.Sizes.{files_bytes}
 
 -- what a transaction holds
 abbrev pub share_in : List (Tid × Share) → Tid → Share
@@ -78,7 +79,8 @@ pub record FollowShares (locks : Locks) (shares : List (Tid × Share)) : Type 0 
   pub at_changers : IsIndexOf changes_name (changers locks) shares
   pub at_readers : IsIndexOf reads_name (readers locks) shares
 
--- the files are in byte order of their names, and the locks follow the shares
-pub record IsConsistent (contents : List File) (locks : Locks) (shares : List (Tid × Share)) : Type 0 where
+-- the files are in byte order of their names, so many bytes are theirs, and the locks follow the shares
+pub record IsConsistent (contents : List File) (bytes : ℕ) (locks : Locks) (shares : List (Tid × Share)) : Type 0 where
   pub order : IsInOrder contents
+  pub counted : bytes ≡ files_bytes contents
   pub follows : FollowShares locks shares

@@ -7,9 +7,9 @@ ghost use Rattle.qs_book_tables.specs.Held.{share_in, FollowShares};
 ghost use Rattle.qs_ops.specs.Table.{is_claim, lesser};
 
 use crate::locks::Locks;
-use qs_ops::Share;
 use crate::shares::is_voted;
 use qs_base::{Bytes, Tid};
+use qs_ops::Share;
 use std::cmp::Ordering;
 use std::collections::{BTreeMap, BTreeSet};
 

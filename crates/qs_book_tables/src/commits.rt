@@ -4,10 +4,11 @@ ghost use Rattle.std.specs.List.{fold};
 ghost use Rattle.std.specs.Vec.{vec_capacity};
 ghost use Rattle.qs_ops.specs.Places.{IsInOrder};
 ghost use Rattle.qs_ops.specs.Table.{apply_change, apply_note};
+ghost use Rattle.qs_book_tables.specs.Sizes.{files_bytes};
 
 use crate::staged::{apply_texts, stage};
 use crate::views::notes_in_view;
-use qs_base::{Bytes, Copied, List, NoMemory};
+use qs_base::{Bytes, List, NoMemory};
 use qs_ops::{File, Op};
 use std::alloc::Global;
 
@@ -44,28 +45,33 @@ fn append_notes(alloc: Global, notes: &mut List<Bytes>, more: List<Bytes>) -> Re
     Ok(added?)
 }
 
-/// Commits changes in order. It asks for a copy of their texts, and for the room of as many new
-/// files as there are names; the only error is a refusal of that memory, and all is then as it was.
+/// Commits changes in order, with the count of the bytes of all texts. It asks for a copy of their
+/// texts, and for the room of as many new files as there are names; the only error is a refusal of
+/// that memory, for which a count of bytes at its end stands too, and all is then as it was.
 pub fn apply_changes(
     alloc: Global,
     contents: &mut List<File>,
+    bytes: &mut u64,
     notes: &mut List<Bytes>,
     changes: &[Op],
 ) -> Result<(), NoMemory>
-    requires { IsInOrder contents.old }
+    requires order { IsInOrder contents.old }
+    requires counted { bytes.old ≡ files_bytes contents.old }
     ensures contents { OnOk result (contents.new ≡ fold apply_change contents.old changes.now) }
     ensures notes { OnOk result (notes.new ≡ fold apply_note notes.old changes.now) }
     ensures kept_contents { OnErr result (contents.new ≡ contents.old) }
     ensures kept_notes { OnErr result (notes.new ≡ notes.old) }
     ensures order { IsInOrder contents.new }
+    ensures counted { bytes.new ≡ files_bytes contents.new }
 {
-    let texts = stage(alloc, contents.as_slice(), changes)?;
+    let (texts, count) = stage(alloc, contents.as_slice(), *bytes, changes)?;
     let more = notes_in_view(alloc, &[], changes)?;
     let mut files = take_with_room(alloc, contents, texts.len())?;
     match append_notes(alloc, notes, more) {
         Ok(()) => {
             apply_texts(&mut files, texts);
             *contents = List::from_vec(files);
+            *bytes = count;
             Ok(())
         }
         Err(refused) => {
@@ -73,32 +79,4 @@ pub fn apply_changes(
             Err(refused)
         }
     }
-}
-
-/// Equal files in the same order.
-fn copy_files(alloc: Global, files: &[File]) -> Result<List<File>, NoMemory>
-    ensures { IfOk result (λ copy. copy ≡ files.now) }
-{
-    let mut copy = List::new(alloc);
-    for file in files {
-        copy.push(File {
-            name: file.name.copy()?,
-            content: file.content.copy()?,
-        })?;
-    }
-    Ok(copy)
-}
-
-/// A copy of the contents with these changes committed in order.
-pub fn contents_in_view(
-    alloc: Global,
-    files: &[File],
-    changes: &[Op],
-) -> Result<List<File>, NoMemory>
-    requires { IsInOrder files.now }
-    ensures { IfOk result (λ view. view ≡ fold apply_change files.now changes.now) }
-{
-    let (mut view, mut notes) = (copy_files(alloc, files)?, List::new(alloc));
-    apply_changes(alloc, &mut view, &mut notes, changes)?;
-    Ok(view)
 }

@@ -1,9 +1,9 @@
 //! Whether sums of lengths are some number. They count down from it, so that nothing overflows.
-ghost use Rattle.std.specs.Prelude.{◌≡◌, ◌↔◌, ◌+◌, ◌≤◌, ◌-◌, IsTrue, SomeIff, length, sum_by};
+ghost use Rattle.std.specs.Prelude.{◌≡◌, ◌↔◌, ◌+◌, ◌≤◌, ◌-◌, IsTrue, SomeIff};
 ghost use Rattle.qs_ops.specs.Spelled.{op_length, prepare_length};
 
 use qs_base::Bytes;
-use qs_ops::{File, Op};
+use qs_ops::Op;
 
 /// The bytes of a Prepare record before its changes: tag, identifier, server, covers and count.
 const PREPARE_HEAD: u64 = 23;
@@ -50,20 +50,6 @@ pub fn has_prepare_length(changes: &[Op], length: u64) -> bool
     };
     for op in changes {
         let Some(rest) = without_op(left, op) else {
-            return false;
-        };
-        left = rest;
-    }
-    left == 0
-}
-
-/// Whether the contents have just so many bytes.
-pub fn has_bytes(files: &[File], bytes: u64) -> bool
-    ensures { IsTrue result ↔ (sum_by (λ file. length file.content) files.now ≡ bytes) }
-{
-    let mut left = bytes;
-    for file in files {
-        let Some(rest) = left.checked_sub(file.content.len() as u64) else {
             return false;
         };
         left = rest;

@@ -9,9 +9,8 @@ ghost use Rattle.qs_book_tables.specs.Index.{with_tid, without_tid, ChangesHolde
 
 use crate::edits::changed_name;
 use crate::holders::Holders;
-use qs_ops::Share;
 use qs_base::{Bytes, NoMemory, Tid};
-use qs_ops::{Op, Reply};
+use qs_ops::{Op, Reply, Share};
 use std::alloc::Global;
 
 /// Who has a pending change to a name, and who read it.

@@ -7,8 +7,8 @@ ghost use Rattle.qs_book_tables.specs.Restarts.{kept_share, keep_share, kept_sha
 
 use crate::locks::Locks;
 use crate::serving::release_share;
-use qs_ops::{Kept, Share};
 use qs_base::{List, NoMemory, Tid};
+use qs_ops::{Kept, Share};
 use std::alloc::Global;
 use std::collections::BTreeMap;
 

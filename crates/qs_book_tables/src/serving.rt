@@ -7,10 +7,9 @@ ghost use Rattle.qs_ops.specs.Table.{after_serve};
 ghost use Rattle.qs_book_tables.specs.Held.{share_in, FollowShares};
 
 use crate::locks::Locks;
-use qs_ops::Share;
 use crate::shares::{serve, set_vote};
 use qs_base::{NoMemory, Tid};
-use qs_ops::{Op, Reply};
+use qs_ops::{Op, Reply, Share};
 use std::alloc::Global;
 use std::collections::BTreeMap;
 

@@ -6,9 +6,8 @@ ghost use Rattle.qs_ops.specs.declared.reply.Reply.TheVariants.{Done};
 ghost use Rattle.qs_ops.specs.Table.{nothing_held, change_by, after_serve};
 ghost use Rattle.qs_book_tables.specs.Held.{share_in};
 
-use qs_ops::Share;
 use qs_base::{Copied, List, NoMemory, Tid};
-use qs_ops::{Op, Reply, is_change};
+use qs_ops::{Op, Reply, Share, is_change};
 use std::alloc::Global;
 use std::collections::BTreeMap;
 

@@ -7,18 +7,18 @@ ghost use Rattle.qs_book_tables.specs.Views.{viewed_reply};
 ghost use Rattle.qs_ops.specs.Table.{is_change_of};
 
 use crate::claims::{is_claimed, lesser};
-use crate::commits::{apply_changes, contents_in_view};
+use crate::commits::apply_changes;
 use crate::contents::file_text;
-use crate::counts::{has_bytes, has_prepare_length};
+use crate::counts::has_prepare_length;
 use crate::free_reply::{free_reply, is_served};
 use crate::locks::Locks;
 use crate::refusal::Refusal;
 use crate::restarts::keep_all;
 use crate::serving::{release_share, serve_locked, vote_locked};
-use qs_ops::{Kept, Share};
 use crate::shares::changes_of;
+use crate::staged::stage;
 use qs_base::{Bytes, List, NoMemory, Tid, copy_list};
-use qs_ops::{Changes, File, Op, Reply};
+use qs_ops::{Changes, File, Kept, Op, Reply, Share};
 use std::alloc::Global;
 use std::collections::BTreeMap;
 use std::marker::Model;
@@ -27,6 +27,8 @@ use std::marker::Model;
 #[derive(Debug, Drop)]
 pub struct Table {
     contents: List<File>,
+    /// How many bytes the texts of the contents have.
+    bytes: u64,
     notes: List<Bytes>,
     shares: BTreeMap<Tid, Share>,
     locks: Locks,
@@ -41,7 +43,7 @@ impl Model for Table {
 
     ghost view = { λ t. record { contents = t.contents; notes = t.notes; shares = t.shares.entries } };
 
-    ghost invariant = { λ t. IsConsistent t.contents t.locks t.shares.entries };
+    ghost invariant = { λ t. IsConsistent t.contents t.bytes t.locks t.shares.entries };
 }
 
 impl Table {
@@ -53,6 +55,7 @@ impl Table {
     {
         Table {
             contents: List::new(alloc),
+            bytes: 0,
             notes: List::new(alloc),
             shares: BTreeMap::new(alloc),
             locks: Locks::new(alloc),
@@ -201,13 +204,20 @@ impl Table {
     }
 
     /// Commits the pending changes of the transaction, which holds nothing here any more. The only
-    /// error is a refusal of memory, and all is then as it was.
+    /// error is a refusal of memory, for which a count of bytes at its end stands too, and all is
+    /// then as it was.
     pub fn commit(&mut self, tid: Tid) -> Result<(), NoMemory>
         ensures ok { OnOk result (self.new ≡ committed self.old tid) }
         ensures err { OnErr result (self.new ≡ self.old) }
     {
         let changes = changes_of(&self.shares, tid);
-        apply_changes(self.alloc, &mut self.contents, &mut self.notes, changes)?;
+        apply_changes(
+            self.alloc,
+            &mut self.contents,
+            &mut self.bytes,
+            &mut self.notes,
+            changes,
+        )?;
         release_share(&mut self.locks, &mut self.shares, tid);
         Ok(())
     }
@@ -221,13 +231,15 @@ impl Table {
         vote_locked(self.alloc, &self.locks, &mut self.shares, tid, voted)
     }
 
-    /// Whether the contents that the transaction sees have just so many bytes. It copies them; the
-    /// only error is a refusal of that memory.
+    /// Whether the contents that the transaction sees have just so many bytes. It looks at its
+    /// pending changes alone, and copies their texts; the only error is a refusal of that memory,
+    /// for which a count of bytes at its end stands too.
     pub fn has_view_bytes(&self, tid: Tid, bytes: u64) -> Result<bool, NoMemory>
         ensures { IfOk result (λ yes. IsTrue yes ↔ (view_bytes self.now tid ≡ bytes)) }
     {
-        let view = contents_in_view(self.alloc, self.contents.as_slice(), self.pending(tid))?;
-        Ok(has_bytes(view.as_slice(), bytes))
+        let files = self.contents.as_slice();
+        let (_, seen) = stage(self.alloc, files, self.bytes, self.pending(tid))?;
+        Ok(seen == bytes)
     }
 
     /// Whether a Prepare record of the transaction's pending changes has just so many bytes. It
@@ -280,7 +292,13 @@ impl Table {
     {
         let (locks, shares) = keep_all(self.alloc, keeps.as_slice())?;
         let changes = changes.as_slice();
-        apply_changes(self.alloc, &mut self.contents, &mut self.notes, changes)?;
+        apply_changes(
+            self.alloc,
+            &mut self.contents,
+            &mut self.bytes,
+            &mut self.notes,
+            changes,
+        )?;
         self.locks = locks;
         self.shares = shares;
         Ok(())

@@ -10,6 +10,8 @@ mod rows;
 #[cfg(test)]
 mod rows_of_conflicts;
 #[cfg(test)]
+mod rows_of_crossed_votes;
+#[cfg(test)]
 mod rows_of_found_votes;
 #[cfg(test)]
 mod rows_of_gone_nodes;

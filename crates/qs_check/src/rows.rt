@@ -1,5 +1,6 @@
 //! Lawful histories, and neighbours of them that break a clause of the lawful step at a line.
 use crate::rows_of_conflicts::CONFLICTS;
+use crate::rows_of_crossed_votes::CROSSED_VOTES;
 use crate::rows_of_found_votes::FOUND_VOTES;
 use crate::rows_of_gone_nodes::GONE_NODES;
 use crate::rows_of_limits::LIMITS;
@@ -78,6 +79,11 @@ fn judge(rt: &impl Abort, alloc: Global, rows: &[Row]) -> Result<(), NoMemory> {
 #[test]
 fn conflicts_are_judged(rt: HostRuntime) -> Result<(), NoMemory> {
     judge(&rt, rt.alloc(), &CONFLICTS)
+}
+
+#[test]
+fn crossed_votes_are_judged(rt: HostRuntime) -> Result<(), NoMemory> {
+    judge(&rt, rt.alloc(), &CROSSED_VOTES)
 }
 
 #[test]

@@ -1,5 +1,5 @@
 -- What went between one node and the others for one transaction.
-use Rattle.std.specs.Prelude.{ℕ, ◌+◌, ◌==◌, Bool, false, not, List, replicate, Option, Some, None, max, nat_le, nat_lt, slice_index_or, slice_set, if◌then◌else◌}
+use Rattle.std.specs.Prelude.{ℕ, ◌+◌, ◌==◌, ◌&&◌, Bool, false, not, List, replicate, Option, Some, None, max, nat_le, nat_lt, slice_index_or, slice_set, if◌then◌else◌}
 use Rattle.std.specs.List.{list_all}
 use Rattle.qs_base.specs.declared.identifiers.NodeNo.{NodeNo}
 use Rattle.qs_engage.specs.declared.engage.Engage.{Engage}
@@ -71,6 +71,13 @@ is_open_to peer engage = not (is_covered (peer_of engage peer))
 
 abbrev pub has_sent : NodeNo → Engage → Bool
 has_sent peer engage = nat_lt 0 (peer_of engage peer).sent
+
+-- nothing of one another counts
+abbrev pub is_idle : PeerPart → Bool
+is_idle part = ((part.sent == 0) && (part.covered == 0)) && (part.last == 0)
+
+abbrev pub is_idle_with : NodeNo → Engage → Bool
+is_idle_with peer engage = is_idle (peer_of engage peer)
 
 -- the nodes with a request that is not covered
 abbrev pub uncovered : Engage → Nodes

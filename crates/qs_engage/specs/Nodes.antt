@@ -11,7 +11,7 @@ abbrev pub node : ℕ → NodeNo
 node n = record { 0 = n }
 
 -- all that a run may have
-abbrev pub all_nodes : List NodeNo
+unfoldable pub all_nodes : List NodeNo
 all_nodes = node 0 ∷ node 1 ∷ node 2 ∷ node 3 ∷ node 4 ∷ node 5 ∷ node 6 ∷ node 7 ∷ node 8 ∷ node 9 ∷ node 10 ∷ node 11 ∷ node 12 ∷ node 13 ∷ node 14 ∷ node 15 ∷ []
 
 abbrev pub same_node : NodeNo → NodeNo → Bool

@@ -1,9 +1,9 @@
 //! The superior of a node, and the counts of requests towards each other node.
 ghost use Rattle.std.specs.Prelude.{◌≡◌, fold};
-ghost use Rattle.qs_engage.specs.Engage.{peer_of, new_engage, requested, engaged, sent, next_sent, covered, is_passive, released, release_of, restarted, is_open_to, has_sent, with_peer, with_last, is_covered, uncovered, sent_to};
+ghost use Rattle.qs_engage.specs.Engage.{peer_of, new_engage, requested, engaged, sent, next_sent, covered, is_passive, released, release_of, restarted, is_open_to, has_sent, with_peer, with_last, is_covered, is_idle_with, uncovered, sent_to};
 ghost use Rattle.qs_engage.specs.Nodes.{put_where};
 
-use crate::nodes::{ALL_NODES, NODE_COUNT, Nodes};
+use crate::nodes::{NODE_COUNT, Nodes, every_node};
 use qs_base::NodeNo;
 
 /// What went to and came from another node.
@@ -206,12 +206,20 @@ impl Engage {
         self.peer(peer).sent > 0
     }
 
+    /// Whether nothing was sent to it, covered by it, or came from it in its present incarnation.
+    pub fn is_idle_with(&self, peer: NodeNo) -> bool
+        ensures { result ≡ is_idle_with peer self.now }
+    {
+        let part = self.peer(peer);
+        (part.sent == 0 && part.covered == 0) && part.last == 0
+    }
+
     /// The nodes to which a request was sent that is not covered.
     pub fn uncovered(&self) -> Nodes
         ensures { result ≡ uncovered self.now }
     {
         let mut nodes = Nodes::NONE;
-        self.put_uncovered(&mut nodes, &ALL_NODES);
+        self.put_uncovered(&mut nodes, every_node());
         nodes
     }
 
@@ -228,7 +236,7 @@ impl Engage {
         ensures { result ≡ sent_to self.now }
     {
         let mut nodes = Nodes::NONE;
-        self.put_sent(&mut nodes, &ALL_NODES);
+        self.put_sent(&mut nodes, every_node());
         nodes
     }
 

@@ -7,4 +7,4 @@ mod nodes;
 mod tests;
 
 pub use engage::{Engage, Engaged, PeerPart};
-pub use nodes::{ALL_NODES, NODE_COUNT, Nodes};
+pub use nodes::{NODE_COUNT, Nodes, every_node};

@@ -9,8 +9,7 @@ use std::alloc::Global;
 /// How many nodes a run may have.
 pub const NODE_COUNT: usize = 16;
 
-/// All nodes that a run may have, in order.
-pub const ALL_NODES: [NodeNo; 16] = [
+const ALL_NODES: [NodeNo; 16] = [
     NodeNo(0),
     NodeNo(1),
     NodeNo(2),
@@ -28,6 +27,14 @@ pub const ALL_NODES: [NodeNo; 16] = [
     NodeNo(14),
     NodeNo(15),
 ];
+
+/// All nodes that a run may have, in order.
+#[tactic(auto, unfolding(crate::specs::Nodes::all_nodes))]
+pub fn every_node() -> &'static [NodeNo]
+    ensures { result.now ≡ all_nodes }
+{
+    &ALL_NODES
+}
 
 /// Which of the nodes of a run. No call but `listed` takes memory. A node from 16 on is in no set.
 #[derive(Clone, Copy, Debug, PartialEq, Eq)]
@@ -83,7 +90,7 @@ impl Nodes {
     pub fn is_empty(&self) -> bool
         ensures { result ≡ is_no_node self.now }
     {
-        !self.has_any(&ALL_NODES)
+        !self.has_any(every_node())
     }
 
     fn has_any(&self, nodes: &[NodeNo]) -> bool
@@ -97,7 +104,7 @@ impl Nodes {
         ensures { result ≡ union self.now more.now }
     {
         let mut both = Nodes::NONE;
-        both.put_either(self, more, &ALL_NODES);
+        both.put_either(self, more, every_node());
         both
     }
 
@@ -114,7 +121,7 @@ impl Nodes {
         ensures { result ≡ without self.now other.now }
     {
         let mut rest = Nodes::NONE;
-        rest.put_rest(self, other, &ALL_NODES);
+        rest.put_rest(self, other, every_node());
         rest
     }
 
@@ -147,7 +154,7 @@ impl Nodes {
         ensures { IfOk result (λ nodes. nodes ≡ listed self.now) }
     {
         let mut nodes = List::new(alloc);
-        self.list_each(&mut nodes, &ALL_NODES)?;
+        self.list_each(&mut nodes, every_node())?;
         Ok(nodes)
     }
 

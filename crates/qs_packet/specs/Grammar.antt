@@ -1,5 +1,5 @@
 -- Which bytes spell a packet. A packet is a list of parts, and their bytes stand one behind the other.
-use Rattle.std.specs.Prelude.{◌≡◌, ℕ, ◌^◌, ◌<◌, Bool, true, false, ◌==◌, List, [], ◌∷◌, length, map, ⊤}
+use Rattle.std.specs.Prelude.{◌≡◌, ℕ, ◌^◌, ◌<◌, Bool, true, false, ◌==◌, List, [], ◌∷◌, length, map, All, ⊤}
 use Rattle.qs_base.specs.declared.identifiers.Member.{Member}
 use Rattle.qs_base.specs.declared.identifiers.NodeNo.{NodeNo}
 use Rattle.qs_base.specs.declared.identifiers.Outcome.{Outcome}
@@ -18,24 +18,29 @@ use Rattle.qs_ops.specs.declared.vote.Reason.TheVariants as reasons
 use Rattle.qs_packet.specs.declared.message.Message.{Message}
 use Rattle.qs_packet.specs.declared.message.Message.TheVariants.{Hello, Request, Answered, AskVote, Covered, VotedYes, VotedAbort, Tell, Told, Inquire}
 use Rattle.qs_packet.specs.declared.packet.Packet.{Packet}
-use Rattle.qs_record.specs.Grammar.{Joined, is_node, is_server, IsTid, IsMember, AreNodes, SpellsTid, SpellsMember, SpellsNodes, SpellsOp}
+use Rattle.qs_record.specs.Grammar.{Joined, SpellsAll, is_node, is_server, IsTid, IsMember, AreNodes, SpellsTid, SpellsMember, SpellsNodes, SpellsOp}
 
 -- ---- parts
 
--- a tag, a node, a server, a number of four bytes, how many items follow, a number below 2^62, a text of at
--- most so many bytes, an identifier, a member, a list of nodes, or an operation
+-- a tag, a node, a server, a number of four bytes, a number below 2^62, a text of at most so many bytes,
+-- texts of at most so many bytes each, an identifier, a member, a list of nodes, or an operation
 pub data Part : Type 0 where
   ATag : ℕ → Part
   ANode : NodeNo → Part
   AServer : ServerNo → Part
   AWord : ℕ → Part
-  ACount : ℕ → Part
   ANumber : ℕ → Part
   AText : ℕ → List ℕ → Part
+  Texts : ℕ → List (List ℕ) → Part
   ATid : Tid → Part
   AMember : Member → Part
   Nodes : List NodeNo → Part
   AnOp : Op → Part
+
+-- the texts have a spelling: each has one, and their count is written in four bytes
+pub record AreTexts (limit : ℕ) (texts : List (List ℕ)) : Type 0 where
+  pub few : length texts < 2 ^ 32
+  pub each : All (IsText limit) texts
 
 -- the part has a spelling
 abbrev pub IsPart : Part → Type 0
@@ -43,9 +48,9 @@ IsPart (ATag tag) = ⊤
 IsPart (ANode node) = is_node node.0 ≡ true
 IsPart (AServer server) = is_server server.0 ≡ true
 IsPart (AWord n) = ⊤
-IsPart (ACount n) = n < 2 ^ 32
 IsPart (ANumber n) = n < 2 ^ 62
 IsPart (AText limit text) = IsText limit text
+IsPart (Texts limit texts) = AreTexts limit texts
 IsPart (ATid tid) = IsTid tid
 IsPart (AMember member) = IsMember member
 IsPart (Nodes nodes) = AreNodes nodes
@@ -57,9 +62,9 @@ SpellsPart (ATag tag) bytes = Spells (Byte tag) bytes
 SpellsPart (ANode node) bytes = (is_node node.0 ≡ true) × Spells (Byte node.0) bytes
 SpellsPart (AServer server) bytes = (is_server server.0 ≡ true) × Spells (Byte server.0) bytes
 SpellsPart (AWord n) bytes = Spells (Word n) bytes
-SpellsPart (ACount n) bytes = (n < 2 ^ 32) × Spells (Word n) bytes
 SpellsPart (ANumber n) bytes = Spells (Number n) bytes
 SpellsPart (AText limit text) bytes = IsText limit text × Spells (Text text) bytes
+SpellsPart (Texts limit texts) bytes = AreTexts limit texts × SpellsAll (Word (length texts) ∷ map Text texts) bytes
 SpellsPart (ATid tid) bytes = SpellsTid tid bytes
 SpellsPart (AMember member) bytes = SpellsMember member bytes
 SpellsPart (Nodes nodes) bytes = SpellsNodes nodes bytes
@@ -81,16 +86,12 @@ SpellsParts (p ∷ ps) bytes = Joined (SpellsPart p) (SpellsParts ps) bytes
 abbrev pub reply_limit : ℕ
 reply_limit = 16777216
 
--- texts behind their count, each of at most so many bytes
-abbrev pub text_parts : ℕ → List (List ℕ) → List Part
-text_parts limit texts = ACount (length texts) ∷ map (AText limit) texts
-
 abbrev pub reply_parts : Reply → List Part
 reply_parts replies.Done = ATag 1 ∷ []
 reply_parts (replies.Value text) = ATag 2 ∷ AText reply_limit text ∷ []
 reply_parts (replies.Left ticks) = ATag 3 ∷ AWord ticks ∷ []
-reply_parts (replies.Names list) = ATag 4 ∷ text_parts 64 list
-reply_parts (replies.Notes list) = ATag 5 ∷ text_parts reply_limit list
+reply_parts (replies.Names list) = ATag 4 ∷ Texts 64 list ∷ []
+reply_parts (replies.Notes list) = ATag 5 ∷ Texts reply_limit list ∷ []
 reply_parts (replies.Busy holder) = ATag 6 ∷ ATid holder ∷ []
 reply_parts replies.Absent = ATag 7 ∷ []
 reply_parts replies.TooMany = ATag 8 ∷ []

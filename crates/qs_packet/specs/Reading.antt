@@ -1,5 +1,5 @@
 -- What is found in bytes: the packet that they spell, or the first fault from the left.
-use Rattle.std.specs.Prelude.{◌≡◌, ℕ, zero, suc, ◌≤◌, List, [], ◌∷◌, length, Bool, ◌==◌, nat_le, nat_lt, if◌then◌else◌, Result, Ok, Err, ⊤}
+use Rattle.std.specs.Prelude.{◌≡◌, ℕ, zero, suc, List, [], ◌∷◌, length, map, All, Bool, ◌==◌, nat_le, nat_lt, if◌then◌else◌, Result, Ok, Err, ⊤}
 use Rattle.std.specs.Int.{w8, w32}
 use Rattle.qs_base.specs.declared.identifiers.NodeNo.{NodeNo}
 use Rattle.qs_base.specs.declared.identifiers.Outcome.{Outcome}
@@ -7,6 +7,7 @@ use Rattle.qs_base.specs.declared.identifiers.Outcome.TheVariants.{Commit, Abort
 use Rattle.qs_base.specs.declared.identifiers.ServerNo.{ServerNo}
 use Rattle.qs_codec.specs.declared.fault.CodecFault.{CodecFault}
 use Rattle.qs_codec.specs.declared.fault.CodecFault.TheVariants.{Short, BadTag}
+use Rattle.qs_codec.specs.Grammar.{Text}
 use Rattle.qs_codec.specs.Reading.{Reading, reading_at, left_of, integer_at, number_at, text_at}
 use Rattle.qs_ops.specs.declared.answer.Cause.{Cause}
 use Rattle.qs_ops.specs.declared.answer.Cause.TheVariants as causes
@@ -14,7 +15,8 @@ use Rattle.qs_ops.specs.declared.reply.Reply.{Reply}
 use Rattle.qs_ops.specs.declared.reply.Reply.TheVariants as replies
 use Rattle.qs_ops.specs.declared.vote.Reason.{Reason}
 use Rattle.qs_ops.specs.declared.vote.Reason.TheVariants as reasons
-use Rattle.qs_packet.specs.Grammar.{Part, ATag, SpellsParts, reply_limit}
+use Rattle.qs_ops.specs.Spelled.{IsText}
+use Rattle.qs_packet.specs.Grammar.{Part, ATag, SpellsPart, SpellsParts, reply_limit}
 use Rattle.qs_packet.specs.declared.fault.PacketFault.{PacketFault}
 use Rattle.qs_packet.specs.declared.fault.PacketFault.TheVariants as packets
 use Rattle.qs_packet.specs.declared.message.Message.{Message}
@@ -22,7 +24,7 @@ use Rattle.qs_packet.specs.declared.message.Message.TheVariants.{Hello, Request,
 use Rattle.qs_packet.specs.declared.packet.Packet.{Packet}
 use Rattle.qs_record.specs.declared.fault.RecordFault.{RecordFault}
 use Rattle.qs_record.specs.declared.fault.RecordFault.TheVariants as records
-use Rattle.qs_record.specs.Grammar.{is_node, is_server}
+use Rattle.qs_record.specs.Grammar.{SpellsAll, is_node, is_server}
 use Rattle.qs_record.specs.Reading.{Takes, then_at, byte_where, tid_at, member_at, nodes_at, op_at}
 
 -- ---- what a call gave
@@ -37,11 +39,25 @@ abbrev pub GivesIfRoom : Result Packet PacketFault → Result Packet PacketFault
 GivesIfRoom (Err packets.NoMemory) answer = ⊤
 GivesIfRoom result answer = answer ≡ result
 
+-- the part was taken
+pub record TakesPart (part : Part) (old new : Reading) : Type 0 where
+  pub taken : Takes (SpellsPart part) old new
+
+-- the parts were taken, one behind the other
+pub record TakesParts (parts : List Part) (old new : Reading) : Type 0 where
+  pub taken : Takes (SpellsParts parts) old new
+
 -- behind a tag, the other parts of these were taken
 pub record TakesBehind (tag : ℕ) (parts : List Part) (old new : Reading) : Type 0 where
   pub others : List Part
   pub tagged : parts ≡ ATag tag ∷ others
-  pub taken : Takes (SpellsParts others) old new
+  pub taken : TakesParts others old new
+
+-- so many texts were taken
+pub record TakesTexts (limit count : ℕ) (old new : Reading) (texts : List (List ℕ)) : Type 0 where
+  pub counted : length texts ≡ count
+  pub each : All (IsText limit) texts
+  pub taken : Takes (SpellsAll (map Text texts)) old new
 
 -- ---- parts
 

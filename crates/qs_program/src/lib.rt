@@ -1,6 +1,9 @@
 //! The program as a function: its words, standard input and output, and the number that it ends with.
 #![tactic(auto)]
 
+#[cfg(test)]
+mod tests;
+
 ghost use Rattle.std.specs.Prelude.{◌≡◌, length, IfOk};
 
 use qs_base::NoMemory;
@@ -9,6 +12,7 @@ use qs_io::{StdSink, StdSource};
 use qs_text::{Status, status_line};
 use qs_top::run;
 use std::alloc::Global;
+use std::io::ErrorKind;
 use std::process::ExitCode;
 use std::rt::Env;
 use std::thread::Threads;
@@ -17,8 +21,24 @@ use std::{env, io};
 /// The bytes of each disk.
 const DISK_SIZE: u64 = 65_536;
 
-/// The words after the program's name.
-fn words_of<R: Env + AllocGlobal>(rt: &R) -> io::Result<Vec<String>> {
+/// The words after the program's name; else why there are none.
+fn words_of<R: Env + AllocGlobal>(rt: &R) -> Result<Vec<String>, Status> {
+    match given_words(rt) {
+        Ok(words) => Ok(words),
+        Err(error) => Err(unread(error.kind())),
+    }
+}
+
+/// The status where the words were not read: no form has a word that is not UTF-8.
+fn unread(why: ErrorKind) -> Status {
+    match why {
+        ErrorKind::InvalidData => Status::Usage,
+        _ => Status::NoMemory,
+    }
+}
+
+/// The words after the program's name, unless one is not UTF-8 or memory is refused.
+fn given_words<R: Env + AllocGlobal>(rt: &R) -> io::Result<Vec<String>> {
     let mut words = Vec::new(rt.alloc());
     for word in env::args(rt)?.skip(1) {
         words.push(word)?;
@@ -69,7 +89,8 @@ where
             )
             .status
         }
-        _ => Status::NoMemory,
+        (Err(status), _) => status,
+        (Ok(_), Err(NoMemory)) => Status::NoMemory,
     };
     // Where standard error takes nothing, the number alone tells.
     let _ = tell(rt, alloc, &status);

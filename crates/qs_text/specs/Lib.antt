@@ -1,12 +1,3 @@
 pub mod Answers
-pub mod Fits
 pub mod Journal
-pub mod Kept
-pub mod Labels
-pub mod Lines
 pub mod Output
-pub mod Reads
-pub mod Script
-pub mod Status
-pub mod StatusLine
-pub mod Words

@@ -1,6 +1,6 @@
 -- The output of a run, as a function of its script, its history and the book after it.
-use Rattle.std.specs.Prelude.{ℕ, ◌+◌, ◌==◌, Bool, true, false, ◌&&◌, List, [], ◌∷◌, ◌++◌, Option, Some, None, is_some, map, nat_lt, codes, decimal, if◌then◌else◌}
-use Rattle.std.specs.List.{flat_map, count_by}
+use Rattle.std.specs.Prelude.{ℕ, zero, suc, ◌+◌, ◌==◌, Bool, true, false, ◌&&◌, List, [], ◌∷◌, ◌++◌, Option, Some, None, is_some, map, nat_lt, codes, decimal, if◌then◌else◌}
+use Rattle.std.specs.List.{flat_map, count_by, list_any}
 use Rattle.qs_base.specs.declared.identifiers.ClientNo.{ClientNo}
 use Rattle.qs_base.specs.declared.identifiers.Tid.{Tid}
 use Rattle.qs_ops.specs.declared.answer.Answer.{Answer}
@@ -13,8 +13,8 @@ use Rattle.qs_machine.specs.Nodes.{NodeValue}
 use Rattle.qs_machine.specs.Transaction.{TransactionValue, is_commit, is_abort}
 use Rattle.qs_text.specs.Answers.{told_text}
 use Rattle.qs_text.specs.Journal.{journal_text}
-use Rattle.qs_text.specs.declared.script.Script.{Script}
-use Rattle.qs_text.specs.declared.script.Seat.{Seat}
+use Rattle.qs_script.specs.declared.script.Script.{Script}
+use Rattle.qs_script.specs.declared.script.Seat.{Seat}
 
 -- ---- clients
 
@@ -39,9 +39,23 @@ abbrev pub entry_text : BookValue → ClientNo → Entry → List ℕ
 entry_text book client entry = act_text book client entry.act
 
 -- client K, and the answers to it in the order of the history
-abbrev pub client_text : List Entry → BookValue → Seat → List ℕ
-client_text history book seat =
-    (codes "client " ++ (decimal seat.client.0 ++ codes "\n")) ++ flat_map (entry_text book seat.client) history
+abbrev pub client_text : List Entry → BookValue → ClientNo → List ℕ
+client_text history book client =
+    (codes "client " ++ (decimal client.0 ++ codes "\n")) ++ flat_map (entry_text book client) history
+
+abbrev pub is_seat_of : ℕ → Seat → Bool
+is_seat_of number seat = seat.client.0 == number
+
+-- the client of that number, if it has a seat
+abbrev pub client_part : List Seat → List Entry → BookValue → ℕ → List ℕ
+client_part seats history book number =
+    if list_any (is_seat_of number) seats then client_text history book (record { 0 = number }) else []
+
+-- so many numbers from one on
+unfoldable pub clients_text : List Seat → List Entry → BookValue → ℕ → ℕ → List ℕ
+clients_text seats history book number zero = []
+clients_text seats history book number (suc left) =
+    client_part seats history book number ++ clients_text seats history book (number + 1) left
 
 -- ---- nodes
 
@@ -49,10 +63,17 @@ client_text history book seat =
 abbrev pub file_text : File → List ℕ
 file_text file = codes "file " ++ (file.name ++ (codes " " ++ (file.content ++ codes "\n")))
 
--- node N inc I, and its files in byte order of their names
+-- note TEXT
+abbrev pub note_text : List ℕ → List ℕ
+note_text text = codes "note " ++ (text ++ codes "\n")
+
+-- node N inc I
+abbrev pub node_line : ℕ → NodeValue → List ℕ
+node_line number node = codes "node " ++ (decimal number ++ (codes " inc " ++ (decimal node.inc ++ codes "\n")))
+
+-- node N inc I, its files in byte order of their names, and its notes in order
 abbrev pub node_text : ℕ → NodeValue → List ℕ
-node_text number node =
-    (codes "node " ++ (decimal number ++ (codes " inc " ++ (decimal node.inc ++ codes "\n")))) ++ flat_map file_text node.files.contents
+node_text number node = node_line number node ++ (flat_map file_text node.files.contents ++ flat_map note_text node.audit.notes)
 
 -- the nodes from a number on; the last number is 255
 abbrev pub nodes_text : ℕ → List NodeValue → List ℕ
@@ -101,7 +122,8 @@ totals_text history book = totals_line
 abbrev pub shown_journal : List Entry → BookValue → Bool → List ℕ
 shown_journal history book journal = if journal then journal_text (label_of book) history else []
 
+-- the clients by number, which is below 256; the nodes; the totals; the history
 abbrev pub out_of : Script → List Entry → BookValue → Bool → List ℕ
 out_of script history book journal =
-    flat_map (client_text history book) script.seats
+    clients_text script.seats history book 0 256
     ++ (nodes_text 0 book.nodes ++ (totals_text history book ++ shown_journal history book journal))

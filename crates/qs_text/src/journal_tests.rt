@@ -1,11 +1,11 @@
 //! The line of each kind of entry, and where the history stands in an output.
 use crate::journal::journal_text;
 use crate::output::out_text;
-use crate::reading::read_script;
 use crate::tests::fresh_book;
 use qs_base::{Bytes, ClientNo, List, Member, NoMemory, NodeNo, Outcome, ServerNo, Tid};
 use qs_journal::{Act, CrashCause, Entry, Found};
 use qs_ops::{Answer, Cause, Op, Reason, Reply, Vote};
+use qs_script::read_script;
 use std::alloc::Global;
 use std::test::Fail;
 

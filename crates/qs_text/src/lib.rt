@@ -1,34 +1,22 @@
-//! The texts of a run: its words, its script, its status line and its output.
+//! The texts of a run: the lines of its history, and its output. What it is asked for and how it ended is passed on.
 #![tactic(auto)]
 
 mod answers;
-mod command;
-mod ending;
-mod form;
 mod journal;
 #[cfg(test)]
 mod journal_tests;
-mod label_set;
 mod labels;
-mod line;
-mod open;
 mod operations;
 mod output;
 mod pieces;
-mod reader;
-mod reading;
-mod script;
-mod status;
 #[cfg(test)]
 mod tests;
 mod totals;
-mod words;
 
-pub use ending::{lawful_text, status_line};
-pub use form::{Form, WordsFault};
 pub use journal::journal_text;
 pub use output::out_text;
-pub use reading::{ScriptFailed, read_script};
-pub use script::{FaultLine, Planned, Quota, Script, Seat};
-pub use status::{ScriptFault, Status, Waiting};
-pub use words::{numbers_have_one_spelling, read_words};
+pub use qs_script::{
+    FaultLine, Form, Planned, Quota, Script, ScriptFailed, ScriptFault, Seat, Status, Waiting,
+    WordsFault, lawful_text, numbers_have_one_spelling, other_entries_are_refused, read_script,
+    read_words, status_line,
+};

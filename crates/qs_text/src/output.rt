@@ -1,21 +1,25 @@
 //! The output of a run.
-ghost use Rattle.std.specs.Prelude.{◌≡◌, ◌++◌, List, ℕ, IfOk, OnOk, string_bytes};
-ghost use Rattle.std.specs.List.{flat_map};
-ghost use Rattle.qs_text.specs.Output.{out_of, client_text, entry_text, line_text, nodes_text, node_text, file_text, totals_text, totals_line, shown_journal};
+ghost use Rattle.std.specs.Prelude.{◌≡◌, ◌==◌, ◌++◌, List, ℕ, IfOk, OnOk, string_bytes};
+ghost use Rattle.std.specs.List.{flat_map, list_any};
+ghost use Rattle.qs_text.specs.Output.{out_of, client_part, client_text, clients_text, entry_text, line_text, nodes_text, node_line, node_text, file_text, note_text, totals_text, totals_line, shown_journal};
 
 use crate::answers::put;
 use crate::journal::put_journal;
 use crate::labels::put_told;
-use crate::script::{Script, Seat};
 use crate::totals::{aborted, begun, committed, restarts};
 use qs_base::{Bytes, ClientNo, List, NoMemory, NodeNo};
 use qs_book::{Book, NodeState};
 use qs_journal::{Act, Entry};
 use qs_ops::{Answer, File};
+use qs_script::{Script, Seat};
 use std::alloc::{AllocError, Global};
 
-/// The output of a run: the answers to each client in the order of the history, the files of each
-/// node, the totals, and with `journal` the history, a line for each entry.
+/// How many numbers of clients there are.
+const CLIENT_NUMBERS: u16 = 256;
+
+/// The output of a run: for each client by number the answers to it, in the order of the history; for
+/// each node its files, in byte order of their names, and its notes; the totals; and with `journal`
+/// the history, a line for each entry.
 pub fn out_text(
     alloc: Global,
     script: &Script,
@@ -55,7 +59,7 @@ fn put_shown(
     put_journal(alloc, out, history, book)
 }
 
-/// Adds the clients, each with its answers.
+/// Adds the clients by number, each with its answers.
 fn put_clients(
     alloc: Global,
     out: &mut Bytes,
@@ -63,13 +67,50 @@ fn put_clients(
     history: &[Entry],
     book: &Book,
 ) -> Result<(), NoMemory>
-    ensures { OnOk result (out.new ≡ out.old ++ flat_map (client_text history.now book.now) seats.now) }
+    ensures { OnOk result (out.new ≡ out.old ++ clients_text seats.now history.now book.now 0 256) }
 {
-    for seat in seats {
-        put(out, format!(in alloc; "client {}\n", seat.client.0)?)?;
-        put_lines(alloc, out, seat.client, history, book)?;
+    for number in 0..CLIENT_NUMBERS {
+        put_client_part(alloc, out, seats, history, book, ClientNo(number as u8))?;
     }
     Ok(())
+}
+
+/// Adds the client with its answers, if it has a seat.
+fn put_client_part(
+    alloc: Global,
+    out: &mut Bytes,
+    seats: &[Seat],
+    history: &[Entry],
+    book: &Book,
+    client: ClientNo,
+) -> Result<(), NoMemory>
+    ensures { OnOk result (out.new ≡ out.old ++ client_part seats.now history.now book.now client.0) }
+{
+    if !has_seat(seats, client) {
+        return Ok(());
+    }
+    put_client(alloc, out, client, history, book)
+}
+
+/// Whether the client has a seat.
+fn has_seat(seats: &[Seat], client: ClientNo) -> bool
+    ensures { result ≡ list_any (λ seat. seat.client.0 == client.0) seats.now }
+{
+    seats.iter().any(|seat| seat.client.0 == client.0)
+}
+
+/// Adds a client with its answers.
+fn put_client(
+    alloc: Global,
+    out: &mut Bytes,
+    client: ClientNo,
+    history: &[Entry],
+    book: &Book,
+) -> Result<(), NoMemory>
+    ensures { OnOk result (out.new ≡ out.old ++ client_text history.now book.now client) }
+{
+    put(out, format!(in alloc; "client {}\n", client.0)?)?;
+    put_lines(alloc, out, client, history, book)
 }
 
 /// Adds the answers to a client.
@@ -122,7 +163,7 @@ fn put_line(
     out.append("\n".as_bytes())
 }
 
-/// Adds the nodes, each with its files.
+/// Adds the nodes, each with its files and notes.
 fn put_nodes(alloc: Global, out: &mut Bytes, book: &Book) -> Result<(), NoMemory>
     ensures { OnOk result (out.new ≡ out.old ++ nodes_text 0 book.now.nodes) }
 {
@@ -137,15 +178,28 @@ fn put_nodes(alloc: Global, out: &mut Bytes, book: &Book) -> Result<(), NoMemory
     Ok(())
 }
 
-/// Adds a node and its files.
+/// Adds a node, its files and its notes.
 fn put_node(alloc: Global, out: &mut Bytes, number: u8, node: &NodeState) -> Result<(), NoMemory>
     ensures { OnOk result (out.new ≡ out.old ++ node_text number node.now) }
+{
+    put_node_line(alloc, out, number, node)?;
+    put_files(out, node.files().contents().as_slice())?;
+    put_notes(out, node.audit().notes().as_slice())
+}
+
+/// Adds the number and the incarnation of a node.
+fn put_node_line(
+    alloc: Global,
+    out: &mut Bytes,
+    number: u8,
+    node: &NodeState,
+) -> Result<(), NoMemory>
+    ensures { OnOk result (out.new ≡ out.old ++ node_line number node.now) }
 {
     put(
         out,
         format!(in alloc; "node {} inc {}\n", number, node.inc())?,
-    )?;
-    put_files(out, node.files().contents().as_slice())
+    )
 }
 
 /// Adds files.
@@ -166,6 +220,25 @@ fn put_file(out: &mut Bytes, file: &File) -> Result<(), NoMemory>
     out.append(file.name.as_slice())?;
     out.append(" ".as_bytes())?;
     out.append(file.content.as_slice())?;
+    out.append("\n".as_bytes())
+}
+
+/// Adds notes.
+fn put_notes(out: &mut Bytes, notes: &[Bytes]) -> Result<(), NoMemory>
+    ensures { OnOk result (out.new ≡ out.old ++ flat_map note_text notes.now) }
+{
+    for note in notes {
+        put_note(out, note)?;
+    }
+    Ok(())
+}
+
+/// Adds a note.
+fn put_note(out: &mut Bytes, note: &Bytes) -> Result<(), NoMemory>
+    ensures { OnOk result (out.new ≡ out.old ++ note_text note.now) }
+{
+    out.append("note ".as_bytes())?;
+    out.append(note.as_slice())?;
     out.append("\n".as_bytes())
 }
 

@@ -1,5 +1,5 @@
 -- What the servers of a node did for a transaction, and what is still due to them.
-use Rattle.std.specs.Prelude.{ℕ, ◌==◌, Bool, true, false, not, ◌&&◌, ◌||◌, List, [], ◌∷◌, Option, Some, None}
+use Rattle.std.specs.Prelude.{ℕ, ◌==◌, Bool, true, false, not, ◌&&◌, ◌||◌, List, [], ◌∷◌, Option, Some, None, is_none}
 use Rattle.qs_base.specs.declared.identifiers.Class.{Class}
 use Rattle.qs_base.specs.declared.identifiers.Class.TheVariants as classes
 use Rattle.qs_base.specs.declared.identifiers.ServerNo.{ServerNo}
@@ -17,7 +17,7 @@ abbrev pub server : ℕ → ServerNo
 server n = record { 0 = n }
 
 -- the servers of a node, in order
-abbrev pub all_servers : List ServerNo
+unfoldable pub all_servers : List ServerNo
 all_servers = server 0 ∷ server 1 ∷ server 2 ∷ server 3 ∷ server 4 ∷ server 5 ∷ server 6 ∷ []
 
 abbrev pub files_no : ServerNo
@@ -93,6 +93,10 @@ is_vote_due server member = votes_here server && not (is_covering member)
 -- a server that voted for all that it served, if it votes
 abbrev pub agrees : ServerNo → MemberPart → Bool
 agrees server member = not (votes_here server) || (is_covering member && not (is_against member))
+
+-- a server that did nothing or read only, if it votes
+abbrev pub has_read : ServerNo → MemberPart → Bool
+has_read server member = not (votes_here server) || (((member.served == 0) && is_none member.vote) || is_let_go member)
 
 -- ---- the end
 

@@ -1,7 +1,5 @@
 -- How a transaction is decided, told, learnt and acknowledged, and what of it is taken up from the log.
 use Rattle.std.specs.Prelude.{ℕ, ◌+◌, ◌==◌, Bool, true, false, not, ◌&&◌, ◌||◌, List, [], ◌∷◌, ◌++◌, length, Option, Some, None, is_some, is_none, nat_lt, if◌then◌else◌}
-use Rattle.std.specs.List.{filter}
-use Rattle.qs_base.specs.declared.identifiers.Class.{Class}
 use Rattle.qs_base.specs.declared.identifiers.NodeNo.{NodeNo}
 use Rattle.qs_base.specs.declared.identifiers.Outcome.{Outcome}
 use Rattle.qs_base.specs.declared.identifiers.Outcome.TheVariants as outcomes
@@ -10,13 +8,11 @@ use Rattle.qs_base.specs.declared.identifiers.Tid.{Tid}
 use Rattle.qs_engage.specs.Engage.{sent_to}
 use Rattle.qs_engage.specs.Nodes.{no_nodes, has_node, put_node, drop_node, joined, union, without, has_all, is_no_node, listed}
 use Rattle.qs_engage.specs.declared.nodes.Nodes.{Nodes}
-use Rattle.qs_ops.specs.Members.{is_two_phase}
 use Rattle.qs_record.specs.declared.record.Record.{Record}
 use Rattle.qs_record.specs.declared.record.Record.TheVariants as records
 use Rattle.qs_tm.specs.declared.members.Ballot.TheVariants as ballots
 use Rattle.qs_tm.specs.declared.participant.InLog.{InLog}
 use Rattle.qs_tm.specs.declared.participant.Participant.{Participant}
-use Rattle.qs_tm.specs.Members.{all_servers, class_here, is_to_learn, is_standard, is_delayed}
 use Rattle.qs_tm.specs.Participant.{new_participant, member_of, with_member}
 
 -- ---- who is to be told
@@ -57,15 +53,6 @@ decided outcome part = record part { outcome = Some outcome; tell = tell_of outc
 abbrev pub took_outcome : Outcome → Participant → Participant
 took_outcome outcome part = record part { outcome = Some outcome }
 
-abbrev pub learns_as : (Class → Bool) → Participant → ServerNo → Bool
-learns_as test part server = test (class_here server) && is_to_learn (class_here server) (member_of part server)
-
--- the servers that are still to be told: two-phase ones first, then standard, then delayed ones, each in order
-abbrev pub learners : Participant → List ServerNo
-learners part =
-    filter (learns_as is_two_phase part) all_servers
-    ++ (filter (learns_as is_standard part) all_servers ++ filter (learns_as is_delayed part) all_servers)
-
 -- a server learnt how the transaction ends
 abbrev pub settled : ServerNo → Participant → Participant
 settled server part = with_member server (record (member_of part server) { fresh = false }) part
@@ -101,16 +88,14 @@ take_names home further part = record part { tell = union part.tell (new_names h
 abbrev pub add_tell : NodeNo → Participant → Participant
 add_tell node part = record part { tell = put_node part.tell node }
 
+abbrev pub is_abort : Option Outcome → Bool
+is_abort (Some outcomes.Abort) = true
+is_abort _ = false
+
 -- a node that restarted is told again: a commit where it did not take it in, an abort in any case
 abbrev pub is_told_again : NodeNo → Participant → Bool
-is_told_again peer part = elim part.outcome [
-  | None ↦ false
-  | Some outcome ↦ has_node part.tell peer && (is_abort outcome || not (has_node part.acknowledged peer))
-]
-  where
-    is_abort : Outcome → Bool
-    is_abort outcomes.Abort = true
-    is_abort outcomes.Commit = false
+is_told_again peer part =
+    (is_some part.outcome && has_node part.tell peer) && (is_abort part.outcome || not (has_node part.acknowledged peer))
 
 -- one that is kept as aborted
 abbrev pub aborted_participant : Bool → Participant

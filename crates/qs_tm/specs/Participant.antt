@@ -16,9 +16,11 @@ use Rattle.qs_ops.specs.declared.answer.Cause.TheVariants as causes
 use Rattle.qs_ops.specs.declared.vote.Vote.{Vote}
 use Rattle.qs_ops.specs.declared.vote.Vote.TheVariants as votes
 use Rattle.qs_tm.specs.declared.members.MemberPart.{MemberPart}
+use Rattle.qs_tm.specs.declared.participant.Due.{Due}
+use Rattle.qs_tm.specs.declared.participant.Due.TheVariants as dues
 use Rattle.qs_tm.specs.declared.participant.Outstanding.{Outstanding}
 use Rattle.qs_tm.specs.declared.participant.Participant.{Participant}
-use Rattle.qs_tm.specs.Members.{all_servers, files_no, same_server, class_here, votes_here, no_member, ballot_of, is_binding, is_refusal, is_let_go, is_vote_due, is_ending_due, agrees, is_to_learn, is_standard, is_delayed, is_told_class}
+use Rattle.qs_tm.specs.Members.{all_servers, files_no, same_server, class_here, votes_here, no_member, ballot_of, is_binding, is_refusal, has_read, is_vote_due, is_ending_due, agrees, is_to_learn, is_standard, is_delayed, is_told_class}
 
 -- one that the node has only heard of
 abbrev pub new_participant : Bool → Participant
@@ -117,28 +119,48 @@ causes_of member votes.ReadOnly = []
 causes_of member votes.Volatile = []
 causes_of member votes.Recoverable = []
 
-abbrev pub voted : Member → Vote → ℕ → Participant → Participant
-voted member vote covers part =
+-- a refusal is kept to be sent on
+abbrev pub with_causes_of : Member → Vote → Participant → Participant
+with_causes_of member vote part = record part { blocked = part.blocked || is_refusal (ballot_of vote); causes = part.causes ++ causes_of member vote }
+
+-- the server voted for so many of the requests that it served
+abbrev pub cast_vote : Member → Vote → ℕ → Participant → Participant
+cast_vote member vote covers part =
     record (with_member member.server (record (member_of part member.server) { vote = Some (record { ballot = ballot_of vote; covers = covers }) }) part) {
       involved = part.involved || is_binding (ballot_of vote);
-      blocked = part.blocked || is_refusal (ballot_of vote);
-      causes = part.causes ++ causes_of member vote;
     }
 
--- the servers whose votes are due, in order
-abbrev pub due_votes : Participant → List ServerNo
-due_votes part = filter (λ server. is_vote_due server (member_of part server)) all_servers
+abbrev pub voted : Member → Vote → ℕ → Participant → Participant
+voted member vote covers part = cast_vote member vote covers (with_causes_of member vote part)
 
--- the servers that are to be told that the transaction ends, in order
-abbrev pub due_endings : Participant → List ServerNo
-due_endings part = filter (λ server. is_ending_due server (member_of part server)) all_servers
+-- what may be due to a server: its vote, to be told that the transaction ends, or to learn how, in its turn
+abbrev pub is_due_at : Due → Participant → ServerNo → Bool
+is_due_at dues.Vote part server = is_vote_due server (member_of part server)
+is_due_at dues.Ending part server = is_ending_due server (member_of part server)
+is_due_at dues.FirstTold part server = is_two_phase (class_here server) && is_to_learn (class_here server) (member_of part server)
+is_due_at dues.ThenTold part server = is_standard (class_here server) && is_to_learn (class_here server) (member_of part server)
+is_due_at dues.LastTold part server = is_delayed (class_here server) && is_to_learn (class_here server) (member_of part server)
+
+-- the servers to which it is due, in order
+abbrev pub servers_due : Due → Participant → List ServerNo
+servers_due due part = filter (is_due_at due part) all_servers
+
+abbrev pub has_due : Due → Participant → Bool
+has_due due part = list_any (is_due_at due part) all_servers
 
 -- a vote pass has something to do
 abbrev pub needs_pass : Participant → Bool
-needs_pass part = list_any (λ server. is_vote_due server (member_of part server) || is_ending_due server (member_of part server)) all_servers
+needs_pass part = has_due dues.Vote part || has_due dues.Ending part
+
+-- the servers that are still to learn the outcome: two-phase ones first, then standard, then delayed ones
+abbrev pub learners : Participant → List ServerNo
+learners part = servers_due dues.FirstTold part ++ servers_due dues.ThenTold part ++ servers_due dues.LastTold part
+
+abbrev pub agrees_at : Participant → ServerNo → Bool
+agrees_at part server = agrees server (member_of part server)
 
 abbrev pub all_agree : Participant → Bool
-all_agree part = list_all (λ server. agrees server (member_of part server)) all_servers
+all_agree part = list_all (agrees_at part) all_servers
 
 -- ---- being asked, and answering
 
@@ -175,12 +197,11 @@ add_told node part = record part { told = put_node part.told node }
 
 -- ---- forgetting
 
--- a server that did nothing, or read only
-abbrev pub has_read : ServerNo → MemberPart → Bool
-has_read server member = not (votes_here server) || (((member.served == 0) && is_none member.vote) || is_let_go member)
+abbrev pub has_read_at : Participant → ServerNo → Bool
+has_read_at part server = has_read server (member_of part server)
 
 abbrev pub only_read : Participant → Bool
-only_read part = list_all (λ server. has_read server (member_of part server)) all_servers
+only_read part = list_all (has_read_at part) all_servers
 
 -- elsewhere than at the home, it only read, answers to nobody and is not to be told
 abbrev pub is_forgotten : Participant → Bool
@@ -196,9 +217,13 @@ restarted peer part = record part { engage = engage.restarted peer part.engage }
 abbrev pub is_to : NodeNo → Outstanding → Bool
 is_to peer request = same_node request.member.node peer
 
+-- a request to it has no reply
+abbrev pub waits_for : NodeNo → Participant → Bool
+waits_for peer part = list_any (is_to peer) part.waiting
+
 -- something that the peer owes will never come: a request is not covered, or has no reply
 abbrev pub is_owed_by : NodeNo → Participant → Bool
-is_owed_by peer part = is_open_to peer part.engage || list_any (is_to peer) part.waiting
+is_owed_by peer part = is_open_to peer part.engage || waits_for peer part
 
 -- this node answers, or answered last, to the peer
 abbrev pub answered_to : NodeNo → Participant → Bool

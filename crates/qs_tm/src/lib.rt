@@ -3,8 +3,9 @@
 
 mod manager;
 mod members;
+mod outcomes;
 mod participant;
 
-pub use manager::{Decision, Manager, Standing};
-pub use members::{ALL_SERVERS, Ballot, Cast, FILES, MemberPart, SERVER_COUNT};
-pub use participant::{InLog, Outstanding, Participant};
+pub use manager::{BeginFault, Decision, Manager, Standing, Which};
+pub use members::{Ballot, Cast, FILES, MemberPart, SERVER_COUNT, every_server};
+pub use participant::{Due, InLog, Outstanding, Participant};

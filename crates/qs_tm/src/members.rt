@@ -1,6 +1,6 @@
 //! What the servers of a node did for a transaction.
 ghost use Rattle.std.specs.Prelude.{◌≡◌};
-ghost use Rattle.qs_tm.specs.Members.{ballot_of, is_binding, is_covering, is_against, votes_here, is_vote_due, is_ending_due, agrees, is_let_go, is_to_learn, is_told_class};
+ghost use Rattle.qs_tm.specs.Members.{all_servers, ballot_of, is_binding, is_covering, is_against, votes_here, is_vote_due, is_ending_due, agrees, is_let_go, has_read, is_to_learn, is_told_class};
 
 use qs_base::{Class, ServerNo};
 use qs_ops::{Vote, class_of, is_two_phase};
@@ -8,8 +8,7 @@ use qs_ops::{Vote, class_of, is_two_phase};
 /// How many servers a node has.
 pub const SERVER_COUNT: usize = 7;
 
-/// The servers of a node, in order.
-pub const ALL_SERVERS: [ServerNo; 7] = [
+const ALL_SERVERS: [ServerNo; 7] = [
     ServerNo(0),
     ServerNo(1),
     ServerNo(2),
@@ -18,6 +17,14 @@ pub const ALL_SERVERS: [ServerNo; 7] = [
     ServerNo(5),
     ServerNo(6),
 ];
+
+/// The servers of a node, in order.
+#[tactic(auto, unfolding(crate::specs::Members::all_servers))]
+pub fn every_server() -> &'static [ServerNo]
+    ensures { result.now ≡ all_servers }
+{
+    &ALL_SERVERS
+}
 
 /// The server of files.
 pub const FILES: ServerNo = ServerNo(0);
@@ -110,6 +117,13 @@ impl MemberPart {
         ensures { result ≡ is_ending_due server self.now }
     {
         class_of(server) == Class::Immediate && self.fresh
+    }
+
+    /// Whether that server, which did this, did nothing or read only, if it votes.
+    pub fn has_read(&self, server: ServerNo) -> bool
+        ensures { result ≡ has_read server self.now }
+    {
+        !votes_here(server) || ((self.served == 0 && self.vote.is_none()) || self.is_let_go())
     }
 
     /// Whether that server, which did this, voted for all that it served, if it votes.

@@ -13,9 +13,10 @@ use Rattle.qs_base.specs.declared.identifiers.Tid.{Tid}
 use Rattle.qs_journal.specs.declared.entry.Found.{Found}
 use Rattle.qs_text.specs.Answers.{tid_text, server_text}
 use Rattle.qs_text.specs.Journal.{part_text, member_text, pend_text, done_text}
-use Rattle.qs_text.proofs.WordLemmas.{one_spelling}
+use Rattle.qs_script.proofs.WordLemmas.{one_spelling}
 use Rattle.qs_tools.specs.Spelled.{IsTid, IsPart, IsMember, IsFound}
-use Rattle.qs_tools.specs.Words.{wide_of, before, after, number_below, below, is_letter, is_word, tid_of, tid_with, server_of, borrower_of, borrower_with, part_of, part_with, member_of, member_with, found_of, found_in, found_with, is_done, done_of}
+use Rattle.qs_script.specs.Words.{below}
+use Rattle.qs_tools.specs.Words.{wide_of, before, after, number_below, is_letter, is_word, tid_of, tid_with, server_of, borrower_of, borrower_with, part_of, part_with, member_of, member_with, found_of, found_in, found_with, is_done, done_of}
 use Rattle.qs_tools.proofs.MarkLemmas.{free, before_mark, after_mark, cut_at, decimal_free, decimal_letters, marked_word, word_letters, word_from}
 use Rattle.qs_tools.proofs.NumberLemmas.{number_spelled, number_read}
 

@@ -1,15 +1,15 @@
 -- Facts about a history that was read.
-use Rattle.std.proofs.Common.{◌≡◌, ◌≤◌, ℕ, ◌+◌, suc, List, [], ◌∷◌, ◌++◌, length, Result, Ok, Err, refl, ◌∙◌, ap, arith, length-append}
+use Rattle.std.proofs.Common.{◌≡◌, ◌≤◌, ℕ, ◌+◌, suc, List, [], ◌∷◌, ◌++◌, length, Result, Ok, Err, refl, sym, ◌∙◌, ap, arith, length-append}
 use Rattle.std.specs.Prelude.{IfOk, IsErrOf, MatchResult}
 use Rattle.qs_journal.specs.declared.entry.Entry.{Entry}
 use Rattle.qs_machine.specs.declared.opened.Opened.{Opened}
-use Rattle.qs_text.specs.Lines.{lines_of}
+use Rattle.qs_script.specs.Lines.{lines_of}
 use Rattle.qs_tools.specs.Journal.{opening_lines, AreLines, IsJournal, IsFault, IsRead}
 use Rattle.qs_tools.specs.declared.journal.Journal.{Journal}
 use Rattle.qs_tools.specs.declared.reading.JournalFailed.{JournalFailed}
 use Rattle.qs_tools.specs.declared.reading.JournalFailed.TheVariants.{Fault, NoMemory}
 use Rattle.qs_tools.proofs.PrintedLemmas.{read_is_journal}
-use Rattle.qs_tools.proofs.RoundLemmas.{read_is, no_fault}
+use Rattle.qs_tools.proofs.RoundLemmas.{Whole, journal_is_read, read_is, no_fault}
 
 journal_of : (text : List ℕ) (journal : Journal) → IsRead text journal → IsJournal (lines_of text) journal.opened journal.entries
 journal_of text journal r = rw (r.opened, r.entries) (read_is_journal (lines_of text) r.reading r.reads r.is_whole)
@@ -40,3 +40,11 @@ all_back text (Ok journal) r faults opened entries j small =
     (r.opened ∙ s.0, r.entries ∙ s.1.0)
 all_back text (Err (Fault line)) r faults opened entries j small = absurd (no_fault text opened entries line j small (faults line refl))
 all_back text (Err NoMemory) r faults opened entries j small = refl
+
+-- two histories of the same text are what the text is read as
+pub one_history : (text : List ℕ) (opened other_opened : List Opened) (entries other_entries : List Entry) → IsJournal (lines_of text) opened entries → IsJournal (lines_of text) other_opened other_entries
+    → (opened ≡ other_opened) × (entries ≡ other_entries)
+one_history text opened other_opened entries other_entries one other =
+    let w : Whole (lines_of text) opened entries = journal_is_read (lines_of text) opened entries one in
+    let same = read_is (lines_of text) other_opened other_entries w.last other w.reads in
+    (sym w.opened_are ∙ same.0, sym w.entries_are ∙ same.1.0)

@@ -3,7 +3,7 @@ use Rattle.std.proofs.Common.{◌≡◌, ◌<◌, ◌≤◌, inl, inr, ℕ, ◌+
 use Rattle.std.specs.Prelude.{slice_get}
 use Rattle.std.proofs.Math.Seq.{take-append_seam, take-append-add}
 use Rattle.std.proofs.lemmas.List.Sums.{sum_by-append}
-use Rattle.qs_text.specs.Lines.{lines_of}
+use Rattle.qs_script.specs.Lines.{lines_of}
 use Rattle.qs_tools.specs.Begun.{BegunValue, holder_by}
 use Rattle.qs_tools.specs.Journal.{span, IsFault}
 use Rattle.qs_tools.specs.Reader.{Knows, read_line, after_line}

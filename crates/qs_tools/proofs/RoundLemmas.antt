@@ -8,7 +8,7 @@ use Rattle.qs_base.specs.declared.identifiers.Tid.{Tid}
 use Rattle.qs_journal.specs.declared.entry.Entry.{Entry}
 use Rattle.qs_machine.specs.declared.opened.Opened.{Opened}
 use Rattle.qs_ops.specs.declared.file.File.{File as FileValue}
-use Rattle.qs_text.specs.Lines.{lines_of}
+use Rattle.qs_script.specs.Lines.{lines_of}
 use Rattle.qs_tools.specs.Journal.{nodes_line, file_line, note_line, item_line, commit_line, opened_lines, nodes_lines, AreRising, IsFile, IsOpened, AreLines, IsJournal, Stops, IsPast, EndsEarly, IsFault}
 use Rattle.qs_tools.specs.Reading.{Reading, at_start, opened_of, is_open, rises, read_after, Follows, Reads}
 use Rattle.qs_tools.specs.Spelled.{IsWord, IsTid, Each}

@@ -8,7 +8,7 @@ use Rattle.qs_machine.specs.declared.opened.Opened.{Opened}
 use Rattle.qs_ops.specs.declared.file.File.{File}
 use Rattle.qs_text.specs.Answers.{tid_text, list_text}
 use Rattle.qs_text.specs.Journal.{entry_line}
-use Rattle.qs_text.specs.Lines.{lines_of}
+use Rattle.qs_script.specs.Lines.{lines_of}
 use Rattle.qs_tools.specs.Reading.{Reading, at_start, opened_of, is_open, IsNamedAct, Follows, Reads}
 use Rattle.qs_tools.specs.declared.journal.Journal.{Journal}
 use Rattle.qs_tools.specs.Spelled.{IsWord, IsTid, IsEntry, Each}

@@ -2,6 +2,7 @@ pub mod Acts
 pub mod Answers
 pub mod Begun
 pub mod Journal
+pub mod Laws
 pub mod Lifts
 pub mod Operations
 pub mod Reader

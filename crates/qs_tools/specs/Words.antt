@@ -5,7 +5,7 @@ use Rattle.qs_base.specs.Order.{same_bytes}
 use Rattle.qs_base.specs.declared.identifiers.Member.{Member}
 use Rattle.qs_base.specs.declared.identifiers.Tid.{Tid}
 use Rattle.qs_journal.specs.declared.entry.Found.{Found}
-use Rattle.qs_text.specs.Words.{number_of}
+use Rattle.qs_script.specs.Words.{below, number_of}
 
 -- ---- words
 
@@ -29,10 +29,6 @@ words_of line = words_if (slice_split (λ byte. byte == 32) line) (list_all is_w
 -- the number of 64 bits that a word is
 unfoldable pub wide_of : List ℕ → Option ℕ
 wide_of word = number_of word
-
-abbrev pub below : ℕ → Option ℕ → Option ℕ
-below limit None = None
-below limit (Some number) = if nat_lt number limit then Some number else None
 
 -- the number below a limit that a word is
 unfoldable pub number_below : ℕ → List ℕ → Option ℕ

@@ -1,6 +1,7 @@
 //! The identifiers and members that words spell.
 ghost use Rattle.std.specs.Prelude.{◌≡◌, ℕ, Option, Some, None, option_map, take, drop};
-ghost use Rattle.qs_tools.specs.Words.{below, tid_of, tid_with, server_of, borrower_of, borrower_with, part_of, part_with, member_of, member_with, found_of, found_in, found_with, is_done, done_of};
+ghost use Rattle.qs_script.specs.Words.{below};
+ghost use Rattle.qs_tools.specs.Words.{tid_of, tid_with, server_of, borrower_of, borrower_with, part_of, part_with, member_of, member_with, found_of, found_in, found_with, is_done, done_of};
 
 use crate::words::{after, before, is, u8_of, u32_of, u64_of};
 use qs_base::{Member, NodeNo, ServerNo, Tid};

@@ -8,6 +8,7 @@ mod causes;
 mod checking;
 mod identifiers;
 mod journal;
+mod laws;
 mod lines;
 mod operations;
 mod reader;
@@ -20,4 +21,5 @@ mod words;
 
 pub use checking::check;
 pub use journal::Journal;
+pub use laws::{no_history_has_a_fault, one_text_is_one_history};
 pub use reading::{HISTORY_LIMIT, JournalFailed, read_journal};

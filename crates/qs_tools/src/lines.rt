@@ -1,7 +1,7 @@
 //! The lines of a text.
 ghost use Rattle.std.specs.Prelude.{◌≡◌, ◌<◌, ◌≤◌, ◌+◌, ◌∷◌, length, IfSome, ◌==◌};
 ghost use Rattle.std.specs.List.{position};
-ghost use Rattle.qs_text.specs.Lines.{lines_of};
+ghost use Rattle.qs_script.specs.Lines.{lines_of};
 
 /// The first line of a text that is not empty, and the text after it.
 pub fn next_line(text: &[u8]) -> (&[u8], &[u8])

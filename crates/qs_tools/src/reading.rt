@@ -2,7 +2,7 @@
 ghost use Rattle.std.specs.Prelude.{◌≡◌, ◌≤◌, ◌+◌, ℕ, List, length, IfOk, IsErrOf, OnOk, MatchResult};
 ghost use Rattle.qs_journal.specs.declared.entry.Entry.{Entry};
 ghost use Rattle.qs_machine.specs.declared.opened.Opened.{Opened};
-ghost use Rattle.qs_text.specs.Lines.{lines_of};
+ghost use Rattle.qs_script.specs.Lines.{lines_of};
 ghost use Rattle.qs_tools.specs.Journal.{IsFault, IsJournal, IsRead, opening_lines};
 ghost use Rattle.qs_tools.specs.Reader.{reading_of};
 ghost use Rattle.qs_tools.specs.Reading.{at_start, opened_of, Reads};

@@ -1,12 +1,12 @@
 //! The words of a line, and the numbers that they spell.
-ghost use Rattle.std.specs.Prelude.{◌≡◌, ◌-◌, ◌*◌, ◌+◌, ◌^◌, ◌==◌, ◌<◌, length, IfOk, IfSome, map, if◌then◌else◌, nat_lt, Option, Some, None};
+ghost use Rattle.std.specs.Prelude.{◌≡◌, ◌^◌, ◌==◌, ◌<◌, length, IfOk, IfSome, map};
 ghost use Rattle.std.specs.List.{slice_split, list_all, position};
-ghost use Rattle.std.specs.Char.{is_ascii_digit};
 ghost use Rattle.qs_base.specs.Order.{same_bytes};
-ghost use Rattle.qs_text.specs.Words.{read_on, is_decimal};
-ghost use Rattle.qs_tools.specs.Words.{wide_of, words_of, is_word, is_letter, number_below, below, before, after};
+ghost use Rattle.qs_script.specs.Words.{below};
+ghost use Rattle.qs_tools.specs.Words.{wide_of, words_of, is_word, is_letter, number_below, before, after};
 
 use qs_base::NoMemory;
+use qs_script::number_of;
 use std::alloc::{AllocError, Global};
 
 /// The words of a line: what stands between its blanks, and nothing where one of these parts is
@@ -104,11 +104,7 @@ fn place(word: &[u8], mark: u8) -> Option<usize>
 pub fn u64_of(word: &[u8]) -> Option<u64>
     ensures { result ≡ wide_of word.now }
 {
-    if is_decimal(word) {
-        value_of(word)
-    } else {
-        None
-    }
+    number_of(word)
 }
 
 /// The number of 32 bits that the word is.
@@ -135,41 +131,4 @@ pub fn u8_of(word: &[u8]) -> Option<u8>
     } else {
         None
     }
-}
-
-/// The value of digits, where it has 64 bits.
-fn value_of(digits: &[u8]) -> Option<u64>
-    ensures { result ≡ below (2 ^ 64) (Some (read_on 0 digits.now)) }
-{
-    let mut value: u64 = 0;
-    for digit in digits {
-        value = with_digit(value, *digit)?;
-    }
-    Some(value)
-}
-
-/// The value with one more digit behind it, where it has 64 bits.
-fn with_digit(value: u64, digit: u8) -> Option<u64>
-    ensures { result ≡ below (2 ^ 64) (Some (10 * value + (digit - 48))) }
-{
-    let shifted = value.checked_mul(10)?;
-    shifted.checked_add(u64::from(digit.saturating_sub(b'0')))
-}
-
-/// Whether the word has digits alone, and no zero in front of others.
-fn is_decimal(word: &[u8]) -> bool
-    ensures { result ≡ is_decimal word.now }
-{
-    match word {
-        [] => false,
-        [digit] => digit.is_ascii_digit(),
-        [first, ..] => *first != b'0' && are_digits(word),
-    }
-}
-
-/// Whether all bytes are digits.
-fn are_digits(word: &[u8]) -> bool
-    ensures { result ≡ list_all is_ascii_digit word.now }
-{
-    word.iter().all(|byte| byte.is_ascii_digit())
 }

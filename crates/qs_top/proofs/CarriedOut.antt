@@ -1,5 +1,6 @@
 -- Every command that may stand is carried out, whatever its transaction came to.
-use Rattle.std.proofs.Common.{◌≡◌, ◌<◌, ◌^◌, ℕ, ◌+◌, Bool, true, false, not, ◌&&◌, List, [], Option, Some, None, refl, sym, ap, ◌∙◌, subst, nat_lt, inl, inr}
+use Rattle.std.proofs.Common.{◌≡◌, ◌<◌, ◌^◌, ◌==◌, ℕ, ◌+◌, Bool, true, false, not, ◌&&◌, List, [], Option, Some, None, refl, sym, ap, ◌∙◌, subst, nat_lt, inl, inr, arith}
+use Rattle.std.proofs.lemmas.Bool.Decides.{nat_tests}
 use Rattle.std.proofs.lemmas.Bool.{false≢true}
 use Rattle.std.specs.Option.{is_some}
 use Rattle.qs_base.specs.Order.{same_member}
@@ -25,12 +26,11 @@ use Rattle.qs_machine.specs.declared.transaction.Cell.{Cell}
 use Rattle.qs_machine.specs.declared.transaction.Cell.TheVariants as cells
 use Rattle.qs_machine.specs.declared.transaction.Life.{Life}
 use Rattle.qs_machine.specs.declared.transaction.Part.{Part}
-use Rattle.qs_text.specs.Fits.{FitsLine, is_plain, is_plain_op}
-use Rattle.qs_text.specs.Lines.{files_of_node_0}
-use Rattle.qs_text.specs.Script.{may_name}
-use Rattle.qs_text.specs.Kept.{Progresses, labelled}
-use Rattle.qs_text.specs.declared.script.Script.{Script}
-use Rattle.qs_top.specs.Node.{files_0, link_0, next_tid, entries_of, of_labelled, of_known, of_request, committing, aborting, requesting, aborted_answer, answer_entries, begin_entries}
+use Rattle.qs_script.specs.Fits.{FitsLine, is_files_below, is_plain, is_plain_op}
+use Rattle.qs_script.specs.Script.{may_name}
+use Rattle.qs_script.specs.Kept.{Progresses, labelled}
+use Rattle.qs_script.specs.declared.script.Script.{Script}
+use Rattle.qs_top.specs.Node.{node_count, files_0, link_0, next_tid, entries_of, of_labelled, of_known, of_request, committing, aborting, requesting, aborted_answer, answer_entries, begin_entries}
 use Rattle.qs_top.proofs.Chain.{Turn, Carried, labelled_is, committed_answer, ended_answer}
 use Rattle.qs_top.proofs.Chain as chain
 use Rattle.qs_top.proofs.Flows.{Given, only_answered, empty_commit, read_commit, commit, empty_abort, abort}
@@ -168,16 +168,24 @@ of_labelled_is book node line l =
 of_command : (book : BookValue) (node : NodeValue) (line : ScriptLine) (l : Labelled book line.label) (c : Command) → line.command ≡ c → of_labelled book node line (find_label book line.label) ≡ of_known book.stamp node l.tid l.tx line.line c
 of_command book node line l c is = of_labelled_is book node line l ∙ ap (λ (d : Command). of_known book.stamp node l.tid l.tx line.line d) is
 
-plain_member : (m : Member) (op : Op) (b : Bool) → (same_member m files_of_node_0 && b) ≡ true → m ≡ files_0
-plain_member m op b h = same_member-true m files_of_node_0 (first (same_member m files_of_node_0) b h)
+second : (c d : Bool) → (c && d) ≡ true → d ≡ true
+second true d g = g
+second false d g = absurd (false≢true g)
+
+-- files of one of the nodes are files of the only one
+plain_member : (m : Member) (op : Op) (b : Bool) → (is_files_below node_count m && b) ≡ true → m ≡ files_0
+plain_member m op b h =
+    same_member-true m files_0 (same_parts m (first (m.server.0 == 0) (nat_lt m.node.0 1) all) (second (m.server.0 == 0) (nat_lt m.node.0 1) all))
   where
     first : (c d : Bool) → (c && d) ≡ true → c ≡ true
     first true d g = refl
     first false d g = absurd (false≢true g)
 
-second : (c d : Bool) → (c && d) ≡ true → d ≡ true
-second true d g = g
-second false d g = absurd (false≢true g)
+    all : is_files_below node_count m ≡ true
+    all = first (is_files_below node_count m) b h
+
+    same_parts : (n : Member) → (n.server.0 == 0) ≡ true → nat_lt n.node.0 1 ≡ true → same_member n files_0 ≡ true
+    same_parts n server node = grind (arith, nat_tests, server, node)
 
 -- by the cell: what an open transaction does, or the answer of one that ended
 abbrev by_cell : Cell → List Entry → List Entry → List Entry
@@ -192,14 +200,14 @@ of_reply book node line l op reply due =
 
 pub carried_out : (script : Script) (node : NodeValue) (owner : Owner) (book : BookValue) (progress : Progresses) (line : ScriptLine)
     → Resting node owner book → Turn script progress line → book.stamp + 3 < 2 ^ 62
-    → FitsLine (λ label. is_some (find_label book label)) owner.line line
+    → FitsLine node_count (λ label. is_some (find_label book label)) owner.line line
     → Carried script book progress line (entries_of book node line)
 carried_out script node owner book progress line r turn low fits = by line.command refl fits.plain fits.named
   where
     a : Asked script node owner book progress line
     a = record { rest = r; turn = turn; low = low; rises = fits.later }
 
-    by : (c : Command) → line.command ≡ c → is_plain c ≡ true → may_name (λ label. is_some (find_label book label)) line.label c ≡ true
+    by : (c : Command) → line.command ≡ c → is_plain node_count c ≡ true → may_name (λ label. is_some (find_label book label)) line.label c ≡ true
         → Carried script book progress line (elim c [
           | commands.Begin ↦ begin_entries book.stamp (next_tid node) line.label line.line
           | commands.Commit ↦ of_labelled book node line (find_label book line.label)
@@ -220,6 +228,6 @@ carried_out script node owner book progress line r turn low fits = by line.comma
     by (commands.Request member op) is plain named =
         let l : Labelled book line.label = labelled_tx node owner book line.label r named in
         let here : member ≡ files_0 = plain_member member op (is_plain_op op) plain in
-        let has : (reply : Reply) × ((reply_to node.files l.tid op ≡ Some reply) × (is_for op files_0 ≡ true)) = has_reply node l.tid op (second (same_member member files_of_node_0) (is_plain_op op) plain) in
+        let has : (reply : Reply) × ((reply_to node.files l.tid op ≡ Some reply) × (is_for op files_0 ≡ true)) = has_reply node l.tid op (second (is_files_below node_count member) (is_plain_op op) plain) in
         let is_files : line.command ≡ commands.Request files_0 op = is ∙ ap (λ (m : Member). commands.Request m op) here in
         subst (λ es. Carried script book progress line es) (sym (of_command book node line l (commands.Request member op) is ∙ of_reply book node line l op has.0 has.1.0)) (requested script node owner book progress line l.tid l.tx op has.0 (record { rest = r; turn = turn; low = low; rises = fits.later }) l.begun l.found is_files has.1.1 has.1.0 l.tx.cell refl)

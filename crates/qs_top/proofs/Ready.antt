@@ -7,10 +7,11 @@ use Rattle.qs_journal.specs.declared.script_line.ScriptLine.{ScriptLine}
 use Rattle.qs_machine.specs.Book.{BookValue, find_label}
 use Rattle.qs_machine.specs.Lawful.{IsLawful, book_after, effect}
 use Rattle.qs_machine.specs.Opening.{opened_node, no_owner}
-use Rattle.qs_text.specs.Fits.{Fits, IsSeated, begins_line}
-use Rattle.qs_text.specs.Kept.{Progress, Progresses, at_start, commands_of, IsAnswered, IsKept, progress_after, progress_of}
-use Rattle.qs_text.specs.declared.script.Script.{Script}
-use Rattle.qs_top.specs.Node.{entries_of}
+use Rattle.qs_script.specs.Fits.{Fits, IsSeated, begins_line}
+use Rattle.qs_script.specs.Kept.{Progress, Progresses, at_start, commands_of, IsAnswered, IsKept, progress_after, progress_of}
+use Rattle.qs_script.specs.declared.script.Script.{Script}
+use Rattle.qs_base.specs.declared.identifiers.NodeNo.{NodeNo}
+use Rattle.qs_top.specs.Node.{entries_of, node_count}
 use Rattle.qs_top.proofs.CarriedOut.{carried_out}
 use Rattle.qs_top.proofs.Chain.{Carried, Turn, no_more}
 use Rattle.qs_top.specs.Carrying.{Chain, Makes, Ready, opening, empty_log}
@@ -61,8 +62,12 @@ drop_next (y ∷ ys) (suc n) x rest h = let e : suc n + 1 ≡ suc (n + 1) = omeg
 back_to_front : (n : ℕ) → (n == 0) ≡ false → (0 == n) ≡ false
 back_to_front n h = grind (arith, nat_tests)
 
-seats_of : (script : Script) (line : ScriptLine) (rest : List ScriptLine) (n : ℕ) → commands_of script 0 ≡ script.lines → drop n (commands_of script 0) ≡ line ∷ rest → IsSeated script → script.seats ≡ record { client = record { 0 = 0 }; node = record { 0 = 0 } } ∷ []
-seats_of script line rest n mine left (inr seats) = seats
+-- the run has one node
+pub only_node : (node : NodeNo) → node.0 < node_count → node ≡ record { 0 = 0 }
+only_node node below = let e : node.0 ≡ 0 = omega arith in ap (λ (n : ℕ). let one : NodeNo = record { 0 = n } in one) e
+
+seats_of : (script : Script) (line : ScriptLine) (rest : List ScriptLine) (n : ℕ) → commands_of script 0 ≡ script.lines → drop n (commands_of script 0) ≡ line ∷ rest → IsSeated node_count script → script.seats ≡ record { client = record { 0 = 0 }; node = record { 0 = 0 } } ∷ []
+seats_of script line rest n mine left (inr sits) = sits.seats ∙ ap (λ (node : NodeNo). record { client = record { 0 = 0 }; node = node } ∷ []) (only_node sits.node sits.below)
 seats_of script line rest n mine left (inl none) = absurd (none_left n (subst (λ lines. drop n lines ≡ line ∷ rest) (mine ∙ none) left))
   where
     none_left : (k : ℕ) → drop k [] ≡ line ∷ rest → ⊥
@@ -91,9 +96,9 @@ next_ready inc script journal book line rest r low =
       chain = chain_append script (opening inc) book (book_after book (entries_of book r.node line)) at_start r.progress c.later journal (entries_of book r.node line) r.chain
           (subst (λ b. Chain script book b r.progress c.later (entries_of book r.node line)) (sym c.chain.book_is) c.chain);
       resting = subst (λ b. Resting c.node c.owner b) (sym c.chain.book_is) c.rest;
-      fits = subst (λ b. Fits (λ label. is_some (find_label b label)) c.owner.line rest) (sym c.chain.book_is)
-          (subst (λ n. Fits (λ label. is_some (find_label c.after label)) n rest) (sym c.at_line)
-          (subst (λ (begun : List ℕ → Bool). Fits begun line.line rest) (λ i label. sym (c.labels label) i) r.fits.1));
+      fits = subst (λ b. Fits node_count (λ label. is_some (find_label b label)) c.owner.line rest) (sym c.chain.book_is)
+          (subst (λ n. Fits node_count (λ label. is_some (find_label c.after label)) n rest) (sym c.at_line)
+          (subst (λ (begun : List ℕ → Bool). Fits node_count begun line.line rest) (λ i label. sym (c.labels label) i) r.fits.1));
       left = subst (λ (p : Progress). drop p.answered (commands_of script 0) ≡ rest) (sym c.count) (drop_next (commands_of script 0) (r.progress 0).answered line rest r.left);
       count = subst (λ (p : Progress). p.answered + length rest ≡ length (commands_of script 0)) (sym c.count) (omega (arith, r.count));
       once = ap (λ (p : Progress). p.made) c.count;
@@ -122,21 +127,21 @@ makes_ready inc script journal book line rest entries r m =
 
 -- ---- the start
 
-all_mine : (begun : List ℕ → Bool) (above : ℕ) (lines : List ScriptLine) → Fits begun above lines → filter (λ (line : ScriptLine). line.client.0 == 0) lines ≡ lines
+all_mine : (begun : List ℕ → Bool) (above : ℕ) (lines : List ScriptLine) → Fits node_count begun above lines → filter (λ (line : ScriptLine). line.client.0 == 0) lines ≡ lines
 all_mine begun above [] fits = refl
 all_mine begun above (line ∷ lines) fits = by line.client.0 fits.0.client (all_mine (λ label. begun label || begins_line label line) line.line lines fits.1)
   where
     by : (n : ℕ) → n ≡ 0 → filter (λ (l : ScriptLine). l.client.0 == 0) lines ≡ lines → (if (n == 0) then line ∷ filter (λ (l : ScriptLine). l.client.0 == 0) lines else filter (λ (l : ScriptLine). l.client.0 == 0) lines) ≡ line ∷ lines
     by n is more = rw is (ap (λ (l : List ScriptLine). line ∷ l) more)
 
-none_of_others : (client : ℕ) → (client == 0) ≡ false → (begun : List ℕ → Bool) (above : ℕ) (lines : List ScriptLine) → Fits begun above lines → filter (λ (line : ScriptLine). line.client.0 == client) lines ≡ []
+none_of_others : (client : ℕ) → (client == 0) ≡ false → (begun : List ℕ → Bool) (above : ℕ) (lines : List ScriptLine) → Fits node_count begun above lines → filter (λ (line : ScriptLine). line.client.0 == client) lines ≡ []
 none_of_others client other begun above [] fits = refl
 none_of_others client other begun above (line ∷ lines) fits = by line.client.0 fits.0.client (none_of_others client other (λ label. begun label || begins_line label line) line.line lines fits.1)
   where
     by : (n : ℕ) → n ≡ 0 → filter (λ (l : ScriptLine). l.client.0 == client) lines ≡ [] → (if (n == client) then line ∷ filter (λ (l : ScriptLine). l.client.0 == client) lines else filter (λ (l : ScriptLine). l.client.0 == client) lines) ≡ []
     by n is more = rw (is, back_to_front client other) more
 
-pub ready_start : (inc : ℕ) (script : Script) → Fits (λ label. false) 0 script.lines → IsSeated script → Ready inc script [] (opening inc) script.lines
+pub ready_start : (inc : ℕ) (script : Script) → Fits node_count (λ label. false) 0 script.lines → IsSeated node_count script → Ready inc script [] (opening inc) script.lines
 ready_start inc script fits seated =
     let mine : commands_of script 0 ≡ script.lines = all_mine (λ label. false) 0 script.lines fits in
     record {

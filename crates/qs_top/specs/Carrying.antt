@@ -8,10 +8,10 @@ use Rattle.qs_machine.specs.Nodes.{NodeValue}
 use Rattle.qs_machine.specs.Opening.{opening as opening_over}
 use Rattle.qs_machine.specs.declared.opened.Opened.{Opened}
 use Rattle.qs_machine.specs.declared.state.Owner.{Owner}
-use Rattle.qs_text.specs.Fits.{Fits, IsSeated}
-use Rattle.qs_text.specs.Kept.{nothing, Progresses, at_start, commands_of, IsKept, progress_of}
-use Rattle.qs_text.specs.declared.script.Script.{Script}
-use Rattle.qs_top.specs.Node.{entries_of}
+use Rattle.qs_script.specs.Fits.{Fits, IsSeated}
+use Rattle.qs_script.specs.Kept.{nothing, Progresses, at_start, commands_of, IsKept, progress_of}
+use Rattle.qs_script.specs.declared.script.Script.{Script}
+use Rattle.qs_top.specs.Node.{entries_of, node_count}
 use Rattle.qs_top.specs.Rest.{Resting}
 
 -- entries that lead from one book and progress to another: each lawful, each kept to the script
@@ -37,14 +37,14 @@ pub record Ready (inc : ℕ) (script : Script) (journal : List Entry) (book : Bo
   pub owner : Owner
   pub chain : Chain script (opening inc) book at_start progress journal
   pub resting : Resting node owner book
-  pub fits : Fits (λ label. is_some (find_label book label)) owner.line rest
+  pub fits : Fits node_count (λ label. is_some (find_label book label)) owner.line rest
   pub left : drop (progress 0).answered (commands_of script 0) ≡ rest
   pub count : (progress 0).answered + length rest ≡ length (commands_of script 0)
   pub once : (progress 0).made ≡ nothing
   pub others : (client : ℕ) → (client == 0) ≡ false → progress client ≡ at_start client
   pub mine : commands_of script 0 ≡ script.lines
   pub none_else : (client : ℕ) → (client == 0) ≡ false → commands_of script client ≡ []
-  pub seated : IsSeated script
+  pub seated : IsSeated node_count script
 
 -- the entries are those that the command makes, with stamps that are left
 pub record Makes (book : BookValue) (line : ScriptLine) (entries : List Entry) : Type 0 where

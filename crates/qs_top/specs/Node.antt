@@ -27,6 +27,10 @@ use Rattle.qs_machine.specs.declared.transaction.Cell.TheVariants as cells
 use Rattle.qs_machine.specs.declared.transaction.Link.{Link}
 use Rattle.qs_machine.specs.declared.transaction.Part.{Part}
 
+-- how many nodes a run has at this stage
+abbrev pub node_count : ℕ
+node_count = 1
+
 -- ---- the node, its client, its files
 
 abbrev pub node_0 : NodeNo

@@ -4,10 +4,10 @@ use Rattle.qs_journal.specs.declared.entry.Entry.{Entry}
 use Rattle.qs_machine.specs.Lawful.{IsLawful}
 use Rattle.qs_machine.specs.Opening.{opening}
 use Rattle.qs_machine.specs.declared.opened.Opened.{Opened}
-use Rattle.qs_text.specs.Lines.{lines_of}
-use Rattle.qs_text.specs.StatusLine.{lawful_text}
-use Rattle.qs_text.specs.declared.status.Status.{Status}
-use Rattle.qs_text.specs.declared.status.Status.TheVariants.{Finished, ReadFault, WriteFault, NoMemory, Unlawful, Journal}
+use Rattle.qs_script.specs.Lines.{lines_of}
+use Rattle.qs_script.specs.StatusLine.{lawful_text}
+use Rattle.qs_script.specs.declared.status.Status.{Status}
+use Rattle.qs_script.specs.declared.status.Status.TheVariants.{Finished, ReadFault, WriteFault, NoMemory, Unlawful, Journal}
 use Rattle.qs_tools.specs.Checked.{first_broken_line}
 use Rattle.qs_tools.specs.Journal.{IsJournal, opening_lines}
 

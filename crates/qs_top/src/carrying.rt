@@ -1,8 +1,9 @@
 //! A script is carried out command by command, and every entry is taken into the book.
 ghost use Rattle.std.specs.Prelude.{◌≡◌, [], ◌∷◌, false, None, OnOk, IfOk};
 ghost use Rattle.qs_machine.specs.Lawful.{IsLawful, book_after, broken, effect};
-ghost use Rattle.qs_text.specs.Fits.{Fits, IsSeated};
+ghost use Rattle.qs_script.specs.Fits.{Fits, IsSeated};
 ghost use Rattle.qs_top.specs.Carrying.{Makes, Ready, empty_log};
+ghost use Rattle.qs_top.specs.Node.{node_count};
 
 use crate::node::{NODE, entries_of};
 use qs_base::{List, NoMemory};
@@ -99,8 +100,8 @@ fn empty_log(alloc: Global, inc: u64) -> Opened
 /// Carries out all commands of a script that was read, on a node in this incarnation, over a log that
 /// holds nothing.
 pub fn carry_out_all(alloc: Global, inc: u64, script: &Script) -> Result<Course, NoMemory>
-    requires fits { Fits (λ label. false) 0 script.now.lines }
-    requires seated { IsSeated script.now }
+    requires fits { Fits node_count (λ label. false) 0 script.now.lines }
+    requires seated { IsSeated node_count script.now }
     ensures inc { IfOk result (λ course. course.inc ≡ inc) }
     ensures ready { IfOk result (λ course. Ready inc script.now course.journal.items course.book []) }
 {

@@ -11,10 +11,10 @@ use qs_base::{
     Bytes, ClientNo, Copied, List, Member, NoMemory, NodeNo, Outcome, ServerNo, Stamp, Tid,
 };
 use qs_book::{Book, NodeState};
-use qs_journal::{Act, Command, Entry, ScriptLine};
-use qs_ops::{Answer, Cause, Op, Reply, Vote, answer_of};
-use qs_machine::{Cell, Link, Part};
 use qs_book_transactions::Transaction;
+use qs_journal::{Act, Command, Entry, ScriptLine};
+use qs_machine::{Cell, Link, Part};
+use qs_ops::{Answer, Cause, Op, Reply, Vote, answer_of};
 use std::alloc::Global;
 
 /// The only node.

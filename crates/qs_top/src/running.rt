@@ -6,15 +6,16 @@ ghost use Rattle.qs_machine.specs.Lawful.{IsLawful, book_after};
 ghost use Rattle.qs_base.specs.Causes.{Rose};
 ghost use Rattle.qs_io.specs.Streams.{TakesAtMost, GivesPart};
 ghost use Rattle.std.specs.Prelude.{false};
-ghost use Rattle.qs_text.specs.Fits.{Fits, IsSeated};
-ghost use Rattle.qs_text.specs.declared.reading.ScriptFailed.TheVariants.{Fault};
+ghost use Rattle.qs_script.specs.Fits.{Fits, IsSeated};
+ghost use Rattle.qs_script.specs.declared.reading.ScriptFailed.TheVariants.{Fault};
 ghost use Rattle.qs_text.specs.Output.{out_of};
-ghost use Rattle.qs_text.specs.Script.{script_of};
-ghost use Rattle.qs_text.specs.Words.{form_of};
-ghost use Rattle.qs_text.specs.declared.status.ScriptFault.{ScriptFault};
+ghost use Rattle.qs_script.specs.Script.{script_of};
+ghost use Rattle.qs_script.specs.Words.{form_of};
+ghost use Rattle.qs_script.specs.declared.status.ScriptFault.{ScriptFault};
 ghost use Rattle.qs_tools.specs.Journal.{IsFault};
 ghost use Rattle.qs_top.specs.Carrying.{opening};
-ghost use Rattle.qs_top.specs.Run.{ReadWhole, IsRunOf, HasLawful, IsFaultOf, IsDamageOf, IsGiven, IsCutOff, IsBuilt, IsEarly, AreTouched, not_opened};
+ghost use Rattle.qs_top.specs.Node.{node_count};
+ghost use Rattle.qs_top.specs.Run.{ReadWhole, IsRunOf, HasLawful, IsFaultOf, IsDamageOf, IsGiven, IsCutOff, IsBuilt, IsEarly, IsScript, IsPastScript, IsPastOpening, IsFirstRaised, HoldsNoRecord, AreTouched, not_opened};
 ghost use Rattle.qs_top.specs.Verdict.{IsUnlawfulText, IsVerdict, IsOfCheck};
 
 use crate::carrying::{Course, carry_out_all};
@@ -30,6 +31,9 @@ use qs_log::OpenFault;
 use qs_text::{Form, Script, ScriptFailed, Status, out_text, read_script, read_words};
 use std::alloc::Global;
 use std::thread::Threads;
+
+/// How many nodes a run has.
+const NODE_COUNT: u8 = 1;
 
 /// The most bytes that a script may have.
 const SCRIPT_LIMIT: usize = 1_048_576;
@@ -52,9 +56,9 @@ fn made(
     text: &[u8],
     script: &Script,
 ) -> Result<(List<Entry>, Bytes), NoMemory>
-    requires read { script_of text.now ≡ Ok script.now }
-    requires fits { Fits (λ label. false) 0 script.now.lines }
-    requires seated { IsSeated script.now }
+    requires read { script_of node_count text.now ≡ Ok script.now }
+    requires fits { Fits node_count (λ label. false) 0 script.now.lines }
+    requires seated { IsSeated node_count script.now }
     ensures lawful { IfOk result (λ done. IsLawful (opening inc) done.0) }
     ensures run { IfOk result (λ done. IsRunOf inc text.now done.0) }
     ensures output { IfOk result (λ done. done.1 ≡ out_of script.now done.0 (book_after (opening inc) done.0) false) }
@@ -92,7 +96,7 @@ fn run_source<S: Source, K: Sink, D: Disk>(
 
     // Each status has its cause.
     ensures script { (line : ℕ) (fault : ScriptFault) → result.status ≡ Status.Script line fault
-        → ReadWhole 1048576 (S.left source.old) (S.left source.new) (λ text. script_of text ≡ Err (Fault line fault)) }
+        → ReadWhole 1048576 (S.left source.old) (S.left source.new) (λ text. script_of node_count text ≡ Err (Fault line fault)) }
     ensures read_fault { result.status ≡ Status.ReadFault → Rose (S.faults source.old) (S.faults source.new) }
     ensures write_fault { result.status ≡ Status.WriteFault → Rose (K.faults sink.old) (K.faults sink.new) }
     ensures disk_fault { (node : NodeNo) → result.status ≡ Status.DiskFault node
@@ -101,6 +105,10 @@ fn run_source<S: Source, K: Sink, D: Disk>(
         → IsDamageOf D.told D.state node at disks.old.items disks.new.items }
     ensures built { IsBuilt result.status }
     ensures ran { result.status ≢ Status.Usage }
+
+    // A disk is opened for a script alone, and its log is raised before anything is made.
+    ensures past_script { IsPastScript result.status → ReadWhole 1048576 (S.left source.old) (S.left source.new) (λ text. IsScript text) }
+    ensures past_opening { IsPastOpening result.status → IsFirstRaised D.told D.state disks.old.items disks.new.items }
 
     // The journal is a run of the script that was read, every command was answered, and the output
     // was given whole; at a write fault a part of it was, and else nothing.
@@ -125,7 +133,7 @@ fn run_source<S: Source, K: Sink, D: Disk>(
         Err(ReadFault::Failed) => return ended(alloc, Status::ReadFault),
         Err(ReadFault::NoMemory) => return ended(alloc, Status::NoMemory),
     };
-    let script = match read_script(alloc, text.as_slice(), 1) {
+    let script = match read_script(alloc, text.as_slice(), NODE_COUNT) {
         Ok(script) => script,
         Err(ScriptFailed::Fault { line, fault }) => {
             return ended(alloc, Status::Script { line, fault });
@@ -154,13 +162,17 @@ fn run_source<S: Source, K: Sink, D: Disk>(
 /// log of the first disk is opened and its incarnation raised; nothing else is written to it yet, and
 /// the other disks are not used. There are at least 8 disks.
 ///
+/// The log is not recovered yet: the machine opens as over a log that holds nothing. So what is said
+/// of the journal and of the output has the premise that the log of the first disk holds no record.
+///
 /// `check` reads a history from the source and judges it: where it is lawful, `lawful E` and a line
 /// feed go to the sink, E the number of its entries, and else nothing. At most 67,108,865 bytes are
 /// taken of the source. No disk is opened, and the journal is empty.
 ///
 /// `ReadFault`, `WriteFault` and `DiskFault` come only where the count of faults of the source, the
 /// sink or the disk rose in this call; `Damaged` only where a slot or a batch of the disk that was
-/// handed in is damaged at that byte. The journal is empty but on `Finished` and `WriteFault`, and the
+/// handed in is damaged at that byte; `DiskFault` and `Damaged` only once the source was read to its
+/// end and is a script. The journal is empty but on `Finished` and `WriteFault`, and the
 /// disks are as they were on `Usage`, `Script` and `ReadFault`.
 pub fn run<R: Threads + Sync, S: Source, K: Sink, D: Disk>(
     _rt: &R,
@@ -172,14 +184,15 @@ pub fn run<R: Threads + Sync, S: Source, K: Sink, D: Disk>(
 ) -> Run
     requires disks { 8 ≤ length disks.old.items }
 
-    // The journal is a lawful run of the machine with one outcome cell for each transaction,
-    // whatever the status; the machine opens in the incarnation that the log was raised to.
-    ensures lawful { HasLawful D.told D.state result.journal disks.old.items disks.new.items }
+    // Where the log holds no record: the journal is a lawful run of the machine with one outcome
+    // cell for each transaction, whatever the status; the machine opens in the incarnation that the
+    // log was raised to.
+    ensures lawful { HoldsNoRecord D.told D.state disks.old.items → HasLawful D.told D.state result.journal disks.old.items disks.new.items }
 
     // Each status has its cause.
     ensures usage { (result.status ≡ Status.Usage) ↔ (form_of words.now ≡ None) }
     ensures script { (line : ℕ) (fault : ScriptFault) → result.status ≡ Status.Script line fault
-        → ReadWhole 1048576 (S.left source.old) (S.left source.new) (λ text. script_of text ≡ Err (Fault line fault)) }
+        → ReadWhole 1048576 (S.left source.old) (S.left source.new) (λ text. script_of node_count text ≡ Err (Fault line fault)) }
     ensures read_fault { result.status ≡ Status.ReadFault → Rose (S.faults source.old) (S.faults source.new) }
     ensures write_fault { result.status ≡ Status.WriteFault → Rose (K.faults sink.old) (K.faults sink.new) }
     ensures disk_fault { (node : NodeNo) → result.status ≡ Status.DiskFault node
@@ -188,13 +201,19 @@ pub fn run<R: Threads + Sync, S: Source, K: Sink, D: Disk>(
         → IsDamageOf D.told D.state node at disks.old.items disks.new.items }
     ensures built { form_of words.now ≢ Some Form.Check → IsBuilt result.status }
 
-    // Of a run: the journal is a run of the script that was read, every command was answered, and
-    // the output was given whole; at a write fault a part of it was. Else nothing was given, and the
-    // journal is empty.
-    ensures finished { form_of words.now ≢ Some Form.Check → result.status ≡ Status.Finished
+    // Of a run: a disk is opened for a script alone, and its log is raised before anything is made.
+    ensures past_script { form_of words.now ≢ Some Form.Check → IsPastScript result.status
+        → ReadWhole 1048576 (S.left source.old) (S.left source.new) (λ text. IsScript text) }
+    ensures past_opening { form_of words.now ≢ Some Form.Check → IsPastOpening result.status
+        → IsFirstRaised D.told D.state disks.old.items disks.new.items }
+
+    // Where the log holds no record: the journal is a run of the script that was read, every command
+    // was answered, and the output was given whole; at a write fault a part of it was. Else nothing
+    // was given, and the journal is empty.
+    ensures finished { form_of words.now ≢ Some Form.Check → HoldsNoRecord D.told D.state disks.old.items → result.status ≡ Status.Finished
         → ReadWhole 1048576 (S.left source.old) (S.left source.new)
         (λ text. IsGiven D.told D.state text result.journal (K.given sink.old) (K.given sink.new) disks.old.items disks.new.items) }
-    ensures cut_off { form_of words.now ≢ Some Form.Check → result.status ≡ Status.WriteFault
+    ensures cut_off { form_of words.now ≢ Some Form.Check → HoldsNoRecord D.told D.state disks.old.items → result.status ≡ Status.WriteFault
         → ReadWhole 1048576 (S.left source.old) (S.left source.new)
         (λ text. IsCutOff D.told D.state text result.journal (K.given sink.old) (K.given sink.new) disks.old.items disks.new.items) }
     ensures silent { result.status ≢ Status.Finished → result.status ≢ Status.WriteFault → K.given sink.new ≡ K.given sink.old }

@@ -1,17 +1,18 @@
 //! A restart: whether its found lists may be, and what it does.
 ghost use Rattle.std.specs.Prelude.{◌≡◌, not, cond, true, IfOk, OnOk};
-ghost use Rattle.std.specs.List.{list_any, list_all};
+ghost use Rattle.std.specs.List.{list_all};
 ghost use Rattle.std.specs.BTreeMap.{is_at};
 ghost use Rattle.std.specs.Option.{option_copied};
 ghost use Rattle.qs_machine.specs.Transaction.{is_empty};
 ghost use Rattle.qs_machine.specs.Nodes.{is_recoverable, pending_at, voter_cmp};
-ghost use Rattle.qs_machine.specs.Restart.{member_at, is_among, is_on_record, could_vote, is_new_vote, was_applied, is_seen, voter_of, votes_once, may_be_lost, is_found_as, is_committed, is_open_here, is_found_vote, is_kept, is_found_commit, broken_restart};
+ghost use Rattle.qs_machine.specs.Restart.{member_at, is_on_record, could_vote, is_new_vote, was_applied, is_seen, voter_of, votes_once, may_be_lost, is_committed, is_open_here, is_found_vote, is_kept, is_found_commit, broken_restart};
 ghost use Rattle.qs_machine.specs.declared.state.OnRecord.{OnRecord};
 
 use super::Book;
 use crate::clauses::{
     FOUND_COMMITS_ARE_COMMITS, FOUND_VOTES_ARE_VOTES, INCARNATION_RISES, NO_VOTE_IS_LOST, has_vote,
 };
+use crate::found::{FoundCommits, FoundVotes};
 use crate::node::NodeState;
 use qs_machine::Voter;
 use qs_base::{Member, NoMemory, NodeNo, ServerNo, Tid};
@@ -26,12 +27,6 @@ pub fn member_at(here: NodeNo, server: ServerNo) -> Member
     ensures { result ≡ member_at here.0 server.0 }
 {
     Member { node: here, server }
-}
-
-pub fn is_among(tids: &[Tid], tid: Tid) -> bool
-    ensures { result ≡ is_among tids.now tid }
-{
-    tids.iter().any(|other| tid == *other)
 }
 
 fn is_on_record(node: &NodeState, found: Found) -> bool
@@ -82,7 +77,7 @@ pub fn is_new_vote(here: NodeNo, node: &NodeState, tx: Option<&Transaction>, fou
 fn was_applied(
     here: NodeNo,
     node: &NodeState,
-    done: &[Tid],
+    done: &FoundCommits,
     tx: Option<&Transaction>,
     found: Found,
 ) -> bool
@@ -90,7 +85,7 @@ fn was_applied(
 {
     match tx {
         Some(tx) => {
-            is_among(done, found.tid)
+            done.has(found.tid)
                 && (tx.has_learnt(member_at(here, found.server)) || node.held_commit(found.tid))
         }
         None => false,
@@ -131,18 +126,6 @@ fn may_be_lost(here: NodeNo, tid: Tid, tx: Option<&Transaction>) -> bool
     }
 }
 
-fn is_found_as(at: Voter, covers: u32, found: Found) -> bool
-    ensures { result ≡ is_found_as at covers found }
-{
-    found.tid == at.tid && found.server == at.server && covers <= found.covers
-}
-
-fn is_found(pend: &[Found], at: Voter, covers: u32) -> bool
-    ensures { result ≡ list_any (is_found_as at covers) pend.now }
-{
-    pend.iter().any(|found| is_found_as(at, covers, *found))
-}
-
 fn is_committed(here: NodeNo, tid: Tid, tx: Option<&Transaction>) -> bool
     ensures { result ≡ is_committed here.0 tid (option_copied tx.entry) }
 {
@@ -165,7 +148,13 @@ pub fn is_open_here(here: NodeNo, tid: Tid, tx: Option<&Transaction>) -> bool
 }
 
 impl Book {
-    fn is_found_vote(&self, here: NodeNo, node: &NodeState, done: &[Tid], found: Found) -> bool
+    fn is_found_vote(
+        &self,
+        here: NodeNo,
+        node: &NodeState,
+        done: &FoundCommits,
+        found: Found,
+    ) -> bool
         ensures { result ≡ is_found_vote here.0 self.now node.now done.now found }
     {
         let tx = self.transaction(found.tid);
@@ -175,12 +164,19 @@ impl Book {
                 || was_applied(here, node, done, tx, found))
     }
 
-    fn is_kept(&self, here: NodeNo, pend: &[Found], done: &[Tid], at: Voter, covers: u32) -> bool
+    fn is_kept(
+        &self,
+        here: NodeNo,
+        pend: &FoundVotes,
+        done: &FoundCommits,
+        at: Voter,
+        covers: u32,
+    ) -> bool
         ensures { (kept : OnRecord) → kept.covers ≡ covers → result ≡ is_kept here.0 self.now pend.now done.now (at, kept) }
     {
         may_be_lost(here, at.tid, self.transaction(at.tid))
-            || is_among(done, at.tid)
-            || is_found(pend, at, covers)
+            || done.has(at.tid)
+            || pend.has(at, covers)
     }
 
     fn is_found_commit(&self, here: NodeNo, node: &NodeState, tid: Tid) -> bool
@@ -189,14 +185,26 @@ impl Book {
         node.held_commit(tid) || is_committed(here, tid, self.transaction(tid))
     }
 
-    fn are_found_votes(&self, here: NodeNo, node: &NodeState, pend: &[Found], done: &[Tid]) -> bool
+    fn are_found_votes(
+        &self,
+        here: NodeNo,
+        node: &NodeState,
+        pend: &[Found],
+        done: &FoundCommits,
+    ) -> bool
         ensures { result ≡ list_all (is_found_vote here.0 self.now node.now done.now) pend.now }
     {
         pend.iter()
             .all(|found| self.is_found_vote(here, node, done, *found))
     }
 
-    fn are_kept(&self, here: NodeNo, node: &NodeState, pend: &[Found], done: &[Tid]) -> bool
+    fn are_kept(
+        &self,
+        here: NodeNo,
+        node: &NodeState,
+        pend: &FoundVotes,
+        done: &FoundCommits,
+    ) -> bool
         ensures { result ≡ list_all (is_kept here.0 self.now pend.now done.now) node.now.records }
     {
         node.records().iter().all(|(at, record)| self.is_kept(here, pend, done, *at, record.covers))
@@ -223,10 +231,12 @@ impl Book {
         if inc <= node.inc() {
             return Ok(Some(INCARNATION_RISES));
         }
-        if !self.are_found_votes(here, node, pend, done) || !votes_once(self.alloc, pend)? {
+        let commits = FoundCommits::new(self.alloc, done)?;
+        if !self.are_found_votes(here, node, pend, &commits) || !votes_once(self.alloc, pend)? {
             return Ok(Some(FOUND_VOTES_ARE_VOTES));
         }
-        if !self.are_kept(here, node, pend, done) {
+        let votes = FoundVotes::new(self.alloc, pend)?;
+        if !self.are_kept(here, node, &votes, &commits) {
             return Ok(Some(NO_VOTE_IS_LOST));
         }
         if !self.are_found_commits(here, node, done) {

@@ -1,20 +1,25 @@
 //! What a restart does: found votes go on record, found commits are applied, what is open is aborted.
 ghost use Rattle.std.specs.Prelude.{◌≡◌, ◌++◌, ◌∷◌, [], fold, IfOk, OnOk, slice_get};
-ghost use Rattle.std.specs.List.{flat_map};
+ghost use Rattle.std.specs.List.{flat_map, list_any};
+ghost use Rattle.std.specs.BTreeMap.{is_at};
+ghost use Rattle.qs_base.specs.Order.{tid_cmp};
+ghost use Rattle.qs_base.specs.declared.identifiers.Tid.{Tid};
 ghost use Rattle.std.specs.Option.{option_copied};
 ghost use Rattle.qs_machine.specs.Transaction.{found_at, with_learnt};
 ghost use Rattle.qs_machine.specs.Book.{changed_at, find_transaction, with_node, with_transaction, decide, crossed_in, pending_in, inc_at};
 ghost use Rattle.qs_machine.specs.Nodes.{changes_of};
-ghost use Rattle.qs_machine.specs.Restart.{new_vote, vote_as_stopped, count_of, new_votes_at, new_votes, put_new_votes, with_votes, record_at, changes_at, is_kept_at, has_record, add_commit, commits_found, keep_found, reopened, restarted_node, learn_found, decide_found, commit_found, vote_found, abort_begun, begun_tid, begun_at, up_to, restart_found, restart, member_at};
+ghost use Rattle.qs_machine.specs.Restart.{new_vote, vote_as_stopped, count_of, new_votes_at, new_votes, put_new_votes, with_votes, record_at, changes_at, is_among, is_kept_at, has_record, add_commit, commits_found, keep_found, reopened, restarted_node, learn_found, decide_found, commit_found, vote_found, abort_begun, begun_tid, begun_at, up_to, restart_found, restart, member_at};
 
-use super::restarting::{is_among, is_new_vote, is_open_here, member_at};
+use super::restarting::{is_new_vote, is_open_here, member_at};
 use super::{Book, find, nodes, transactions};
+use crate::found::{FoundCommits, add_tid};
 use crate::node::NodeState;
 use qs_machine::{OnRecord, Reopened, Voter};
 use qs_base::{Copied, List, NoMemory, NodeNo, Outcome, ServerNo, Tid};
 use qs_journal::Found;
 use qs_ops::{Cause, Op};
 use qs_ops::Kept;
+use std::collections::BTreeSet;
 
 const FILES: ServerNo = ServerNo(0);
 
@@ -131,20 +136,34 @@ impl Book {
     }
 
     /// Adds a transaction whose Commit is found, where something of it is on record and it is new.
-    fn add_commit(&self, tids: &mut List<Tid>, here: NodeNo, tid: &Tid) -> Result<(), NoMemory>
-        ensures { OnOk result (tids.new ≡ add_commit here.0 self.now tids.old tid.now) }
+    fn add_commit(
+        &self,
+        tids: &mut List<Tid>,
+        set: &mut BTreeSet<Tid>,
+        here: NodeNo,
+        tid: &Tid,
+    ) -> Result<(), NoMemory>
+        requires { (other : Tid) → list_any (is_at (tid_cmp other)) set.old.keys ≡ is_among tids.old other }
+        ensures tids { OnOk result (tids.new ≡ add_commit here.0 self.now tids.old tid.now) }
+        ensures set { OnOk result ((other : Tid) → list_any (is_at (tid_cmp other)) set.new.keys ≡ is_among tids.new other) }
     {
-        if self.has_record(here, *tid) && !is_among(tids.as_slice(), *tid) {
-            tids.push(*tid)?;
+        if self.has_record(here, *tid) && !set.contains(tid) {
+            push_tid(tids, set, *tid)?;
         }
         Ok(())
     }
 
-    fn is_kept_at(&self, here: NodeNo, server: ServerNo, done: &[Tid], found: &Found) -> bool
+    fn is_kept_at(
+        &self,
+        here: NodeNo,
+        server: ServerNo,
+        done: &FoundCommits,
+        found: &Found,
+    ) -> bool
         ensures { result ≡ is_kept_at here.0 self.now server.0 done.now found.now }
     {
         found.server == server
-            && !(is_among(done, found.tid) || self.is_crossed(found.tid, member_at(here, server)))
+            && !(done.has(found.tid) || self.is_crossed(found.tid, member_at(here, server)))
     }
 
     /// Adds a vote of a server that is pending again.
@@ -153,7 +172,7 @@ impl Book {
         kept: &mut List<Kept>,
         here: NodeNo,
         server: ServerNo,
-        done: &[Tid],
+        done: &FoundCommits,
         found: &Found,
     ) -> Result<(), NoMemory>
         ensures { OnOk result (kept.new ≡ kept.old ++ keep_found here.0 self.now server.0 done.now found.now) }
@@ -174,11 +193,11 @@ impl Book {
         here: NodeNo,
         inc: u64,
         pend: &[Found],
-        done: &[Tid],
+        done: &FoundCommits,
     ) -> Result<Reopened, NoMemory>
         ensures { IfOk result (λ left. left ≡ reopened here.0 inc pend.now done.now self.now) }
     {
-        let commits = commits_found(self, here, done)?;
+        let commits = commits_found(self, here, done.as_slice())?;
         Ok(Reopened {
             inc,
             files: changes_found(self, here, FILES, commits.as_slice())?,
@@ -224,12 +243,12 @@ impl Book {
         &mut self,
         here: NodeNo,
         inc: u64,
-        done: &[Tid],
+        done: &FoundCommits,
         found: &Found,
     ) -> Result<(), NoMemory>
         ensures { OnOk result (self.new ≡ vote_found here.0 inc done.now self.old found.now) }
     {
-        if is_among(done, found.tid) {
+        if done.has(found.tid) {
             return Ok(());
         }
         let changes = self.count_of(here, found.tid, found.server);
@@ -285,10 +304,11 @@ impl Book {
     ) -> Result<(), NoMemory>
         ensures { OnOk result (self.new ≡ restart_found here.0 inc pend.now done.now self.old) }
     {
-        let left = self.reopened(here, inc, pend, done)?;
+        let commits = FoundCommits::new(self.alloc, done)?;
+        let left = self.reopened(here, inc, pend, &commits)?;
         let (old, begun) = (self.inc_at(here), self.begun_at(here));
         commit_all(self, here, done)?;
-        vote_all(self, here, inc, pend, done)?;
+        vote_all(self, here, inc, pend, &commits)?;
         abort_all(self, here, old, begun)?;
         self.restart_node(here, left, done)
     }
@@ -351,10 +371,22 @@ fn commits_found(book: &Book, here: NodeNo, done: &[Tid]) -> Result<List<Tid>, N
     ensures { IfOk result (λ tids. tids ≡ commits_found here.0 book.now done.now) }
 {
     let mut tids = List::new(book.alloc);
+    let mut set = BTreeSet::new(book.alloc);
     for tid in done {
-        book.add_commit(&mut tids, here, tid)?;
+        book.add_commit(&mut tids, &mut set, here, tid)?;
     }
     Ok(tids)
+}
+
+/// One more transaction, in the list and in the set of those that it has.
+fn push_tid(tids: &mut List<Tid>, set: &mut BTreeSet<Tid>, tid: Tid) -> Result<(), NoMemory>
+    requires { (other : Tid) → list_any (is_at (tid_cmp other)) set.old.keys ≡ is_among tids.old other }
+    ensures tids { OnOk result (tids.new ≡ tids.old ++ tid ∷ []) }
+    ensures set { OnOk result ((other : Tid) → list_any (is_at (tid_cmp other)) set.new.keys ≡ is_among tids.new other) }
+{
+    add_tid(set, tid)?;
+    tids.push(tid)?;
+    Ok(())
 }
 
 /// The changes at a server of these transactions, in their order.
@@ -379,7 +411,7 @@ fn kept_found(
     here: NodeNo,
     server: ServerNo,
     pend: &[Found],
-    done: &[Tid],
+    done: &FoundCommits,
 ) -> Result<List<Kept>, NoMemory>
     ensures { IfOk result (λ kept. kept ≡ flat_map (keep_found here.0 book.now server.0 done.now) pend.now) }
 {
@@ -404,7 +436,7 @@ fn vote_all(
     here: NodeNo,
     inc: u64,
     pend: &[Found],
-    done: &[Tid],
+    done: &FoundCommits,
 ) -> Result<(), NoMemory>
     ensures { OnOk result (book.new ≡ fold (vote_found here.0 inc done.now) book.old pend.now) }
 {

@@ -1,5 +1,5 @@
 use Rattle.std.proofs.Common.{sym, ◌∙◌}
-use Rattle.qs_text.proofs.LineLemmas.{line_at, last_line}
+use Rattle.qs_script.proofs.LineLemmas.{line_at, last_line}
 use Rattle.qs_tools.proofs.lines.next_line.Goals as goal
 
 pub returns-in-Some-clause-first : goal.returns-in-Some-clause-first

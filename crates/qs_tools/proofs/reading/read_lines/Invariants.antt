@@ -1,5 +1,5 @@
 use Rattle.std.proofs.Common.{◌≡◌, ◌<◌, ◌≤◌, ◌+◌, ◌++◌, List, ℕ, length}
-use Rattle.qs_text.specs.Lines.{lines_of}
+use Rattle.qs_script.specs.Lines.{lines_of}
 use Rattle.qs_tools.specs.Journal.{span}
 use Rattle.qs_tools.specs.Reader.{reading_of, Knows}
 use Rattle.qs_tools.specs.Reading.{at_start, Reads}

@@ -1,0 +1,9 @@
+//! The audit server of a node: notes that transactions add at the end of a list.
+#![tactic(auto)]
+
+mod audit;
+mod notes;
+#[cfg(test)]
+mod tests;
+
+pub use audit::Audit;

@@ -1,0 +1,5 @@
+pub mod Placing
+pub mod Around
+pub mod Places
+pub mod Handing
+pub mod Sending

@@ -1,0 +1,71 @@
+//! The scratch server.
+ghost use Rattle.std.specs.Prelude.{◌≡◌};
+ghost use Rattle.qs_ops.specs.Table.{no_table};
+ghost use Rattle.qs_ops.specs.Timers.{no_timers};
+ghost use Rattle.qs_ops.specs.declared.server.Kind.TheVariants as kinds;
+
+use qs_base::{Class, List, NoMemory, Tid};
+use qs_ops::{Changes, Notice, Op, Reply, Server, Vote};
+use qs_shelf::Shelf;
+use std::alloc::Global;
+
+/// The scratch server of a node: texts by name. A text is kept from the commit of the
+/// transaction that put it there.
+#[derive(Drop)]
+pub struct Scratch {
+    shelf: Shelf,
+    alloc: Global,
+}
+
+impl Scratch {
+    /// No text. It takes no memory.
+    pub fn new(alloc: Global) -> Scratch
+        ensures { result.shelf ≡ no_table }
+    {
+        Scratch {
+            shelf: Shelf::new(alloc),
+            alloc,
+        }
+    }
+}
+
+impl Server for Scratch {
+    ghost state = { λ scratch. record { kind = kinds.Scratch; table = scratch.shelf; timers = no_timers } };
+
+    fn class(&self) -> Class {
+        Class::Delayed
+    }
+
+    fn serve(&mut self, tid: Tid, op: &Op) -> Result<Reply, NoMemory> {
+        self.shelf.serve(tid, op)
+    }
+
+    /// Scratch does not vote: no call meets the condition.
+    fn vote(&mut self, _tid: Tid, _free: u64, _frame: u64) -> Result<Vote, NoMemory> {
+        Ok(Vote::ReadOnly)
+    }
+
+    fn note(&mut self, tid: Tid, notice: Notice) {
+        match notice {
+            Notice::Commit => self.shelf.commit(tid),
+            Notice::Abort => self.shelf.release(tid),
+            Notice::Ending => {}
+        }
+    }
+
+    fn changes(&self, tid: Tid) -> Result<Changes, NoMemory> {
+        self.shelf.changes(tid)
+    }
+
+    fn keep(&mut self, _tid: Tid, _changes: &Changes) -> Result<(), NoMemory> {
+        Ok(())
+    }
+
+    fn contents(&self) -> Result<Changes, NoMemory> {
+        Ok(List::new(self.alloc))
+    }
+
+    fn clear(&mut self) {
+        self.shelf.clear();
+    }
+}

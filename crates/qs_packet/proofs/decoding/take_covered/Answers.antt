@@ -1,0 +1,5 @@
+use Rattle.qs_packet.proofs.Parts.{behind_two}
+use Rattle.qs_packet.proofs.decoding.take_covered.Goals as goal
+
+pub returns-clause-value : goal.returns-clause-value
+returns-clause-value c = behind_two c.in_ok-tid.ensures.value c.in_ok-up_to.ensures.value

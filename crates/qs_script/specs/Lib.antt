@@ -1,0 +1,9 @@
+pub mod Fits
+pub mod Kept
+pub mod Labels
+pub mod Lines
+pub mod Reads
+pub mod Script
+pub mod Status
+pub mod StatusLine
+pub mod Words

@@ -1,0 +1,10 @@
+//! Sessions: one end of the ordered channels between two nodes, out of packets.
+#![tactic(auto)]
+
+mod session;
+mod taken;
+#[cfg(test)]
+mod tests;
+
+pub use session::Session;
+pub use taken::Taken;

@@ -1,0 +1,4 @@
+pub mod Committed
+pub mod Files
+pub mod Following
+pub mod Steps

@@ -1,0 +1,4 @@
+pub mod Changed
+pub mod Plain
+pub mod Slots
+pub mod Texts

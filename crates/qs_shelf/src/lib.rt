@@ -1,0 +1,8 @@
+//! Texts under names, and the texts that transactions are about to put there.
+#![tactic(auto)]
+
+mod shelf;
+mod slot;
+mod slots;
+
+pub use shelf::Shelf;
