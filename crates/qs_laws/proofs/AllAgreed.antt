@@ -3,7 +3,6 @@ use Rattle.std.proofs.Common.{◌≡◌, ℕ, ◌+◌, ◌≤◌, ◌&&◌, Bool
 use Rattle.std.specs.Prelude.{is_some, slice_get}
 use Rattle.std.specs.List.{list_all}
 use Rattle.qs_base.specs.declared.identifiers.Class.TheVariants as classes
-use Rattle.qs_base.specs.declared.identifiers.ClientNo.{ClientNo}
 use Rattle.qs_base.specs.declared.identifiers.Member.{Member}
 use Rattle.qs_base.specs.declared.identifiers.NodeNo.{NodeNo}
 use Rattle.qs_base.specs.declared.identifiers.Outcome.{Outcome}
@@ -18,12 +17,12 @@ use Rattle.qs_journal.specs.declared.entry.Act.{Act}
 use Rattle.qs_journal.specs.declared.entry.Act.TheVariants.{Serve, Ending, Learn, Loan, Yield}
 use Rattle.qs_journal.specs.declared.entry.Act.TheVariants as acts
 use Rattle.qs_journal.specs.declared.entry.Entry.{Entry}
-use Rattle.qs_machine.specs.Transaction.{TransactionValue, part_of, is_open, is_crossed, is_unanimous, is_empty, all_served, agrees, serving_part, voted_part, learnt_part, found_part}
+use Rattle.qs_machine.specs.Transaction.{TransactionValue, part_of, is_unanimous, is_empty, all_served, agrees, serving_part, voted_part, learnt_part, found_part}
 use Rattle.qs_machine.specs.declared.transaction.Cell.TheVariants as cells
 use Rattle.qs_machine.specs.declared.transaction.Part.{Part}
 use Rattle.qs_machine.specs.Book.{BookValue, find_transaction, cell_of_transaction, is_done}
 use Rattle.qs_machine.specs.Clauses.{borrower_at, broken_decide, broken_outcome, may_decide}
-use Rattle.qs_machine.specs.Lawful.{broken_act, broken, effect, IsLawful, book_after}
+use Rattle.qs_machine.specs.Lawful.{broken_act, effect, IsLawful, book_after}
 use Rattle.qs_machine.specs.Nodes.{NodeValue}
 use Rattle.qs_machine.specs.Opening.{opening}
 use Rattle.qs_machine.specs.declared.opened.Opened.{Opened}
@@ -31,7 +30,6 @@ use Rattle.qs_laws.specs.Laws.{IsCoherent, IsCommitted}
 use Rattle.qs_laws.specs.Unanimity.{no_loans, is_served_in, is_voted_in, are_returned, IsUnanimous}
 use Rattle.qs_laws.proofs.Always.{IsSo, step_so, opening_so}
 use Rattle.qs_laws.proofs.Answered.{each_served}
-use Rattle.qs_laws.proofs.Begun.{inc_in}
 use Rattle.qs_laws.proofs.Ends.{lawful_node}
 use Rattle.qs_laws.proofs.Holding.{left_of, right_of}
 use Rattle.qs_laws.proofs.Lives.{inc_of_node, part_left}

@@ -1,8 +1,7 @@
 -- What holds of a transaction as it begins, or stands at the opening, and is left by every entry, holds always.
 use Rattle.std.proofs.Common.{◌≡◌, ℕ, suc, Bool, true, false, List, [], ◌∷◌, Option, Some, None, refl, sym, ap, subst, ◌∙◌, fold, if◌then◌else◌}
-use Rattle.std.specs.Prelude.{is_some, slice_get, length, nat_lt, map}
+use Rattle.std.specs.Prelude.{is_some, slice_get, length, nat_lt}
 use Rattle.std.specs.List.{list_any}
-use Rattle.std.specs.Map.{lookup}
 use Rattle.std.specs.BTreeMap.{insert_entry, is_at}
 use Rattle.qs_base.specs.Order.{tid_cmp}
 use Rattle.qs_base.specs.declared.identifiers.ClientNo.{ClientNo}
@@ -18,7 +17,7 @@ use Rattle.qs_machine.specs.Transaction.{TransactionValue, begun, opened_as, fou
 use Rattle.qs_machine.specs.declared.transaction.Cell.{Cell}
 use Rattle.qs_machine.specs.declared.transaction.Cell.TheVariants as cells
 use Rattle.qs_machine.specs.Book.{BookValue, find_transaction, with_transaction, begin, ticks_at}
-use Rattle.qs_machine.specs.Lawful.{broken, effect_act, effect, IsLawful, book_after}
+use Rattle.qs_machine.specs.Lawful.{broken, effect_act, effect}
 use Rattle.qs_machine.specs.Nodes.{NodeValue}
 use Rattle.qs_machine.specs.Opening.{opening, name_from, name_all, name_transaction, name_pending, opened_transaction, has_commit}
 use Rattle.qs_machine.specs.Restart.{member_at}
@@ -29,7 +28,6 @@ use Rattle.qs_laws.proofs.Grows.{begins, alters_transaction, step_alters}
 use Rattle.qs_laws.proofs.Maps.{lookup_put, lookup_put_apart}
 use Rattle.qs_laws.proofs.Openings.{first_book}
 use Rattle.qs_laws.proofs.Outcomes.{Inv}
-use Rattle.qs_laws.proofs.Steps.{stepped}
 use Rattle.qs_laws.proofs.Takes.{some_same}
 use Rattle.qs_laws.proofs.Turns.{Stands, kept_by}
 

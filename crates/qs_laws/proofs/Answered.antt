@@ -1,6 +1,6 @@
 -- Each request of a transaction whose requests are all served in the end, and which isn't crossed, was served before another
 -- of its number was issued.
-use Rattle.std.proofs.Common.{◌≡◌, ℕ, ◌==◌, ◌&&◌, ◌||◌, Bool, true, false, not, List, [], ◌∷◌, ◌++◌, Option, Some, None, refl, sym, ap, subst, ◌∙◌, if◌then◌else◌, arith}
+use Rattle.std.proofs.Common.{◌≡◌, ℕ, ◌==◌, ◌&&◌, ◌||◌, Bool, true, false, not, List, [], ◌∷◌, Option, Some, None, refl, sym, ap, subst, ◌∙◌, arith}
 use Rattle.std.proofs.lemmas.Bool.Decides.{nat_tests}
 use Rattle.std.specs.Prelude.{is_some, slice_get, length}
 use Rattle.std.specs.List.{find}
@@ -35,7 +35,7 @@ use Rattle.qs_laws.proofs.Ready.{served_standing}
 use Rattle.qs_laws.proofs.Requests.{request_exact, IsStanding, put_stands, issue_stands, mark_stands, crossing}
 use Rattle.qs_laws.proofs.Steps.{stepped}
 use Rattle.qs_laws.proofs.Takes.{some_same}
-use Rattle.qs_laws.proofs.Turns.{Stands, Same, Gives, GivesFor, Survives, Obliged, step_turns}
+use Rattle.qs_laws.proofs.Turns.{Stands, Gives, GivesFor, Obliged, step_turns}
 
 equal : (n : ℕ) → (n == n) ≡ true
 equal n = grind (arith, nat_tests)
@@ -171,7 +171,6 @@ module _ (tid : Tid) (member : Member) (from : NodeNo) (number : ℕ) where
 known_issue : (here : ℕ) (node : NodeValue) (nodes : ℕ) (tid : Tid) (o : Option TransactionValue) (issuer member : Member) (n : ℕ) (op : Op) → broken_issue here node nodes tid o issuer member n op ≡ None → (tx : TransactionValue) × (o ≡ Some tx)
 known_issue here node nodes tid None issuer member n op h = absurd (cc h)
 known_issue here node nodes tid (Some tx) issuer member n op h = (tx, refl)
-
 
 -- after it the request stands
 stands_after : (book : BookValue) (entry : Entry) (tid : Tid) (issuer member : Member) (number : ℕ) (op : Op) → Inv book → broken book entry ≡ None → entry.act ≡ acts.Issue tid issuer member number op

@@ -1,5 +1,5 @@
 -- What a run opens with from coherent logs is sound: begun before, and nothing pending under a Commit.
-use Rattle.std.proofs.Common.{◌≡◌, ℕ, zero, suc, ◌<◌, ◌≤◌, ◌&&◌, ◌||◌, Bool, true, false, not, List, [], ◌∷◌, ◌++◌, Option, Some, None, refl, sym, ap, subst, ◌∙◌, if◌then◌else◌, arith}
+use Rattle.std.proofs.Common.{◌≡◌, ℕ, zero, suc, ◌<◌, ◌||◌, Bool, true, false, List, [], ◌∷◌, Option, Some, None, refl, sym, ap, subst, ◌∙◌, if◌then◌else◌, arith}
 use Rattle.std.proofs.lemmas.Bool.Decides.{nat_tests}
 use Rattle.std.proofs.lemmas.List.Elements.{All-nil, All-cons}
 use Rattle.std.specs.Prelude.{slice_get, flat_map, nat_le}
@@ -12,10 +12,9 @@ use Rattle.qs_record.specs.declared.record.Record.TheVariants.{Prepare, Commit, 
 use Rattle.qs_machine.specs.Restart.{is_among}
 use Rattle.qs_machine.specs.declared.opened.Opened.{Opened}
 use Rattle.qs_machine.specs.declared.opened.Pending.{Pending}
-use Rattle.qs_laws.specs.Coherence.{LogValue, tid_of, is_ended, is_commit_of, at_home, is_begun, commit_tids, is_vote_of, pending_from, Opens, AreOpened, AreCoherent}
+use Rattle.qs_laws.specs.Coherence.{LogValue, tid_of, is_ended, is_commit_of, is_begun, commit_tids, is_vote_of, pending_from, Opens, AreOpened, AreCoherent}
 use Rattle.qs_laws.specs.Laws.{IsEarlier, IsVoteEarlier, HasNoCommit, IsSound, IsCoherent}
 use Rattle.qs_laws.proofs.Holding.{left_of, right_of, clash}
-use Rattle.qs_laws.proofs.Takes.{some_same}
 
 module _ (logs : List LogValue) (opened : List Opened) (coherent : AreCoherent logs) (opens : AreOpened logs opened) where
   rises : (a b c : ℕ) → nat_le a b ≡ true → b < c → a < c

@@ -12,7 +12,7 @@ use Rattle.qs_journal.specs.declared.entry.Act.TheVariants.{Begin, Issue, Serve,
 use Rattle.qs_journal.specs.declared.entry.Act.TheVariants as acts
 use Rattle.qs_journal.specs.declared.entry.Entry.{Entry}
 use Rattle.qs_machine.specs.Transaction.{TransactionValue, asked_at, voted, learnt}
-use Rattle.qs_machine.specs.Book.{BookValue, find_transaction, with_node, with_transaction, begin, vote, vote_node, crossed_in, learn, learn_node, doubts_after, inc_at}
+use Rattle.qs_machine.specs.Book.{BookValue, find_transaction, with_node, with_transaction, begin, vote, learn, learn_node, doubts_after, inc_at}
 use Rattle.qs_machine.specs.Clauses.{broken_ask, may_ask, broken_vote, broken_learn}
 use Rattle.qs_machine.specs.Lawful.{is_in_order, broken_act, broken_node, broken_at, broken, effect_act, effect, IsLawful, book_after}
 use Rattle.qs_machine.specs.Nodes.{NodeValue, pending_at}

@@ -19,7 +19,7 @@ use Rattle.qs_ops.specs.Members.{class_of}
 use Rattle.qs_machine.specs.Transaction.{TransactionValue, changed_value, life, life_cmp, no_part, voted, is_unanimous, agrees, agrees_in, is_empty}
 use Rattle.qs_machine.specs.declared.transaction.Life.{Life}
 use Rattle.qs_machine.specs.declared.transaction.Part.{Part}
-use Rattle.qs_machine.specs.Book.{BookValue, find_transaction, changed_at, crossed_in, vote_node}
+use Rattle.qs_machine.specs.Book.{BookValue, find_transaction, changed_at}
 use Rattle.qs_machine.specs.Clauses.{broken_decide, broken_outcome, may_decide}
 use Rattle.qs_machine.specs.Lawful.{broken_act, broken, effect_act, effect, IsLawful, book_after}
 use Rattle.qs_machine.specs.Nodes.{NodeValue, pending_at, record_of, changes_of, voter, voter_cmp}

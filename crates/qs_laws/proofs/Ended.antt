@@ -12,15 +12,15 @@ use Rattle.qs_journal.specs.declared.entry.Act.{Act}
 use Rattle.qs_journal.specs.declared.entry.Act.TheVariants.{Begin, Issue, Serve, Ask, Counted, Decide, Ending, Learn, Answer, Loan, Yield, Tick, Crash, Restart}
 use Rattle.qs_journal.specs.declared.entry.Act.TheVariants as acts
 use Rattle.qs_journal.specs.declared.entry.Entry.{Entry}
-use Rattle.qs_machine.specs.Transaction.{TransactionValue, part_of, borrower, serving_part, voted_part, learnt_part, ended_part, made_part, yielded_part}
+use Rattle.qs_machine.specs.Transaction.{TransactionValue, borrower, serving_part, voted_part, learnt_part, ended_part, made_part, yielded_part}
 use Rattle.qs_machine.specs.declared.transaction.Part.{Part}
 use Rattle.qs_machine.specs.Book.{BookValue, find_transaction, inc_at, is_done}
 use Rattle.qs_machine.specs.Clauses.{borrower_at, broken_ending, may_end, is_immediate}
-use Rattle.qs_machine.specs.Lawful.{is_in_order, broken_act, broken_node, broken_at, broken, effect, IsLawful, book_after}
+use Rattle.qs_machine.specs.Lawful.{is_in_order, broken_act, broken_at, broken, effect, IsLawful, book_after}
 use Rattle.qs_machine.specs.Nodes.{NodeValue}
-use Rattle.qs_laws.specs.Lives.{is_restart, restarts}
+use Rattle.qs_laws.specs.Lives.{restarts}
 use Rattle.qs_laws.proofs.Begun.{inc_in}
-use Rattle.qs_laws.proofs.Holding.{left_of, right_of, same_number, clash, serve_here, vote_here, learn_here}
+use Rattle.qs_laws.proofs.Holding.{left_of, right_of, same_number, serve_here, vote_here, learn_here}
 use Rattle.qs_laws.proofs.Lives.{same_life, inc_is, Reborn, reborn, Restarting, restarting, step_part, none_born, later_born}
 use Rattle.qs_laws.proofs.Outcomes.{Inv}
 use Rattle.qs_laws.proofs.Parts.{IsPart, is_own, part_for, part_after, starts_life}

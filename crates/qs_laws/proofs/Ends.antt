@@ -13,7 +13,7 @@ use Rattle.qs_journal.specs.declared.entry.Act.TheVariants as acts
 use Rattle.qs_journal.specs.declared.entry.Entry.{Entry}
 use Rattle.qs_ops.specs.Table.{TableValue, share_of, has_changes}
 use Rattle.qs_machine.specs.Transaction.{TransactionValue, part_of, is_crossed}
-use Rattle.qs_machine.specs.Book.{BookValue, find_transaction, changed_at, crossed_in, vote_node, learn_node, doubts_after}
+use Rattle.qs_machine.specs.Book.{BookValue, find_transaction, changed_at, crossed_in, learn_node, doubts_after}
 use Rattle.qs_machine.specs.Clauses.{broken_vote, is_vote_due, is_vote, is_server_vote}
 use Rattle.qs_machine.specs.Transaction.{is_covering}
 use Rattle.qs_machine.specs.Lawful.{is_in_order, broken_act, broken_node, broken_at, broken, effect_act, effect}

@@ -1,9 +1,8 @@
 -- Once a member has learnt an outcome, nothing of the transaction is served at its node in that life.
-use Rattle.std.proofs.Common.{◌≡◌, ◌⊎◌, inl, inr, ℕ, ◌==◌, ◌&&◌, ◌||◌, Bool, true, false, not, List, [], ◌∷◌, ◌++◌, Option, Some, None, refl, sym, ap, subst, ◌∙◌, if◌then◌else◌, arith}
+use Rattle.std.proofs.Common.{◌≡◌, ◌⊎◌, inl, inr, ℕ, ◌==◌, ◌&&◌, ◌||◌, Bool, true, false, List, [], ◌∷◌, ◌++◌, Option, Some, None, refl, sym, ap, subst, ◌∙◌, if◌then◌else◌, arith}
 use Rattle.std.proofs.lemmas.Bool.Decides.{nat_tests}
 use Rattle.std.specs.Prelude.{slice_get}
 use Rattle.std.specs.List.{list_any}
-use Rattle.qs_base.specs.Order.{same_tid, same_member}
 use Rattle.qs_base.specs.declared.identifiers.Class.{Class}
 use Rattle.qs_base.specs.declared.identifiers.Class.TheVariants as classes
 use Rattle.qs_base.specs.declared.identifiers.Member.{Member}
@@ -20,7 +19,7 @@ use Rattle.qs_journal.specs.declared.entry.Act.{Act}
 use Rattle.qs_journal.specs.declared.entry.Act.TheVariants.{Serve, Ending, Learn, Loan, Yield}
 use Rattle.qs_journal.specs.declared.entry.Act.TheVariants as acts
 use Rattle.qs_journal.specs.declared.entry.Entry.{Entry}
-use Rattle.qs_machine.specs.Transaction.{TransactionValue, part_of, learnt_abort, is_outcome, cell_of, serving_part, voted_part, learnt_part}
+use Rattle.qs_machine.specs.Transaction.{TransactionValue, part_of, learnt_abort, cell_of, serving_part, voted_part, learnt_part}
 use Rattle.qs_machine.specs.declared.transaction.Cell.TheVariants as cells
 use Rattle.qs_machine.specs.declared.transaction.Part.{Part}
 use Rattle.qs_machine.specs.declared.transaction.Request.{Request}
@@ -37,12 +36,12 @@ use Rattle.qs_laws.proofs.Begun.{inc_in}
 use Rattle.qs_laws.proofs.Committed.{step_takes, ran_shut}
 use Rattle.qs_laws.proofs.Ends.{lawful_node}
 use Rattle.qs_laws.proofs.Histories.{stays, learns_cell}
-use Rattle.qs_laws.proofs.Holding.{clash, same_number, serve_here, learn_here}
+use Rattle.qs_laws.proofs.Holding.{same_number, serve_here, learn_here}
 use Rattle.qs_laws.proofs.Lives.{same_life, inc_of_node, none_born, step_part}
 use Rattle.qs_laws.proofs.Openings.{opening_holds}
 use Rattle.qs_laws.proofs.Outcomes.{Inv, Moves}
 use Rattle.qs_laws.proofs.Parts.{IsPart, is_own, part_for, part_after, starts_life}
-use Rattle.qs_laws.proofs.Ready.{Ready, no_serve}
+use Rattle.qs_laws.proofs.Ready.{no_serve}
 use Rattle.qs_laws.proofs.ReadyCommits.{ReadyOnce, step_once, ready_once}
 use Rattle.qs_laws.proofs.Serves.{inc_there}
 use Rattle.qs_laws.proofs.Shut.{Shut}
@@ -50,7 +49,6 @@ use Rattle.qs_laws.proofs.ShutOpenings.{opening_shut}
 use Rattle.qs_laws.proofs.Steps.{past, stepped, ran, lawful_front, lawful_rest}
 use Rattle.qs_laws.proofs.Takes.{some_same}
 use Rattle.qs_laws.proofs.Turns.{Stands}
-use Rattle.qs_laws.proofs.Voting.{known_serve}
 
 -- ---- a member that learnt abort has done so for good
 

@@ -1,6 +1,6 @@
 -- A transaction that stands in the book stays there, and one that is crossed at a member stays so.
 use Rattle.std.proofs.Common.{◌≡◌, ℕ, Bool, true, false, List, [], ◌∷◌, Option, Some, None, inl, inr, refl, sym, ap, subst, ◌∙◌, fold, if◌then◌else◌}
-use Rattle.std.specs.Prelude.{slice_get, is_some, length}
+use Rattle.std.specs.Prelude.{slice_get, is_some}
 use Rattle.std.specs.Option.{option_map}
 use Rattle.std.specs.Map.{lookup, set_value}
 use Rattle.std.specs.BTreeMap.{insert_entry, is_at}
@@ -26,7 +26,7 @@ use Rattle.qs_machine.specs.Book.{BookValue, find_transaction, crossed_in, with_
 use Rattle.qs_machine.specs.Clauses.{link_to, borrower_at}
 use Rattle.qs_machine.specs.Lawful.{is_in_order, broken_act, broken_node, broken_at, broken, effect_act, effect}
 use Rattle.qs_machine.specs.Nodes.{NodeValue}
-use Rattle.qs_machine.specs.Restart.{restart, put_new_votes, changes_at, up_to, begun_at, abort_begun, vote_found, commit_found, learn_found, decide_found, is_among, is_open_here, begun_tid, record_at, member_at, count_of as pending_of}
+use Rattle.qs_machine.specs.Restart.{restart, put_new_votes, up_to, begun_at, abort_begun, vote_found, commit_found, learn_found, decide_found, is_among, is_open_here, begun_tid, record_at, member_at, count_of as pending_of}
 use Rattle.qs_machine.specs.declared.state.Asking.{Asking}
 use Rattle.qs_machine.specs.declared.state.Owner.{Owner}
 use Rattle.qs_laws.specs.Served.{crossed_at}

@@ -11,7 +11,7 @@ use Rattle.qs_journal.specs.declared.entry.Act.TheVariants.{Begin, Issue, Serve,
 use Rattle.qs_journal.specs.declared.entry.Act.TheVariants as acts
 use Rattle.qs_journal.specs.declared.entry.Entry.{Entry}
 use Rattle.qs_machine.specs.Transaction.{issued}
-use Rattle.qs_machine.specs.Book.{BookValue, find_transaction, changed_at, with_owner, with_transaction, with_waiting, with_crossing, crosses, hear, waiting_of, inc_at, crossed_in, serve_node, vote_node, learn_node, doubts_after, end_node, tick_node, crash_node}
+use Rattle.qs_machine.specs.Book.{BookValue, find_transaction, changed_at, with_owner, with_transaction, with_waiting, with_crossing, crosses, hear, waiting_of, inc_at, serve_node, learn_node, doubts_after, end_node, tick_node, crash_node}
 use Rattle.qs_machine.specs.Clauses.{link_to, borrower_at}
 use Rattle.qs_machine.specs.Lawful.{effect_act, effect, book_after}
 use Rattle.qs_machine.specs.Nodes.{NodeValue, crossed_node}

@@ -22,7 +22,7 @@ use Rattle.qs_journal.specs.declared.entry.Act.TheVariants as acts
 use Rattle.qs_journal.specs.declared.entry.Found.{Found}
 use Rattle.qs_machine.specs.Transaction.{TransactionValue, begun, issued, asked_at, counted, ended, ended_part, learnt, voted, served_in, life, life_cmp}
 use Rattle.qs_machine.specs.declared.transaction.Request.{Request}
-use Rattle.qs_machine.specs.Book.{BookValue, find_transaction, changed_at, with_node, with_owner, with_transaction, with_waiting, crosses, begin, issue, serve, vote, vote_node, crossed_in, learn, learn_node, doubts_after, answer, waiting_of, inc_at, is_done, ticks_at, end, count, loan, give_back, tick_node, crash_node}
+use Rattle.qs_machine.specs.Book.{BookValue, find_transaction, changed_at, with_node, with_owner, with_transaction, with_waiting, crosses, begin, issue, serve, vote, crossed_in, learn, learn_node, doubts_after, answer, waiting_of, inc_at, is_done, ticks_at, end, count, loan, give_back, tick_node, crash_node}
 use Rattle.qs_machine.specs.Clauses.{link_to, borrower_at, broken_vote, broken_learn}
 use Rattle.qs_journal.specs.declared.entry.Entry.{Entry}
 use Rattle.qs_ops.specs.Table.{TableValue, committed}

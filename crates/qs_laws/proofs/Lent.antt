@@ -1,9 +1,8 @@
 -- In each life of its node, as many loans were made to a client as it was asked to take, and as many given back, where in the
 -- end all members agree.
-use Rattle.std.proofs.Common.{◌≡◌, ℕ, ◌+◌, ◌<◌, ◌==◌, ◌&&◌, ◌||◌, Bool, true, false, not, List, [], ◌∷◌, Option, Some, None, refl, sym, ap, subst, ◌∙◌, if◌then◌else◌, arith}
+use Rattle.std.proofs.Common.{◌≡◌, ℕ, ◌+◌, ◌==◌, ◌&&◌, Bool, true, false, Option, Some, None, refl, sym, ap, ◌∙◌, if◌then◌else◌, arith}
 use Rattle.std.proofs.lemmas.Bool.Decides.{nat_tests}
 use Rattle.std.specs.Prelude.{slice_get, nat_lt, is_some}
-use Rattle.std.specs.List.{list_all}
 use Rattle.qs_base.specs.Order.{same_tid, same_member}
 use Rattle.qs_base.specs.declared.identifiers.Class.{Class}
 use Rattle.qs_base.specs.declared.identifiers.Class.TheVariants as classes
@@ -21,26 +20,19 @@ use Rattle.qs_journal.specs.declared.entry.Act.{Act}
 use Rattle.qs_journal.specs.declared.entry.Act.TheVariants.{Begin, Issue, Serve, Ask, Counted, Decide, Ending, Learn, Answer, Loan, Yield, Tick, Crash, Restart}
 use Rattle.qs_journal.specs.declared.entry.Act.TheVariants as acts
 use Rattle.qs_journal.specs.declared.entry.Entry.{Entry}
-use Rattle.qs_machine.specs.Transaction.{TransactionValue, part_of, agrees, borrower, serving_part, voted_part, learnt_part, made_part, yielded_part, found_part}
+use Rattle.qs_machine.specs.Transaction.{TransactionValue, borrower, serving_part, voted_part, learnt_part, made_part, yielded_part}
 use Rattle.qs_machine.specs.declared.transaction.Part.{Part}
 use Rattle.qs_machine.specs.Book.{BookValue, find_transaction, inc_at, is_done}
 use Rattle.qs_machine.specs.Clauses.{borrower_at, broken_serve, broken_loan, may_lend, broken_yield, may_yield}
-use Rattle.qs_machine.specs.Lawful.{is_in_order, broken_act, broken_node, broken_at, broken, effect, IsLawful, book_after}
+use Rattle.qs_machine.specs.Lawful.{is_in_order, broken_act, broken_at, broken}
 use Rattle.qs_machine.specs.Nodes.{NodeValue}
-use Rattle.qs_laws.specs.Lives.{restarts}
 use Rattle.qs_laws.specs.Served.{is_share}
-use Rattle.qs_laws.specs.Unanimity.{Loans, no_loans, loans_after, are_even, are_returned}
-use Rattle.qs_laws.proofs.Always.{IsSo, so_of, step_so}
+use Rattle.qs_laws.specs.Unanimity.{Loans, loans_after}
 use Rattle.qs_laws.proofs.Begun.{inc_in}
-use Rattle.qs_laws.proofs.Ended.{member_of, acts_here, borrower_here, unchanged, ended_last}
-use Rattle.qs_laws.proofs.Holding.{left_of, right_of, same_number, clash}
-use Rattle.qs_laws.proofs.Lives.{same_life, inc_is, Reborn, reborn, Restarting, restarting, step_part, none_born, later_born, left_survives, OfPart}
-use Rattle.qs_laws.proofs.Outcomes.{Inv}
-use Rattle.qs_laws.proofs.Parts.{IsPart, is_own, part_for, part_after, starts_life}
-use Rattle.qs_laws.proofs.Steps.{held, stepped}
-use Rattle.qs_laws.proofs.Takes.{some_same}
-use Rattle.qs_laws.proofs.Turns.{Stands, Obliged, step_turns}
-use Rattle.qs_laws.proofs.Voted.{agreed}
+use Rattle.qs_laws.proofs.Ended.{member_of, acts_here}
+use Rattle.qs_laws.proofs.Lives.{inc_is}
+use Rattle.qs_laws.proofs.Parts.{is_own, part_for, part_after}
+use Rattle.qs_laws.proofs.Steps.{held}
 
 -- what a part says of loans
 abbrev pub loans_of : Part → Loans

@@ -66,3 +66,7 @@ pub mod Coherent
 pub mod Unanswered
 pub mod Waiting
 pub mod Reaching
+pub mod Pace
+pub mod Paces
+pub mod Gone
+pub mod StoodOpen

@@ -1,13 +1,12 @@
 -- What an entry leaves of the part of a member in one life of its node, and that a life which has ended is over.
-use Rattle.std.proofs.Common.{◌≡◌, ℕ, ◌<◌, ◌==◌, ◌&&◌, Bool, true, false, List, [], ◌∷◌, Option, Some, None, refl, sym, ap, subst, ◌∙◌, if◌then◌else◌, arith}
+use Rattle.std.proofs.Common.{◌≡◌, ℕ, ◌<◌, ◌==◌, ◌&&◌, Bool, true, false, List, Option, Some, None, refl, sym, ap, subst, ◌∙◌, if◌then◌else◌, arith}
 use Rattle.std.proofs.lemmas.Bool.Decides.{nat_tests}
 use Rattle.std.specs.Prelude.{slice_get, nat_lt}
 use Rattle.std.specs.Option.{option_map}
-use Rattle.qs_base.specs.Order.{same_tid, same_member}
+use Rattle.qs_base.specs.Order.{same_member}
 use Rattle.qs_base.specs.declared.identifiers.Member.{Member}
 use Rattle.qs_base.specs.declared.identifiers.NodeNo.{NodeNo}
 use Rattle.qs_base.specs.declared.identifiers.Tid.{Tid}
-use Rattle.qs_base.proofs.Same.{same_member-true}
 use Rattle.qs_journal.specs.declared.entry.Act.{Act}
 use Rattle.qs_journal.specs.declared.entry.Act.TheVariants.{Begin, Issue, Serve, Ask, Counted, Decide, Ending, Learn, Answer, Loan, Yield, Tick, Crash, Restart}
 use Rattle.qs_journal.specs.declared.entry.Act.TheVariants as acts
@@ -16,20 +15,18 @@ use Rattle.qs_journal.specs.declared.entry.Found.{Found}
 use Rattle.qs_machine.specs.Transaction.{TransactionValue, part_of, found_part, found_at}
 use Rattle.qs_machine.specs.declared.transaction.Part.{Part}
 use Rattle.qs_machine.specs.Book.{BookValue, inc_at}
-use Rattle.qs_machine.specs.Clauses.{borrower_at}
-use Rattle.qs_machine.specs.Lawful.{is_in_order, broken_act, broken_node, broken_at, broken, effect_act, effect, IsLawful, book_after}
+use Rattle.qs_machine.specs.Lawful.{is_in_order, broken_act, broken_at, broken, effect}
 use Rattle.qs_machine.specs.Nodes.{NodeValue}
-use Rattle.qs_machine.specs.Restart.{broken_restart, member_at, restart, reopened, restarted_node, put_new_votes, with_votes, new_votes}
+use Rattle.qs_machine.specs.Restart.{broken_restart, member_at, reopened, restarted_node, put_new_votes, with_votes, new_votes}
 use Rattle.qs_laws.specs.Lives.{is_restart, restarts}
 use Rattle.qs_laws.proofs.Again.{restart_node, reopened_there, effect_nodes}
 use Rattle.qs_laws.proofs.Begun.{inc_in, restarts_at, step_incs}
 use Rattle.qs_laws.proofs.Faces.{Age, age}
-use Rattle.qs_laws.proofs.Holding.{left_of, right_of, same_number, clash, serve_here, vote_here, learn_here}
+use Rattle.qs_laws.proofs.Holding.{left_of, right_of, same_number}
 use Rattle.qs_laws.proofs.Outcomes.{Inv}
-use Rattle.qs_laws.proofs.Parts.{IsPart, is_own, part_for, part_after, starts_life, put_part, owes}
-use Rattle.qs_laws.proofs.Serves.{inc_there}
-use Rattle.qs_laws.proofs.Steps.{held, passed, unheld, stepped}
-use Rattle.qs_laws.proofs.Turns.{Stands, Same, Survives, Obliged, step_turns, stands_by}
+use Rattle.qs_laws.proofs.Parts.{IsPart, part_after, starts_life, put_part, owes}
+use Rattle.qs_laws.proofs.Steps.{held, passed}
+use Rattle.qs_laws.proofs.Turns.{Stands, Survives, Obliged, step_turns}
 
 -- ---- incarnations
 

@@ -116,7 +116,7 @@ first_book opened = record {
 pub opening_names : (opened : List Opened) → IsCoherent opened → Names opened (first_book opened) (opening opened)
 opening_names opened coherent = logs_name opened 0 opened (first_book opened) coherent (λ tid seen h. absurd (cc h))
 
-same_of : (n i : ℕ) (x t : Owner) → slice_get (replicate n x) i ≡ Some t → t ≡ x
+pub same_of : (n i : ℕ) (x t : Owner) → slice_get (replicate n x) i ≡ Some t → t ≡ x
 same_of zero i x t h = absurd (cc h)
 same_of (suc n) zero x t h = cc h
 same_of (suc n) (suc i) x t h = same_of n i x t h

@@ -1,5 +1,5 @@
 -- A vote against commit is never forgotten, and commit is asked for by an entry alone.
-use Rattle.std.proofs.Common.{◌≡◌, ℕ, ◌&&◌, ◌||◌, Bool, true, false, not, List, [], ◌∷◌, ◌++◌, Option, Some, None, refl, sym, ap, subst, ◌∙◌}
+use Rattle.std.proofs.Common.{◌≡◌, ℕ, ◌||◌, Bool, true, false, List, [], ◌∷◌, ◌++◌, Option, Some, None, refl, sym, ap, subst, ◌∙◌}
 use Rattle.std.specs.Prelude.{is_some, slice_get}
 use Rattle.qs_base.specs.Order.{same_tid}
 use Rattle.qs_base.specs.declared.identifiers.Member.{Member}
@@ -26,7 +26,7 @@ use Rattle.qs_laws.proofs.Holding.{left_of, right_of, clash}
 use Rattle.qs_laws.proofs.Outcomes.{Inv}
 use Rattle.qs_laws.proofs.Steps.{stepped}
 use Rattle.qs_laws.proofs.Takes.{some_same}
-use Rattle.qs_laws.proofs.Turns.{Stands, Same, Gives, GivesFor, Survives, Obliged, step_turns}
+use Rattle.qs_laws.proofs.Turns.{Stands, Same, Gives, GivesFor, Obliged, step_turns}
 
 -- the first of a choice was not taken
 neither : (a b : Bool) → (a || b) ≡ false → (a ≡ false) × (b ≡ false)

@@ -1,7 +1,7 @@
 -- Members of a node learn in order: once windows or scratch have learnt, no member that comes before them learns in that life.
 use Rattle.std.proofs.Common.{◌≡◌, ◌⊎◌, inl, inr, ℕ, ◌==◌, ◌&&◌, ◌||◌, Bool, true, false, not, List, [], ◌∷◌, ◌++◌, Option, Some, None, refl, sym, ap, subst, ◌∙◌, if◌then◌else◌, arith}
 use Rattle.std.proofs.lemmas.Bool.Decides.{nat_tests}
-use Rattle.std.specs.Prelude.{slice_get, nat_lt, is_some}
+use Rattle.std.specs.Prelude.{slice_get, nat_lt}
 use Rattle.std.specs.List.{list_any}
 use Rattle.qs_base.specs.Order.{same_tid, same_member}
 use Rattle.qs_base.specs.declared.identifiers.Class.{Class}
@@ -12,7 +12,7 @@ use Rattle.qs_base.specs.declared.identifiers.Outcome.{Outcome}
 use Rattle.qs_base.specs.declared.identifiers.Outcome.TheVariants as outcomes
 use Rattle.qs_base.specs.declared.identifiers.Tid.{Tid}
 use Rattle.qs_base.proofs.Same.{same_tid-true, same_member-true}
-use Rattle.qs_ops.specs.Members.{class_of, is_two_phase, learns_outcome}
+use Rattle.qs_ops.specs.Members.{class_of, learns_outcome}
 use Rattle.qs_ops.specs.Servers.{files_no, audit_no, names_no, windows_no, scratch_no, extra_no}
 use Rattle.qs_ops.specs.declared.reply.Reply.{Reply}
 use Rattle.qs_ops.specs.declared.vote.Vote.{Vote}
@@ -21,7 +21,7 @@ use Rattle.qs_journal.specs.declared.entry.Act.{Act}
 use Rattle.qs_journal.specs.declared.entry.Act.TheVariants.{Serve, Ending, Learn, Loan, Yield}
 use Rattle.qs_journal.specs.declared.entry.Act.TheVariants as acts
 use Rattle.qs_journal.specs.declared.entry.Entry.{Entry}
-use Rattle.qs_machine.specs.Transaction.{TransactionValue, part_of, is_let_go, may_learn_still, is_outcome, serving_part, voted_part, learnt_part}
+use Rattle.qs_machine.specs.Transaction.{TransactionValue, part_of, is_let_go, may_learn_still, serving_part, voted_part, learnt_part}
 use Rattle.qs_machine.specs.declared.transaction.Part.{Part}
 use Rattle.qs_machine.specs.Book.{BookValue, find_transaction, inc_at, is_done}
 use Rattle.qs_machine.specs.Clauses.{borrower_at, broken_vote, is_vote_due, broken_learn, may_learn, waits_for, earlier_servers}
@@ -36,9 +36,9 @@ use Rattle.qs_laws.proofs.Begun.{inc_in}
 use Rattle.qs_laws.proofs.Ends.{lawful_node}
 use Rattle.qs_laws.proofs.Final as final
 use Rattle.qs_laws.proofs.Final.{IsOver, still_over, over_on, nothing_served}
-use Rattle.qs_laws.proofs.Holding.{left_of, right_of, clash, same_number, vote_here, learn_here}
+use Rattle.qs_laws.proofs.Holding.{left_of, right_of, clash, same_number, learn_here}
 use Rattle.qs_laws.proofs.Lives.{inc_of_node, none_born, step_part}
-use Rattle.qs_laws.proofs.Parts.{IsPart, is_own, part_for, part_after}
+use Rattle.qs_laws.proofs.Parts.{is_own, part_for, part_after}
 use Rattle.qs_laws.proofs.Serves.{inc_there}
 use Rattle.qs_laws.proofs.Steps.{passed, past, lawful_front, lawful_rest}
 use Rattle.qs_laws.proofs.Takes.{some_same}

@@ -1,8 +1,8 @@
 -- What an entry does to the part of a member in an incarnation of its node: what the act says, where it is one of that member
 -- in that incarnation, and nothing else.
-use Rattle.std.proofs.Common.{◌≡◌, ℕ, ◌+◌, ◌==◌, ◌&&◌, Bool, true, false, List, [], ◌∷◌, Option, Some, None, refl, sym, ap, subst, ◌∙◌, if◌then◌else◌, arith}
+use Rattle.std.proofs.Common.{◌≡◌, ℕ, ◌==◌, ◌&&◌, Bool, true, false, List, Option, Some, None, refl, sym, ap, subst, ◌∙◌, if◌then◌else◌, arith}
 use Rattle.std.proofs.lemmas.Bool.Decides.{nat_tests}
-use Rattle.std.specs.Prelude.{is_some, slice_get, unwrap_or, nat_lt}
+use Rattle.std.specs.Prelude.{slice_get, unwrap_or, nat_lt}
 use Rattle.std.specs.Map.{lookup}
 use Rattle.std.specs.BTreeMap.{insert_entry, is_at}
 use Rattle.qs_base.specs.Order.{same_tid, same_member}
@@ -12,29 +12,24 @@ use Rattle.qs_base.specs.declared.identifiers.Outcome.{Outcome}
 use Rattle.qs_base.specs.declared.identifiers.Outcome.TheVariants as outcomes
 use Rattle.qs_base.specs.declared.identifiers.Tid.{Tid}
 use Rattle.qs_base.proofs.Same.{same_tid-true, same_member-true, same_member-self}
-use Rattle.qs_ops.specs.Members.{class_of, is_two_phase, learns_outcome}
+use Rattle.qs_ops.specs.Members.{class_of}
 use Rattle.qs_ops.specs.declared.vote.Vote.{Vote}
 use Rattle.qs_journal.specs.declared.entry.Act.{Act}
 use Rattle.qs_journal.specs.declared.entry.Act.TheVariants.{Begin, Issue, Serve, Ask, Counted, Decide, Ending, Learn, Answer, Loan, Yield, Tick, Crash, Restart}
 use Rattle.qs_journal.specs.declared.entry.Act.TheVariants as acts
-use Rattle.qs_journal.specs.declared.entry.Entry.{Entry}
-use Rattle.qs_machine.specs.Transaction.{TransactionValue, changed_value, part_of, no_part, life, life_cmp, is_commit, is_abort, is_outcome, serving_part, voted_part, learnt, learnt_part, ended_part, made_part, yielded_part, found_at, found_part, has_loan, is_loan_due, with_learnt, lent, given_back}
+use Rattle.qs_machine.specs.Transaction.{TransactionValue, changed_value, part_of, no_part, life, life_cmp, serving_part, voted_part, learnt, learnt_part, ended_part, made_part, yielded_part, has_loan, is_loan_due, lent, given_back}
 use Rattle.qs_machine.specs.declared.transaction.Life.{Life}
 use Rattle.qs_machine.specs.declared.transaction.Part.{Part}
-use Rattle.qs_machine.specs.declared.transaction.RequestNo.{RequestNo}
 use Rattle.qs_machine.specs.Book.{BookValue, find_transaction, inc_at, is_done}
-use Rattle.qs_machine.specs.Clauses.{borrower_at, broken_vote, is_vote_due, broken_learn, may_learn, broken_ending, may_end, broken_loan, may_lend, broken_yield, may_yield, is_immediate}
-use Rattle.qs_machine.specs.Lawful.{broken_act, broken, effect}
+use Rattle.qs_machine.specs.Clauses.{borrower_at, broken_vote, is_vote_due, broken_learn, may_learn, broken_ending, may_end, broken_loan, may_lend, broken_yield, may_yield}
+use Rattle.qs_machine.specs.Lawful.{broken_act}
 use Rattle.qs_machine.specs.Nodes.{NodeValue}
-use Rattle.qs_machine.specs.Restart.{member_at}
 use Rattle.qs_laws.proofs.Counts.{life_equal, life_exact, life_itself, life_other, life_later}
-use Rattle.qs_laws.proofs.Ends.{lawful_node}
 use Rattle.qs_laws.proofs.Holding.{left_of, right_of, same_number, clash}
-use Rattle.qs_laws.proofs.Maps.{changed_apart, changed_none, lookup_changed, lookup_put, lookup_put_apart}
-use Rattle.qs_laws.proofs.Outcomes.{Inv}
+use Rattle.qs_laws.proofs.Maps.{changed_apart, lookup_changed, lookup_put, lookup_put_apart}
 use Rattle.qs_laws.proofs.Serves.{inc_there}
 use Rattle.qs_laws.proofs.Steps.{held, passed}
-use Rattle.qs_laws.proofs.Turns.{Stands, Same, Gives, GivesFor, Survives, Obliged, step_turns}
+use Rattle.qs_laws.proofs.Turns.{Same, Gives, GivesFor, Obliged}
 
 -- ---- one part of many
 

@@ -1,7 +1,7 @@
 -- What an issue, a count and an answer do to what is open towards a node, and to the last incarnation in which it was.
-use Rattle.std.proofs.Common.{◌≡◌, ℕ, ◌+◌, ◌-◌, ◌<◌, ◌≤◌, ◌==◌, ◌&&◌, ◌||◌, Bool, true, false, not, List, [], ◌∷◌, Option, Some, None, refl, sym, ap, subst, ◌∙◌, if◌then◌else◌, arith}
+use Rattle.std.proofs.Common.{◌≡◌, ℕ, ◌+◌, ◌==◌, ◌&&◌, ◌||◌, Bool, true, false, List, [], ◌∷◌, Option, Some, None, refl, sym, ap, subst, ◌∙◌, if◌then◌else◌, arith}
 use Rattle.std.proofs.lemmas.Bool.Decides.{nat_tests}
-use Rattle.std.specs.Prelude.{is_some, unwrap_or, nat_lt, cond}
+use Rattle.std.specs.Prelude.{is_some, nat_lt, cond}
 use Rattle.std.specs.List.{list_any}
 use Rattle.std.specs.Map.{lookup, set_value}
 use Rattle.std.specs.BTreeMap.{is_at, insert_entry}
@@ -10,15 +10,14 @@ use Rattle.std.specs.declared.cmp.Ordering.{Ordering}
 use Rattle.std.specs.declared.cmp.Ordering.TheVariants.{Less, Equal, Greater}
 use Rattle.std.proofs.lemmas.Map.Lookups.{exact_unsigned, exact_pairs}
 use Rattle.qs_base.specs.declared.identifiers.NodeNo.{NodeNo}
-use Rattle.qs_machine.specs.Transaction.{TransactionValue, changed_value, peer_of, no_peer, node_cmp, link_cmp, heard, heard_by, reached_by, is_by_client, is_by_files, is_open_link, is_open_to, reached, sent_more, no_sent, sent_on, issued, counted, with_counted, with_reached}
+use Rattle.qs_machine.specs.Transaction.{TransactionValue, changed_value, peer_of, node_cmp, link_cmp, heard, heard_by, reached_by, is_by_client, is_by_files, is_open_link, is_open_to, reached, sent_more, sent_on, issued, counted, with_counted, with_reached}
 use Rattle.qs_machine.specs.declared.transaction.Link.{Link}
 use Rattle.qs_machine.specs.declared.transaction.Peer.{Peer}
 use Rattle.qs_machine.specs.declared.transaction.Request.{Request}
 use Rattle.qs_machine.specs.declared.transaction.RequestNo.{RequestNo}
 use Rattle.qs_machine.specs.declared.transaction.Sent.{Sent}
-use Rattle.qs_laws.proofs.Holding.{clash, same_number}
 use Rattle.qs_laws.proofs.Takes.{some_same}
-use Rattle.qs_laws.proofs.Unanswered.{put_peer, change_peer, same_node}
+use Rattle.qs_laws.proofs.Unanswered.{put_peer, change_peer}
 
 -- ---- links
 

@@ -34,7 +34,7 @@ use Rattle.qs_machine.specs.Book.{BookValue, find_transaction, crossed_in, cell_
 use Rattle.qs_machine.specs.Clauses.{link_to, borrower_at, broken_issue, is_numbered, broken_issuer, broken_serve, broken_request, request_here, broken_vote, is_vote_due}
 use Rattle.qs_machine.specs.Lawful.{is_in_order, broken_act, broken_node, broken_at, broken, effect_act, effect}
 use Rattle.qs_machine.specs.Nodes.{NodeValue}
-use Rattle.qs_machine.specs.Restart.{is_among, member_at, record_at, changes_at, is_open_here, learn_found, decide_found, commit_found, vote_found, begun_tid, abort_begun, up_to, begun_at, put_new_votes, restart, count_of as pending_of}
+use Rattle.qs_machine.specs.Restart.{is_among, member_at, record_at, is_open_here, learn_found, decide_found, commit_found, vote_found, begun_tid, abort_begun, up_to, begun_at, put_new_votes, restart, count_of as pending_of}
 use Rattle.qs_machine.specs.declared.state.Owner.{Owner}
 use Rattle.qs_laws.specs.Laws.{IsCommitted}
 use Rattle.qs_laws.specs.Served.{crossed_at}

@@ -1,10 +1,9 @@
 -- Each committed transaction has all its requests served, and is crossed nowhere.
-use Rattle.std.proofs.Common.{◌≡◌, ℕ, Bool, true, false, List, [], ◌∷◌, Option, Some, None, refl, sym, ap, subst, ◌∙◌}
-use Rattle.std.specs.Prelude.{is_some}
+use Rattle.std.proofs.Common.{◌≡◌, List, [], ◌∷◌, Option, Some, None, refl, sym, ◌∙◌}
 use Rattle.qs_base.specs.declared.identifiers.Member.{Member}
 use Rattle.qs_base.specs.declared.identifiers.Tid.{Tid}
 use Rattle.qs_journal.specs.declared.entry.Entry.{Entry}
-use Rattle.qs_machine.specs.Transaction.{TransactionValue, is_crossed, all_served}
+use Rattle.qs_machine.specs.Transaction.{TransactionValue}
 use Rattle.qs_machine.specs.declared.transaction.Cell.{Cell}
 use Rattle.qs_machine.specs.declared.transaction.Cell.TheVariants as cells
 use Rattle.qs_machine.specs.Book.{BookValue, find_transaction, cell_of_transaction}
@@ -12,7 +11,7 @@ use Rattle.qs_machine.specs.Lawful.{broken, effect, IsLawful, book_after}
 use Rattle.qs_machine.specs.Opening.{opening}
 use Rattle.qs_machine.specs.declared.opened.Opened.{Opened}
 use Rattle.qs_laws.specs.Laws.{IsCoherent, IsDecided, IsCommitted}
-use Rattle.qs_laws.proofs.Always.{IsSo, unknown, opening_so}
+use Rattle.qs_laws.proofs.Always.{unknown, opening_so}
 use Rattle.qs_laws.proofs.Committed.{step_takes}
 use Rattle.qs_laws.proofs.Histories.{stays}
 use Rattle.qs_laws.proofs.Openings.{opening_holds}

@@ -1,9 +1,9 @@
 -- What a server holds after a restart, and after a tick, is what the machine has there.
-use Rattle.std.proofs.Common.{◌≡◌, ℕ, Bool, true, false, List, [], ◌∷◌, Option, Some, None, refl, sym, ap, subst, ◌∙◌, fold, if◌then◌else◌}
+use Rattle.std.proofs.Common.{◌≡◌, ℕ, Bool, true, false, List, [], ◌∷◌, Some, None, refl, sym, ap, subst, ◌∙◌, fold, if◌then◌else◌}
 use Rattle.std.specs.Prelude.{slice_get}
 use Rattle.qs_base.specs.declared.identifiers.Tid.{Tid}
 use Rattle.qs_ops.specs.Server.{ServerValue, is_logged, cleared}
-use Rattle.qs_ops.specs.Table.{TableValue, applied, kept, restarted}
+use Rattle.qs_ops.specs.Table.{TableValue, kept, restarted}
 use Rattle.qs_ops.specs.Timers.{TimersValue, ticked}
 use Rattle.qs_ops.specs.declared.share.Kept.{Kept}
 use Rattle.qs_ops.specs.declared.server.Kind.{Kind}

@@ -1,7 +1,7 @@
 -- What a restart does to the committed files and notes of its node.
 use Rattle.std.proofs.Common.{◌≡◌, ◌⊎◌, ℕ, [], ◌∷◌, ◌++◌, true, false, Bool, ◌&&◌, not, if◌then◌else◌, List, Option, Some, None, fold, inl, inr, refl, sym, ap, subst, ◌∙◌}
 use Rattle.std.proofs.lemmas.List.Elements.{All-cons, All-nil}
-use Rattle.std.specs.Prelude.{slice_get, is_some, flat_map, length, nat_lt}
+use Rattle.std.specs.Prelude.{slice_get, is_some, flat_map, nat_lt}
 use Rattle.std.specs.List.{All, AllByRecursion, list_all}
 use Rattle.std.specs.Option.{option_map}
 use Rattle.std.specs.BTreeMap.{is_at}

@@ -1,8 +1,7 @@
 -- A request that stands is served, before another of its number is issued, where in the end all are served and none crossed.
-use Rattle.std.proofs.Common.{◌≡◌, ℕ, ◌==◌, ◌&&◌, ◌||◌, Bool, true, false, not, List, [], ◌∷◌, ◌++◌, Option, Some, None, refl, sym, ap, subst, ◌∙◌, if◌then◌else◌, arith}
-use Rattle.std.proofs.lemmas.Bool.Decides.{nat_tests}
-use Rattle.std.specs.Prelude.{is_some, slice_get, unwrap_or}
-use Rattle.std.specs.List.{find, list_all}
+use Rattle.std.proofs.Common.{◌≡◌, ℕ, ◌&&◌, Bool, true, false, not, List, [], ◌∷◌, ◌++◌, Option, Some, None, refl, sym, ap, subst, ◌∙◌}
+use Rattle.std.specs.Prelude.{is_some, unwrap_or}
+use Rattle.std.specs.List.{find}
 use Rattle.std.specs.Map.{lookup}
 use Rattle.std.specs.BTreeMap.{insert_entry, is_at}
 use Rattle.std.proofs.lemmas.Map.Lookups.{exact_unsigned, exact_pairs}
@@ -10,30 +9,14 @@ use Rattle.std.proofs.lemmas.Cmp.{tied_itself, nat_cmp_total}
 use Rattle.std.specs.Ordering.{nat_cmp}
 use Rattle.std.specs.declared.cmp.Ordering.{Ordering}
 use Rattle.std.specs.declared.cmp.Ordering.TheVariants.{Less, Equal, Greater}
-use Rattle.qs_base.specs.Order.{same_tid, same_member, member_cmp}
+use Rattle.qs_base.specs.Order.{same_member, member_cmp}
 use Rattle.qs_base.specs.declared.identifiers.Member.{Member}
-use Rattle.qs_base.specs.declared.identifiers.NodeNo.{NodeNo}
-use Rattle.qs_base.specs.declared.identifiers.Outcome.{Outcome}
-use Rattle.qs_base.specs.declared.identifiers.Outcome.TheVariants as outcomes
-use Rattle.qs_base.specs.declared.identifiers.Tid.{Tid}
-use Rattle.qs_base.proofs.Same.{same_tid-true, same_tid-self, same_member-true, same_member-self}
-use Rattle.qs_ops.specs.declared.operation.Op.{Op}
-use Rattle.qs_journal.specs.declared.entry.Act.{Act}
-use Rattle.qs_journal.specs.declared.entry.Act.TheVariants.{Begin, Issue, Serve, Ask, Counted, Decide, Ending, Learn, Answer, Loan, Yield, Tick, Crash, Restart}
-use Rattle.qs_journal.specs.declared.entry.Act.TheVariants as acts
-use Rattle.qs_journal.specs.declared.entry.Entry.{Entry}
-use Rattle.qs_machine.specs.Transaction.{TransactionValue, changed_value, requests_in, requests_at, request_cmp, link_cmp, is_standing, standing_request, mark_served, issued, learnt, crossed_from, crossed_by, is_crossed}
-use Rattle.qs_machine.specs.declared.transaction.Link.{Link}
+use Rattle.qs_base.proofs.Same.{same_member-true}
+use Rattle.qs_machine.specs.Transaction.{TransactionValue, changed_value, requests_in, requests_at, request_cmp, link_cmp, is_standing, standing_request, mark_served, crossed_by}
 use Rattle.qs_machine.specs.declared.transaction.Request.{Request}
 use Rattle.qs_machine.specs.declared.transaction.RequestNo.{RequestNo}
-use Rattle.qs_machine.specs.Book.{BookValue, inc_at, is_done}
-use Rattle.qs_machine.specs.Clauses.{link_to, borrower_at}
-use Rattle.qs_laws.specs.Served.{is_share}
-use Rattle.qs_laws.specs.Unanimity.{issues, serves_from}
-use Rattle.qs_laws.proofs.Counts.{life_exact}
-use Rattle.qs_laws.proofs.Holding.{left_of, right_of, same_number, clash}
-use Rattle.qs_laws.proofs.Maps.{changed_apart, lookup_changed, lookup_put, lookup_put_apart, changed_none}
-use Rattle.qs_laws.proofs.Turns.{Same, Gives, GivesFor, Survives, Obliged}
+use Rattle.qs_laws.proofs.Holding.{left_of, clash}
+use Rattle.qs_laws.proofs.Maps.{changed_apart, lookup_changed, lookup_put, lookup_put_apart}
 
 -- ---- numbers of requests
 

@@ -1,6 +1,6 @@
 -- A restart keeps the invariant of outcomes: what it finds decides open cells alone, and its incarnation is new.
 use Rattle.std.proofs.Common.{◌≡◌, ◌⊎◌, ℕ, ◌<◌, [], ◌∷◌, ◌==◌, ◌&&◌, Bool, true, false, List, Option, Some, None, fold, inl, inr, refl, sym, ap, subst, ◌∙◌, arith, if◌then◌else◌}
-use Rattle.std.specs.Prelude.{slice_get, is_some, length}
+use Rattle.std.specs.Prelude.{slice_get, is_some}
 use Rattle.std.specs.Option.{option_map}
 use Rattle.qs_base.specs.declared.identifiers.Outcome.{Outcome}
 use Rattle.qs_base.specs.declared.identifiers.Outcome.TheVariants as outcomes
@@ -11,7 +11,7 @@ use Rattle.qs_journal.specs.declared.entry.Found.{Found}
 use Rattle.qs_machine.specs.Transaction.{TransactionValue, is_open, with_learnt, found_at}
 use Rattle.qs_machine.specs.Book.{BookValue, find_transaction, with_node, with_transaction, decide, inc_at, changed_at}
 use Rattle.qs_machine.specs.Nodes.{NodeValue}
-use Rattle.qs_machine.specs.Restart.{is_among, member_at, record_at, changes_at, is_open_here, learn_found, decide_found, commit_found, vote_found, begun_tid, abort_begun, up_to, begun_at, restarted_node, reopened, restart_found, restart, with_votes, with_vote, new_votes, count_of as pending_of}
+use Rattle.qs_machine.specs.Restart.{is_among, member_at, record_at, is_open_here, learn_found, decide_found, commit_found, vote_found, begun_tid, abort_begun, up_to, begun_at, restarted_node, reopened, restart_found, restart, with_votes, with_vote, new_votes, count_of as pending_of}
 use Rattle.qs_machine.specs.declared.state.OnRecord.{OnRecord}
 use Rattle.qs_machine.specs.declared.state.Voter.{Voter}
 use Rattle.qs_laws.proofs.Faces.{Face, face, Age, age, face_at, age_at, Alike, transaction_alike, node_alike}

@@ -12,29 +12,25 @@ use Rattle.qs_base.specs.declared.identifiers.Tid.{Tid}
 use Rattle.qs_base.proofs.Same.{same_member-true}
 use Rattle.qs_ops.specs.Members.{class_of}
 use Rattle.qs_journal.specs.declared.entry.Act.{Act}
-use Rattle.qs_journal.specs.declared.entry.Act.TheVariants.{Serve, Loan, Yield, Restart}
-use Rattle.qs_journal.specs.declared.entry.Act.TheVariants as acts
+use Rattle.qs_journal.specs.declared.entry.Act.TheVariants.{Serve, Loan, Yield}
 use Rattle.qs_journal.specs.declared.entry.Entry.{Entry}
-use Rattle.qs_machine.specs.Transaction.{TransactionValue, part_of, agrees, agrees_in, borrower, found_at, found_part, opened_as}
+use Rattle.qs_machine.specs.Transaction.{TransactionValue, part_of, agrees, agrees_in, borrower, found_part}
 use Rattle.qs_machine.specs.declared.transaction.Part.{Part}
 use Rattle.qs_machine.specs.Book.{BookValue, find_transaction, inc_at}
-use Rattle.qs_machine.specs.Clauses.{borrower_at}
 use Rattle.qs_machine.specs.Lawful.{is_in_order, broken_act, broken_at, broken, effect, IsLawful, book_after}
 use Rattle.qs_machine.specs.Nodes.{NodeValue}
 use Rattle.qs_machine.specs.Opening.{opening}
 use Rattle.qs_machine.specs.declared.opened.Opened.{Opened}
 use Rattle.qs_laws.specs.Lives.{is_restart, restarts}
-use Rattle.qs_laws.specs.Served.{is_share}
 use Rattle.qs_laws.specs.Unanimity.{Loans, no_loans, loans_after, are_even, are_returned}
 use Rattle.qs_laws.proofs.Always.{IsSo, so_of, step_so, opening_so}
 use Rattle.qs_laws.proofs.Begun.{inc_in}
 use Rattle.qs_laws.proofs.Ended.{acts_here, unchanged, ended_last}
-use Rattle.qs_laws.proofs.Ends.{lawful_node}
 use Rattle.qs_laws.proofs.Faces.{Age, age}
 use Rattle.qs_laws.proofs.Grows.{step_grows}
-use Rattle.qs_laws.proofs.Holding.{left_of, right_of, same_number, clash}
+use Rattle.qs_laws.proofs.Holding.{same_number, clash}
 use Rattle.qs_laws.proofs.Lent.{loans_of, counted_on, unknown_same}
-use Rattle.qs_laws.proofs.Lives.{same_life, inc_of_node, Reborn, reborn, Restarting, restarting, step_part, none_born, later_born, left_survives, OfPart}
+use Rattle.qs_laws.proofs.Lives.{same_life, Reborn, reborn, Restarting, restarting, step_part, none_born, later_born, left_survives}
 use Rattle.qs_laws.proofs.Outcomes.{Inv}
 use Rattle.qs_laws.proofs.Parts.{IsPart, part_after, put_part}
 use Rattle.qs_laws.proofs.Steps.{held, stepped}

@@ -1,12 +1,11 @@
 -- A server that stands for its table in the machine answers by the machine's rules.
 use Rattle.std.proofs.Common.{◌≡◌, ℕ, Bool, true, false, List, Option, Some, None, refl, sym, ap, subst, ◌∙◌, ◌+◌, ◌==◌, nat_lt, arith}
-use Rattle.std.specs.Prelude.{◌&&◌, not, if◌then◌else◌, is_none}
+use Rattle.std.specs.Prelude.{not, if◌then◌else◌, is_none}
 use Rattle.std.proofs.lemmas.Bool.Decides.{nat_tests}
 use Rattle.qs_base.specs.declared.identifiers.Tid.{Tid}
 use Rattle.qs_base.proofs.Same.{same_bytes-self, same_lists-self, same_tid-self}
 use Rattle.qs_ops.specs.Alike.{same_reply}
 use Rattle.qs_ops.specs.Members.{class_of, is_two_phase}
-use Rattle.qs_ops.specs.Spelled.{prepare_length}
 use Rattle.qs_ops.specs.declared.operation.Op.{Op}
 use Rattle.qs_ops.specs.declared.reply.Reply.{Reply}
 use Rattle.qs_ops.specs.declared.reply.Reply.TheVariants as replies
@@ -16,11 +15,11 @@ use Rattle.qs_base.specs.declared.identifiers.Outcome.{Outcome}
 use Rattle.qs_base.specs.declared.identifiers.Outcome.TheVariants as outcomes
 use Rattle.qs_ops.specs.declared.vote.Notice.TheVariants as notices
 use Rattle.qs_machine.specs.Book.{server_serve, vote_node, learn_node, end_node}
-use Rattle.qs_machine.specs.Clauses.{is_server_reply, is_server_vote, is_files_vote, is_audit_vote, is_names_vote, is_log_full, prepare_need, is_taken_name, is_name}
+use Rattle.qs_machine.specs.Clauses.{is_server_reply, is_server_vote, is_files_vote, is_audit_vote, is_names_vote, is_log_full, prepare_need}
 use Rattle.qs_machine.specs.Nodes.{NodeValue, extra_of, keep_of}
 use Rattle.qs_ops.specs.Server.{ServerValue, number_of, reply_in, reply_of, served_by, after_serving, vote_of, changes_vote, files_vote, vote_in_room, vote_need, names_vote, voted_by, after_vote, noted_by, after_notice}
 use Rattle.qs_ops.specs.Timers.{TimersValue, timer_served, timers_ended}
-use Rattle.qs_ops.specs.Table.{TableValue, is_due, reply_to, has_changes, view_bytes, share_of, least_taken, changes_name, served, released, committed, with_vote}
+use Rattle.qs_ops.specs.Table.{TableValue, is_due, reply_to, has_changes, view_bytes, least_taken, served, released, committed, with_vote}
 use Rattle.qs_ops.specs.declared.server.Kind.{Kind}
 use Rattle.qs_ops.specs.declared.server.Kind.TheVariants.{Files, Audit, Names, Timers, Windows, Scratch, Nothing}
 use Rattle.qs_laws.specs.Standing.{StandsAs, StandsFor, notice_of}

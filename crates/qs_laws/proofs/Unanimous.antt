@@ -1,6 +1,6 @@
 -- A cell becomes commit only where the transaction is unanimous.
 use Rattle.std.proofs.Common.{◌≡◌, ◌⊎◌, inl, inr, ℕ, Bool, true, false, List, [], ◌∷◌, ◌++◌, ◌==◌, ◌&&◌, ◌||◌, Option, Some, None, refl, sym, ap, subst, ◌∙◌, fold, if◌then◌else◌}
-use Rattle.std.specs.Prelude.{slice_get, length}
+use Rattle.std.specs.Prelude.{slice_get}
 use Rattle.std.specs.List.{list_all}
 use Rattle.std.specs.Option.{option_map}
 use Rattle.std.specs.Map.{lookup, set_value}
@@ -25,7 +25,7 @@ use Rattle.qs_machine.specs.Clauses.{broken_decide, may_decide, broken_outcome}
 use Rattle.qs_machine.specs.Lawful.{is_in_order, broken_act, broken_node, broken_at, broken, effect_act, effect, IsLawful, book_after}
 use Rattle.qs_machine.specs.Nodes.{NodeValue}
 use Rattle.qs_machine.specs.Opening.{opening}
-use Rattle.qs_machine.specs.Restart.{is_among, member_at, changes_at, is_open_here, commit_found, vote_found, begun_tid, abort_begun, up_to, begun_at, put_new_votes, restart, is_committed, is_found_commit, broken_restart, record_at, count_of as pending_of}
+use Rattle.qs_machine.specs.Restart.{is_among, member_at, is_open_here, commit_found, vote_found, begun_tid, abort_begun, up_to, begun_at, put_new_votes, restart, is_committed, is_found_commit, broken_restart, record_at, count_of as pending_of}
 use Rattle.qs_machine.specs.declared.opened.Opened.{Opened}
 use Rattle.qs_laws.specs.Laws.{IsCommitted, IsCoherent}
 use Rattle.qs_laws.proofs.Acts as alike

@@ -1,11 +1,9 @@
 -- What is kept of the requests of clients that have no answer: by client, and by transaction and node; and that both say the same.
-use Rattle.std.proofs.Common.{◌≡◌, ℕ, ◌+◌, ◌-◌, ◌==◌, ◌&&◌, Bool, true, false, not, List, [], ◌∷◌, ◌++◌, Option, Some, None, refl, sym, ap, subst, ◌∙◌, fold, map, if◌then◌else◌, arith}
+use Rattle.std.proofs.Common.{◌≡◌, ℕ, ◌+◌, ◌-◌, ◌==◌, ◌&&◌, Bool, true, false, List, [], ◌∷◌, ◌++◌, Option, Some, None, refl, sym, ap, subst, ◌∙◌, if◌then◌else◌, arith}
 use Rattle.std.proofs.lemmas.Bool.Decides.{nat_tests}
-use Rattle.std.specs.Prelude.{is_some, slice_get, unwrap_or, nat_lt}
-use Rattle.std.specs.Option.{option_map}
+use Rattle.std.specs.Prelude.{is_some, unwrap_or}
 use Rattle.std.specs.Map.{lookup}
 use Rattle.std.specs.BTreeMap.{is_at, insert_entry}
-use Rattle.std.specs.Ordering.{nat_cmp}
 use Rattle.std.specs.declared.cmp.Ordering.{Ordering}
 use Rattle.std.specs.declared.cmp.Ordering.TheVariants.{Less, Equal, Greater}
 use Rattle.std.proofs.lemmas.Cmp.{tied_itself, nat_cmp_total}
@@ -13,14 +11,11 @@ use Rattle.std.proofs.lemmas.Map.Lookups.{exact_unsigned}
 use Rattle.qs_base.specs.Order.{same_tid}
 use Rattle.qs_base.specs.declared.identifiers.NodeNo.{NodeNo}
 use Rattle.qs_base.specs.declared.identifiers.Tid.{Tid}
-use Rattle.qs_machine.specs.Transaction.{TransactionValue, changed_value, peer_of, no_peer, node_cmp, heard, heard_by, reached_by, is_by_client}
+use Rattle.qs_machine.specs.Transaction.{TransactionValue, changed_value, peer_of, no_peer, node_cmp, heard, heard_by}
 use Rattle.qs_machine.specs.declared.transaction.Peer.{Peer}
-use Rattle.qs_machine.specs.declared.transaction.Request.{Request}
 use Rattle.qs_machine.specs.declared.state.Asking.{Asking}
-use Rattle.qs_machine.specs.Book.{BookValue, hear, inc_at}
 use Rattle.qs_laws.proofs.Holding.{clash, same_number}
 use Rattle.qs_laws.proofs.Maps.{lookup_changed, changed_apart, changed_none, lookup_put, lookup_put_apart}
-use Rattle.qs_laws.proofs.Turns.{Stands, turn, Gives}
 
 -- a request of a client that has no answer since
 pub record Waits : Type 0 where
@@ -115,7 +110,7 @@ times_more tid node (x ∷ ws) w =
 
 -- ---- peers
 
-node_itself : (n : NodeNo) → node_cmp n n ≡ Equal
+pub node_itself : (n : NodeNo) → node_cmp n n ≡ Equal
 node_itself n = tied_itself nat_cmp_total n.0
 
 pub node_exact : (m n : NodeNo) → is_at (node_cmp m) n ≡ true → m ≡ n

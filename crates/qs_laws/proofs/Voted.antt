@@ -1,50 +1,32 @@
 -- Each request that a two-phase member served stands before a vote of it for commit, where in the end all members agree.
-use Rattle.std.proofs.Common.{◌≡◌, ℕ, ◌+◌, ◌<◌, ◌≤◌, ◌==◌, ◌&&◌, ◌||◌, Bool, true, false, not, List, [], ◌∷◌, ◌++◌, ◌⊎◌, inl, inr, Option, Some, None, refl, sym, ap, subst, ◌∙◌, if◌then◌else◌, arith}
-use Rattle.std.proofs.lemmas.Bool.Decides.{nat_tests}
-use Rattle.std.specs.Prelude.{is_some, slice_get, unwrap_or, nat_lt, nat_le}
+use Rattle.std.proofs.Common.{◌≡◌, ℕ, ◌+◌, ◌<◌, ◌≤◌, ◌==◌, ◌&&◌, Bool, true, false, not, Option, Some, None, refl, sym, subst, if◌then◌else◌, arith}
+use Rattle.std.specs.Prelude.{unwrap_or}
 use Rattle.std.specs.List.{list_all}
 use Rattle.std.specs.Map.{lookup}
 use Rattle.std.specs.BTreeMap.{is_at}
 use Rattle.qs_base.specs.Order.{same_tid, same_member}
 use Rattle.qs_base.specs.declared.identifiers.Class.{Class}
 use Rattle.qs_base.specs.declared.identifiers.Class.TheVariants as classes
-use Rattle.qs_base.specs.declared.identifiers.ClientNo.{ClientNo}
 use Rattle.qs_base.specs.declared.identifiers.Member.{Member}
-use Rattle.qs_base.specs.declared.identifiers.NodeNo.{NodeNo}
 use Rattle.qs_base.specs.declared.identifiers.Outcome.{Outcome}
 use Rattle.qs_base.specs.declared.identifiers.Outcome.TheVariants as outcomes
 use Rattle.qs_base.specs.declared.identifiers.Tid.{Tid}
-use Rattle.qs_base.proofs.Same.{same_tid-self, same_tid-true, same_member-true, same_member-self}
 use Rattle.qs_ops.specs.Members.{class_of, is_two_phase}
-use Rattle.qs_ops.specs.declared.reply.Reply.{Reply}
 use Rattle.qs_ops.specs.declared.vote.Vote.{Vote}
 use Rattle.qs_ops.specs.declared.vote.Vote.TheVariants as votes
 use Rattle.qs_journal.specs.declared.entry.Act.{Act}
 use Rattle.qs_journal.specs.declared.entry.Act.TheVariants.{Begin, Issue, Serve, Ask, Counted, Decide, Ending, Learn, Answer, Loan, Yield, Tick, Crash, Restart}
 use Rattle.qs_journal.specs.declared.entry.Act.TheVariants as acts
-use Rattle.qs_journal.specs.declared.entry.Entry.{Entry}
-use Rattle.qs_machine.specs.Transaction.{TransactionValue, part_of, no_part, life, life_cmp, agrees, agrees_in, serving_part, served_part, lent_part, voted_part, learnt_part}
+use Rattle.qs_machine.specs.Transaction.{TransactionValue, part_of, no_part, life, life_cmp, agrees, agrees_in, serving_part, voted_part, learnt_part}
 use Rattle.qs_machine.specs.declared.transaction.Life.{Life}
 use Rattle.qs_machine.specs.declared.transaction.Part.{Part}
-use Rattle.qs_machine.specs.Book.{BookValue, find_transaction, inc_at, is_done}
-use Rattle.qs_machine.specs.Clauses.{borrower_at, broken_serve}
-use Rattle.qs_machine.specs.Lawful.{broken_act, broken, effect, IsLawful, book_after}
-use Rattle.qs_machine.specs.Nodes.{NodeValue}
-use Rattle.qs_laws.specs.Lives.{is_restart, restarts}
-use Rattle.qs_laws.specs.Served.{is_share}
-use Rattle.qs_laws.specs.Unanimity.{is_against, votes_for, is_voted_in}
-use Rattle.qs_laws.proofs.Begun.{inc_in}
+use Rattle.qs_machine.specs.Book.{is_done}
+use Rattle.qs_machine.specs.Clauses.{borrower_at}
+use Rattle.qs_laws.specs.Unanimity.{is_against, votes_for}
 use Rattle.qs_laws.proofs.Counts.{life_exact}
-use Rattle.qs_laws.proofs.Ends.{lawful_node}
 use Rattle.qs_laws.proofs.Found.{entry_passes}
-use Rattle.qs_laws.proofs.Holding.{left_of, right_of, same_number, clash, serve_here}
-use Rattle.qs_laws.proofs.Lives.{same_life, inc_is, inc_of_node, Reborn, reborn, Restarting, restarting, step_part}
-use Rattle.qs_laws.proofs.Outcomes.{Inv}
-use Rattle.qs_laws.proofs.Parts.{IsPart, is_own, part_for, part_after, starts_life}
-use Rattle.qs_laws.proofs.Serves.{inc_there}
-use Rattle.qs_laws.proofs.Steps.{stepped}
-use Rattle.qs_laws.proofs.Takes.{some_same}
-use Rattle.qs_laws.proofs.Turns.{Stands}
+use Rattle.qs_laws.proofs.Holding.{left_of, right_of, same_number}
+use Rattle.qs_laws.proofs.Parts.{is_own, part_for, part_after}
 
 -- ---- what all agree on
 

@@ -1,27 +1,22 @@
 -- A vote that is owed is made in the same life of the member's node, or the transaction is never unanimous.
-use Rattle.std.proofs.Common.{◌≡◌, ℕ, ◌+◌, ◌<◌, ◌≤◌, ◌==◌, ◌&&◌, ◌||◌, Bool, true, false, not, List, [], ◌∷◌, ◌⊎◌, inl, inr, Option, Some, None, refl, sym, ap, subst, ◌∙◌, if◌then◌else◌, arith}
+use Rattle.std.proofs.Common.{◌≡◌, ℕ, ◌<◌, ◌≤◌, ◌==◌, ◌&&◌, ◌||◌, Bool, true, false, not, List, [], ◌∷◌, ◌⊎◌, inl, inr, Option, Some, None, refl, sym, ap, subst, ◌∙◌, if◌then◌else◌, arith}
 use Rattle.std.proofs.lemmas.Bool.Decides.{nat_tests}
 use Rattle.std.specs.Prelude.{slice_get}
 use Rattle.std.specs.List.{list_all}
-use Rattle.qs_base.specs.Order.{same_tid, same_member}
 use Rattle.qs_base.specs.declared.identifiers.Member.{Member}
 use Rattle.qs_base.specs.declared.identifiers.NodeNo.{NodeNo}
-use Rattle.qs_base.specs.declared.identifiers.Outcome.{Outcome}
-use Rattle.qs_base.specs.declared.identifiers.Outcome.TheVariants as outcomes
 use Rattle.qs_base.specs.declared.identifiers.Tid.{Tid}
 use Rattle.qs_base.proofs.Same.{same_tid-self, same_member-true, same_member-self}
 use Rattle.qs_ops.specs.Members.{class_of, is_two_phase}
 use Rattle.qs_ops.specs.declared.reply.Reply.{Reply}
-use Rattle.qs_ops.specs.declared.vote.Vote.{Vote}
-use Rattle.qs_ops.specs.declared.vote.Vote.TheVariants as votes
 use Rattle.qs_journal.specs.declared.entry.Act.{Act}
 use Rattle.qs_journal.specs.declared.entry.Act.TheVariants.{Begin, Issue, Serve, Ask, Counted, Decide, Ending, Learn, Answer, Loan, Yield, Tick, Crash, Restart}
 use Rattle.qs_journal.specs.declared.entry.Act.TheVariants as acts
 use Rattle.qs_journal.specs.declared.entry.Entry.{Entry}
-use Rattle.qs_machine.specs.Transaction.{TransactionValue, part_of, agrees, serving_part, voted_part, learnt_part}
+use Rattle.qs_machine.specs.Transaction.{TransactionValue, part_of, agrees, serving_part}
 use Rattle.qs_machine.specs.declared.transaction.Part.{Part}
 use Rattle.qs_machine.specs.Book.{BookValue, find_transaction, inc_at, is_done}
-use Rattle.qs_machine.specs.Clauses.{borrower_at, broken_serve}
+use Rattle.qs_machine.specs.Clauses.{broken_serve}
 use Rattle.qs_machine.specs.Lawful.{broken_act, broken, effect, IsLawful, book_after}
 use Rattle.qs_machine.specs.Nodes.{NodeValue}
 use Rattle.qs_laws.specs.Lives.{is_restart, restarts}
@@ -29,10 +24,10 @@ use Rattle.qs_laws.specs.Unanimity.{votes_for, is_voted_in}
 use Rattle.qs_laws.proofs.Always.{IsSo}
 use Rattle.qs_laws.proofs.Begun.{inc_in}
 use Rattle.qs_laws.proofs.Ends.{lawful_node}
-use Rattle.qs_laws.proofs.Holding.{left_of, right_of, same_number, clash, serve_here, vote_here}
+use Rattle.qs_laws.proofs.Holding.{left_of, right_of, serve_here, vote_here}
 use Rattle.qs_laws.proofs.Lives.{same_life, inc_is, inc_of_node, Reborn, reborn, Restarting, restarting, step_part, none_born, later_born}
 use Rattle.qs_laws.proofs.Outcomes.{Inv}
-use Rattle.qs_laws.proofs.Parts.{IsPart, is_own, part_for, part_after, starts_life}
+use Rattle.qs_laws.proofs.Parts.{IsPart, is_own, part_after, starts_life}
 use Rattle.qs_laws.proofs.Serves.{inc_there}
 use Rattle.qs_laws.proofs.Steps.{stepped}
 use Rattle.qs_laws.proofs.Takes.{some_same}
@@ -186,7 +181,6 @@ each_voted tid member book entry entries from number reply last two i lawful is 
     same : inc_in (effect book entry) member.node.0 ≡ Some inc
     same = same_life member.node book entry (ap (λ (a : Act). (entry.node.0 == member.node.0) && is_restart a) is ∙ never (entry.node.0 == member.node.0)) lawful.0 ∙ (ap (inc_in book) here ∙ inc_of_node book entry.node.0 at.0 at.1)
       where
-
         never : (b : Bool) → (b && false) ≡ false
         never true = refl
         never false = refl

@@ -1,36 +1,25 @@
 -- Through every lawful history, what waits towards a node of a transaction is counted over the requests that clients wait for.
-use Rattle.std.proofs.Common.{◌≡◌, ℕ, ◌+◌, ◌-◌, ◌<◌, ◌==◌, ◌&&◌, Bool, true, false, not, List, [], ◌∷◌, ◌++◌, Option, Some, None, refl, sym, ap, subst, ◌∙◌, ◌⊎◌, inl, inr, fold, map, replicate, if◌then◌else◌, arith}
+use Rattle.std.proofs.Common.{◌≡◌, ℕ, ◌-◌, ◌==◌, Bool, true, false, List, [], ◌∷◌, ◌++◌, Option, Some, None, refl, sym, ap, subst, ◌∙◌, ◌⊎◌, inl, inr, fold, if◌then◌else◌, arith}
 use Rattle.std.proofs.lemmas.Bool.Decides.{nat_tests}
-use Rattle.std.specs.Prelude.{is_some, slice_get, slice_set, unwrap_or, nat_lt, length}
+use Rattle.std.specs.Prelude.{is_some, slice_get, slice_set}
 use Rattle.std.specs.Option.{option_map}
-use Rattle.qs_base.specs.Order.{same_tid}
 use Rattle.qs_base.specs.declared.identifiers.ClientNo.{ClientNo}
 use Rattle.qs_base.specs.declared.identifiers.Member.{Member}
-use Rattle.qs_base.specs.declared.identifiers.NodeNo.{NodeNo}
 use Rattle.qs_base.specs.declared.identifiers.Outcome.{Outcome}
 use Rattle.qs_base.specs.declared.identifiers.Outcome.TheVariants as outcomes
 use Rattle.qs_base.specs.declared.identifiers.Tid.{Tid}
-use Rattle.qs_base.proofs.Same.{same_tid-true}
 use Rattle.qs_ops.specs.Servers.{is_client_no}
 use Rattle.qs_ops.specs.declared.answer.Cause.{Cause}
 use Rattle.qs_ops.specs.declared.answer.Cause.TheVariants as causes
-use Rattle.qs_ops.specs.declared.operation.Op.{Op}
 use Rattle.qs_journal.specs.declared.entry.Act.{Act}
-use Rattle.qs_journal.specs.declared.entry.Act.TheVariants.{Begin, Issue, Serve, Ask, Counted, Decide, Ending, Learn, Answer, Loan, Yield, Tick, Crash, Restart}
-use Rattle.qs_journal.specs.declared.entry.Act.TheVariants as acts
-use Rattle.qs_journal.specs.declared.entry.Entry.{Entry}
+use Rattle.qs_journal.specs.declared.entry.Act.TheVariants.{Issue, Answer}
 use Rattle.qs_journal.specs.declared.entry.Found.{Found}
-use Rattle.qs_machine.specs.Book.{BookValue, find_transaction, changed_at, with_owner, with_waiting, with_crossing, crosses, told, told_owner, owner_of, decide, issue, answer, hear, waiting_of, inc_at}
-use Rattle.qs_machine.specs.Clauses.{link_to}
-use Rattle.qs_machine.specs.Lawful.{is_in_order, broken_act, broken_node, broken_at, broken, effect_act, effect, IsLawful, book_after}
-use Rattle.qs_machine.specs.Nodes.{NodeValue}
-use Rattle.qs_machine.specs.Restart.{restart, put_new_votes, up_to, begun_at, abort_begun, vote_found, commit_found, learn_found, decide_found, is_among, is_open_here, begun_tid, record_at, member_at}
+use Rattle.qs_machine.specs.Book.{BookValue, find_transaction, changed_at, with_owner, with_waiting, told, told_owner, owner_of, decide, answer, hear, waiting_of, inc_at}
+use Rattle.qs_machine.specs.Restart.{restart, put_new_votes, up_to, begun_at, abort_begun, vote_found, commit_found, learn_found, decide_found, is_among, is_open_here, begun_tid, record_at}
 use Rattle.qs_machine.specs.declared.state.Asking.{Asking}
 use Rattle.qs_machine.specs.declared.state.Owner.{Owner}
-use Rattle.qs_laws.proofs.Faces.{either_way}
-use Rattle.qs_laws.proofs.Holding.{clash, same_number}
+use Rattle.qs_laws.proofs.Holding.{same_number}
 use Rattle.qs_laws.proofs.Maps.{changed_at_alike, changed_at_either, changed_at_here}
-use Rattle.qs_laws.proofs.Steps.{held}
 use Rattle.qs_laws.proofs.Takes.{some_same}
 use Rattle.qs_laws.proofs.Unanswered.{Waits, own_of, without, own_without, own_others, own_more}
 
@@ -47,13 +36,13 @@ AreWaiting owners ws = (c : ℕ) (o : Owner) → slice_get owners c ≡ Some o �
 
 -- ---- what leaves the clients waiting
 
-abbrev waits_of : Owner → List Asking
+abbrev pub waits_of : Owner → List Asking
 waits_of owner = owner.waiting
 
-abbrev SameWaits : List Owner → List Owner → Type 0
+abbrev pub SameWaits : List Owner → List Owner → Type 0
 SameWaits old new = (c : ℕ) → option_map waits_of (slice_get new c) ≡ option_map waits_of (slice_get old c)
 
-still_waiting : (old new : List Owner) (ws : List Waits) → SameWaits old new → AreWaiting old ws → AreWaiting new ws
+pub still_waiting : (old new : List Owner) (ws : List Waits) → SameWaits old new → AreWaiting old ws → AreWaiting new ws
 still_waiting old new ws same are c o is = of (slice_get old c) refl (sym (same c) ∙ ap (option_map waits_of) is)
   where
     of : (x : Option Owner) → slice_get old c ≡ x → option_map waits_of x ≡ Some o.waiting → o.waiting ≡ own_of c ws
@@ -65,7 +54,7 @@ told_waits outcomes.Commit cause owner = refl
 told_waits outcomes.Abort None owner = refl
 told_waits outcomes.Abort (Some cause) owner = refl
 
-owner_told : (o : Option ClientNo) (outcome : Outcome) (cause : Option Cause) (owners : List Owner) → SameWaits owners (told_owner o outcome cause owners)
+pub owner_told : (o : Option ClientNo) (outcome : Outcome) (cause : Option Cause) (owners : List Owner) → SameWaits owners (told_owner o outcome cause owners)
 owner_told None outcome cause owners c = refl
 owner_told (Some client) outcome cause owners c = changed_at_alike waits_of (told outcome cause) (told_waits outcome cause) owners client.0 c
 
@@ -100,7 +89,7 @@ abort_same here inc book seq =
     if_same (is_open_here here (begun_tid here inc seq) (find_transaction book (begun_tid here inc seq))) book.owners (decide (begun_tid here inc seq) outcomes.Abort (Some (causes.Home inc)) book) book
     (owner_told (owner_of (find_transaction book (begun_tid here inc seq))) outcomes.Abort (Some (causes.Home inc)) book.owners) (λ c. refl)
 
-restart_same : (here inc : ℕ) (pend : List Found) (done : List Tid) (book : BookValue) → SameWaits book.owners (restart here inc pend done book).owners
+pub restart_same : (here inc : ℕ) (pend : List Found) (done : List Tid) (book : BookValue) → SameWaits book.owners (restart here inc pend done book).owners
 restart_same here inc pend done book c =
     all_same (abort_begun here old) (abort_same here old) (up_to (begun_at here mid)) (fold (vote_found here inc done) (fold (commit_found here) mid done) pend) c
     ∙ (all_same (vote_found here inc done) (vote_same here inc done) pend (fold (commit_found here) mid done) c ∙ all_same (commit_found here) (commit_same here) done mid c)
@@ -117,7 +106,7 @@ hear_same asks book = all_same hear (λ b ask c. refl) asks book
 -- ---- each act
 
 -- an issue and an answer
-asked_waits : (book : BookValue) (t : Tid) (issuer member : Member) (mid : BookValue) → mid.owners ≡ book.owners → (ws : List Waits) → AreWaiting book.owners ws
+pub asked_waits : (book : BookValue) (t : Tid) (issuer member : Member) (mid : BookValue) → mid.owners ≡ book.owners → (ws : List Waits) → AreWaiting book.owners ws
     → AreWaiting (with_waiting t issuer member mid).owners (if is_client_no issuer.server.0 then ws ++ record { client = issuer.server.0 - 32; asking = record { tid = t; node = member.node } } ∷ [] else ws)
 asked_waits book t issuer member mid same ws are = by (is_client_no issuer.server.0)
   where
@@ -160,7 +149,6 @@ asked_waits book t issuer member mid same ws are = by (is_client_no issuer.serve
             let e : w.client ≡ c = same_number w.client c near in
             here owner h (sym e) (sym (changed_at_here f mid.owners w.client owner h) ∙ (ap (slice_get (changed_at w.client f mid.owners)) e ∙ is))
 
-
         at : (x : Option Owner) → slice_get mid.owners w.client ≡ x → o.waiting ≡ own_of c (ws ++ w ∷ [])
         at None h = none (w.client == c) refl
           where
@@ -183,7 +171,7 @@ asked_waits book t issuer member mid same ws are = by (is_client_no issuer.serve
     by true = changed
     by false = there
 
-answered_waits : (book : BookValue) (client : ClientNo) (line : ℕ) (ws : List Waits) → AreWaiting book.owners ws → AreWaiting (answer client line book).owners (without client.0 ws)
+pub answered_waits : (book : BookValue) (client : ClientNo) (line : ℕ) (ws : List Waits) → AreWaiting book.owners ws → AreWaiting (answer client line book).owners (without client.0 ws)
 answered_waits book client line ws are =
     still_waiting first.owners (answer client line book).owners (without client.0 ws) (hear_same (waiting_of (slice_get book.owners client.0)) first) emptied
   where

@@ -1,6 +1,7 @@
 pub mod Coherence
 pub mod Durable
 pub mod Endings
+pub mod Gone
 pub mod Laws
 pub mod Lives
 pub mod Served

@@ -7,7 +7,8 @@ mod opening;
 mod servers;
 
 pub use endings::{
-    nothing_is_served_after_an_outcome, servers_learn_in_order, volatile_servers_begin_empty,
+    gone_is_a_request_that_stood_open, nothing_is_served_after_an_outcome, servers_learn_in_order,
+    volatile_servers_begin_empty,
 };
 pub use laws::{
     a_commit_covers_what_was_served, a_commit_is_unanimous, a_restart_keeps_what_is_on_record,

@@ -1,0 +1,155 @@
+-- A transaction is one that a node's restart cost exactly where, at some moment later than that, a request to the node was open.
+use Rattle.std.proofs.Common.{◌≡◌, ◌⊎◌, inl, inr, ℕ, ◌<◌, ◌==◌, ◌&&◌, Bool, true, false, List, [], ◌∷◌, ◌++◌, Option, Some, None, refl, sym, ap, subst, ◌∙◌, if◌then◌else◌, arith}
+use Rattle.std.proofs.lemmas.Bool.Decides.{nat_tests}
+use Rattle.std.specs.Prelude.{slice_get, nat_lt}
+use Rattle.std.specs.List.{list_any}
+use Rattle.qs_base.specs.declared.identifiers.NodeNo.{NodeNo}
+use Rattle.qs_base.specs.declared.identifiers.Tid.{Tid}
+use Rattle.qs_journal.specs.declared.entry.Entry.{Entry}
+use Rattle.qs_machine.specs.Transaction.{TransactionValue, peer_of, is_gone}
+use Rattle.qs_machine.specs.Book.{BookValue, find_transaction, inc_at}
+use Rattle.qs_machine.specs.Clauses.{is_gone_cause}
+use Rattle.qs_machine.specs.Lawful.{effect, IsLawful, book_after}
+use Rattle.qs_machine.specs.Nodes.{NodeValue}
+use Rattle.qs_machine.specs.Opening.{opening, no_owner}
+use Rattle.qs_machine.specs.declared.opened.Opened.{Opened}
+use Rattle.qs_machine.specs.declared.state.Owner.{Owner}
+use Rattle.qs_laws.specs.Gone.{is_open_in, stands_open, StoodOpen}
+use Rattle.qs_laws.specs.Laws.{IsCoherent}
+use Rattle.qs_laws.proofs.Always.{opening_so}
+use Rattle.qs_laws.proofs.Gone.{gone_in, IsPast, Keeps, Moved, IsBare, bare_goes, bare_past, moved}
+use Rattle.qs_laws.proofs.Holding.{right_of, clash}
+use Rattle.qs_laws.proofs.Openings.{opening_holds, opening_names, same_of}
+use Rattle.qs_laws.proofs.Outcomes.{Inv}
+use Rattle.qs_laws.proofs.Steps.{stepped, ran, after_both, lawful_front, lawful_rest, rises}
+use Rattle.qs_laws.proofs.Unanswered.{Waits}
+use Rattle.qs_laws.proofs.Waiting.{waits_after}
+
+module _ (tid : Tid) (node : NodeNo) (gone : ℕ) where
+  -- it was open, and so it is past from then on
+  past_then : (book : BookValue) → gone < inc_at book node → stands_open book tid node ≡ true → IsPast tid node gone book ≡ true
+  past_then book later stood = of (find_transaction book tid) stood
+    where
+      below : (a b : ℕ) → a < b → nat_lt a b ≡ true
+      below a b h = grind (arith, nat_tests)
+
+      of : (o : Option TransactionValue) → is_open_in node o ≡ true → gone_in tid node gone (inc_at book node) o ≡ true
+      of None h = absurd (cc h)
+      of (Some tx) h = ap (λ (b : Bool). nat_lt gone (if b then inc_at book node else (peer_of tx node).reached)) h ∙ below gone (inc_at book node) later
+
+  later_then : (book : BookValue) → IsPast tid node gone book ≡ true → stands_open book tid node ≡ true → gone < inc_at book node
+  later_then book past stood = rises gone (inc_at book node) (of (find_transaction book tid) past stood)
+    where
+      of : (o : Option TransactionValue) → gone_in tid node gone (inc_at book node) o ≡ true → is_open_in node o ≡ true → nat_lt gone (inc_at book node) ≡ true
+      of None p h = absurd (cc h)
+      of (Some tx) p h = sym (ap (λ (b : Bool). nat_lt gone (if b then inc_at book node else (peer_of tx node).reached)) h) ∙ p
+
+  -- ---- along a history
+
+  ran_keeps : (entries : List Entry) (book : BookValue) (ws : List Waits) → Inv book → IsLawful book entries → Keeps tid node gone book ws → (us : List Waits) × Keeps tid node gone (book_after book entries) us
+  ran_keeps [] book ws i lawful k = (ws, k)
+  ran_keeps (entry ∷ entries) book ws i lawful k =
+      ran_keeps entries (effect book entry) (waits_after ws entry.act) (stepped book entry i lawful.0).inv lawful.1 (moved tid node gone book entry ws i lawful.0 k).keeps
+
+  stays_past : (entries : List Entry) (book : BookValue) (ws : List Waits) → Inv book → IsLawful book entries → Keeps tid node gone book ws → IsPast tid node gone book ≡ true → IsPast tid node gone (book_after book entries) ≡ true
+  stays_past [] book ws i lawful k past = past
+  stays_past (entry ∷ entries) book ws i lawful k past =
+      let m : Moved tid node gone book (effect book entry) (waits_after ws entry.act) = moved tid node gone book entry ws i lawful.0 k in
+      stays_past entries (effect book entry) (waits_after ws entry.act) (stepped book entry i lawful.0).inv lawful.1 m.keeps (m.kept past)
+
+  was_open : (entries : List Entry) (book : BookValue) (ws : List Waits) → Inv book → IsLawful book entries → Keeps tid node gone book ws → IsPast tid node gone (book_after book entries) ≡ true
+      → (IsPast tid node gone book ≡ true) ⊎ StoodOpen book entries tid node gone
+  was_open [] book ws i lawful k past = inl past
+  was_open (entry ∷ entries) book ws i lawful k past =
+      let m : Moved tid node gone book (effect book entry) (waits_after ws entry.act) = moved tid node gone book entry ws i lawful.0 k in
+      by m (was_open entries (effect book entry) (waits_after ws entry.act) (stepped book entry i lawful.0).inv lawful.1 m.keeps past)
+    where
+      now : IsPast tid node gone (effect book entry) ≡ true → (IsPast tid node gone book ≡ true) ⊎ (stands_open (effect book entry) tid node ≡ true) → (IsPast tid node gone book ≡ true) ⊎ StoodOpen book (entry ∷ entries) tid node gone
+      now p (inl before) = inl before
+      now p (inr stood) = inr (record { early = entry ∷ []; late = entries; parts = refl; restarted = later_then (effect book entry) p stood; open_then = stood })
+
+      by : Moved tid node gone book (effect book entry) (waits_after ws entry.act) → (IsPast tid node gone (effect book entry) ≡ true) ⊎ StoodOpen (effect book entry) entries tid node gone
+          → (IsPast tid node gone book ≡ true) ⊎ StoodOpen book (entry ∷ entries) tid node gone
+      by m (inl p) = now p (m.back p)
+      by m (inr s) = inr (record { early = entry ∷ s.early; late = s.late; parts = ap (λ (es : List Entry). entry ∷ es) s.parts; restarted = s.restarted; open_then = s.open_then })
+
+  -- ---- the opening
+
+  bare_first : (opened : List Opened) (tx : TransactionValue) → find_transaction (opening opened) tid ≡ Some tx → IsBare tid node gone tx
+  bare_first opened = opening_so tid (IsBare tid node gone) (λ cell cause. (refl, refl)) (λ m inc covers changes tx p. p) opened
+
+  keeps_first : (opened : List Opened) → IsCoherent opened → Keeps tid node gone (opening opened) []
+  keeps_first opened coherent = record {
+    clients = λ c o is. ap (λ (x : Owner). x.waiting) (same_of 256 c no_owner o (sym (ap (λ (os : List Owner). slice_get os c) (opening_names opened coherent).owners) ∙ is));
+    goes = λ tx found. bare_goes tid node gone (inc_at (opening opened) node) tx (bare_first opened tx found);
+    none = λ none. refl;
+  }
+
+  not_past : (opened : List Opened) → IsPast tid node gone (opening opened) ≡ true → ⊥
+  not_past opened p = of (find_transaction (opening opened) tid) refl p
+    where
+      of : (o : Option TransactionValue) → find_transaction (opening opened) tid ≡ o → gone_in tid node gone (inc_at (opening opened) node) o ≡ true → ⊥
+      of None is g = absurd (cc g)
+      of (Some tx) is g = clash g (bare_past tid node gone (inc_at (opening opened) node) tx (bare_first opened tx is))
+
+-- ---- the laws
+
+peer_inc : (book : BookValue) (node : NodeNo) (peer : NodeValue) → slice_get book.nodes node.0 ≡ Some peer → inc_at book node ≡ peer.inc
+peer_inc book node peer at = ap inc_in at
+  where
+    inc_in : Option NodeValue → ℕ
+    inc_in o = elim o [ None ↦ 0 | Some v ↦ v.inc ]
+
+pub stood_open : (opened : List Opened) (history : List Entry) (tid : Tid) (node : NodeNo) (gone : ℕ) (tx : TransactionValue) (peer : NodeValue) → IsCoherent opened → IsLawful (opening opened) history
+    → find_transaction (book_after (opening opened) history) tid ≡ Some tx → slice_get (book_after (opening opened) history).nodes node.0 ≡ Some peer → is_gone_cause (Some peer) tx node gone ≡ true
+    → StoodOpen (opening opened) history tid node gone
+stood_open opened history tid node gone tx peer coherent lawful found there is =
+    by (was_open tid node gone history (opening opened) [] (opening_holds opened coherent) lawful (keeps_first tid node gone opened coherent) past)
+  where
+    book : BookValue
+    book = book_after (opening opened) history
+
+    past : IsPast tid node gone book ≡ true
+    past =
+        ap (gone_in tid node gone (inc_at book node)) found
+        ∙ (ap (λ (n : ℕ). is_gone tx node n gone) (peer_inc book node peer there) ∙ right_of (list_any (λ (p : ℕ). p == gone) peer.past) (is_gone tx node peer.inc gone) is)
+
+    by : (IsPast tid node gone (opening opened) ≡ true) ⊎ StoodOpen (opening opened) history tid node gone → StoodOpen (opening opened) history tid node gone
+    by (inl p) = absurd (not_past tid node gone opened p)
+    by (inr s) = s
+
+pub gone_then : (opened : List Opened) (history : List Entry) (tid : Tid) (node : NodeNo) (gone : ℕ) (tx : TransactionValue) (peer : NodeValue) → IsCoherent opened → IsLawful (opening opened) history
+    → find_transaction (book_after (opening opened) history) tid ≡ Some tx → slice_get (book_after (opening opened) history).nodes node.0 ≡ Some peer → list_any (λ (p : ℕ). p == gone) peer.past ≡ true
+    → StoodOpen (opening opened) history tid node gone → is_gone_cause (Some peer) tx node gone ≡ true
+gone_then opened history tid node gone tx peer coherent lawful found there had s =
+    both (list_any (λ (p : ℕ). p == gone) peer.past) (is_gone tx node peer.inc gone) had
+    (sym (ap (λ (n : ℕ). is_gone tx node n gone) (peer_inc (book_after (opening opened) history) node peer there)) ∙ (sym (ap (gone_in tid node gone (inc_at (book_after (opening opened) history) node)) found) ∙ past))
+  where
+    both : (a b : Bool) → a ≡ true → b ≡ true → (a && b) ≡ true
+    both true b p q = q
+    both false b p q = absurd (cc p)
+
+    whole : IsLawful (opening opened) (s.early ++ s.late)
+    whole = subst (λ (h : List Entry). IsLawful (opening opened) h) s.parts lawful
+
+    first : Inv (opening opened)
+    first = opening_holds opened coherent
+
+    early : IsLawful (opening opened) s.early
+    early = lawful_front s.early s.late (opening opened) whole
+
+    mid : BookValue
+    mid = book_after (opening opened) s.early
+
+    k : (us : List Waits) × Keeps tid node gone mid us
+    k = ran_keeps tid node gone s.early (opening opened) [] first early (keeps_first tid node gone opened coherent)
+
+    last : IsPast tid node gone (book_after mid s.late) ≡ true
+    last =
+        stays_past tid node gone s.late mid k.0 (ran s.early (opening opened) first early).inv (lawful_rest s.early s.late (opening opened) whole) k.1
+        (past_then tid node gone mid s.restarted s.open_then)
+
+    past : IsPast tid node gone (book_after (opening opened) history) ≡ true
+    past =
+        ap (λ (h : List Entry). IsPast tid node gone (book_after (opening opened) h)) s.parts
+        ∙ (ap (λ (b : BookValue). IsPast tid node gone b) (after_both s.early s.late (opening opened)) ∙ last)
