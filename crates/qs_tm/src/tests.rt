@@ -4,6 +4,7 @@ use crate::manager::{BeginFault, Manager, Standing};
 use crate::participant::{Due, Outstanding};
 use qs_base::{ClientNo, Copied, List, Member, NodeNo, Outcome, ServerNo, Tid};
 use qs_engage::Engaged;
+use qs_ops::servers::{FILES, SCRATCH};
 use qs_ops::{Cause, Reason, Vote};
 use qs_record::Record;
 use std::test::Fail;
@@ -11,10 +12,6 @@ use std::test::Fail;
 const HOME: NodeNo = NodeNo(0);
 
 const OTHER: NodeNo = NodeNo(1);
-
-const FILES: ServerNo = ServerNo(0);
-
-const SCRATCH: ServerNo = ServerNo(5);
 
 const FIRST: Tid = Tid {
     home: NodeNo(0),
