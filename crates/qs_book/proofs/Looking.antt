@@ -64,7 +64,7 @@ among_pushed tids tid old new adds was other =
 
 -- ---- votes
 
-same_voter : Voter → Found → Bool
+abbrev same_voter : Voter → Found → Bool
 same_voter at found = same_tid found.tid at.tid && (found.server.0 == at.server.0)
 
 same_voter-cmp : (at : Voter) (found : Found) → is_at (voter_cmp (voter_of found)) at ≡ same_voter at found
@@ -128,7 +128,12 @@ covers_more pend i d old new lt adds was at covers =
         ap (λ (v : Voter). nat_le covers (greater_covers (lookup (is_at (voter_cmp v)) old) found.covers)) (voter_is at found is)
         ∙ within-greater (lookup (is_at (voter_cmp at)) old) covers found.covers
         ∙ ap (λ (b : Bool). is_within (lookup (is_at (voter_cmp at)) old) covers || b)
-          (sym (rw (left_true _ _ is, right_true _ _ is) refl))
+          (together (same_tid found.tid at.tid) (found.server.0 == at.server.0) (nat_le covers found.covers) is)
+      where
+        together : (a b c : Bool) → (a && b) ≡ true → c ≡ (a && (b && c))
+        together true true c e = refl
+        together true false c e = absurd (cc)
+        together false b c e = absurd (cc)
     by false is = or-false (is_within (lookup (is_at (voter_cmp at)) old) covers)
         ∙ ap (λ (b : Bool). is_within (lookup (is_at (voter_cmp at)) old) covers || b) (apart (same_tid found.tid at.tid) (found.server.0 == at.server.0) (nat_le covers found.covers) is)
       where
