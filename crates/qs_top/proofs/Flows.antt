@@ -37,7 +37,7 @@ use Rattle.qs_top.specs.Carrying.{Chain}
 use Rattle.qs_top.proofs.Chain.{no_more, then_more, Turn, Carried, answered_0, same_others, owner_carries, owner_made, labelled_is, committed_answer, aborted_answer}
 use Rattle.qs_top.proofs.Hearing.{answered_to, answer_lawful, answer_after, answer_labels}
 use Rattle.qs_top.proofs.Parts.{one, part_is, change_part}
-use Rattle.qs_top.proofs.Steps.{Working, working_from, resting_from, none_below, eq_self, ask_lawful, ask_after, vote_lawful, vote_after, decide_lawful, decide_after, learn_lawful, learn_after, tells_commit, tells_abort, abort_told}
+use Rattle.qs_top.proofs.Steps.{Working, working_from, resting_from, none_below, eq_self, ask_lawful, ask_after, files_pending, vote_lawful, vote_after, decide_lawful, decide_after, learn_lawful, learn_after, tells_commit, tells_abort, abort_told}
 use Rattle.qs_top.specs.Rest.{Resting, AtRest, unvoted}
 
 -- ---- the end of each command
@@ -217,7 +217,7 @@ read_commit script node owner book progress line tid tx served pending step g is
     let e2 : Entry = entry s2 (acts.Vote tid files_0 votes.ReadOnly covers) in
     let b2 : BookValue = effect b1 e2 in
     let tx2 : TransactionValue = voted files_0 node.inc votes.ReadOnly tx1 in
-    let n2 : NodeValue = vote_node false tid 0 votes.ReadOnly covers node in
+    let n2 : NodeValue = vote_node (files_pending b1 tid) false tid 0 votes.ReadOnly covers node in
     let w2 : Working n2 owner tid tx2 b2 = vote_after node owner tid tx1 b1 s2 votes.ReadOnly covers w1 mine.crossed in
     let e3 : Entry = entry s3 (acts.Decide tid outcomes.Commit None) in
     let b3 : BookValue = effect b2 e3 in
@@ -276,7 +276,7 @@ commit script node owner book progress line tid tx served pending step g is part
     let e2 : Entry = entry s2 (acts.Vote tid files_0 votes.Recoverable covers) in
     let b2 : BookValue = effect b1 e2 in
     let tx2 : TransactionValue = voted files_0 node.inc votes.Recoverable tx1 in
-    let n2 : NodeValue = vote_node false tid 0 votes.Recoverable covers node in
+    let n2 : NodeValue = vote_node (files_pending b1 tid) false tid 0 votes.Recoverable covers node in
     let w2 : Working n2 owner tid tx2 b2 = vote_after node owner tid tx1 b1 s2 votes.Recoverable covers w1 mine.crossed in
     let e3 : Entry = entry s3 (acts.Decide tid outcomes.Commit None) in
     let b3 : BookValue = effect b2 e3 in

@@ -23,7 +23,7 @@ use Rattle.qs_ops.specs.declared.vote.Vote.{Vote}
 use Rattle.qs_ops.specs.declared.vote.Vote.TheVariants as votes
 use Rattle.qs_journal.specs.declared.entry.Act.TheVariants as acts
 use Rattle.qs_journal.specs.declared.entry.Entry.{Entry}
-use Rattle.qs_machine.specs.Book.{BookValue, find_transaction, find_label, inc_at, changed_at, crossed_in, vote_node, learn_node, told}
+use Rattle.qs_machine.specs.Book.{BookValue, find_transaction, find_label, inc_at, changed_at, crossed_in, pending_in, vote_node, learn_node, told}
 use Rattle.qs_machine.proofs.CauseOrder.{among_causes}
 use Rattle.qs_machine.specs.Causes.{cause_cmp}
 use Rattle.qs_machine.specs.Clauses.{may_ask, is_vote_due, is_server_vote, is_vote, may_decide, broken_outcome, may_learn}
@@ -182,27 +182,31 @@ vote_lawful node owner tid tx book stamp vote covers w later low due covering no
     let by_rules : is_vote node tid tx files_0 vote ≡ true = rw (not_crossed tx none) is in
     lawful_here book node e (in_order book e w.last later low) (rw w.nodes refl) (rw (w.up, w.found, due, covering, by_rules) refl)
 
-vote_up : (tid : Tid) (covers : ℕ) (node : NodeValue) (vote : Vote) → (vote_node false tid 0 vote covers node).up ≡ node.up
-vote_up tid covers node votes.ReadOnly = refl
-vote_up tid covers node votes.Volatile = refl
-vote_up tid covers node votes.Recoverable = refl
-vote_up tid covers node (votes.Abort reason) = refl
+-- how many changes files has pending for a transaction
+abbrev pub files_pending : BookValue → Tid → ℕ
+files_pending book tid = pending_in (find_transaction book tid) files_0 (inc_at book (record { 0 = 0 }))
 
-vote_inc : (tid : Tid) (covers : ℕ) (node : NodeValue) (vote : Vote) → node.inc ≡ (vote_node false tid 0 vote covers node).inc
-vote_inc tid covers node votes.ReadOnly = refl
-vote_inc tid covers node votes.Volatile = refl
-vote_inc tid covers node votes.Recoverable = refl
-vote_inc tid covers node (votes.Abort reason) = refl
+vote_up : (count : ℕ) (tid : Tid) (covers : ℕ) (node : NodeValue) (vote : Vote) → (vote_node count false tid 0 vote covers node).up ≡ node.up
+vote_up count tid covers node votes.ReadOnly = refl
+vote_up count tid covers node votes.Volatile = refl
+vote_up count tid covers node votes.Recoverable = refl
+vote_up count tid covers node (votes.Abort reason) = refl
+
+vote_inc : (count : ℕ) (tid : Tid) (covers : ℕ) (node : NodeValue) (vote : Vote) → node.inc ≡ (vote_node count false tid 0 vote covers node).inc
+vote_inc count tid covers node votes.ReadOnly = refl
+vote_inc count tid covers node votes.Volatile = refl
+vote_inc count tid covers node votes.Recoverable = refl
+vote_inc count tid covers node (votes.Abort reason) = refl
 
 pub vote_after : (node : NodeValue) (owner : Owner) (tid : Tid) (tx : TransactionValue) (book : BookValue) (stamp : ℕ) (vote : Vote) (covers : ℕ) → Working node owner tid tx book → tx.crossed ≡ []
-    → Working (vote_node false tid 0 vote covers node) owner tid (voted files_0 node.inc vote tx) (effect book (entry stamp (acts.Vote tid files_0 vote covers)))
+    → Working (vote_node (files_pending book tid) false tid 0 vote covers node) owner tid (voted files_0 node.inc vote tx) (effect book (entry stamp (acts.Vote tid files_0 vote covers)))
 vote_after node owner tid tx book stamp vote covers w none =
     let crossed : crossed_in (find_transaction book tid) files_0 ≡ false = rw w.found (not_crossed tx none) in
-    after_change node (vote_node false tid 0 vote covers node) owner owner tid tx (voted files_0 node.inc vote) book (effect book (entry stamp (acts.Vote tid files_0 vote covers))) w
-    (nodes_after book node (vote_node (crossed_in (find_transaction book tid) files_0) tid 0 vote covers) w.nodes ∙ ap (λ b. vote_node b tid 0 vote covers node ∷ []) crossed)
-    (vote_up tid covers node vote ∙ w.up) refl w.owners refl
+    after_change node (vote_node (files_pending book tid) false tid 0 vote covers node) owner owner tid tx (voted files_0 node.inc vote) book (effect book (entry stamp (acts.Vote tid files_0 vote covers))) w
+    (nodes_after book node (vote_node (files_pending book tid) (crossed_in (find_transaction book tid) files_0) tid 0 vote covers) w.nodes ∙ ap (λ b. vote_node (files_pending book tid) b tid 0 vote covers node ∷ []) crossed)
+    (vote_up (files_pending book tid) tid covers node vote ∙ w.up) refl w.owners refl
     (ap (λ inc. changed_value (is_at (tid_cmp tid)) (voted files_0 inc vote) book.transactions) (inc_here book node w.nodes))
-    (same_rest node.inc (vote_node false tid 0 vote covers node).inc owner (vote_inc tid covers node vote))
+    (same_rest node.inc (vote_node (files_pending book tid) false tid 0 vote covers node).inc owner (vote_inc (files_pending book tid) tid covers node vote))
 
 -- the owner may be told more, and nothing that it may be told is lost
 pub record TellsMore (owner later : Owner) : Type 0 where
