@@ -1,7 +1,7 @@
 //! A set of nodes of a run.
-ghost use Rattle.std.specs.Prelude.{◌≡◌, ◌||◌, ◌&&◌, not, OnOk, OnErr, IfOk, fold};
+ghost use Rattle.std.specs.Prelude.{◌≡◌, ◌||◌, ◌&&◌, not, OnOk, IfOk, fold};
 ghost use Rattle.std.specs.List.{list_any};
-ghost use Rattle.qs_engage.specs.Nodes.{no_nodes, all_nodes, listed, with_listed, has_node, put_node, drop_node, joined, union, without, has_all, is_no_node, put_where};
+ghost use Rattle.qs_engage.specs.Nodes.{all_nodes, listed, with_listed, has_node, put_node, drop_node, joined, union, without, has_all, is_no_node, put_where};
 
 use qs_base::{List, NoMemory, NodeNo};
 use std::alloc::Global;

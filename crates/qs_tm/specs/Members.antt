@@ -1,5 +1,5 @@
 -- What the servers of a node did for a transaction, and what is still due to them.
-use Rattle.std.specs.Prelude.{ℕ, ◌==◌, Bool, true, false, not, ◌&&◌, ◌||◌, List, [], ◌∷◌, Option, Some, None, is_none}
+use Rattle.std.specs.Prelude.{ℕ, ◌==◌, Bool, true, false, not, ◌&&◌, ◌||◌, List, [], ◌∷◌, Some, None, is_none}
 use Rattle.qs_base.specs.declared.identifiers.Class.{Class}
 use Rattle.qs_base.specs.declared.identifiers.Class.TheVariants as classes
 use Rattle.qs_base.specs.declared.identifiers.ServerNo.{ServerNo}
@@ -9,7 +9,6 @@ use Rattle.qs_ops.specs.declared.vote.Vote.{Vote}
 use Rattle.qs_ops.specs.declared.vote.Vote.TheVariants as votes
 use Rattle.qs_tm.specs.declared.members.Ballot.{Ballot}
 use Rattle.qs_tm.specs.declared.members.Ballot.TheVariants as ballots
-use Rattle.qs_tm.specs.declared.members.Cast.{Cast}
 use Rattle.qs_tm.specs.declared.members.MemberPart.{MemberPart}
 
 -- ---- servers

@@ -1,15 +1,14 @@
 -- What a node keeps of one transaction, and what each rule makes of it.
-use Rattle.std.specs.Prelude.{ℕ, ◌+◌, ◌==◌, Bool, true, false, not, ◌&&◌, ◌||◌, List, [], ◌∷◌, ◌++◌, length, replicate, Option, Some, None, is_some, is_none, nat_lt, slice_index_or, slice_set, if◌then◌else◌}
+use Rattle.std.specs.Prelude.{ℕ, ◌+◌, ◌==◌, Bool, true, false, not, ◌&&◌, ◌||◌, List, [], ◌∷◌, ◌++◌, replicate, Option, Some, None, is_none, slice_index_or, slice_set, if◌then◌else◌}
 use Rattle.std.specs.List.{list_all, list_any, filter, find}
 use Rattle.qs_base.specs.Order.{same_member}
-use Rattle.qs_base.specs.declared.identifiers.Class.{Class}
 use Rattle.qs_base.specs.declared.identifiers.ClientNo.{ClientNo}
 use Rattle.qs_base.specs.declared.identifiers.Member.{Member}
 use Rattle.qs_base.specs.declared.identifiers.NodeNo.{NodeNo}
 use Rattle.qs_base.specs.declared.identifiers.ServerNo.{ServerNo}
 use Rattle.qs_engage.specs.Engage as engage
 use Rattle.qs_engage.specs.Engage.{new_engage, is_passive, is_open_to, is_node, last_number}
-use Rattle.qs_engage.specs.Nodes.{no_nodes, has_node, put_node, drop_node, joined, same_node}
+use Rattle.qs_engage.specs.Nodes.{no_nodes, put_node, drop_node, joined, same_node}
 use Rattle.qs_ops.specs.Members.{is_two_phase}
 use Rattle.qs_ops.specs.declared.answer.Cause.{Cause}
 use Rattle.qs_ops.specs.declared.answer.Cause.TheVariants as causes
@@ -20,7 +19,7 @@ use Rattle.qs_tm.specs.declared.participant.Due.{Due}
 use Rattle.qs_tm.specs.declared.participant.Due.TheVariants as dues
 use Rattle.qs_tm.specs.declared.participant.Outstanding.{Outstanding}
 use Rattle.qs_tm.specs.declared.participant.Participant.{Participant}
-use Rattle.qs_tm.specs.Members.{all_servers, files_no, same_server, class_here, votes_here, no_member, ballot_of, is_binding, is_refusal, has_read, is_vote_due, is_ending_due, agrees, is_to_learn, is_standard, is_delayed, is_told_class}
+use Rattle.qs_tm.specs.Members.{all_servers, files_no, same_server, class_here, no_member, ballot_of, is_binding, is_refusal, has_read, is_vote_due, is_ending_due, agrees, is_to_learn, is_standard, is_delayed, is_told_class}
 
 -- one that the node has only heard of
 abbrev pub new_participant : Bool → Participant

@@ -1,10 +1,9 @@
 //! The manager of transactions of a node.
-ghost use Rattle.std.specs.Prelude.{◌≡◌, ℕ, ◌≤◌, [], None, Some, ◌↔◌, OnOk, OnErr, IfOk, IsErrOf, is_some, fold};
-ghost use Rattle.std.specs.List.{list_any};
+ghost use Rattle.std.specs.Prelude.{◌≡◌, ℕ, ◌≤◌, [], None, Some, ◌↔◌, OnOk, OnErr, IfOk, IsErrOf};
 ghost use Rattle.std.specs.Option.{option_copied};
 ghost use Rattle.qs_tm.specs.declared.manager.BeginFault.TheVariants.{LogFull, Last};
 ghost use Rattle.qs_tm.specs.Outcomes.{voted_before};
-ghost use Rattle.qs_tm.specs.Manager.{part_of, with_part, is_home, begin, begin_fault, next_tid, knows, meet, keep_abort, forget, tick, sent, sent_as, issued, drop_waiting, note_served, requested, engaged_at, served, served_as, voted, ask, refused, add_cause, causes_at, take_causes, counted, is_ready, released, released_to, add_told, told_at, decide, decision, took_outcome, settled, logged, acknowledged, all_acknowledged, take_names, new_names, add_tell, restarted, standing, standing_of, need_past, need_of, take_up, take_up_vote, take_up_commit, is_one, put_tid, tids_of, undecided, due, aged, concerned, concerns, has_undecided, is_open};
+ghost use Rattle.qs_tm.specs.Manager.{part_of, with_part, begin, begin_fault, next_tid, knows, meet, keep_abort, forget, tick, sent, sent_as, issued, drop_waiting, note_served, requested, engaged_at, served, served_as, voted, ask, refused, add_cause, causes_at, take_causes, counted, is_ready, released, released_to, add_told, told_at, decide, decision, took_outcome, settled, logged, acknowledged, all_acknowledged, take_names, new_names, add_tell, restarted, standing, standing_of, need_past, need_of, take_up, take_up_vote, take_up_commit, is_one, put_tid, tids_of, undecided, due, aged, concerned, concerns, has_undecided, is_open};
 
 use crate::participant::{Outstanding, Participant};
 use qs_base::{ClientNo, List, Member, NoMemory, NodeNo, Outcome, ServerNo, Tid};

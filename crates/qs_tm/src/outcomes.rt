@@ -1,5 +1,5 @@
 //! How a transaction is decided, told, learnt and acknowledged, and what of it is taken up from the log.
-ghost use Rattle.std.specs.Prelude.{◌≡◌, OnOk, OnErr, IfOk};
+ghost use Rattle.std.specs.Prelude.{◌≡◌, IfOk};
 ghost use Rattle.qs_base.specs.declared.identifiers.Outcome.TheVariants.{Commit, Abort};
 ghost use Rattle.qs_tm.specs.Outcomes.{drawn_in, told_with_own, tell_of, named_by, writes_commit, record_of, decided, settled, in_log, logged, acknowledged, is_all_told, new_names, take_names, is_abort, is_told_again, aborted_participant, voted_before, committed_before};
 

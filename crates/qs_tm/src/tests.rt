@@ -27,14 +27,24 @@ fn files_at(node: NodeNo) -> Member {
 }
 
 #[test]
-fn a_home_commits(rt: HostRuntime) -> Result<(), Fail> {
-    let alloc = rt.alloc();
-    let mut manager = Manager::new(alloc, HOME, 1, 0, 128);
+fn a_transaction_needs_room(rt: HostRuntime) -> Result<(), Fail> {
+    let mut manager = Manager::new(rt.alloc(), HOME, 1, 0, 128);
     let full = BeginFault::LogFull {
         need: 128,
         room: 72,
     };
     assert_eq!(rt; manager.begin(ClientNo(0), 72), Err(full));
+    assert_eq!(rt; manager.begin(ClientNo(0), 128), Ok(FIRST));
+    manager.add_told(FIRST, OTHER);
+    assert_eq!(rt; manager.need_past(FIRST, 150)?, Some(185));
+    assert_eq!(rt; manager.need_past(FIRST, 185)?, None);
+    Ok(())
+}
+
+#[test]
+fn a_home_commits(rt: HostRuntime) -> Result<(), Fail> {
+    let alloc = rt.alloc();
+    let mut manager = Manager::new(alloc, HOME, 1, 0, 128);
     assert_eq!(rt; manager.begin(ClientNo(0), 128), Ok(FIRST));
     let request = Outstanding {
         issuer: ServerNo(32),
@@ -54,8 +64,6 @@ fn a_home_commits(rt: HostRuntime) -> Result<(), Fail> {
     manager.counted(FIRST, OTHER, 1, &told);
     assert_eq!(rt; manager.ready(FIRST, true), false);
     assert_eq!(rt; manager.ready(FIRST, false), true);
-    assert_eq!(rt; manager.need_past(FIRST, 150)?, Some(185));
-    assert_eq!(rt; manager.need_past(FIRST, 185)?, None);
     assert_eq!(rt; manager.due()?.as_slice(), [FIRST].as_slice());
     let made = manager.decide(FIRST, Outcome::Commit)?;
     assert_eq!(rt; made.tell, told);

@@ -1,4 +1,4 @@
-use Rattle.std.proofs.Common.{◌≡◌, ◌||◌, ◌&&◌, not, take, fold}
+use Rattle.std.proofs.Common.{◌≡◌, take, fold}
 use Rattle.qs_engage.specs.Nodes.{put_where}
 use Rattle.qs_engage.specs.Engage.{is_open_to}
 use Rattle.qs_engage.proofs.engage.Engage.put_uncovered.Given as goal

@@ -1,4 +1,4 @@
-use Rattle.std.proofs.Common.{◌≡◌, ◌||◌, ◌&&◌, not, take, fold}
+use Rattle.std.proofs.Common.{◌≡◌, take}
 use Rattle.qs_engage.specs.Nodes.{joined}
 use Rattle.qs_engage.proofs.nodes.Nodes.join.Given as goal
 

@@ -1,4 +1,4 @@
-use Rattle.std.proofs.Common.{◌≡◌, ◌||◌, ◌&&◌, not, take, fold}
+use Rattle.std.proofs.Common.{◌≡◌, take, fold}
 use Rattle.qs_engage.specs.Nodes.{with_listed}
 use Rattle.qs_engage.proofs.nodes.Nodes.list_each.Given as goal
 

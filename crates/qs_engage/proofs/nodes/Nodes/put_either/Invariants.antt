@@ -1,4 +1,4 @@
-use Rattle.std.proofs.Common.{◌≡◌, ◌||◌, ◌&&◌, not, take, fold}
+use Rattle.std.proofs.Common.{◌≡◌, ◌||◌, take, fold}
 use Rattle.qs_engage.specs.Nodes.{put_where, has_node}
 use Rattle.qs_engage.proofs.nodes.Nodes.put_either.Given as goal
 

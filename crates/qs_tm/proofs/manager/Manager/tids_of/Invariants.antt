@@ -1,4 +1,4 @@
-use Rattle.std.proofs.Common.{◌≡◌, [], take, fold, map}
+use Rattle.std.proofs.Common.{◌≡◌, [], fold, map}
 use Rattle.std.specs.Map.Iter.{deref_pair}
 use Rattle.qs_tm.specs.Manager.{put_tid}
 use Rattle.qs_tm.proofs.manager.Manager.tids_of.Given as goal
