@@ -38,3 +38,8 @@ pub record StoodOpen (first : BookValue) (history : List Entry) (tid : Tid) (nod
   pub parts : history ≡ early ++ late
   pub restarted : gone < inc_at (book_after first early) node
   pub open_then : stands_open (book_after first early) tid node ≡ true
+
+-- and the node did run in that incarnation
+pub record IsGone (first : BookValue) (history : List Entry) (tid : Tid) (node : NodeNo) (gone : ℕ) : Type 0 where
+  pub ran : ran_as first history node gone ≡ true
+  pub stood : StoodOpen first history tid node gone
