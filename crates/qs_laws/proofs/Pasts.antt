@@ -1,6 +1,5 @@
 -- A node ran in an incarnation of this run exactly where it opened in it, or an entry restarted it into it.
 use Rattle.std.proofs.Common.{◌≡◌, ℕ, ◌<◌, ◌≤◌, ◌==◌, ◌&&◌, ◌||◌, Bool, true, false, List, [], ◌∷◌, Option, Some, None, refl, sym, ap, subst, ◌∙◌, fold, if◌then◌else◌, arith}
-use Rattle.std.proofs.lemmas.Bool.Decides.{nat_tests}
 use Rattle.std.specs.Prelude.{slice_get, unwrap_or}
 use Rattle.std.specs.List.{list_any}
 use Rattle.std.specs.Option.{option_map}
@@ -25,12 +24,12 @@ use Rattle.qs_journal.specs.declared.entry.Act.{Act}
 use Rattle.qs_journal.specs.declared.entry.Act.TheVariants.{Begin, Issue, Serve, Ask, Counted, Decide, Ending, Learn, Answer, Loan, Yield, Tick, Crash, Restart}
 use Rattle.qs_journal.specs.declared.entry.Act.TheVariants as acts
 use Rattle.qs_journal.specs.declared.entry.Entry.{Entry}
-use Rattle.qs_machine.specs.Transaction.{TransactionValue, issued, is_crossed, standing_request, requests_at}
+use Rattle.qs_machine.specs.Transaction.{TransactionValue, issued, is_crossed, standing_request}
 use Rattle.qs_machine.specs.declared.transaction.Request.{Request}
 use Rattle.qs_machine.specs.declared.transaction.RequestNo.{RequestNo}
-use Rattle.qs_machine.specs.Book.{BookValue, find_transaction, changed_at, with_owner, with_transaction, with_waiting, with_crossing, crosses, serve_node, server_serve, crossed_serve, is_done, vote_node, learn_node, doubts_after, hear, waiting_of, tick_node, crash_node, end_node, inc_at}
+use Rattle.qs_machine.specs.Book.{BookValue, find_transaction, changed_at, with_owner, with_transaction, with_waiting, with_crossing, crosses, serve_node, server_serve, is_done, vote_node, learn_node, doubts_after, hear, waiting_of, tick_node, crash_node, end_node, inc_at}
 use Rattle.qs_machine.specs.Clauses.{link_to, borrower_at}
-use Rattle.qs_machine.specs.Lawful.{is_in_order, broken_act, broken_node, broken_at, broken, effect_act, effect, IsLawful, book_after}
+use Rattle.qs_machine.specs.Lawful.{is_in_order, broken_act, broken_at, broken, effect_act, effect, IsLawful, book_after}
 use Rattle.qs_machine.specs.Nodes.{NodeValue, with_table, crossed_node, crossed_server, crossed_names, crossed_table}
 use Rattle.qs_machine.specs.Restart.{restarted_node, reopened, put_new_votes, with_votes, with_vote, new_votes, without_records, broken_restart}
 use Rattle.qs_machine.specs.declared.state.OnRecord.{OnRecord}
