@@ -5,6 +5,7 @@ use Rattle.qs_base.specs.Order.{same_tid}
 use Rattle.qs_base.specs.declared.identifiers.NodeNo.{NodeNo}
 use Rattle.qs_base.specs.declared.identifiers.ServerNo.{ServerNo}
 use Rattle.qs_base.specs.declared.identifiers.Tid.{Tid}
+use Rattle.qs_ops.specs.Servers as servers
 use Rattle.qs_ops.specs.declared.operation.Op.{Op}
 use Rattle.qs_record.specs.declared.record.Record.{Record}
 use Rattle.qs_record.specs.declared.record.Record.TheVariants as records
@@ -35,13 +36,13 @@ abbrev pub nothing_said : Recovery
 nothing_said = record { files = []; audit = []; extra = []; prepared = []; untold = []; committed = [] }
 
 abbrev pub files_no : ServerNo
-files_no = record { 0 = 0 }
+files_no = record { 0 = servers.files_no }
 
 abbrev pub audit_no : ServerNo
-audit_no = record { 0 = 1 }
+audit_no = record { 0 = servers.audit_no }
 
 abbrev pub extra_no : ServerNo
-extra_no = record { 0 = 6 }
+extra_no = record { 0 = servers.extra_no }
 
 -- transactions are numbered from 1: number 0 is the state of a node that stands at the front of a later log
 abbrev pub names_transaction : Tid → Bool

@@ -8,15 +8,10 @@ ghost use Rattle.qs_restart.specs.Places.{Follows, changes_in, changes_of, commi
 use crate::places::Places;
 use crate::recovered::{OpenVote, Recovered};
 use qs_base::{Copied, List, NoMemory, ServerNo, Tid};
+use qs_ops::servers::{AUDIT, EXTRA, FILES};
 use qs_ops::{Changes, Op};
 use qs_record::Record;
 use std::alloc::Global;
-
-const FILES: ServerNo = ServerNo(0);
-
-const AUDIT: ServerNo = ServerNo(1);
-
-const EXTRA: ServerNo = ServerNo(6);
 
 /// What the log of these records says: the committed changes of each server, the votes that stand
 /// open, the Commits that have still to be told, and the transactions of all Commits, each list in

@@ -3,6 +3,7 @@ use Rattle.std.specs.Prelude.{ℕ, ◌==◌, Bool, true, false, not, ◌&&◌, �
 use Rattle.qs_base.specs.declared.identifiers.Class.{Class}
 use Rattle.qs_base.specs.declared.identifiers.Class.TheVariants as classes
 use Rattle.qs_base.specs.declared.identifiers.ServerNo.{ServerNo}
+use Rattle.qs_ops.specs.Servers as servers
 use Rattle.qs_ops.specs.Members.{class_of, is_two_phase}
 use Rattle.qs_ops.specs.declared.vote.Vote.{Vote}
 use Rattle.qs_ops.specs.declared.vote.Vote.TheVariants as votes
@@ -18,10 +19,12 @@ server n = record { 0 = n }
 
 -- the servers of a node, in order
 unfoldable pub all_servers : List ServerNo
-all_servers = server 0 ∷ server 1 ∷ server 2 ∷ server 3 ∷ server 4 ∷ server 5 ∷ server 6 ∷ []
+all_servers =
+    server servers.files_no ∷ server servers.audit_no ∷ server servers.names_no ∷ server servers.timers_no
+    ∷ server servers.windows_no ∷ server servers.scratch_no ∷ server servers.extra_no ∷ []
 
 abbrev pub files_no : ServerNo
-files_no = server 0
+files_no = server servers.files_no
 
 abbrev pub same_server : ServerNo → ServerNo → Bool
 same_server s t = s.0 == t.0

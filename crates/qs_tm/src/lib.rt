@@ -5,7 +5,9 @@ mod manager;
 mod members;
 mod outcomes;
 mod participant;
+#[cfg(test)]
+mod tests;
 
 pub use manager::{BeginFault, Decision, Manager, Standing, Which};
-pub use members::{Ballot, Cast, FILES, MemberPart, SERVER_COUNT, every_server};
+pub use members::{Ballot, Cast, MemberPart, SERVER_COUNT, every_server};
 pub use participant::{Due, InLog, Outstanding, Participant};

@@ -3,19 +3,19 @@ ghost use Rattle.std.specs.Prelude.{◌≡◌};
 ghost use Rattle.qs_tm.specs.Members.{all_servers, ballot_of, is_binding, is_covering, is_against, votes_here, is_vote_due, is_ending_due, agrees, is_let_go, has_read, is_to_learn, is_told_class};
 
 use qs_base::{Class, ServerNo};
-use qs_ops::{Vote, class_of, is_two_phase};
+use qs_ops::{Vote, class_of, is_two_phase, servers};
 
 /// How many servers a node has.
 pub const SERVER_COUNT: usize = 7;
 
 const ALL_SERVERS: [ServerNo; 7] = [
-    ServerNo(0),
-    ServerNo(1),
-    ServerNo(2),
-    ServerNo(3),
-    ServerNo(4),
-    ServerNo(5),
-    ServerNo(6),
+    servers::FILES,
+    servers::AUDIT,
+    servers::NAMES,
+    servers::TIMERS,
+    servers::WINDOWS,
+    servers::SCRATCH,
+    servers::EXTRA,
 ];
 
 /// The servers of a node, in order.
@@ -25,9 +25,6 @@ pub fn every_server() -> &'static [ServerNo]
 {
     &ALL_SERVERS
 }
-
-/// The server of files.
-pub const FILES: ServerNo = ServerNo(0);
 
 /// A vote without its reason.
 #[derive(Clone, Copy, Debug, PartialEq, Eq)]

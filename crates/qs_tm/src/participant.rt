@@ -5,10 +5,11 @@ ghost use Rattle.std.specs.Option.{option_copied};
 ghost use Rattle.qs_tm.specs.Participant.{new_participant, begun_participant, member_of, with_member, all_agree, agrees_at, needs_pass, only_read, has_read_at, is_due_at, servers_due, has_due, learners, waiting_for, drop_waiting, is_answered_by, is_by_files, awaits_note, has_noted, is_ready, is_forgotten, is_to, is_owed_by, answered_to, served, next_served, voted, with_causes_of, waits_for, counted};
 
 use crate::members::{
-    Cast, FILES, MemberPart, SERVER_COUNT, ballot_of, every_server, is_binding, is_told_class,
+    Cast, MemberPart, SERVER_COUNT, ballot_of, every_server, is_binding, is_told_class,
 };
 use qs_base::{Class, ClientNo, Copied, List, Member, NoMemory, NodeNo, Outcome, ServerNo};
 use qs_engage::{Engage, Nodes};
+use qs_ops::servers::FILES;
 use qs_ops::{Cause, Vote, class_of, is_two_phase};
 use std::alloc::Global;
 use std::mem::replace;

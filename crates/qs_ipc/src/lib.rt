@@ -1,0 +1,11 @@
+//! The requests that wait at the servers of a node, and how many each served.
+#![tactic(auto)]
+
+mod delivery;
+mod ipc;
+mod queue;
+#[cfg(test)]
+mod tests;
+
+pub use delivery::{Delivery, Refused, Why};
+pub use ipc::Ipc;
