@@ -86,7 +86,7 @@ clients_after book stamp here (Crash cause) ws are = are
 
 -- ---- incarnations
 
-inc_as : (book : BookValue) (node : NodeNo) → inc_at book node ≡ unwrap_or (inc_in book node.0) 0
+pub inc_as : (book : BookValue) (node : NodeNo) → inc_at book node ≡ unwrap_or (inc_in book node.0) 0
 inc_as book node = of (slice_get book.nodes node.0)
   where
     of : (o : Option NodeValue) → (elim o as (λ x. ℕ) [ None ↦ 0 | Some v ↦ v.inc ]) ≡ unwrap_or (option_map (λ (a : Age). a.inc) (option_map age o)) 0

@@ -70,3 +70,4 @@ pub mod Pace
 pub mod Paces
 pub mod Gone
 pub mod StoodOpen
+pub mod Pasts

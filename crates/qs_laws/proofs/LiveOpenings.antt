@@ -117,7 +117,7 @@ module _ (tid : Tid) where
 
 -- ---- the whole
 
-log_at : (opened : List Opened) (n : ℕ) → nat_lt n (length opened) ≡ true → (one : Opened) × (slice_get opened n ≡ Some one)
+pub log_at : (opened : List Opened) (n : ℕ) → nat_lt n (length opened) ≡ true → (one : Opened) × (slice_get opened n ≡ Some one)
 log_at [] n h = absurd (none n h)
   where
     none : (m : ℕ) → nat_lt m 0 ≡ true → ⊥

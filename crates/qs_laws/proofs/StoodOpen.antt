@@ -1,5 +1,5 @@
 -- A transaction is one that a node's restart cost exactly where, at some moment later than that, a request to the node was open.
-use Rattle.std.proofs.Common.{◌≡◌, ◌⊎◌, inl, inr, ℕ, ◌<◌, ◌==◌, ◌&&◌, Bool, true, false, List, [], ◌∷◌, ◌++◌, Option, Some, None, refl, sym, ap, subst, ◌∙◌, if◌then◌else◌, arith}
+use Rattle.std.proofs.Common.{◌≡◌, ◌⊎◌, inl, inr, ℕ, ◌<◌, ◌==◌, ◌&&◌, Bool, true, false, List, [], ◌∷◌, ◌++◌, Option, Some, None, refl, sym, ap, subst, ◌∙◌, if◌then◌else◌, arith, ◌≤◌, ◌||◌}
 use Rattle.std.proofs.lemmas.Bool.Decides.{nat_tests}
 use Rattle.std.specs.Prelude.{slice_get, nat_lt}
 use Rattle.std.specs.List.{list_any}
@@ -14,16 +14,22 @@ use Rattle.qs_machine.specs.Nodes.{NodeValue}
 use Rattle.qs_machine.specs.Opening.{opening, no_owner}
 use Rattle.qs_machine.specs.declared.opened.Opened.{Opened}
 use Rattle.qs_machine.specs.declared.state.Owner.{Owner}
-use Rattle.qs_laws.specs.Gone.{is_open_in, stands_open, StoodOpen}
+use Rattle.qs_laws.specs.Gone.{is_open_in, stands_open, restarts_into, ran_as, StoodOpen, IsGone}
 use Rattle.qs_laws.specs.Laws.{IsCoherent}
 use Rattle.qs_laws.proofs.Always.{opening_so}
 use Rattle.qs_laws.proofs.Gone.{gone_in, IsPast, Keeps, Moved, IsBare, bare_goes, bare_past, moved}
-use Rattle.qs_laws.proofs.Holding.{right_of, clash}
+use Rattle.qs_laws.proofs.Holding.{left_of, right_of, clash}
 use Rattle.qs_laws.proofs.Openings.{opening_holds, opening_names, same_of}
 use Rattle.qs_laws.proofs.Outcomes.{Inv}
 use Rattle.qs_laws.proofs.Steps.{stepped, ran, after_both, lawful_front, lawful_rest, rises}
 use Rattle.qs_laws.proofs.Unanswered.{Waits}
 use Rattle.qs_laws.proofs.Waiting.{waits_after}
+use Rattle.std.specs.Option.{option_map}
+use Rattle.std.proofs.lemmas.Option.{slice_get-map}
+use Rattle.qs_machine.specs.Opening.{opened_node}
+use Rattle.qs_laws.proofs.InRun.{in_run}
+use Rattle.qs_laws.proofs.LiveOpenings.{log_at}
+use Rattle.qs_laws.proofs.Pasts.{run_of, has_run, ran_at, ran_through, inc_rises}
 
 module _ (tid : Tid) (node : NodeNo) (gone : ℕ) where
   -- it was open, and so it is past from then on
@@ -153,3 +159,71 @@ gone_then opened history tid node gone tx peer coherent lawful found there had s
     past =
         ap (λ (h : List Entry). IsPast tid node gone (book_after (opening opened) h)) s.parts
         ∙ (ap (λ (b : BookValue). IsPast tid node gone b) (after_both s.early s.late (opening opened)) ∙ last)
+
+-- ---- and the incarnations
+
+ran_first : (opened : List Opened) (one : Opened) (node : NodeNo) (gone : ℕ) → IsCoherent opened → slice_get opened node.0 ≡ Some one → ran_at node gone (opening opened) ≡ (inc_at (opening opened) node == gone)
+ran_first opened one node gone coherent is =
+    ap (λ (o : Option NodeValue). has_run node gone (option_map run_of o)) there
+    ∙ (or_none (one.inc == gone) ∙ ap (λ (n : ℕ). n == gone) (sym (peer_inc (opening opened) node (opened_node one) there)))
+  where
+    or_none : (b : Bool) → (b || false) ≡ b
+    or_none true = refl
+    or_none false = refl
+
+    there : slice_get (opening opened).nodes node.0 ≡ Some (opened_node one)
+    there =
+        ap (λ (nodes : List NodeValue). slice_get nodes node.0) (opening_names opened coherent).nodes
+        ∙ (slice_get-map opened_node opened node.0 ∙ ap (λ (o : Option Opened). option_map opened_node o) is)
+
+ran_last : (opened : List Opened) (history : List Entry) (node : NodeNo) (gone : ℕ) (peer : NodeValue) → IsCoherent opened → IsLawful (opening opened) history → slice_get (book_after (opening opened) history).nodes node.0 ≡ Some peer
+    → ((peer.inc == gone) || list_any (λ (p : ℕ). p == gone) peer.past) ≡ ran_as (opening opened) history node gone
+ran_last opened history node gone peer coherent lawful there =
+    let one : (x : Opened) × (slice_get opened node.0 ≡ Some x) = log_at opened node.0 (in_run opened history node.0 peer coherent there) in
+    sym (ap (λ (o : Option NodeValue). has_run node gone (option_map run_of o)) there)
+    ∙ (ran_through node gone history (opening opened) lawful ∙ ap (λ (b : Bool). b || list_any (restarts_into node gone) history) (ran_first opened one.0 node gone coherent one.1))
+
+pub is_gone_only : (opened : List Opened) (history : List Entry) (tid : Tid) (node : NodeNo) (gone : ℕ) (tx : TransactionValue) (peer : NodeValue) → IsCoherent opened → IsLawful (opening opened) history
+    → find_transaction (book_after (opening opened) history) tid ≡ Some tx → slice_get (book_after (opening opened) history).nodes node.0 ≡ Some peer → is_gone_cause (Some peer) tx node gone ≡ true
+    → IsGone (opening opened) history tid node gone
+is_gone_only opened history tid node gone tx peer coherent lawful found there is = record {
+  ran = sym (ran_last opened history node gone peer coherent lawful there) ∙ last (peer.inc == gone) (left_of (list_any (λ (p : ℕ). p == gone) peer.past) (is_gone tx node peer.inc gone) is);
+  stood = stood_open opened history tid node gone tx peer coherent lawful found there is;
+}
+  where
+    last : (b : Bool) → list_any (λ (p : ℕ). p == gone) peer.past ≡ true → (b || list_any (λ (p : ℕ). p == gone) peer.past) ≡ true
+    last true h = refl
+    last false h = h
+
+pub is_gone_whenever : (opened : List Opened) (history : List Entry) (tid : Tid) (node : NodeNo) (gone : ℕ) (tx : TransactionValue) (peer : NodeValue) → IsCoherent opened → IsLawful (opening opened) history
+    → find_transaction (book_after (opening opened) history) tid ≡ Some tx → slice_get (book_after (opening opened) history).nodes node.0 ≡ Some peer → IsGone (opening opened) history tid node gone → is_gone_cause (Some peer) tx node gone ≡ true
+is_gone_whenever opened history tid node gone tx peer coherent lawful found there g =
+    gone_then opened history tid node gone tx peer coherent lawful found there
+    (second (peer.inc == gone) (list_any (λ (p : ℕ). p == gone) peer.past) (apart gone peer.inc later) (ran_last opened history node gone peer coherent lawful there ∙ g.ran)) g.stood
+  where
+    s : StoodOpen (opening opened) history tid node gone
+    s = g.stood
+
+    whole : IsLawful (opening opened) (s.early ++ s.late)
+    whole = subst (λ (h : List Entry). IsLawful (opening opened) h) s.parts lawful
+
+    rest : IsLawful (book_after (opening opened) s.early) s.late
+    rest = lawful_rest s.early s.late (opening opened) whole
+
+    same : book_after (opening opened) history ≡ book_after (book_after (opening opened) s.early) s.late
+    same = ap (book_after (opening opened)) s.parts ∙ after_both s.early s.late (opening opened)
+
+    over : (a b c d : ℕ) → a < b → b ≤ c → d ≡ c → a < d
+    over a b c d h k e = omega arith
+
+    later : gone < peer.inc
+    later =
+        over gone (inc_at (book_after (opening opened) s.early) node) (inc_at (book_after (book_after (opening opened) s.early) s.late) node) peer.inc s.restarted (inc_rises node gone s.late (book_after (opening opened) s.early) rest)
+        (sym (peer_inc (book_after (opening opened) history) node peer there) ∙ ap (λ (b : BookValue). inc_at b node) same)
+
+    apart : (a b : ℕ) → a < b → (b == a) ≡ false
+    apart a b h = grind (arith, nat_tests)
+
+    second : (a b : Bool) → a ≡ false → (a || b) ≡ true → b ≡ true
+    second true b e h = absurd (cc e)
+    second false b e h = h

@@ -1,5 +1,5 @@
 //! What holds of the end of transactions at a node, and of its restart.
-ghost use Rattle.std.specs.Prelude.{◌≡◌, ◌==◌, ℕ, true, false, None, Some, slice_get, List, ◌∷◌, ◌++◌};
+ghost use Rattle.std.specs.Prelude.{◌≡◌, ℕ, true, false, None, Some, slice_get, List, ◌∷◌, ◌++◌};
 ghost use Rattle.qs_base.specs.declared.identifiers.Member.{Member};
 ghost use Rattle.qs_base.specs.declared.identifiers.NodeNo.{NodeNo};
 ghost use Rattle.qs_base.specs.declared.identifiers.Outcome.{Outcome};
@@ -9,7 +9,6 @@ ghost use Rattle.qs_ops.specs.declared.reply.Reply.{Reply};
 ghost use Rattle.qs_journal.specs.declared.entry.Act.TheVariants as acts;
 ghost use Rattle.qs_journal.specs.declared.entry.Entry.{Entry};
 ghost use Rattle.qs_journal.specs.declared.entry.Found.{Found};
-ghost use Rattle.std.specs.List.{list_any};
 ghost use Rattle.qs_machine.specs.Book.{BookValue, find_transaction};
 ghost use Rattle.qs_machine.specs.Clauses.{is_gone_cause};
 ghost use Rattle.qs_machine.specs.Lawful.{IsLawful, broken, book_after, effect};
@@ -18,7 +17,7 @@ ghost use Rattle.qs_machine.specs.Opening.{opening};
 ghost use Rattle.qs_machine.specs.declared.opened.Opened.{Opened};
 ghost use Rattle.qs_laws.specs.Endings.{is_learner, learns_before, BeginsEmpty};
 ghost use Rattle.qs_machine.specs.Transaction.{TransactionValue};
-ghost use Rattle.qs_laws.specs.Gone.{StoodOpen};
+ghost use Rattle.qs_laws.specs.Gone.{IsGone};
 ghost use Rattle.qs_laws.specs.Laws.{IsCoherent};
 ghost use Rattle.qs_laws.specs.Lives.{IsOneLife};
 
@@ -39,9 +38,9 @@ pub fn volatile_servers_begin_empty()
     ensures { (book : BookValue) (entry : Entry) (inc : ℕ) (pend : List Found) (done : List Tid) (node : NodeValue) → broken book entry ≡ None → entry.act ≡ acts.Restart inc pend done → slice_get (effect book entry).nodes entry.node.0 ≡ Some node → BeginsEmpty node }
 {}
 
-/// A transaction may be aborted because a node is gone, for an incarnation that the node left behind in this run, exactly where
-/// at some moment of the history when the node had restarted from that incarnation a request of the transaction to it was open.
+/// A transaction may be aborted because a node is gone, in an incarnation of its, exactly where the node ran in that incarnation
+/// in this run, and at some moment of the history when it had restarted from it a request of the transaction to it was open.
 pub fn gone_is_a_request_that_stood_open()
-    ensures only { (opened : List Opened) (history : List Entry) (tid : Tid) (node : NodeNo) (gone : ℕ) (tx : TransactionValue) (peer : NodeValue) → IsCoherent opened → IsLawful (opening opened) history → find_transaction (book_after (opening opened) history) tid ≡ Some tx → slice_get (book_after (opening opened) history).nodes node.0 ≡ Some peer → is_gone_cause (Some peer) tx node gone ≡ true → StoodOpen (opening opened) history tid node gone }
-    ensures whenever { (opened : List Opened) (history : List Entry) (tid : Tid) (node : NodeNo) (gone : ℕ) (tx : TransactionValue) (peer : NodeValue) → IsCoherent opened → IsLawful (opening opened) history → find_transaction (book_after (opening opened) history) tid ≡ Some tx → slice_get (book_after (opening opened) history).nodes node.0 ≡ Some peer → list_any (λ (past : ℕ). past == gone) peer.past ≡ true → StoodOpen (opening opened) history tid node gone → is_gone_cause (Some peer) tx node gone ≡ true }
+    ensures only { (opened : List Opened) (history : List Entry) (tid : Tid) (node : NodeNo) (gone : ℕ) (tx : TransactionValue) (peer : NodeValue) → IsCoherent opened → IsLawful (opening opened) history → find_transaction (book_after (opening opened) history) tid ≡ Some tx → slice_get (book_after (opening opened) history).nodes node.0 ≡ Some peer → is_gone_cause (Some peer) tx node gone ≡ true → IsGone (opening opened) history tid node gone }
+    ensures whenever { (opened : List Opened) (history : List Entry) (tid : Tid) (node : NodeNo) (gone : ℕ) (tx : TransactionValue) (peer : NodeValue) → IsCoherent opened → IsLawful (opening opened) history → find_transaction (book_after (opening opened) history) tid ≡ Some tx → slice_get (book_after (opening opened) history).nodes node.0 ≡ Some peer → IsGone (opening opened) history tid node gone → is_gone_cause (Some peer) tx node gone ≡ true }
 {}
