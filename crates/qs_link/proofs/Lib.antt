@@ -1,0 +1,4 @@
+pub mod Feeding
+pub mod Going
+pub mod Holding
+pub mod Planning

@@ -1,0 +1,6 @@
+-- Lanes, plans of what a link loses, repeats and holds back, and all that goes out by a plan.
+pub mod Lane
+pub mod Link
+pub mod Parcel
+pub mod Plan
+pub mod Planned
