@@ -16,12 +16,11 @@ use crate::clauses::{
     broken_loan, broken_serve, broken_vote, broken_yield,
 };
 use crate::node::NodeState;
-use qs_machine::Owner;
 use qs_base::{Bytes, List, NoMemory, NodeNo, Stamp, Tid};
-use qs_journal::{Act, Entry};
-use qs_ops::File;
-use qs_machine::Cell;
 use qs_book_transactions::Transaction;
+use qs_journal::{Act, Entry};
+use qs_machine::{Cell, Owner};
+use qs_ops::File;
 use std::alloc::Global;
 use std::collections::BTreeMap;
 use std::marker::Model;

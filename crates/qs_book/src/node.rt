@@ -8,12 +8,11 @@ ghost use Rattle.qs_machine.specs.Opening.{opened_node};
 ghost use Rattle.qs_machine.specs.Restart.{with_vote, without_records, reopened_node, restarted_node};
 ghost use Rattle.qs_machine.specs.Nodes.{bound_name, bound_names, is_doubt};
 
-use qs_machine::Opened;
 use crate::opening::{opened_audit, opened_commits, opened_files, opened_records};
-use qs_machine::{OnRecord, Reopened, Voter};
 use qs_base::{Bytes, Copied, List, NoMemory, Outcome, ServerNo, Stamp, Tid};
-use qs_ops::{Changes, Op, Reply, Vote};
 use qs_book_tables::{Table, TimerTable};
+use qs_machine::{OnRecord, Opened, Reopened, Voter};
+use qs_ops::{Changes, Op, Reply, Vote};
 use std::alloc::Global;
 use std::collections::{BTreeMap, BTreeSet};
 use std::marker::Model;

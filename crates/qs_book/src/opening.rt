@@ -4,14 +4,11 @@ ghost use Rattle.std.specs.List.{flat_map, fold};
 ghost use Rattle.qs_ops.specs.Table.{no_table, restarted};
 ghost use Rattle.qs_machine.specs.Opening.{keep_pending, put_of, note_of, put_record, put_tid, opened_node, no_owner};
 
-use qs_machine::Causes;
 use crate::node::NodeState;
-use qs_machine::{Opened, Pending};
-use qs_machine::{OnRecord, Owner, Voter};
 use qs_base::{Bytes, Copied, List, NoMemory, ServerNo, Tid};
-use qs_ops::{File, Op};
-use qs_ops::Kept;
 use qs_book_tables::Table;
+use qs_machine::{Causes, OnRecord, Opened, Owner, Pending, Voter};
+use qs_ops::{File, Kept, Op};
 use std::alloc::Global;
 use std::collections::{BTreeMap, BTreeSet};
 

@@ -8,12 +8,11 @@ ghost use Rattle.qs_machine.specs.Book.{is_done, owner_of, hear};
 
 use super::{Book, find, nodes, owners, transactions};
 use crate::clauses::borrower_at;
-use qs_machine::Asking;
 use qs_base::{Bytes, ClientNo, Copied, Member, NoMemory, NodeNo, Outcome, Stamp, Tid};
-use qs_journal::{Act, copied_cause};
-use qs_ops::{Cause, Op, Reply, Vote};
-use qs_machine::{Link, Request, RequestNo};
 use qs_book_transactions::Transaction;
+use qs_journal::{Act, copied_cause};
+use qs_machine::{Asking, Link, Request, RequestNo};
+use qs_ops::{Cause, Op, Reply, Vote};
 use std::collections::BTreeMap;
 
 impl Book {

@@ -7,11 +7,10 @@ ghost use Rattle.qs_machine.specs.Nodes.{bound_names, crossed_node};
 ghost use Rattle.qs_machine.specs.declared.transaction.Request.{Request};
 
 use crate::node::{NodeState, bound_names};
-use qs_machine::{OnRecord, Reopened, Voter};
 use qs_base::{Bytes, Copied, List, Member, NoMemory, NodeNo, Outcome, ServerNo, Stamp, Tid};
-use qs_ops::{Op, Reply, Vote};
-use qs_machine::{Request, RequestNo};
 use qs_book_transactions::Transaction;
+use qs_machine::{OnRecord, Reopened, Request, RequestNo, Voter};
+use qs_ops::{Op, Reply, Vote};
 use std::alloc::Global;
 
 /// So many transactions were begun at the node in its incarnation.

@@ -9,12 +9,11 @@ ghost use Rattle.qs_machine.specs.Opening.{opening, has_commit, name_all, name_f
 use super::restarting::member_at;
 use super::{Book, transactions};
 use crate::node::NodeState;
-use qs_machine::{Opened, Pending};
 use crate::opening::{no_owners, opened_nodes};
 use qs_base::{NoMemory, NodeNo, Tid};
-use qs_ops::Cause;
-use qs_machine::Cell;
 use qs_book_transactions::Transaction;
+use qs_machine::{Cell, Opened, Pending};
+use qs_ops::Cause;
 use std::alloc::Global;
 use std::collections::BTreeMap;
 

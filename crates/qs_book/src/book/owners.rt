@@ -3,8 +3,8 @@ ghost use Rattle.std.specs.Prelude.{◌≡◌, ◌++◌, ◌∷◌, [], OnOk, sl
 ghost use Rattle.std.specs.Option.{option_copied};
 ghost use Rattle.qs_machine.specs.Book.{changed_at, told, told_owner, waiting_of};
 
-use qs_machine::{Asking, Owner};
 use qs_base::{ClientNo, Copied, List, NoMemory, Outcome};
+use qs_machine::{Asking, Owner};
 use qs_ops::Cause;
 use std::alloc::Global;
 use std::mem;

@@ -14,12 +14,11 @@ use crate::clauses::{
 };
 use crate::found::{FoundCommits, FoundVotes};
 use crate::node::NodeState;
-use qs_machine::Voter;
 use qs_base::{Member, NoMemory, NodeNo, ServerNo, Tid};
-use qs_journal::Found;
-use qs_machine::Cell;
-use qs_ops::Vote;
 use qs_book_transactions::Transaction;
+use qs_journal::Found;
+use qs_machine::{Cell, Voter};
+use qs_ops::Vote;
 use std::alloc::Global;
 use std::collections::BTreeSet;
 

@@ -14,11 +14,10 @@ use super::restarting::{is_new_vote, is_open_here, member_at};
 use super::{Book, find, nodes, transactions};
 use crate::found::{FoundCommits, add_tid};
 use crate::node::NodeState;
-use qs_machine::{OnRecord, Reopened, Voter};
 use qs_base::{Copied, List, NoMemory, NodeNo, Outcome, ServerNo, Tid};
 use qs_journal::Found;
-use qs_ops::{Cause, Op};
-use qs_ops::Kept;
+use qs_machine::{OnRecord, Reopened, Voter};
+use qs_ops::{Cause, Kept, Op};
 use std::collections::BTreeSet;
 
 const FILES: ServerNo = ServerNo(0);
@@ -153,13 +152,7 @@ impl Book {
         Ok(())
     }
 
-    fn is_kept_at(
-        &self,
-        here: NodeNo,
-        server: ServerNo,
-        done: &FoundCommits,
-        found: &Found,
-    ) -> bool
+    fn is_kept_at(&self, here: NodeNo, server: ServerNo, done: &FoundCommits, found: &Found) -> bool
         ensures { result ≡ is_kept_at here.0 self.now server.0 done.now found.now }
     {
         found.server == server

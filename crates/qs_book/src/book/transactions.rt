@@ -7,9 +7,9 @@ ghost use Rattle.qs_base.specs.Order.{tid_cmp};
 ghost use Rattle.qs_machine.specs.Transaction.{changed_value, asked_at, decided_at, counted, heard, ended, issued, served_in, voted, learnt, with_learnt, lent, given_back, found_at};
 
 use qs_base::{Member, NoMemory, NodeNo, Outcome, Stamp, Tid};
-use qs_ops::{Cause, Vote};
-use qs_machine::{Link, Request, RequestNo};
 use qs_book_transactions::Transaction;
+use qs_machine::{Link, Request, RequestNo};
+use qs_ops::{Cause, Vote};
 use std::collections::BTreeMap;
 
 /// What is kept of a transaction; `None` exactly where it is unknown.

@@ -8,9 +8,9 @@ use crate::clauses::{
 };
 use crate::node::NodeState;
 use qs_base::{NodeNo, Outcome, ServerNo, Stamp, Tid};
-use qs_ops::Cause;
-use qs_machine::{Cell, Link};
 use qs_book_transactions::Transaction;
+use qs_machine::{Cell, Link};
+use qs_ops::Cause;
 
 /// The first clause that asking for commit at `here` breaks.
 pub fn broken_ask(here: NodeNo, tid: Tid, tx: Option<&Transaction>) -> Option<u16>

@@ -10,12 +10,11 @@ use crate::clauses::{
     LEARNS_THE_CELL, LOAN_FOLLOWS_ITS_LEND, READ_ONLY_LEARNS_NOTHING, YIELD_OF_A_STANDING_LOAN,
 };
 use crate::node::NodeState;
-use qs_machine::Owner;
 use qs_base::{Class, ClientNo, Member, NodeNo, Outcome, ServerNo, Stamp};
-use qs_journal::CrashCause;
-use qs_ops::{Answer, class_of, learns_outcome};
-use qs_machine::{Cell, Part};
 use qs_book_transactions::{Transaction, cell_of, is_let_go, may_learn_still};
+use qs_journal::CrashCause;
+use qs_machine::{Cell, Owner, Part};
+use qs_ops::{Answer, class_of, learns_outcome};
 
 /// The first clause that an answer to a client breaks.
 pub fn broken_answer(owner: Option<&Owner>, line: u32, answer: &Answer) -> Option<u16>

@@ -8,9 +8,9 @@ use crate::clauses::{
 };
 use crate::node::NodeState;
 use qs_base::{Bytes, ClientNo, Member, NoMemory, NodeNo, ServerNo, Tid};
-use qs_ops::{Op, server_of};
-use qs_machine::{Cell, Link, Noted};
 use qs_book_transactions::Transaction;
+use qs_machine::{Cell, Link, Noted};
+use qs_ops::{Op, server_of};
 use std::alloc::Global;
 use std::collections::BTreeMap;
 

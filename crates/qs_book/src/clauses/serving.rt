@@ -7,10 +7,10 @@ use crate::book::find;
 use crate::clauses::{NO_SERVE_AFTER_ABORT, REPLY_BY_THE_RULES, SERVE_OF_A_STANDING_ISSUE};
 use crate::node::NodeState;
 use qs_base::{Member, NoMemory, NodeNo, ServerNo, Tid};
-use qs_ops::{Op, Reply};
 use qs_book_tables::Table;
-use qs_machine::{Link, Request, RequestNo};
 use qs_book_transactions::Transaction;
+use qs_machine::{Link, Request, RequestNo};
+use qs_ops::{Op, Reply};
 use std::collections::BTreeMap;
 
 /// Which member serves which request, with what reply.

@@ -7,10 +7,10 @@ ghost use Rattle.qs_machine.specs.Transaction.{part_of};
 use crate::clauses::{VOTE_BY_THE_RULES, VOTE_COVERS, VOTE_IS_DUE};
 use crate::node::NodeState;
 use qs_base::{Bytes, Member, NoMemory, NodeNo, ServerNo, Tid};
-use qs_ops::{Reason, Vote, class_of, is_two_phase};
 use qs_book_tables::Table;
-use qs_machine::Cell;
 use qs_book_transactions::Transaction;
+use qs_machine::Cell;
+use qs_ops::{Reason, Vote, class_of, is_two_phase};
 
 /// How a member votes, for so many requests.
 #[derive(Clone, Copy, Debug)]
