@@ -106,9 +106,9 @@ or-false false = refl
 
 pub covers_more : (pend : List Found) (i : ℕ) (d : Found) (old new : List (Voter × ℕ)) → i < length pend
     → ((at : Voter) → lookup (is_at (voter_cmp at)) new
-        ≡ cond (is_at (voter_cmp (voter_of (get_or pend i d))) at)
-          (Some (greater_covers (lookup (is_at (voter_cmp (voter_of (get_or pend i d)))) old) (get_or pend i d).covers))
-          (lookup (is_at (voter_cmp at)) old))
+    ≡ cond (is_at (voter_cmp (voter_of (get_or pend i d))) at)
+    (Some (greater_covers (lookup (is_at (voter_cmp (voter_of (get_or pend i d)))) old) (get_or pend i d).covers))
+    (lookup (is_at (voter_cmp at)) old))
     → ((at : Voter) (covers : ℕ) → is_within (lookup (is_at (voter_cmp at)) old) covers ≡ list_any (is_found_as at covers) (take i pend))
     → (at : Voter) (covers : ℕ) → is_within (lookup (is_at (voter_cmp at)) new) covers ≡ list_any (is_found_as at covers) (take (i + 1) pend)
 covers_more pend i d old new lt adds was at covers =
@@ -123,12 +123,12 @@ covers_more pend i d old new lt adds was at covers =
 
     by : (b : Bool) → same_voter at found ≡ b
         → is_within (cond b (Some (greater_covers (lookup (is_at (voter_cmp (voter_of found))) old) found.covers)) (lookup (is_at (voter_cmp at)) old)) covers
-          ≡ (is_within (lookup (is_at (voter_cmp at)) old) covers || is_found_as at covers found)
+        ≡ (is_within (lookup (is_at (voter_cmp at)) old) covers || is_found_as at covers found)
     by true is =
         ap (λ (v : Voter). nat_le covers (greater_covers (lookup (is_at (voter_cmp v)) old) found.covers)) (voter_is at found is)
         ∙ within-greater (lookup (is_at (voter_cmp at)) old) covers found.covers
         ∙ ap (λ (b : Bool). is_within (lookup (is_at (voter_cmp at)) old) covers || b)
-          (together (same_tid found.tid at.tid) (found.server.0 == at.server.0) (nat_le covers found.covers) is)
+        (together (same_tid found.tid at.tid) (found.server.0 == at.server.0) (nat_le covers found.covers) is)
       where
         together : (a b c : Bool) → (a && b) ≡ true → c ≡ (a && (b && c))
         together true true c e = refl
