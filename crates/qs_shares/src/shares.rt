@@ -1,6 +1,7 @@
 //! What the transactions hold.
 ghost use Rattle.std.specs.Prelude.{◌≡◌, ◌++◌, ◌==◌, [], not, OnOk, OnErr, IfOk, length, nat_le, sum_by};
-ghost use Rattle.std.specs.Map.{remove_entry};
+ghost use Rattle.std.specs.List.Sorted.{IsStrictlySortedBy};
+ghost use Rattle.std.specs.Map.{remove_entry, keys_of};
 ghost use Rattle.std.specs.BTreeMap.{insert_entry, is_at, IsOrdered};
 ghost use Rattle.qs_base.specs.Order.{tid_cmp};
 ghost use Rattle.qs_ops.specs.Server.{vote_in_room};
@@ -301,6 +302,13 @@ impl Shares {
             Some(held) => held.into_share(),
             None => empty_share(self.alloc),
         }
+    }
+
+    /// Transactions stand in order.
+    pub fn in_order(&self)
+        ensures { IsStrictlySortedBy tid_cmp (keys_of self.now) }
+    {
+        self.held.len();
     }
 
     /// Nobody holds anything any more. It takes no memory.

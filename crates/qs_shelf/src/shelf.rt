@@ -1,16 +1,17 @@
 //! A server's table of texts under names.
-ghost use Rattle.std.specs.Prelude.{◌≡◌, ◌&&◌, true, None, Some, IfOk, OnOk, OnErr};
+ghost use Rattle.std.specs.Prelude.{◌≡◌, ◌&&◌, true, is_some, None, Some, IfOk, OnOk, OnErr};
 ghost use Rattle.std.specs.List.{list_any};
 ghost use Rattle.std.specs.Map.{remove_entry};
 ghost use Rattle.std.specs.BTreeMap.{insert_entry, is_at};
 ghost use Rattle.std.specs.Option.{option_copied, option_map};
 ghost use Rattle.qs_base.specs.Order.{tid_cmp};
-ghost use Rattle.qs_ops.specs.Files.{text_reply};
-ghost use Rattle.qs_ops.specs.Table.{no_table, text_at, share_of, has_changes, served, released, committed, reply_to, after_serve, is_change_of};
+ghost use Rattle.qs_ops.specs.Files.{file_text, text_reply};
+ghost use Rattle.qs_ops.specs.Table.{no_table, text_at, share_of, has_changes, served, with_vote, released, committed, reply_to, after_serve, is_change_of, is_claim, is_taken};
 ghost use Rattle.qs_shares.specs.Shares.{share_in};
 ghost use Rattle.qs_shelf.specs.Plain.{is_plain, put_by};
 ghost use Rattle.qs_shelf.specs.Slots.{SameTexts, IsSettled, Follows};
 
+use crate::claims::is_claimed;
 use crate::slots::Slots;
 use qs_base::{Bytes, Copied, NoMemory, Tid};
 use qs_ops::{Changes, Op, Reply};
@@ -64,11 +65,42 @@ impl Shelf {
         self.shares.has_changes(tid)
     }
 
-    /// A copy of the transaction's pending changes, in the order in which they were served.
+    /// The transaction's pending changes, in the order in which they were served.
+    pub fn pending(&self, tid: Tid) -> &[Op]
+        ensures { result.now ≡ (share_of self.now tid).changes }
+    {
+        self.shares.changes(tid)
+    }
+
+    /// A copy of them.
     pub fn changes(&self, tid: Tid) -> Result<Changes, NoMemory>
         ensures { IfOk result (λ changes. changes ≡ (share_of self.now tid).changes) }
     {
         self.shares.copy_changes(tid)
+    }
+
+    /// Whether a text is committed under the name.
+    fn is_bound(&self, name: &Bytes) -> bool
+        ensures { result ≡ is_some (file_text self.now.contents name.now) }
+    {
+        self.slots.in_order();
+        self.slots.is_bound(name)
+    }
+
+    /// Whether another transaction that voted volatile has the name pending.
+    fn is_claimed(&self, me: Tid, name: &Bytes) -> bool
+        ensures { result ≡ list_any (is_claim me name.now) self.now.shares }
+    {
+        is_claimed(&self.slots, &self.shares, me, name)
+    }
+
+    /// Whether the name is taken for the transaction: a text is committed there, or another that
+    /// voted volatile has it pending. It looks at each transaction that has the name pending, and
+    /// at no other.
+    pub fn is_taken(&self, me: Tid, name: &Bytes) -> bool
+        ensures { result ≡ is_taken self.now me name.now }
+    {
+        self.is_bound(name) || self.is_claimed(me, name)
     }
 
     /// The reply to an operation that puts a text under a name, or asks for one.
@@ -100,6 +132,14 @@ impl Shelf {
         self.slots.in_order();
         served?;
         Ok(reply)
+    }
+
+    /// Keeps whether the transaction's last vote is volatile. After a refusal all is as it was.
+    pub fn set_vote(&mut self, tid: Tid, voted: bool) -> Result<(), NoMemory>
+        ensures ok { OnOk result (self.new ≡ with_vote self.old tid voted) }
+        ensures err { OnErr result (self.new ≡ self.old) }
+    {
+        set_vote(&self.slots, &mut self.shares, tid, voted)
     }
 
     /// The transaction holds nothing here any more. It takes no memory.
@@ -218,6 +258,18 @@ fn serve_read(
 {
     let _ = slots;
     shares.serve(tid, op, reply)?;
+    Ok(())
+}
+
+/// Keeps whether the transaction's last vote is volatile.
+fn set_vote(slots: &Slots, shares: &mut Shares, tid: Tid, voted: bool) -> Result<(), NoMemory>
+    requires follows { Follows slots.now.names.entries shares.old }
+    ensures shares { OnOk result (shares.new ≡ insert_entry tid_cmp shares.old tid (record (share_in shares.old tid) { voted = voted })) }
+    ensures same { OnErr result (shares.new ≡ shares.old) }
+    ensures follows { Follows slots.now.names.entries shares.new }
+{
+    let _ = slots;
+    shares.set_vote(tid, voted)?;
     Ok(())
 }
 

@@ -1,5 +1,5 @@
 //! Names, and what stands under each.
-ghost use Rattle.std.specs.Prelude.{◌≡◌, [], ◌&&◌, false, IsSome, None, Some, IfOk, OnOk, OnErr};
+ghost use Rattle.std.specs.Prelude.{◌≡◌, [], ◌&&◌, false, IsSome, is_some, None, Some, IfOk, OnOk, OnErr};
 ghost use Rattle.std.specs.Option.{option_copied};
 ghost use Rattle.std.specs.List.{list_any};
 ghost use Rattle.std.specs.BTreeMap.{IsOrdered};
@@ -40,6 +40,16 @@ impl Slots {
         match slot.pending.get(&tid) {
             Some(text) => Some(text),
             None => slot.text.as_ref(),
+        }
+    }
+
+    /// Whether a text is committed under the name.
+    pub fn is_bound(&self, name: &Bytes) -> bool
+        ensures { result ≡ is_some (text_in self.now.names.entries name.now) }
+    {
+        match self.names.get(name) {
+            Some(slot) => slot.text.is_some(),
+            None => false,
         }
     }
 
