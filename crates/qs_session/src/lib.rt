@@ -1,6 +1,7 @@
 //! Sessions: one end of the ordered channels between two nodes, out of packets.
 #![tactic(auto)]
 
+pub mod laws;
 mod session;
 mod taken;
 #[cfg(test)]

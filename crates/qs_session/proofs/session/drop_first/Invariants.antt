@@ -1,4 +1,4 @@
-use Rattle.std.proofs.Common.{◌≡◌, ℕ, drop}
+use Rattle.std.proofs.Common.{◌≡◌, drop}
 use Rattle.qs_session.proofs.session.drop_first.Given as goal
 
 abbrev pub invariant-loop-turn : goal.invariant-loop-turn
