@@ -16,11 +16,18 @@ pub enum Event {
         command: Command,
     },
     /// A message of another node.
-    Received { peer: NodeNo, message: Message },
+    Received {
+        peer: NodeNo,
+        message: Message,
+    },
     /// The requests that wait are to be served.
     ServeAll,
     /// Another node, known in incarnation `old`, was found to be in incarnation `new`.
-    PeerRestarted { peer: NodeNo, old: u64, new: u64 },
+    PeerRestarted {
+        peer: NodeNo,
+        old: u64,
+        new: u64,
+    },
     /// Time passes.
     Tick,
 }
