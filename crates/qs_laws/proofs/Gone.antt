@@ -23,13 +23,13 @@ use Rattle.qs_machine.specs.Clauses.{link_to, borrower_at, broken_issue, broken_
 use Rattle.qs_machine.specs.Lawful.{is_in_order, broken_act, broken_at, broken, effect_act, effect}
 use Rattle.qs_machine.specs.Nodes.{NodeValue}
 use Rattle.qs_machine.specs.declared.state.Owner.{Owner}
-use Rattle.qs_laws.specs.Gone.{is_open_in, stands_open}
 use Rattle.qs_laws.specs.Lives.{is_restart, restarts}
 use Rattle.qs_laws.proofs.Always.{unknown}
 use Rattle.qs_laws.proofs.Begun.{inc_in}
 use Rattle.qs_laws.proofs.Faces.{Age, age}
 use Rattle.qs_laws.proofs.Holding.{clash}
 use Rattle.qs_laws.proofs.Lives.{same_life, Reborn, reborn, Restarting, restarting}
+use Rattle.qs_laws.proofs.OpenThen.{is_open_in, is_open_at}
 use Rattle.qs_laws.proofs.Outcomes.{Inv}
 use Rattle.qs_laws.proofs.Pace.{stay, restarted}
 use Rattle.qs_laws.proofs.Paces.{Goes, Went, count, act_owed, answer_goes}
@@ -109,7 +109,7 @@ module _ (tid : Tid) (node : NodeNo) (gone : ℕ) where
   pub record Moved (book new : BookValue) (ws : List Waits) : Type 0 where
     pub keeps : Keeps new ws
     pub kept : IsPast book ≡ true → IsPast new ≡ true
-    pub back : IsPast new ≡ true → (IsPast book ≡ true) ⊎ (stands_open new tid node ≡ true)
+    pub back : IsPast new ≡ true → (IsPast book ≡ true) ⊎ (is_open_at new tid node ≡ true)
 
   -- ---- a transaction that is not known
 
@@ -282,7 +282,7 @@ module _ (tid : Tid) (node : NodeNo) (gone : ℕ) where
             back = λ now. either s.tx s.found (a.back (sym (ap (gone_in (inc_at new node)) s.found) ∙ now));
           }
         where
-          either : (t : TransactionValue) → find_transaction new tid ≡ Some t → (g ≡ true) ⊎ (is_open_to t node ≡ true) → (IsPast book ≡ true) ⊎ (stands_open new tid node ≡ true)
+          either : (t : TransactionValue) → find_transaction new tid ≡ Some t → (g ≡ true) ⊎ (is_open_to t node ≡ true) → (IsPast book ≡ true) ⊎ (is_open_at new tid node ≡ true)
           either t there (inl was) = inl (ap (gone_in (inc_at book node)) found ∙ was)
           either t there (inr stood) = inr (ap (is_open_in node) there ∙ stood)
 

@@ -68,6 +68,14 @@ pub mod Waiting
 pub mod Reaching
 pub mod Pace
 pub mod Paces
+pub mod LinkLists
+pub mod LinkCounts
+pub mod WaitsByEntries
+pub mod OpenThen
 pub mod Gone
+pub mod LinkSteps
+pub mod LinkHistories
 pub mod StoodOpen
+pub mod OpenByEntries
+pub mod GoneByEntries
 pub mod Pasts

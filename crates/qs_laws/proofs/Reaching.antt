@@ -21,7 +21,7 @@ use Rattle.qs_laws.proofs.Unanswered.{put_peer, change_peer}
 
 -- ---- links
 
-link_exact : (l m : Link) → is_at (link_cmp l) m ≡ true → l ≡ m
+pub link_exact : (l m : Link) → is_at (link_cmp l) m ≡ true → l ≡ m
 link_exact l m = by (link_cmp l m) refl
   where
     made : ℕ × ℕ → Link

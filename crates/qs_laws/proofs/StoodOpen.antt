@@ -1,5 +1,5 @@
 -- A transaction is one that a node's restart cost exactly where, at some moment later than that, a request to the node was open.
-use Rattle.std.proofs.Common.{◌≡◌, ◌⊎◌, inl, inr, ℕ, ◌<◌, ◌==◌, ◌&&◌, Bool, true, false, List, [], ◌∷◌, ◌++◌, Option, Some, None, refl, sym, ap, subst, ◌∙◌, if◌then◌else◌, arith, ◌≤◌, ◌||◌}
+use Rattle.std.proofs.Common.{◌≡◌, ◌⊎◌, inl, inr, ℕ, ◌<◌, ◌==◌, ◌&&◌, Bool, true, false, List, [], ◌∷◌, ◌++◌, Option, Some, None, refl, sym, ap, subst, ◌∙◌, if◌then◌else◌, arith, ◌||◌}
 use Rattle.std.proofs.lemmas.Bool.Decides.{nat_tests}
 use Rattle.std.specs.Prelude.{slice_get, nat_lt}
 use Rattle.std.specs.List.{list_any}
@@ -14,26 +14,28 @@ use Rattle.qs_machine.specs.Nodes.{NodeValue}
 use Rattle.qs_machine.specs.Opening.{opening, no_owner}
 use Rattle.qs_machine.specs.declared.opened.Opened.{Opened}
 use Rattle.qs_machine.specs.declared.state.Owner.{Owner}
-use Rattle.qs_laws.specs.Gone.{is_open_in, stands_open, restarts_into, ran_as, StoodOpen, IsGone}
+use Rattle.qs_laws.specs.Gone.{restarts_into, ran_as}
 use Rattle.qs_laws.specs.Laws.{IsCoherent}
 use Rattle.qs_laws.proofs.Always.{opening_so}
 use Rattle.qs_laws.proofs.Gone.{gone_in, IsPast, Keeps, Moved, IsBare, bare_goes, bare_past, moved}
-use Rattle.qs_laws.proofs.Holding.{left_of, right_of, clash}
+use Rattle.qs_laws.proofs.Holding.{right_of, clash}
 use Rattle.qs_laws.proofs.Openings.{opening_holds, opening_names, same_of}
+use Rattle.qs_laws.proofs.OpenThen.{is_open_in, is_open_at, OpenThen}
 use Rattle.qs_laws.proofs.Outcomes.{Inv}
 use Rattle.qs_laws.proofs.Steps.{stepped, ran, after_both, lawful_front, lawful_rest, rises}
 use Rattle.qs_laws.proofs.Unanswered.{Waits}
 use Rattle.qs_laws.proofs.Waiting.{waits_after}
+use Rattle.qs_laws.proofs.WaitsByEntries.{waits_through}
 use Rattle.std.specs.Option.{option_map}
 use Rattle.std.proofs.lemmas.Option.{slice_get-map}
 use Rattle.qs_machine.specs.Opening.{opened_node}
 use Rattle.qs_laws.proofs.InRun.{in_run}
 use Rattle.qs_laws.proofs.LiveOpenings.{log_at}
-use Rattle.qs_laws.proofs.Pasts.{run_of, has_run, ran_at, ran_through, inc_rises}
+use Rattle.qs_laws.proofs.Pasts.{run_of, has_run, ran_at, ran_through}
 
 module _ (tid : Tid) (node : NodeNo) (gone : ℕ) where
   -- it was open, and so it is past from then on
-  past_then : (book : BookValue) → gone < inc_at book node → stands_open book tid node ≡ true → IsPast tid node gone book ≡ true
+  past_then : (book : BookValue) → gone < inc_at book node → is_open_at book tid node ≡ true → IsPast tid node gone book ≡ true
   past_then book later stood = of (find_transaction book tid) stood
     where
       below : (a b : ℕ) → a < b → nat_lt a b ≡ true
@@ -43,7 +45,7 @@ module _ (tid : Tid) (node : NodeNo) (gone : ℕ) where
       of None h = absurd (cc h)
       of (Some tx) h = ap (λ (b : Bool). nat_lt gone (if b then inc_at book node else (peer_of tx node).reached)) h ∙ below gone (inc_at book node) later
 
-  later_then : (book : BookValue) → IsPast tid node gone book ≡ true → stands_open book tid node ≡ true → gone < inc_at book node
+  later_then : (book : BookValue) → IsPast tid node gone book ≡ true → is_open_at book tid node ≡ true → gone < inc_at book node
   later_then book past stood = rises gone (inc_at book node) (of (find_transaction book tid) past stood)
     where
       of : (o : Option TransactionValue) → gone_in tid node gone (inc_at book node) o ≡ true → is_open_in node o ≡ true → nat_lt gone (inc_at book node) ≡ true
@@ -52,8 +54,8 @@ module _ (tid : Tid) (node : NodeNo) (gone : ℕ) where
 
   -- ---- along a history
 
-  ran_keeps : (entries : List Entry) (book : BookValue) (ws : List Waits) → Inv book → IsLawful book entries → Keeps tid node gone book ws → (us : List Waits) × Keeps tid node gone (book_after book entries) us
-  ran_keeps [] book ws i lawful k = (ws, k)
+  pub ran_keeps : (entries : List Entry) (book : BookValue) (ws : List Waits) → Inv book → IsLawful book entries → Keeps tid node gone book ws → Keeps tid node gone (book_after book entries) (waits_through ws entries)
+  ran_keeps [] book ws i lawful k = k
   ran_keeps (entry ∷ entries) book ws i lawful k =
       ran_keeps entries (effect book entry) (waits_after ws entry.act) (stepped book entry i lawful.0).inv lawful.1 (moved tid node gone book entry ws i lawful.0 k).keeps
 
@@ -64,27 +66,27 @@ module _ (tid : Tid) (node : NodeNo) (gone : ℕ) where
       stays_past entries (effect book entry) (waits_after ws entry.act) (stepped book entry i lawful.0).inv lawful.1 m.keeps (m.kept past)
 
   was_open : (entries : List Entry) (book : BookValue) (ws : List Waits) → Inv book → IsLawful book entries → Keeps tid node gone book ws → IsPast tid node gone (book_after book entries) ≡ true
-      → (IsPast tid node gone book ≡ true) ⊎ StoodOpen book entries tid node gone
+      → (IsPast tid node gone book ≡ true) ⊎ OpenThen book entries tid node gone
   was_open [] book ws i lawful k past = inl past
   was_open (entry ∷ entries) book ws i lawful k past =
       let m : Moved tid node gone book (effect book entry) (waits_after ws entry.act) = moved tid node gone book entry ws i lawful.0 k in
       by m (was_open entries (effect book entry) (waits_after ws entry.act) (stepped book entry i lawful.0).inv lawful.1 m.keeps past)
     where
-      now : IsPast tid node gone (effect book entry) ≡ true → (IsPast tid node gone book ≡ true) ⊎ (stands_open (effect book entry) tid node ≡ true) → (IsPast tid node gone book ≡ true) ⊎ StoodOpen book (entry ∷ entries) tid node gone
+      now : IsPast tid node gone (effect book entry) ≡ true → (IsPast tid node gone book ≡ true) ⊎ (is_open_at (effect book entry) tid node ≡ true) → (IsPast tid node gone book ≡ true) ⊎ OpenThen book (entry ∷ entries) tid node gone
       now p (inl before) = inl before
       now p (inr stood) = inr (record { early = entry ∷ []; late = entries; parts = refl; restarted = later_then (effect book entry) p stood; open_then = stood })
 
-      by : Moved tid node gone book (effect book entry) (waits_after ws entry.act) → (IsPast tid node gone (effect book entry) ≡ true) ⊎ StoodOpen (effect book entry) entries tid node gone
-          → (IsPast tid node gone book ≡ true) ⊎ StoodOpen book (entry ∷ entries) tid node gone
+      by : Moved tid node gone book (effect book entry) (waits_after ws entry.act) → (IsPast tid node gone (effect book entry) ≡ true) ⊎ OpenThen (effect book entry) entries tid node gone
+          → (IsPast tid node gone book ≡ true) ⊎ OpenThen book (entry ∷ entries) tid node gone
       by m (inl p) = now p (m.back p)
       by m (inr s) = inr (record { early = entry ∷ s.early; late = s.late; parts = ap (λ (es : List Entry). entry ∷ es) s.parts; restarted = s.restarted; open_then = s.open_then })
 
   -- ---- the opening
 
-  bare_first : (opened : List Opened) (tx : TransactionValue) → find_transaction (opening opened) tid ≡ Some tx → IsBare tid node gone tx
+  pub bare_first : (opened : List Opened) (tx : TransactionValue) → find_transaction (opening opened) tid ≡ Some tx → IsBare tid node gone tx
   bare_first opened = opening_so tid (IsBare tid node gone) (λ cell cause. (refl, refl)) (λ m inc covers changes tx p. p) opened
 
-  keeps_first : (opened : List Opened) → IsCoherent opened → Keeps tid node gone (opening opened) []
+  pub keeps_first : (opened : List Opened) → IsCoherent opened → Keeps tid node gone (opening opened) []
   keeps_first opened coherent = record {
     clients = λ c o is. ap (λ (x : Owner). x.waiting) (same_of 256 c no_owner o (sym (ap (λ (os : List Owner). slice_get os c) (opening_names opened coherent).owners) ∙ is));
     goes = λ tx found. bare_goes tid node gone (inc_at (opening opened) node) tx (bare_first opened tx found);
@@ -100,7 +102,7 @@ module _ (tid : Tid) (node : NodeNo) (gone : ℕ) where
 
 -- ---- the laws
 
-peer_inc : (book : BookValue) (node : NodeNo) (peer : NodeValue) → slice_get book.nodes node.0 ≡ Some peer → inc_at book node ≡ peer.inc
+pub peer_inc : (book : BookValue) (node : NodeNo) (peer : NodeValue) → slice_get book.nodes node.0 ≡ Some peer → inc_at book node ≡ peer.inc
 peer_inc book node peer at = ap inc_in at
   where
     inc_in : Option NodeValue → ℕ
@@ -108,7 +110,7 @@ peer_inc book node peer at = ap inc_in at
 
 pub stood_open : (opened : List Opened) (history : List Entry) (tid : Tid) (node : NodeNo) (gone : ℕ) (tx : TransactionValue) (peer : NodeValue) → IsCoherent opened → IsLawful (opening opened) history
     → find_transaction (book_after (opening opened) history) tid ≡ Some tx → slice_get (book_after (opening opened) history).nodes node.0 ≡ Some peer → is_gone_cause (Some peer) tx node gone ≡ true
-    → StoodOpen (opening opened) history tid node gone
+    → OpenThen (opening opened) history tid node gone
 stood_open opened history tid node gone tx peer coherent lawful found there is =
     by (was_open tid node gone history (opening opened) [] (opening_holds opened coherent) lawful (keeps_first tid node gone opened coherent) past)
   where
@@ -120,13 +122,13 @@ stood_open opened history tid node gone tx peer coherent lawful found there is =
         ap (gone_in tid node gone (inc_at book node)) found
         ∙ (ap (λ (n : ℕ). is_gone tx node n gone) (peer_inc book node peer there) ∙ right_of (list_any (λ (p : ℕ). p == gone) peer.past) (is_gone tx node peer.inc gone) is)
 
-    by : (IsPast tid node gone (opening opened) ≡ true) ⊎ StoodOpen (opening opened) history tid node gone → StoodOpen (opening opened) history tid node gone
+    by : (IsPast tid node gone (opening opened) ≡ true) ⊎ OpenThen (opening opened) history tid node gone → OpenThen (opening opened) history tid node gone
     by (inl p) = absurd (not_past tid node gone opened p)
     by (inr s) = s
 
 pub gone_then : (opened : List Opened) (history : List Entry) (tid : Tid) (node : NodeNo) (gone : ℕ) (tx : TransactionValue) (peer : NodeValue) → IsCoherent opened → IsLawful (opening opened) history
     → find_transaction (book_after (opening opened) history) tid ≡ Some tx → slice_get (book_after (opening opened) history).nodes node.0 ≡ Some peer → list_any (λ (p : ℕ). p == gone) peer.past ≡ true
-    → StoodOpen (opening opened) history tid node gone → is_gone_cause (Some peer) tx node gone ≡ true
+    → OpenThen (opening opened) history tid node gone → is_gone_cause (Some peer) tx node gone ≡ true
 gone_then opened history tid node gone tx peer coherent lawful found there had s =
     both (list_any (λ (p : ℕ). p == gone) peer.past) (is_gone tx node peer.inc gone) had
     (sym (ap (λ (n : ℕ). is_gone tx node n gone) (peer_inc (book_after (opening opened) history) node peer there)) ∙ (sym (ap (gone_in tid node gone (inc_at (book_after (opening opened) history) node)) found) ∙ past))
@@ -147,12 +149,12 @@ gone_then opened history tid node gone tx peer coherent lawful found there had s
     mid : BookValue
     mid = book_after (opening opened) s.early
 
-    k : (us : List Waits) × Keeps tid node gone mid us
+    k : Keeps tid node gone mid (waits_through [] s.early)
     k = ran_keeps tid node gone s.early (opening opened) [] first early (keeps_first tid node gone opened coherent)
 
     last : IsPast tid node gone (book_after mid s.late) ≡ true
     last =
-        stays_past tid node gone s.late mid k.0 (ran s.early (opening opened) first early).inv (lawful_rest s.early s.late (opening opened) whole) k.1
+        stays_past tid node gone s.late mid (waits_through [] s.early) (ran s.early (opening opened) first early).inv (lawful_rest s.early s.late (opening opened) whole) k
         (past_then tid node gone mid s.restarted s.open_then)
 
     past : IsPast tid node gone (book_after (opening opened) history) ≡ true
@@ -176,54 +178,9 @@ ran_first opened one node gone coherent is =
         ap (λ (nodes : List NodeValue). slice_get nodes node.0) (opening_names opened coherent).nodes
         ∙ (slice_get-map opened_node opened node.0 ∙ ap (λ (o : Option Opened). option_map opened_node o) is)
 
-ran_last : (opened : List Opened) (history : List Entry) (node : NodeNo) (gone : ℕ) (peer : NodeValue) → IsCoherent opened → IsLawful (opening opened) history → slice_get (book_after (opening opened) history).nodes node.0 ≡ Some peer
+pub ran_last : (opened : List Opened) (history : List Entry) (node : NodeNo) (gone : ℕ) (peer : NodeValue) → IsCoherent opened → IsLawful (opening opened) history → slice_get (book_after (opening opened) history).nodes node.0 ≡ Some peer
     → ((peer.inc == gone) || list_any (λ (p : ℕ). p == gone) peer.past) ≡ ran_as (opening opened) history node gone
 ran_last opened history node gone peer coherent lawful there =
     let one : (x : Opened) × (slice_get opened node.0 ≡ Some x) = log_at opened node.0 (in_run opened history node.0 peer coherent there) in
     sym (ap (λ (o : Option NodeValue). has_run node gone (option_map run_of o)) there)
     ∙ (ran_through node gone history (opening opened) lawful ∙ ap (λ (b : Bool). b || list_any (restarts_into node gone) history) (ran_first opened one.0 node gone coherent one.1))
-
-pub is_gone_only : (opened : List Opened) (history : List Entry) (tid : Tid) (node : NodeNo) (gone : ℕ) (tx : TransactionValue) (peer : NodeValue) → IsCoherent opened → IsLawful (opening opened) history
-    → find_transaction (book_after (opening opened) history) tid ≡ Some tx → slice_get (book_after (opening opened) history).nodes node.0 ≡ Some peer → is_gone_cause (Some peer) tx node gone ≡ true
-    → IsGone (opening opened) history tid node gone
-is_gone_only opened history tid node gone tx peer coherent lawful found there is = record {
-  ran = sym (ran_last opened history node gone peer coherent lawful there) ∙ last (peer.inc == gone) (left_of (list_any (λ (p : ℕ). p == gone) peer.past) (is_gone tx node peer.inc gone) is);
-  stood = stood_open opened history tid node gone tx peer coherent lawful found there is;
-}
-  where
-    last : (b : Bool) → list_any (λ (p : ℕ). p == gone) peer.past ≡ true → (b || list_any (λ (p : ℕ). p == gone) peer.past) ≡ true
-    last true h = refl
-    last false h = h
-
-pub is_gone_whenever : (opened : List Opened) (history : List Entry) (tid : Tid) (node : NodeNo) (gone : ℕ) (tx : TransactionValue) (peer : NodeValue) → IsCoherent opened → IsLawful (opening opened) history
-    → find_transaction (book_after (opening opened) history) tid ≡ Some tx → slice_get (book_after (opening opened) history).nodes node.0 ≡ Some peer → IsGone (opening opened) history tid node gone → is_gone_cause (Some peer) tx node gone ≡ true
-is_gone_whenever opened history tid node gone tx peer coherent lawful found there g =
-    gone_then opened history tid node gone tx peer coherent lawful found there
-    (second (peer.inc == gone) (list_any (λ (p : ℕ). p == gone) peer.past) (apart gone peer.inc later) (ran_last opened history node gone peer coherent lawful there ∙ g.ran)) g.stood
-  where
-    s : StoodOpen (opening opened) history tid node gone
-    s = g.stood
-
-    whole : IsLawful (opening opened) (s.early ++ s.late)
-    whole = subst (λ (h : List Entry). IsLawful (opening opened) h) s.parts lawful
-
-    rest : IsLawful (book_after (opening opened) s.early) s.late
-    rest = lawful_rest s.early s.late (opening opened) whole
-
-    same : book_after (opening opened) history ≡ book_after (book_after (opening opened) s.early) s.late
-    same = ap (book_after (opening opened)) s.parts ∙ after_both s.early s.late (opening opened)
-
-    over : (a b c d : ℕ) → a < b → b ≤ c → d ≡ c → a < d
-    over a b c d h k e = omega arith
-
-    later : gone < peer.inc
-    later =
-        over gone (inc_at (book_after (opening opened) s.early) node) (inc_at (book_after (book_after (opening opened) s.early) s.late) node) peer.inc s.restarted (inc_rises node gone s.late (book_after (opening opened) s.early) rest)
-        (sym (peer_inc (book_after (opening opened) history) node peer there) ∙ ap (λ (b : BookValue). inc_at b node) same)
-
-    apart : (a b : ℕ) → a < b → (b == a) ≡ false
-    apart a b h = grind (arith, nat_tests)
-
-    second : (a b : Bool) → a ≡ false → (a || b) ≡ true → b ≡ true
-    second true b e h = absurd (cc e)
-    second false b e h = h
