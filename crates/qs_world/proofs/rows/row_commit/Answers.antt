@@ -1,0 +1,8 @@
+use Rattle.qs_engage.specs.Nodes.{all_nodes}
+use Rattle.qs_tm.specs.Members.{all_servers}
+use Rattle.std.proofs.Common.{refl}
+use Rattle.qs_world.proofs.rows.row_commit.Goals as goal
+
+pub returns : goal.returns
+unfolding all_nodes all_servers
+returns c = record { shown = λ alloc. record { moves = refl; journal = refl; log = refl; files = refl } }

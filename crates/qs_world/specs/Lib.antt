@@ -1,0 +1,13 @@
+pub mod Driven
+pub mod DrivenRuns
+pub mod Faults
+pub mod Histories
+pub mod Moves
+pub mod OneNode
+pub mod Opened
+pub mod Openings
+pub mod Posting
+pub mod Runs
+pub mod Scenes
+pub mod TwoNodes
+pub mod World
