@@ -1,5 +1,5 @@
 -- A transaction may be aborted because a node is gone exactly where the node ran in that incarnation and a request stood open then.
-use Rattle.std.proofs.Common.{◌≡◌, ℕ, ◌<◌, ◌≤◌, ◌==◌, ◌||◌, Bool, true, false, List, ◌++◌, Some, refl, sym, ap, subst, ◌∙◌, arith}
+use Rattle.std.proofs.Common.{◌≡◌, ◌⊎◌, inl, inr, ℕ, ◌<◌, ◌≤◌, ◌==◌, ◌||◌, Bool, true, false, List, ◌++◌, Some, refl, sym, ap, subst, ◌∙◌, arith}
 use Rattle.std.proofs.lemmas.Bool.Decides.{nat_tests}
 use Rattle.std.specs.Prelude.{slice_get}
 use Rattle.std.specs.List.{list_any}
@@ -13,8 +13,9 @@ use Rattle.qs_machine.specs.Lawful.{IsLawful, book_after}
 use Rattle.qs_machine.specs.Nodes.{NodeValue}
 use Rattle.qs_machine.specs.Opening.{opening}
 use Rattle.qs_machine.specs.declared.opened.Opened.{Opened}
-use Rattle.qs_laws.specs.Gone.{StoodOpen, IsGone}
+use Rattle.qs_laws.specs.Gone.{restarts_beyond, ran_as, StoodOpen, IsGone}
 use Rattle.qs_laws.specs.Laws.{IsCoherent}
+use Rattle.qs_laws.proofs.Beyond.{beyond_then, beyond_only, not_before}
 use Rattle.qs_laws.proofs.Holding.{left_of}
 use Rattle.qs_laws.proofs.OpenByEntries.{open_as}
 use Rattle.qs_laws.proofs.OpenThen.{OpenThen}
@@ -24,46 +25,55 @@ use Rattle.qs_laws.proofs.StoodOpen.{stood_open, gone_then, ran_last, peer_inc}
 
 -- ---- by what the machine counts, and by entries
 
-by_entries : (opened : List Opened) (history : List Entry) (tid : Tid) (node : NodeNo) (gone : ℕ) → IsCoherent opened → IsLawful (opening opened) history → OpenThen (opening opened) history tid node gone → StoodOpen (opening opened) history tid node gone
-by_entries opened history tid node gone coherent lawful s = record {
-  early = s.early;
-  late = s.late;
-  parts = s.parts;
-  restarted = s.restarted;
-  open_then = sym (open_as tid node opened s.early coherent (lawful_front s.early s.late (opening opened) (subst (λ (h : List Entry). IsLawful (opening opened) h) s.parts lawful))) ∙ s.open_then;
-}
+module _ (opened : List Opened) (history : List Entry) (tid : Tid) (node : NodeNo) (gone : ℕ) (coherent : IsCoherent opened) (lawful : IsLawful (opening opened) history) where
+  early_lawful : (early late : List Entry) → history ≡ early ++ late → IsLawful (opening opened) early
+  early_lawful early late parts = lawful_front early late (opening opened) (subst (λ (h : List Entry). IsLawful (opening opened) h) parts lawful)
 
-by_counts : (opened : List Opened) (history : List Entry) (tid : Tid) (node : NodeNo) (gone : ℕ) → IsCoherent opened → IsLawful (opening opened) history → StoodOpen (opening opened) history tid node gone → OpenThen (opening opened) history tid node gone
-by_counts opened history tid node gone coherent lawful s = record {
-  early = s.early;
-  late = s.late;
-  parts = s.parts;
-  restarted = s.restarted;
-  open_then = open_as tid node opened s.early coherent (lawful_front s.early s.late (opening opened) (subst (λ (h : List Entry). IsLawful (opening opened) h) s.parts lawful)) ∙ s.open_then;
-}
+  by_entries : ran_as (opening opened) history node gone ≡ true → OpenThen (opening opened) history tid node gone → StoodOpen history tid node gone
+  by_entries ran s = record {
+    early = s.early;
+    late = s.late;
+    parts = s.parts;
+    restarted = by (beyond_only node gone s.early (opening opened) (early_lawful s.early s.late s.parts) s.restarted);
+    open_then = sym (open_as tid node opened s.early coherent (early_lawful s.early s.late s.parts)) ∙ s.open_then;
+  }
+    where
+      by : (gone < inc_at (opening opened) node) ⊎ (list_any (restarts_beyond node gone) s.early ≡ true) → list_any (restarts_beyond node gone) s.early ≡ true
+      by (inl above) = absurd (not_before node gone history (opening opened) lawful ran above)
+      by (inr is) = is
+
+  by_counts : StoodOpen history tid node gone → OpenThen (opening opened) history tid node gone
+  by_counts s = record {
+    early = s.early;
+    late = s.late;
+    parts = s.parts;
+    restarted = beyond_then node gone s.early (opening opened) (early_lawful s.early s.late s.parts) s.restarted;
+    open_then = open_as tid node opened s.early coherent (early_lawful s.early s.late s.parts) ∙ s.open_then;
+  }
 
 -- ---- the law
 
 pub is_gone_only : (opened : List Opened) (history : List Entry) (tid : Tid) (node : NodeNo) (gone : ℕ) (tx : TransactionValue) (peer : NodeValue) → IsCoherent opened → IsLawful (opening opened) history
     → find_transaction (book_after (opening opened) history) tid ≡ Some tx → slice_get (book_after (opening opened) history).nodes node.0 ≡ Some peer → is_gone_cause (Some peer) tx node gone ≡ true
     → IsGone (opening opened) history tid node gone
-is_gone_only opened history tid node gone tx peer coherent lawful found there is = record {
-  ran = sym (ran_last opened history node gone peer coherent lawful there) ∙ last (peer.inc == gone) (left_of (list_any (λ (p : ℕ). p == gone) peer.past) (is_gone tx node peer.inc gone) is);
-  stood = by_entries opened history tid node gone coherent lawful (stood_open opened history tid node gone tx peer coherent lawful found there is);
-}
+is_gone_only opened history tid node gone tx peer coherent lawful found there is =
+    record { ran = ran; stood = by_entries opened history tid node gone coherent lawful ran (stood_open opened history tid node gone tx peer coherent lawful found there is) }
   where
     last : (b : Bool) → list_any (λ (p : ℕ). p == gone) peer.past ≡ true → (b || list_any (λ (p : ℕ). p == gone) peer.past) ≡ true
     last true h = refl
     last false h = h
 
+    ran : ran_as (opening opened) history node gone ≡ true
+    ran = sym (ran_last opened history node gone peer coherent lawful there) ∙ last (peer.inc == gone) (left_of (list_any (λ (p : ℕ). p == gone) peer.past) (is_gone tx node peer.inc gone) is)
+
 pub is_gone_whenever : (opened : List Opened) (history : List Entry) (tid : Tid) (node : NodeNo) (gone : ℕ) (tx : TransactionValue) (peer : NodeValue) → IsCoherent opened → IsLawful (opening opened) history
     → find_transaction (book_after (opening opened) history) tid ≡ Some tx → slice_get (book_after (opening opened) history).nodes node.0 ≡ Some peer → IsGone (opening opened) history tid node gone → is_gone_cause (Some peer) tx node gone ≡ true
 is_gone_whenever opened history tid node gone tx peer coherent lawful found there g =
     gone_then opened history tid node gone tx peer coherent lawful found there
-    (second (peer.inc == gone) (list_any (λ (p : ℕ). p == gone) peer.past) (apart gone peer.inc later) (ran_last opened history node gone peer coherent lawful there ∙ g.ran)) (by_counts opened history tid node gone coherent lawful g.stood)
+    (second (peer.inc == gone) (list_any (λ (p : ℕ). p == gone) peer.past) (apart gone peer.inc later) (ran_last opened history node gone peer coherent lawful there ∙ g.ran)) s
   where
-    s : StoodOpen (opening opened) history tid node gone
-    s = g.stood
+    s : OpenThen (opening opened) history tid node gone
+    s = by_counts opened history tid node gone coherent lawful g.stood
 
     whole : IsLawful (opening opened) (s.early ++ s.late)
     whole = subst (λ (h : List Entry). IsLawful (opening opened) h) s.parts lawful

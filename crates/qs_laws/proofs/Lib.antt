@@ -77,5 +77,6 @@ pub mod LinkSteps
 pub mod LinkHistories
 pub mod StoodOpen
 pub mod OpenByEntries
+pub mod Beyond
 pub mod GoneByEntries
 pub mod Pasts

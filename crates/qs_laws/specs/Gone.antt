@@ -1,5 +1,5 @@
 -- When a transaction is aborted because a node is gone, in entries of its history.
-use Rattle.std.specs.Prelude.{◌≡◌, ℕ, ◌<◌, ◌==◌, ◌&&◌, ◌||◌, Bool, true, false, not, nat_le, List, [], ◌∷◌, ◌++◌}
+use Rattle.std.specs.Prelude.{◌≡◌, ℕ, ◌==◌, ◌&&◌, ◌||◌, Bool, true, false, not, nat_le, nat_lt, List, [], ◌∷◌, ◌++◌}
 use Rattle.std.specs.List.{list_any}
 use Rattle.qs_base.specs.Order.{same_tid}
 use Rattle.qs_base.specs.declared.identifiers.NodeNo.{NodeNo}
@@ -9,7 +9,6 @@ use Rattle.qs_journal.specs.declared.entry.Act.{Act}
 use Rattle.qs_journal.specs.declared.entry.Act.TheVariants as acts
 use Rattle.qs_journal.specs.declared.entry.Entry.{Entry}
 use Rattle.qs_machine.specs.Book.{BookValue, inc_at}
-use Rattle.qs_machine.specs.Lawful.{book_after}
 use Rattle.qs_laws.specs.Lives.{restarts}
 
 -- ---- a request that stands open; `since` are the entries after its issue
@@ -64,19 +63,27 @@ is_restart_into inc act = false
 abbrev pub restarts_into : NodeNo → ℕ → Entry → Bool
 restarts_into node inc entry = (entry.node.0 == node.0) && is_restart_into inc entry.act
 
+abbrev pub is_restart_beyond : ℕ → Act → Bool
+is_restart_beyond inc (acts.Restart new pend done) = nat_lt inc new
+is_restart_beyond inc act = false
+
+-- or into a later one
+abbrev pub restarts_beyond : NodeNo → ℕ → Entry → Bool
+restarts_beyond node inc entry = (entry.node.0 == node.0) && is_restart_beyond inc entry.act
+
 -- the node opened in that incarnation, or restarted into it
 abbrev pub ran_as : BookValue → List Entry → NodeNo → ℕ → Bool
 ran_as first history node inc = (inc_at first node == inc) || list_any (restarts_into node inc) history
 
--- at some moment, when the node had restarted from that incarnation, a request to it stood open
-pub record StoodOpen (first : BookValue) (history : List Entry) (tid : Tid) (node : NodeNo) (gone : ℕ) : Type 0 where
+-- at some moment, when the node had restarted into a later incarnation, a request to it stood open
+pub record StoodOpen (history : List Entry) (tid : Tid) (node : NodeNo) (gone : ℕ) : Type 0 where
   pub early : List Entry
   pub late : List Entry
   pub parts : history ≡ early ++ late
-  pub restarted : gone < inc_at (book_after first early) node
+  pub restarted : list_any (restarts_beyond node gone) early ≡ true
   pub open_then : stands_open tid node early ≡ true
 
 -- and the node did run in that incarnation
 pub record IsGone (first : BookValue) (history : List Entry) (tid : Tid) (node : NodeNo) (gone : ℕ) : Type 0 where
   pub ran : ran_as first history node gone ≡ true
-  pub stood : StoodOpen first history tid node gone
+  pub stood : StoodOpen history tid node gone

@@ -39,7 +39,8 @@ pub fn volatile_servers_begin_empty()
 {}
 
 /// A transaction may be aborted because a node is gone, in an incarnation of its, exactly where the node ran in that incarnation
-/// in this run, and at some moment of the history when it had restarted from it a request of the transaction to it was open.
+/// in this run, and at some moment of the history when it had restarted into a later one a request of the transaction to it
+/// stood open: of files, or of a client that had no answer since, or not counted by its node in the life in which it issued it.
 pub fn gone_is_a_request_that_stood_open()
     ensures only { (opened : List Opened) (history : List Entry) (tid : Tid) (node : NodeNo) (gone : ℕ) (tx : TransactionValue) (peer : NodeValue) → IsCoherent opened → IsLawful (opening opened) history → find_transaction (book_after (opening opened) history) tid ≡ Some tx → slice_get (book_after (opening opened) history).nodes node.0 ≡ Some peer → is_gone_cause (Some peer) tx node gone ≡ true → IsGone (opening opened) history tid node gone }
     ensures whenever { (opened : List Opened) (history : List Entry) (tid : Tid) (node : NodeNo) (gone : ℕ) (tx : TransactionValue) (peer : NodeValue) → IsCoherent opened → IsLawful (opening opened) history → find_transaction (book_after (opening opened) history) tid ≡ Some tx → slice_get (book_after (opening opened) history).nodes node.0 ≡ Some peer → IsGone (opening opened) history tid node gone → is_gone_cause (Some peer) tx node gone ≡ true }
