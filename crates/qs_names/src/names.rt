@@ -12,7 +12,7 @@ use std::alloc::Global;
 use std::cmp::Ordering;
 
 /// The name server of a node: texts by name. A name is bound from the commit of the transaction
-/// that bound it, and no transaction with a binding of it commits afterwards.
+/// that bound it. The vote of a transaction that is about to bind a taken name is abort.
 #[derive(Drop)]
 pub struct Names {
     shelf: Shelf,

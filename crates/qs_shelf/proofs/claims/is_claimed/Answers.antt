@@ -1,4 +1,4 @@
-use Rattle.std.proofs.Common.{Some, None, sym, ◌∙◌}
+use Rattle.std.proofs.Common.{Some, None, ◌∙◌}
 use Rattle.qs_shelf.proofs.Claimed.{claimed-by_voters}
 use Rattle.qs_shelf.proofs.claims.is_claimed.Goals as goal
 
