@@ -1,5 +1,6 @@
 //! The scratch server.
-ghost use Rattle.std.specs.Prelude.{◌≡◌};
+ghost use Rattle.std.specs.Prelude.{◌≡◌, Ok};
+ghost use Rattle.qs_ops.specs.declared.vote.Vote.TheVariants as votes;
 ghost use Rattle.qs_ops.specs.Table.{no_table};
 ghost use Rattle.qs_ops.specs.Timers.{no_timers};
 ghost use Rattle.qs_ops.specs.declared.server.Kind.TheVariants as kinds;
@@ -40,8 +41,11 @@ impl Server for Scratch {
         self.shelf.serve(tid, op)
     }
 
-    /// Scratch does not vote: no call meets the condition.
-    fn vote(&mut self, _tid: Tid, _free: u64, _frame: u64) -> Result<Vote, NoMemory> {
+    /// Scratch has no vote, and no node asks for one: it would be read-only, and change nothing.
+    fn vote(&mut self, _tid: Tid, _free: u64, _frame: u64) -> Result<Vote, NoMemory>
+        ensures answer { result ≡ Ok votes.ReadOnly }
+        ensures unchanged { self.new ≡ self.old }
+    {
         Ok(Vote::ReadOnly)
     }
 

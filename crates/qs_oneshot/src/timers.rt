@@ -1,8 +1,9 @@
 //! The timers server.
-ghost use Rattle.std.specs.Prelude.{◌≡◌, ◌<◌, Some, true, IfOk, OnOk, OnErr, nat_le};
+ghost use Rattle.std.specs.Prelude.{◌≡◌, ◌<◌, Some, true, IfOk, OnOk, OnErr, nat_le, Ok};
 ghost use Rattle.std.specs.Map.{lookup};
 ghost use Rattle.std.specs.BTreeMap.{insert_entry, is_at};
 ghost use Rattle.qs_base.specs.Order.{bytes_cmp, tid_cmp};
+ghost use Rattle.qs_ops.specs.declared.vote.Vote.TheVariants as votes;
 ghost use Rattle.qs_ops.specs.Server.{is_own};
 ghost use Rattle.qs_ops.specs.Table.{no_table};
 ghost use Rattle.qs_ops.specs.Timers.{no_timers, timer_share_in, timer_share_of, timer_reply_to, left_reply, after_timer, timers_ended, ticked};
@@ -112,8 +113,11 @@ impl Server for Timers {
         Ok(reply)
     }
 
-    /// Timers do not vote: no call meets the condition.
-    fn vote(&mut self, _tid: Tid, _free: u64, _frame: u64) -> Result<Vote, NoMemory> {
+    /// Timers have no vote, and no node asks for one: it would be read-only, and change nothing.
+    fn vote(&mut self, _tid: Tid, _free: u64, _frame: u64) -> Result<Vote, NoMemory>
+        ensures answer { result ≡ Ok votes.ReadOnly }
+        ensures unchanged { self.new ≡ self.old }
+    {
         Ok(Vote::ReadOnly)
     }
 

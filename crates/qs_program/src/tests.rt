@@ -5,6 +5,7 @@ use std::env::{Env, FillError};
 use std::test::Fail;
 
 /// An environment that gives a program's name and one byte that is not UTF-8.
+#[derive(Drop)]
 struct OneByte;
 
 impl Env for OneByte {
