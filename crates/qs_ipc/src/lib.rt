@@ -4,8 +4,6 @@
 mod delivery;
 mod ipc;
 mod queue;
-#[cfg(test)]
-mod tests;
 
 pub use delivery::{Delivery, Refused, Why};
 pub use ipc::Ipc;
