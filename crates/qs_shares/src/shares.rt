@@ -11,7 +11,7 @@ ghost use Rattle.qs_ops.specs.declared.reply.Reply.TheVariants.{Done};
 ghost use Rattle.qs_shares.specs.Shares.{share_in, kept_share, IsHeld, IsReplaced};
 
 use crate::lengths::{add, changes_length, op_length};
-use qs_base::{Copied, List, NoMemory, Tid, copy_list};
+use qs_base::{Bytes, Copied, List, NoMemory, Tid, copy_list};
 use qs_ops::{Changes, Op, Reason, Reply, Share, Vote, is_change};
 use std::alloc::Global;
 use std::collections::BTreeMap;
@@ -75,6 +75,13 @@ impl Held {
         ensures { result.now ≡ self.now.changes }
     {
         self.share.changes.as_slice()
+    }
+
+    /// The names that were read, in order.
+    fn reads(&self) -> &[Bytes]
+        ensures { result.now ≡ self.now.reads }
+    {
+        self.share.reads.as_slice()
     }
 
     /// How many operations count.
@@ -204,6 +211,16 @@ impl Shares {
         ensures { IfOk result (λ changes. changes ≡ (share_in self.now tid).changes) }
     {
         copy_list(self.alloc, self.changes(tid))
+    }
+
+    /// The names that the transaction read, in the order in which it read them.
+    pub fn reads(&self, tid: Tid) -> &[Bytes]
+        ensures { result.now ≡ (share_in self.now tid).reads }
+    {
+        match self.held.get(&tid) {
+            Some(held) => held.reads(),
+            None => &[],
+        }
     }
 
     /// Whether the transaction has a pending change.

@@ -1,0 +1,4 @@
+pub mod Edits
+pub mod Slots
+pub mod Texts
+pub mod Written
