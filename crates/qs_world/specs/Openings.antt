@@ -15,7 +15,7 @@ use Rattle.qs_journal.specs.declared.script_line.ScriptLine.{ScriptLine}
 use Rattle.qs_record.specs.declared.record.Record.{Record}
 use Rattle.qs_record.specs.declared.record.Record.TheVariants as records
 use Rattle.qs_machine.specs.Nodes.{is_recoverable}
-use Rattle.qs_node.specs.declared.setting.Setting.{Setting}
+use Rattle.qs_step.specs.declared.setting.Setting.{Setting}
 use Rattle.qs_restart.specs.Recovery.{Prepared, Untold, recovery}
 use Rattle.qs_world.specs.World.{Opening}
 use Rattle.qs_world.specs.Moves.{client_count}
@@ -43,10 +43,15 @@ abbrev pub is_audit : ℕ → Option NodeNo → Bool
 is_audit size None = true
 is_audit size (Some node) = is_in_run size node
 
+-- a transaction may be aborted for its age from its first tick on, not before
+abbrev pub is_age : Option ℕ → Bool
+is_age None = true
+is_age (Some age) = nat_lt 0 age
+
 abbrev pub is_setting : ℕ → ℕ → Setting → Bool
 is_setting size n setting =
     ((setting.node.0 == n) && (setting.nodes == size))
-    && (nat_lt 0 setting.inc && (is_format setting.extra setting.keep && is_audit size setting.audit))
+    && (nat_lt 0 setting.inc && (is_age setting.age && (is_format setting.extra setting.keep && is_audit size setting.audit)))
 
 -- ---- scripts
 
