@@ -1,0 +1,3 @@
+pub mod ClosedOutcomes
+pub mod FurtherServer
+pub mod TakenUp
