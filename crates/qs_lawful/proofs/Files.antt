@@ -1,0 +1,99 @@
+-- What a server does for one transaction leaves how many changes files have pending for every other, and what another server does leaves all.
+use Rattle.std.proofs.Common.{◌≡◌, ℕ, ◌==◌, Bool, true, false, Option, refl, ap, length}
+use Rattle.std.specs.Prelude.{unwrap_or, if◌then◌else◌}
+use Rattle.std.specs.BTreeMap.{is_at}
+use Rattle.qs_base.specs.Order.{tid_cmp}
+use Rattle.qs_base.specs.declared.identifiers.ServerNo.{ServerNo}
+use Rattle.qs_base.specs.declared.identifiers.Tid.{Tid}
+use Rattle.qs_base.proofs.TidOrder.{tid_exact}
+use Rattle.qs_laws.proofs.Maps.{lookup_put_apart}
+use Rattle.qs_ops.specs.Server.{ServerValue, changes_in, after_serving, served_by, after_vote, voted_by, voted_in, after_notice, noted_by, noted_in}
+use Rattle.qs_ops.specs.Servers as numbers
+use Rattle.qs_ops.specs.Table.{TableValue, share_of, nothing_held, released, with_share, applied}
+use Rattle.qs_ops.specs.declared.operation.Op.{Op}
+use Rattle.qs_ops.specs.declared.reply.Reply.{Reply}
+use Rattle.qs_ops.specs.declared.server.Kind.{Kind}
+use Rattle.qs_ops.specs.declared.server.Kind.TheVariants.{Files, Audit, Names, Timers, Windows, Scratch, Nothing}
+use Rattle.qs_ops.specs.declared.share.Share.{Share}
+use Rattle.qs_ops.specs.declared.vote.Notice.{Notice}
+use Rattle.qs_ops.specs.declared.vote.Notice.TheVariants as notices
+use Rattle.qs_ops.specs.declared.vote.Vote.{Vote}
+use Rattle.qs_ops.specs.declared.vote.Vote.TheVariants as votes
+use Rattle.qs_servers.specs.Servers.{ServersValue, with_server}
+use Rattle.qs_lawful.proofs.Apart.{Apart}
+use Rattle.qs_lawful.proofs.Answers.{removed_apart}
+
+-- ---- tables
+
+share_put : (tid t : Tid) (share : Share) (table : TableValue) → Apart tid t → share_of (with_share table tid share) t ≡ share_of table t
+share_put tid t share table far = ap (λ (o : Option Share). unwrap_or o nothing_held) (lookup_put_apart tid_cmp tid share (tid_exact tid) (is_at (tid_cmp t)) far.at table.shares)
+
+share_removed : (tid t : Tid) (table : TableValue) → Apart tid t → share_of (released table tid) t ≡ share_of table t
+share_removed tid t table far = ap (λ (o : Option Share). unwrap_or o nothing_held) (removed_apart (is_at (tid_cmp tid)) (is_at (tid_cmp t)) far.keys table.shares)
+
+share_voted : (tid t : Tid) (ballot : Vote) (table : TableValue) → Apart tid t → share_of (voted_in table tid ballot) t ≡ share_of table t
+share_voted tid t votes.ReadOnly table far = share_removed tid t table far
+share_voted tid t votes.Volatile table far = share_put tid t _ table far
+share_voted tid t votes.Recoverable table far = refl
+share_voted tid t (votes.Abort reason) table far = share_put tid t _ table far
+
+share_noted : (tid t : Tid) (notice : Notice) (table : TableValue) → Apart tid t → share_of (noted_in notice tid table) t ≡ share_of table t
+share_noted tid t notices.Commit table far = share_removed tid t (applied table (share_of table tid).changes) far
+share_noted tid t notices.Abort table far = share_removed tid t table far
+share_noted tid t notices.Ending table far = refl
+
+-- ---- servers
+
+abbrev counted : Share → ℕ
+counted share = length share.changes
+
+pub served_apart : (tid t : Tid) (op : Op) (reply : Reply) (server : ServerValue) → Apart tid t → length (changes_in (after_serving server tid op reply) t) ≡ length (changes_in server t)
+served_apart tid t op reply server far = by server.kind
+  where
+    by : (kind : Kind) → length (changes_in (served_by kind tid op reply server) t) ≡ length (changes_in server t)
+    by (Files quota) = ap counted (share_put tid t _ server.table far)
+    by Audit = ap counted (share_put tid t _ server.table far)
+    by Names = ap counted (share_put tid t _ server.table far)
+    by Timers = refl
+    by Windows = ap counted (share_put tid t _ server.table far)
+    by Scratch = ap counted (share_put tid t _ server.table far)
+    by Nothing = refl
+
+pub voted_apart : (tid t : Tid) (ballot : Vote) (server : ServerValue) → Apart tid t → length (changes_in (after_vote server tid ballot) t) ≡ length (changes_in server t)
+voted_apart tid t ballot server far = by server.kind
+  where
+    by : (kind : Kind) → length (changes_in (voted_by kind tid ballot server) t) ≡ length (changes_in server t)
+    by (Files quota) = ap counted (share_voted tid t ballot server.table far)
+    by Audit = ap counted (share_voted tid t ballot server.table far)
+    by Names = ap counted (share_voted tid t ballot server.table far)
+    by Timers = ap counted (share_voted tid t ballot server.table far)
+    by Windows = ap counted (share_voted tid t ballot server.table far)
+    by Scratch = ap counted (share_voted tid t ballot server.table far)
+    by Nothing = refl
+
+pub noted_apart : (tid t : Tid) (notice : Notice) (server : ServerValue) → Apart tid t → length (changes_in (after_notice server tid notice) t) ≡ length (changes_in server t)
+noted_apart tid t notice server far = by server.kind
+  where
+    by : (kind : Kind) → length (changes_in (noted_by kind notice tid server) t) ≡ length (changes_in server t)
+    by (Files quota) = ap counted (share_noted tid t notice server.table far)
+    by Audit = ap counted (share_noted tid t notice server.table far)
+    by Names = ap counted (share_noted tid t notice server.table far)
+    by Timers = refl
+    by Windows = ap counted (share_noted tid t notice server.table far)
+    by Scratch = ap counted (share_noted tid t notice server.table far)
+    by Nothing = refl
+
+-- of a node: what a change of one server leaves that leaves each other transaction
+pub files_apart : (server : ServerNo) (f : ServerValue → ServerValue) (servers : ServersValue) (t : Tid) → ((value : ServerValue) → length (changes_in (f value) t) ≡ length (changes_in value t))
+    → length (changes_in (with_server server f servers).files t) ≡ length (changes_in servers.files t)
+files_apart server f servers t keeps = by (server.0 == numbers.files_no) (server.0 == numbers.audit_no) (server.0 == numbers.names_no) (server.0 == numbers.timers_no) (server.0 == numbers.windows_no) (server.0 == numbers.scratch_no)
+  where
+    by : (a b c d e g : Bool) → length (changes_in (if a then record servers { files = f servers.files } else if b then record servers { audit = f servers.audit } else if c then record servers { names = f servers.names }
+        else if d then record servers { timers = f servers.timers } else if e then record servers { windows = f servers.windows } else if g then record servers { scratch = f servers.scratch } else record servers { extra = f servers.extra }).files t) ≡ length (changes_in servers.files t)
+    by true b c d e g = keeps servers.files
+    by false true c d e g = refl
+    by false false true d e g = refl
+    by false false false true e g = refl
+    by false false false false true g = refl
+    by false false false false false true = refl
+    by false false false false false false = refl

@@ -1,0 +1,20 @@
+-- The entries of a step so far are lawful, and the machine after them holds what the node has in the middle of its step.
+use Rattle.std.specs.Prelude.{ℕ, List}
+use Rattle.qs_journal.specs.declared.entry.Entry.{Entry}
+use Rattle.qs_machine.specs.Book.{BookValue}
+use Rattle.qs_machine.specs.Lawful.{IsLawful, book_after}
+use Rattle.qs_world.specs.Posting.{entries_of}
+use Rattle.qs_step.specs.State.{Work, here}
+use Rattle.qs_lawful.specs.Holds.{Holds}
+
+-- the entries of the step so far
+abbrev pub entries_so_far : ℕ → Work → List Entry
+entries_so_far stamp work = entries_of (here work).0 stamp work.out.entries
+
+-- the machine after them
+abbrev pub book_at : ℕ → BookValue → Work → BookValue
+book_at stamp before work = book_after before (entries_so_far stamp work)
+
+pub record HoldsWork (stamp : ℕ) (before : BookValue) (work : Work) : Type 0 where
+  pub lawful : IsLawful before (entries_so_far stamp work)
+  pub holds : Holds stamp (book_at stamp before work) work.node

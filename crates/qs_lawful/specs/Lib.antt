@@ -1,0 +1,9 @@
+pub mod Face
+pub mod Holds
+pub mod Entering
+pub mod Places
+pub mod Logs
+pub mod Issues
+pub mod Tests
+pub mod Tried
+pub mod Filed

@@ -1,0 +1,89 @@
+//! How a node decides and learns, each rule as a whole: its entries are lawful, and the machine after them holds what the node has.
+ghost use Rattle.std.specs.Prelude.{◌≡◌, ◌&&◌, ℕ, true, false, None, Some, Option, is_some, slice_get, List};
+ghost use Rattle.std.specs.BTreeMap.{is_at};
+ghost use Rattle.std.specs.List.{list_any};
+ghost use Rattle.std.specs.Map.{lookup};
+ghost use Rattle.qs_base.specs.declared.identifiers.ClientNo.{ClientNo};
+ghost use Rattle.qs_base.specs.declared.identifiers.Member.{Member};
+ghost use Rattle.qs_base.specs.declared.identifiers.Outcome.{Outcome};
+ghost use Rattle.qs_base.specs.declared.identifiers.Outcome.TheVariants as outcomes;
+ghost use Rattle.qs_base.specs.declared.identifiers.Tid.{Tid};
+ghost use Rattle.qs_ops.specs.declared.answer.Cause.{Cause};
+ghost use Rattle.qs_ops.specs.declared.answer.Cause.TheVariants as causes;
+ghost use Rattle.qs_ops.specs.declared.reply.Reply.{Reply};
+ghost use Rattle.qs_journal.specs.declared.entry.Act.TheVariants as acts;
+ghost use Rattle.qs_journal.specs.declared.script_line.Command.TheVariants as commands;
+ghost use Rattle.qs_journal.specs.declared.script_line.ScriptLine.{ScriptLine};
+ghost use Rattle.qs_machine.specs.Book.{BookValue, find_transaction};
+ghost use Rattle.qs_machine.specs.Clauses.{is_cause, is_fresh};
+ghost use Rattle.qs_machine.specs.Lawful.{broken};
+ghost use Rattle.qs_machine.specs.Transaction.{TransactionValue, is_open, is_outcome};
+ghost use Rattle.qs_tm.specs.Manager as tm;
+ghost use Rattle.qs_tm.specs.Participant.{is_answered_by, is_by_files};
+ghost use Rattle.qs_tm.specs.declared.participant.Outstanding.{Outstanding};
+ghost use Rattle.qs_tm.specs.declared.participant.Participant.{Participant};
+ghost use Rattle.qs_step.specs.Commands.{begin_command, open_command};
+ghost use Rattle.qs_step.specs.Deciding.{decide, give_notices};
+ghost use Rattle.qs_step.specs.Requests.{reply_came};
+ghost use Rattle.qs_step.specs.Serving.{label_at};
+ghost use Rattle.qs_step.specs.State.{Work, client_cmp};
+ghost use Rattle.qs_step.specs.declared.state.OpenCommand.{OpenCommand};
+ghost use Rattle.qs_kept.specs.declared.kept.Begun.{Begun};
+ghost use Rattle.qs_step.specs.Telling.{learn};
+ghost use Rattle.qs_world.specs.Posting.{entry_of};
+ghost use Rattle.qs_lawful.specs.Entering.{HoldsWork, book_at};
+ghost use Rattle.qs_lawful.specs.Filed.{HoldsFiles};
+ghost use Rattle.qs_lawful.specs.Places.{Facts, IsSettled, HoldsPlaces};
+
+/// The servers of a node that knows the outcome get their notices: endings first where it is aborted, then each that is to learn
+/// it learns it, in order of classes.
+pub fn notices_are_lawful()
+    ensures { (stamp : ℕ) (before : BookValue) (work : Work) (tid : Tid) (outcome : Outcome) (part : Participant) → HoldsWork stamp before work → HoldsFiles work.node.servers → tm.part_of tid work.node.manager ≡ Some part → part.outcome ≡ Some outcome → HoldsWork stamp before (give_notices tid outcome work) }
+{}
+
+/// A home decides what it has not decided: the record, the entry, what it keeps for the owner, the notices, and the messages.
+/// The decision itself is to break no clause of its own.
+pub fn deciding_is_lawful()
+    ensures { (stamp : ℕ) (before : BookValue) (work : Work) (tid : Tid) (outcome : Outcome) (part : Participant) (tx : TransactionValue) → HoldsWork stamp before work → HoldsFiles work.node.servers → tm.part_of tid work.node.manager ≡ Some part → find_transaction (book_at stamp before work) tid ≡ Some tx → part.outcome ≡ None → (cause : Option Cause) → is_open tx.cell ≡ true → ((client : ClientNo) → tx.owner ≡ Some client → is_some (slice_get (book_at stamp before work).owners client.0) ≡ true) → broken (book_at stamp before work) (entry_of work.node.setting.node.0 stamp (acts.Decide tid outcome cause)) ≡ None → HoldsWork stamp before (decide tid outcome cause work) }
+{}
+
+/// A node that is told the outcome that the cell has takes it in: its servers get their notices, and a Prepare is ended.
+pub fn taking_in_is_lawful()
+    ensures { (stamp : ℕ) (before : BookValue) (work : Work) (tid : Tid) (outcome : Outcome) (part : Participant) (tx : TransactionValue) → HoldsWork stamp before work → HoldsFiles work.node.servers → tm.part_of tid work.node.manager ≡ Some part → find_transaction (book_at stamp before work) tid ≡ Some tx → part.outcome ≡ None → is_outcome outcome tx.cell ≡ true → HoldsWork stamp before (learn tid outcome part work) }
+{}
+
+/// A reply comes: its request waits no longer, and the client that waits for it is answered. No note of files waits for it.
+pub fn reply_is_lawful()
+    ensures { (stamp : ℕ) (before : BookValue) (work : Work) (tid : Tid) (member : Member) (number : ℕ) (reply : Reply) (part : Participant) (tx : TransactionValue) → HoldsWork stamp before work → tm.part_of tid work.node.manager ≡ Some part → find_transaction (book_at stamp before work) tid ≡ Some tx → list_any (λ (r : Outstanding). is_answered_by member number r && is_by_files r) part.waiting ≡ false → HoldsWork stamp before (reply_came tid member number reply work) }
+{}
+
+/// A client commands that a transaction begins under a fresh label, and is answered, whether the log has room or not.
+pub fn begin_command_is_lawful()
+    ensures { (stamp : ℕ) (before : BookValue) (work : Work) (line : ScriptLine) → HoldsWork stamp before work → line.command ≡ commands.Begin → lookup (is_at (client_cmp line.client)) work.node.commands ≡ Some (record { line = line; issued = None }) → is_fresh (book_at stamp before work).labels line.label ≡ true → HoldsWork stamp before (begin_command line work) }
+{}
+
+/// A home commits a transaction for which commit is asked, where what all places hold of it is settled.
+pub fn commit_is_lawful()
+    ensures { (stamp : ℕ) (before : BookValue) (work : Work) (tid : Tid) (part : Participant) (tx : TransactionValue) (h : HoldsWork stamp before work) → HoldsFiles work.node.servers → tm.part_of tid work.node.manager ≡ Some part → find_transaction (book_at stamp before work) tid ≡ Some tx → tid.home ≡ work.node.setting.node → tid.inc ≡ work.node.setting.inc → part.outcome ≡ None → ((client : ClientNo) → tx.owner ≡ Some client → is_some (slice_get (book_at stamp before work).owners client.0) ≡ true) → (w : Facts) → part.asked ≡ true → IsSettled w → HoldsPlaces tx w → HoldsWork stamp before (decide tid outcomes.Commit None work) }
+{}
+
+/// A home aborts a transaction for a cause that the machine finds.
+pub fn abort_is_lawful()
+    ensures { (stamp : ℕ) (before : BookValue) (work : Work) (tid : Tid) (part : Participant) (tx : TransactionValue) (h : HoldsWork stamp before work) → HoldsFiles work.node.servers → tm.part_of tid work.node.manager ≡ Some part → find_transaction (book_at stamp before work) tid ≡ Some tx → tid.home ≡ work.node.setting.node → tid.inc ≡ work.node.setting.inc → part.outcome ≡ None → ((client : ClientNo) → tx.owner ≡ Some client → is_some (slice_get (book_at stamp before work).owners client.0) ≡ true) → (cause : Cause) → is_cause h.holds.state (book_at stamp before work).nodes tid tx stamp cause ≡ true → HoldsWork stamp before (decide tid outcomes.Abort (Some cause) work) }
+{}
+
+/// A home aborts what it is asked to abort, where commit was not asked for.
+pub fn asked_abort_is_lawful()
+    ensures { (stamp : ℕ) (before : BookValue) (work : Work) (tid : Tid) (part : Participant) (tx : TransactionValue) (h : HoldsWork stamp before work) → HoldsFiles work.node.servers → tm.part_of tid work.node.manager ≡ Some part → find_transaction (book_at stamp before work) tid ≡ Some tx → tid.home ≡ work.node.setting.node → tid.inc ≡ work.node.setting.inc → part.outcome ≡ None → ((client : ClientNo) → tx.owner ≡ Some client → is_some (slice_get (book_at stamp before work).owners client.0) ≡ true) → part.asked ≡ false → HoldsWork stamp before (decide tid outcomes.Abort (Some causes.Asked) work) }
+{}
+
+/// The owner commands commit of a transaction that began here since the node started: its home asks for it, once, where it is
+/// undecided.
+pub fn commit_command_is_lawful()
+    ensures { (stamp : ℕ) (before : BookValue) (work : Work) → HoldsWork stamp before work → (client : ClientNo) (command : OpenCommand) → lookup (is_at (client_cmp client)) work.node.commands ≡ Some command → (begun : Begun) → label_at command.line.label work.node ≡ Some begun → (tid : Tid) → begun.tid ≡ Some tid → begun.owner ≡ Some client → tid.home ≡ work.node.setting.node → tid.inc ≡ work.node.setting.inc → command.line.command ≡ commands.Commit → command.issued ≡ None → HoldsWork stamp before (open_command client tid commands.Commit work) }
+{}
+
+/// The owner commands abort of a transaction that began here since the node started: it is aborted, where it is undecided.
+pub fn abort_command_is_lawful()
+    ensures { (stamp : ℕ) (before : BookValue) (work : Work) → HoldsWork stamp before work → (client : ClientNo) (command : OpenCommand) → lookup (is_at (client_cmp client)) work.node.commands ≡ Some command → (begun : Begun) → label_at command.line.label work.node ≡ Some begun → (tid : Tid) → begun.tid ≡ Some tid → begun.owner ≡ Some client → tid.home ≡ work.node.setting.node → tid.inc ≡ work.node.setting.inc → command.line.command ≡ commands.Abort → HoldsFiles work.node.servers → HoldsWork stamp before (open_command client tid commands.Abort work) }
+{}
