@@ -1,9 +1,10 @@
-//! Drives sessions between nodes that crash and restart, over links that lose, repeat and hold packets, in drawn runs.
+//! Drives sessions between nodes that crash and restart, over links that lose, repeat and hold packets by plans, in drawn runs.
 //!
-//! Words: RUNS SEED. Each run has two or three nodes and 40 to 119 drawn events, and then no fault more. Within `TICKS`
-//! ticks from there each end is to know its peer's incarnation, and each message that an incarnation has for another,
-//! where both live on, is to be handed up, in order and once. `settled RUNS` is printed where that is so in each run;
-//! what was drawn goes to standard error.
+//! Words: RUNS SEED. Each run has two or three nodes, a drawn plan for each link, and 40 to 119 drawn events. Then what is
+//! on the links comes, what they hold back is lost, and there is no fault more. Within `TICKS` ticks from there each end
+//! is to know its peer's incarnation, and each message that an incarnation has for another, where both live on, is to be
+//! handed up, in order and once. `settled RUNS` is printed where that is so in each run; what was drawn goes to standard
+//! error.
 #![tactic(auto)]
 
 use anyhow::{Context, Error, bail};
@@ -46,19 +47,15 @@ fn main(rt: HostRuntime) -> Result<(), Error> {
     let mut drawn = Drawn::new(Lcg64Xsh32::new(plan.seed, 0));
     for number in 0..plan.runs {
         drawn.begin(Lcg64Xsh32::new(plan.seed, number));
-        let Ok(mut run) = Run::new(alloc, &mut drawn) else {
-            bail!("there is no memory");
-        };
-        let Ok(settled) = run.drive(alloc, TICKS, &mut drawn) else {
-            bail!("there is no memory");
-        };
+        let mut run = Run::new(alloc, &mut drawn)?;
+        let settled = run.drive(alloc, TICKS, &mut drawn)?;
         if !settled {
             bail!("run {number} did not settle");
         }
     }
     eprintln!(rt;
-        "sent {} lost {} repeated {} held {} restarts {} most ticks {}",
-        drawn.sent, drawn.lost, drawn.repeated, drawn.held, drawn.restarts, drawn.ticks
+        "sent {} packets {} came {} restarts {} most ticks {}",
+        drawn.sent, drawn.packets, drawn.came, drawn.restarts, drawn.ticks
     )?;
     println!(rt; "settled {}", plan.runs)?;
     Ok(())

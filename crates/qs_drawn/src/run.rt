@@ -2,7 +2,8 @@
 
 use crate::drawn::Drawn;
 use crate::end::End;
-use qs_base::{NoMemory, NodeNo};
+use anyhow::{Error, bail};
+use qs_base::NodeNo;
 use std::alloc::Global;
 
 #[derive(Drop)]
@@ -14,13 +15,16 @@ pub(crate) struct Run {
 
 impl Run {
     /// Two or three nodes in their first incarnations, which know nobody.
-    pub(crate) fn new(alloc: Global, drawn: &mut Drawn) -> Result<Run, NoMemory> {
+    pub(crate) fn new(alloc: Global, drawn: &mut Drawn) -> Result<Run, Error> {
         let nodes = if drawn.word() % 2 == 0 { 2 } else { 3 };
         let mut ends = Vec::new(alloc);
         for me in 0..nodes {
             for peer in 0..nodes {
                 if me != peer {
-                    ends.push(End::new(alloc, NodeNo(me), NodeNo(peer)))?;
+                    let Ok(plan) = drawn.plan(alloc) else {
+                        bail!("there is no memory");
+                    };
+                    ends.push(End::new(alloc, NodeNo(me), NodeNo(peer), plan)?)?;
                 }
             }
         }
@@ -33,20 +37,20 @@ impl Run {
         alloc: Global,
         ticks: u32,
         drawn: &mut Drawn,
-    ) -> Result<bool, NoMemory> {
+    ) -> Result<bool, Error> {
         let events = 40 + drawn.word() % 80;
         for _event in 0..events {
             self.draw(alloc, drawn)?;
         }
-        drawn.is_quiet = true;
+        self.deliver_all(drawn)?;
         for end in self.ends.iter_mut() {
-            end.release_all()?;
+            end.renew_link(alloc)?;
         }
         for tick in 0..ticks {
             for end in self.ends.iter_mut() {
                 end.tick(drawn)?;
             }
-            self.deliver_all()?;
+            self.deliver_all(drawn)?;
             if self.is_settled() {
                 drawn.ticks = drawn.ticks.max(tick + 1);
                 return Ok(true);
@@ -55,7 +59,7 @@ impl Run {
         Ok(false)
     }
 
-    fn draw(&mut self, alloc: Global, drawn: &mut Drawn) -> Result<(), NoMemory> {
+    fn draw(&mut self, alloc: Global, drawn: &mut Drawn) -> Result<(), Error> {
         let kind = drawn.word() % 32;
         let at = drawn.word() as usize;
         match kind {
@@ -66,17 +70,12 @@ impl Run {
                     end.tick(drawn)?;
                 }
             }
-            14..=16 => {
-                if let Some(end) = drawn_end(&mut self.ends, at) {
-                    end.release()?;
-                }
-            }
-            _ => deliver(&mut self.ends, at)?,
+            _ => deliver(&mut self.ends, at, drawn)?,
         }
         Ok(())
     }
 
-    fn send(&mut self, at: usize, drawn: &mut Drawn) -> Result<(), NoMemory> {
+    fn send(&mut self, at: usize, drawn: &mut Drawn) -> Result<(), Error> {
         self.last = self.last.saturating_add(1);
         drawn.sent = drawn.sent.saturating_add(1);
         match drawn_end(&mut self.ends, at) {
@@ -99,14 +98,15 @@ impl Run {
         }
     }
 
-    fn deliver_all(&mut self) -> Result<(), NoMemory> {
+    /// All that is on the links comes.
+    fn deliver_all(&mut self, drawn: &mut Drawn) -> Result<(), Error> {
         for at in 0..self.ends.len() {
-            let coming = match self.ends.get(at) {
-                Some(end) => end.coming(),
+            let coming = match self.ends.get_mut(at) {
+                Some(end) => end.coming()?,
                 None => 0,
             };
             for _packet in 0..coming {
-                deliver(&mut self.ends, at)?;
+                deliver(&mut self.ends, at, drawn)?;
             }
         }
         Ok(())
@@ -134,16 +134,16 @@ fn drawn_end(ends: &mut Vec<End>, at: usize) -> Option<&mut End> {
 }
 
 /// The next packet on the link of an end comes to the end that it is for.
-fn deliver(ends: &mut Vec<End>, at: usize) -> Result<(), NoMemory> {
+fn deliver(ends: &mut Vec<End>, at: usize, drawn: &mut Drawn) -> Result<(), Error> {
     let Some(end) = drawn_end(ends, at) else {
         return Ok(());
     };
-    let Some(packet) = end.next() else {
+    let Some(packet) = end.next()? else {
         return Ok(());
     };
     for other in ends.iter_mut() {
         if other.me == packet.to && other.peer == packet.from {
-            return other.take(packet);
+            return other.take(packet, drawn);
         }
     }
     Ok(())

@@ -1,11 +1,8 @@
 -- What was put and what was taken, one act after another.
-use Rattle.std.proofs.Common.{◌≡◌, ◌≢◌, ℕ, ◌+◌, ◌-◌, ◌<◌, ◌≤◌, refl, sym, subst, ap, ◌∙◌, arith, List, [], ◌∷◌, ◌++◌, length, drop, Result, OnOk}
-use Rattle.std.proofs.lemmas.Result.{on_ok_weaker}
-use Rattle.qs_base.specs.declared.memory.NoMemory.{NoMemory}
-use Rattle.std.proofs.lemmas.List.{append_assoc, length-append, append-nil, drop-append-le, append_cancel_left}
-use Rattle.std.proofs.Math.Seq.{drop-append-add, drop-append_seam}
-use Rattle.rtrb.specs.Ring.{sent, received, IsPair}
-use Rattle.qs_link.specs.Lane.{FeedValue, DrawValue, Fed, Drawn, IsLane, IsFifo, on_way}
+use Rattle.std.proofs.Common.{◌≡◌, sym, ap, ◌∙◌, arith, List, ◌++◌, length, drop}
+use Rattle.std.proofs.lemmas.List.{append_assoc, append_cancel_left}
+use Rattle.rtrb.specs.Ring.{sent, received}
+use Rattle.qs_link.specs.Lane.{FeedValue, DrawValue, Fed, Drawn, IsFifo, on_way}
 
 joined : {T : Type 0} → (xs ps qs on more bs cs : List T) → xs ++ ps ≡ on ++ bs → bs ++ qs ≡ more ++ cs → xs ++ (ps ++ qs) ≡ (on ++ more) ++ cs
 joined xs ps qs on more bs cs p q =
@@ -18,12 +15,6 @@ fed_trans ps qs a b c p q = record {
   sent = q.sent ∙ ap (λ l. l ++ q.on) p.sent ∙ append_assoc (sent a.ring) p.on q.on;
   ring = grind (arith, p.ring, q.ring);
 }
-
-pub fed_twice : {T : Type 0} → (result : Result (Unit {0}) NoMemory) (x : T) (a b c : FeedValue T) → Fed (x ∷ []) a b → OnOk result (Fed (x ∷ []) b c) → OnOk result (Fed (x ∷ x ∷ []) a c)
-fed_twice result x a b c p q = on_ok_weaker result (fed_trans (x ∷ []) (x ∷ []) a b c p) q
-
-pub fed_same : {T : Type 0} → (a : FeedValue T) → Fed [] a a
-fed_same a = record { on = []; outbox = append-nil a.outbox; sent = sym (append-nil (sent a.ring)); ring = grind arith }
 
 between : {T : Type 0} → (rd ys more sf xs left : List T) → rd ++ left ≡ sf → (rd ++ ys) ++ more ≡ sf ++ xs → ys ++ more ≡ left ++ xs
 between rd ys more sf xs left was is =

@@ -1,11 +1,11 @@
 -- What was put to a link goes out by its plan: one induction over the packets.
-use Rattle.std.proofs.Common.{◌≡◌, ◌≢◌, ℕ, ◌+◌, ◌-◌, ◌<◌, ◌≤◌, refl, sym, subst, ap, ◌∙◌, arith, List, [], ◌∷◌, ◌++◌, length}
-use Rattle.std.specs.Prelude.{◌^◌, min}
+use Rattle.std.proofs.Common.{◌≡◌, ℕ, ◌+◌, ◌<◌, refl, sym, subst, ap, ◌∙◌, arith, List, [], ◌∷◌, ◌++◌, length}
+use Rattle.std.specs.Prelude.{◌^◌}
 use Rattle.std.proofs.lemmas.List.{append_assoc, length-append, append-nil}
-use Rattle.qs_link.specs.Lane.{FeedValue, DrawValue, Fed, Drawn, IsFifo, on_way}
-use Rattle.qs_link.specs.Plan.{OutgoingValue, PutOne, PutNone, HoldsSome, IsFresh, next, fate, own, kept, due, early}
+use Rattle.qs_link.specs.Lane.{DrawValue, Fed, Drawn, IsFifo, on_way}
+use Rattle.qs_link.specs.Plan.{OutgoingValue, PutOne, PutNone, HoldsSome, IsFresh, next, fate, own, due}
 use Rattle.qs_link.specs.declared.outgoing.LinkFault.{LinkFault}
-use Rattle.qs_link.specs.Planned.{held_of, goes_out, still_held, HasPut, PutThen, PutAll, IsLink, Carried}
+use Rattle.qs_link.specs.Planned.{held_of, goes_out, still_held, HasPut, PutAll, IsLink, Carried}
 use Rattle.qs_packet.specs.declared.packet.Packet.{Packet}
 use Rattle.qs_link.proofs.Feeding.{fed_trans, went}
 use Rattle.qs_link.proofs.Holding.{due_still, still_more}

@@ -1,6 +1,6 @@
 -- What an end holds is what the plan holds back.
-use Rattle.std.proofs.Common.{◌≡◌, ◌≢◌, ◌⊎◌, Bool, ℕ, ◌+◌, ◌-◌, ◌<◌, ◌≤◌, true, false, refl, sym, subst, ap, ◌∙◌, arith, List, [], ◌∷◌, ◌++◌, length, map, zero, suc}
-use Rattle.std.specs.Prelude.{filter, ◌^◌, ◌==◌, not, if◌then◌else◌}
+use Rattle.std.proofs.Common.{◌≡◌, Bool, ℕ, ◌+◌, ◌<◌, false, refl, sym, ap, ◌∙◌, arith, List, [], ◌∷◌, ◌++◌, length, map}
+use Rattle.std.specs.Prelude.{filter, ◌^◌, if◌then◌else◌}
 use Rattle.std.proofs.lemmas.Bool.Decides.{nat_tests}
 use Rattle.std.proofs.lemmas.List.{append_assoc, length-append, append-nil}
 use Rattle.std.proofs.lemmas.List.Elements.{filter-append}

@@ -1,5 +1,5 @@
 -- What a link lets out.
-use Rattle.std.specs.Prelude.{◌≡◌, ◌≢◌, ◌≤◌, ℕ, All, ◌+◌, ◌==◌, ◌-◌, ◌^◌, min, Bool, true, false, not, List, [], ◌∷◌, ◌++◌, length, map, filter, if◌then◌else◌}
+use Rattle.std.specs.Prelude.{◌≡◌, ◌≢◌, ◌≤◌, ℕ, All, ◌+◌, ◌==◌, ◌-◌, ◌^◌, min, Bool, false, not, List, [], ◌∷◌, ◌++◌, map, filter, if◌then◌else◌}
 use Rattle.qs_link.specs.declared.outgoing.LinkFault.{LinkFault}
 use Rattle.qs_link.specs.declared.outgoing.LinkFault.TheVariants.{Drop, Again, Hold}
 use Rattle.qs_link.specs.declared.outgoing.Way.{Way}
@@ -80,6 +80,16 @@ abbrev pub packet_of : LinkFault → ℕ
 packet_of (Drop packet) = packet
 packet_of (Again packet) = packet
 packet_of (Hold packet count) = packet
+
+-- the fault is of that packet
+abbrev pub is_of : ℕ → LinkFault → Bool
+is_of packet fault = packet_of fault == packet
+
+-- its packet is held back for no other
+abbrev pub holds_none : LinkFault → Bool
+holds_none (Drop packet) = false
+holds_none (Again packet) = false
+holds_none (Hold packet count) = count == 0
 
 -- each packet that is held back is held back for at least one
 abbrev pub HoldsSome : List LinkFault → Type 0

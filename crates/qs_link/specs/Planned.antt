@@ -1,9 +1,8 @@
 -- All that a link lets out, by its plan: said over the whole list of what was put.
-use Rattle.std.specs.Prelude.{◌≡◌, ℕ, ◌+◌, ◌==◌, ◌<◌, ◌≤◌, Bool, true, false, List, [], ◌∷◌, ◌++◌, length, map, filter, nat_lt, if◌then◌else◌}
+use Rattle.std.specs.Prelude.{◌≡◌, ℕ, ◌+◌, Bool, List, [], ◌∷◌, ◌++◌, length, filter, nat_lt}
 use Rattle.qs_link.specs.declared.outgoing.LinkFault.{LinkFault}
-use Rattle.qs_link.specs.declared.outgoing.LinkFault.TheVariants.{Drop, Again, Hold}
 use Rattle.qs_link.specs.declared.outgoing.Held.{Held}
-use Rattle.qs_link.specs.Plan.{OutgoingValue, PutOne, PutNone, fate, own, kept, due, early}
+use Rattle.qs_link.specs.Plan.{OutgoingValue, PutOne, PutNone, fate, own, kept, due}
 use Rattle.qs_link.specs.Lane.{DrawValue, on_way}
 use Rattle.qs_packet.specs.declared.packet.Packet.{Packet}
 

@@ -77,6 +77,15 @@ impl<T: Drop> Feed<T> {
         }
     }
 
+    /// Puts items into the outbox, in order, or none of them for want of memory.
+    pub(crate) fn put_all(&mut self, items: &mut VecDeque<T>) -> Result<(), NoMemory>
+        ensures fed { OnOk result (Fed items.old.items self.old self.new) }
+        ensures err { OnErr result (self.new ≡ self.old) }
+    {
+        self.outbox.append(items)?;
+        Ok(())
+    }
+
     /// Pushes from the outbox into the ring while it takes them.
     pub fn push_all(&mut self)
         ensures fed { Fed [] self.old self.new }

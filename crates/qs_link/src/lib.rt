@@ -11,5 +11,5 @@ mod parcel;
 pub use lanes::{Draw, Feed, carry, lane, look};
 pub use laws::{taken_is_put, went};
 pub use links::{Incoming, carry_link, link};
-pub use outgoing::{Held, LinkFault, LinkPlan, Outgoing};
+pub use outgoing::{Held, LinkFault, LinkPlan, Outgoing, is_plan};
 pub use parcel::Parcel;

@@ -1,10 +1,11 @@
 //! Links: lanes of parcels.
-ghost use Rattle.std.specs.Prelude.{◌≡◌, ◌↔◌, [], length, IfOk, OnOk, IsErr};
+ghost use Rattle.std.specs.Prelude.{◌≡◌, ◌↔◌, [], length, IfOk, IfSome, OnOk, IsErr};
 ghost use Rattle.qs_base.specs.declared.memory.NoMemory.{NoMemory};
 ghost use Rattle.qs_link.specs.Lane.{IsLane, on_way};
 ghost use Rattle.qs_link.specs.Link.{Took, TookNone};
 ghost use Rattle.qs_link.specs.Plan.{IsPlan, IsFresh};
 ghost use Rattle.qs_link.specs.Planned.{Carried};
+ghost use Rattle.qs_packet.specs.Grammar.{IsPacket};
 ghost use Rattle.rtrb.specs.Ring.{known_items, received};
 
 use crate::lanes::{Draw, carry, lane};
@@ -48,6 +49,7 @@ impl Incoming {
     /// was refused, that packet is lost.
     pub fn take(&mut self) -> Result<Option<Packet>, NoMemory>
         ensures took { Took result self.old self.new }
+        ensures packet { IfOk result (λ p. IfSome p IsPacket) }
         ensures none { TookNone result ↔ (self.old.inbox ≡ []) × (received self.new.ring ≡ received self.old.ring) }
         ensures looked { TookNone result → known_items self.new.ring ≡ [] }
     {
@@ -61,6 +63,7 @@ impl Incoming {
     /// `NoMemory`, which comes where memory was refused, that packet is lost.
     pub fn take_carried(&mut self) -> Result<Option<Packet>, NoMemory>
         ensures took { Took result self.old self.new }
+        ensures packet { IfOk result (λ p. IfSome p IsPacket) }
         ensures none { TookNone result ↔ (self.old.inbox ≡ []) }
     {
         match self.draw.take_carried() {

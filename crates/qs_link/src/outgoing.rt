@@ -1,7 +1,8 @@
 //! The sending end of a link, by a plan of what it loses, repeats and holds back.
-ghost use Rattle.std.specs.Prelude.{◌≡◌, ◌≢◌, ◌++◌, ◌∷◌, [], OnOk, IfOk, option_to_list, take, drop};
-ghost use Rattle.qs_link.specs.Lane.{Fed};
-ghost use Rattle.qs_link.specs.Plan.{PutOne, PutNone, fate, own, kept, due, early, IsFresh};
+ghost use Rattle.std.specs.Prelude.{◌≡◌, ◌≢◌, ◌≤◌, ◌<◌, ◌↔◌, ◌++◌, ◌∷◌, [], OnOk, OnErr, IfOk, IsTrue, option_to_list, take, drop};
+ghost use Rattle.std.specs.List.{list_any};
+ghost use Rattle.std.specs.VecDeque.{deque_len, deque_capacity};
+ghost use Rattle.qs_link.specs.Plan.{PutOne, PutNone, fate, own, kept, due, early, packet_of, is_of, holds_none, IsFresh, IsPlan};
 ghost use Rattle.qs_packet.specs.Grammar.{IsPacket};
 ghost use Rattle.rtrb.specs.Ring.{known_free};
 
@@ -24,8 +25,53 @@ pub enum LinkFault {
     Hold { packet: u64, count: u64 },
 }
 
-/// The faults of a link: no packet has two, and each count is at least 1.
+/// The faults of a link: no packet has two, and each count is at least 1 (see `is_plan`).
 pub type LinkPlan = List<LinkFault>;
+
+impl LinkFault {
+    /// The packet that it is of.
+    fn packet(self) -> u64
+        ensures { result ≡ packet_of self }
+    {
+        match self {
+            LinkFault::Drop { packet }
+            | LinkFault::Again { packet }
+            | LinkFault::Hold { packet, .. } => packet,
+        }
+    }
+
+    /// Whether it holds its packet back for no other packet.
+    fn holds_none(self) -> bool
+        ensures { result ≡ holds_none self }
+    {
+        matches!(self, LinkFault::Hold { count: 0, .. })
+    }
+}
+
+/// Whether faults are a plan: no packet has two, and each that is held back is held back for at least
+/// one.
+#[tactic(auto, using(crate::proofs::Plans::not_held, crate::proofs::Plans::not_once, crate::proofs::Plans::as_rest))]
+pub fn is_plan(faults: &[LinkFault]) -> bool
+    ensures { IsTrue result ↔ IsPlan faults.now }
+{
+    let Some((first, rest)) = faults.split_first() else {
+        return true;
+    };
+    if first.holds_none() {
+        return false;
+    }
+    if has_fault(rest, first.packet()) {
+        return false;
+    }
+    is_plan(rest)
+}
+
+// Whether a packet has a fault.
+fn has_fault(faults: &[LinkFault], packet: u64) -> bool
+    ensures { result ≡ list_any (is_of packet) faults.now }
+{
+    faults.iter().any(|fault| fault.packet() == packet)
+}
 
 /// A packet that is held back until the one with number `until` was put.
 #[derive(Drop)]
@@ -79,16 +125,23 @@ impl Outgoing {
     /// Puts a packet, by the plan. A repeat goes right behind its packet. A held packet that is due
     /// goes right behind the last of the packets that it was held for, and that packet's repeat;
     /// where several are due, the one that was put first goes first. After `NoMemory`, which comes
-    /// where memory was refused, packets may be lost.
+    /// where memory was refused, all is as it was: nothing went, and the packet counts for nothing.
     pub fn put(&mut self, packet: &Packet) -> Result<(), NoMemory>
         requires { IsPacket packet.now }
         ensures put { OnOk result (PutOne packet.now self.old self.new) }
+        ensures err { OnErr result (self.new ≡ self.old) }
         ensures plan { self.new.plan ≡ self.old.plan }
     {
         let number = self.count.saturating_add(1);
         let parcel = Parcel::new(self.alloc, packet)?;
         let way = fate_of(self.plan.as_slice(), number);
-        let_out(&mut self.feed, &mut self.held, way, number, parcel)?;
+        let mut goes = VecDeque::new(self.alloc);
+        let keeps = pass(&mut goes, way, parcel)?;
+        add_due(&mut goes, &self.held, number)?;
+        self.held.reserve(1)?;
+        self.feed.put_all(&mut goes)?;
+        drop_due(&mut self.held, number);
+        hold(&mut self.held, keeps);
         self.count = number;
         Ok(())
     }
@@ -101,32 +154,6 @@ impl Outgoing {
     {
         self.feed.push_all();
     }
-}
-
-// Lets out what goes of a packet itself and then what is due, and holds it back where it is to be
-// held.
-fn let_out(
-    feed: &mut Feed<Parcel>,
-    held: &mut VecDeque<Held<Parcel>>,
-    way: Way,
-    number: u64,
-    item: Parcel,
-) -> Result<(), NoMemory>
-    ensures out { OnOk result (Fed (own way item ++ due number held.old.items) feed.old feed.new) }
-    ensures held { OnOk result (held.new.items ≡ early number held.old.items ++ kept way item) }
-{
-    let keeps = pass(feed, way, item)?;
-    release(feed, held, number)?;
-    hold(held, keeps)
-}
-
-fn hold(held: &mut VecDeque<Held<Parcel>>, keeps: Option<Held<Parcel>>) -> Result<(), NoMemory>
-    ensures { OnOk result (held.new.items ≡ held.old.items ++ option_to_list keeps) }
-{
-    if let Some(packet) = keeps {
-        held.push_back(packet)?;
-    }
-    Ok(())
 }
 
 // What becomes of the packet with that number.
@@ -157,74 +184,96 @@ fn fate_of(plan: &[LinkFault], number: u64) -> Way
     Way::Passes
 }
 
-fn feed_one(feed: &mut Feed<Parcel>, item: Parcel) -> Result<(), NoMemory>
-    ensures { OnOk result (Fed (item ∷ []) feed.old feed.new) }
-{
-    match feed.put(item) {
-        Ok(()) => Ok(()),
-        Err(_) => Err(NoMemory),
-    }
-}
-
-// Lets out what goes of a packet itself, and gives back what is held of it.
-fn pass(feed: &mut Feed<Parcel>, way: Way, item: Parcel) -> Result<Option<Held<Parcel>>, NoMemory>
-    ensures out { OnOk result (Fed (own way item) feed.old feed.new) }
+// Adds what goes of a packet itself, and gives back what is held of it.
+fn pass(
+    goes: &mut VecDeque<Parcel>,
+    way: Way,
+    item: Parcel,
+) -> Result<Option<Held<Parcel>>, NoMemory>
+    ensures goes { OnOk result (goes.new.items ≡ goes.old.items ++ own way item) }
     ensures held { IfOk result (λ h. option_to_list h ≡ kept way item) }
 {
     match way {
         Way::Passes => {
-            feed_one(feed, item)?;
+            goes.push_back(item)?;
             Ok(None)
         }
         Way::Lost => Ok(None),
         Way::Twice => {
-            feed_twice(feed, item)?;
+            add_twice(goes, item)?;
             Ok(None)
         }
         Way::Kept { until } => Ok(Some(Held { until, item })),
     }
 }
 
-#[tactic(auto, using(crate::proofs::Feeding::fed_twice))]
-fn feed_twice(feed: &mut Feed<Parcel>, item: Parcel) -> Result<(), NoMemory>
-    ensures { OnOk result (Fed (item ∷ item ∷ []) feed.old feed.new) }
+fn add_twice(goes: &mut VecDeque<Parcel>, item: Parcel) -> Result<(), NoMemory>
+    ensures { OnOk result (goes.new.items ≡ goes.old.items ++ item ∷ item ∷ []) }
 {
     let again = item.copy()?;
-    feed_one(feed, item)?;
-    feed_one(feed, again)
+    goes.push_back(item)?;
+    goes.push_back(again)?;
+    Ok(())
 }
 
-// Lets out what is due, in order.
-fn release(
-    feed: &mut Feed<Parcel>,
-    held: &mut VecDeque<Held<Parcel>>,
+// Adds copies of what is due, in order.
+fn add_due(
+    goes: &mut VecDeque<Parcel>,
+    held: &VecDeque<Held<Parcel>>,
     number: u64,
 ) -> Result<(), NoMemory>
-    ensures out { OnOk result (Fed (due number held.old.items) feed.old feed.new) }
-    ensures held { OnOk result (held.new.items ≡ early number held.old.items) }
+    ensures { OnOk result (goes.new.items ≡ goes.old.items ++ due number held.now.items) }
 {
-    for _turn in 0..held.len() {
-        release_one(feed, held, number)?;
+    for packet in held.iter() {
+        add_if_due(goes, packet, number)?;
     }
     Ok(())
 }
 
-// Lets out the first of what is held, or puts it behind the others.
-fn release_one(
-    feed: &mut Feed<Parcel>,
-    held: &mut VecDeque<Held<Parcel>>,
+// Adds a copy of a held packet if it is due.
+fn add_if_due(
+    goes: &mut VecDeque<Parcel>,
+    packet: &Held<Parcel>,
     number: u64,
 ) -> Result<(), NoMemory>
-    ensures out { OnOk result (Fed (due number (take 1 held.old.items)) feed.old feed.new) }
-    ensures held { OnOk result (held.new.items ≡ drop 1 held.old.items ++ early number (take 1 held.old.items)) }
+    ensures { OnOk result (goes.new.items ≡ goes.old.items ++ due number (packet.now ∷ [])) }
+{
+    if packet.until == number {
+        goes.push_back(packet.item.copy()?)?;
+    }
+    Ok(())
+}
+
+// Drops what is due, and keeps the order of the rest.
+fn drop_due(held: &mut VecDeque<Held<Parcel>>, number: u64)
+    ensures held { held.new.items ≡ early number held.old.items }
+    ensures fewer { deque_len held.new ≤ deque_len held.old }
+    ensures room { deque_capacity held.new ≡ deque_capacity held.old }
+{
+    for _turn in 0..held.len() {
+        drop_if_due(held, number);
+    }
+}
+
+// Drops the first of what is held if it is due, or puts it behind the others.
+fn drop_if_due(held: &mut VecDeque<Held<Parcel>>, number: u64)
+    ensures held { held.new.items ≡ drop 1 held.old.items ++ early number (take 1 held.old.items) }
+    ensures fewer { deque_len held.new ≤ deque_len held.old }
+    ensures room { deque_capacity held.new ≡ deque_capacity held.old }
 {
     let Some(first) = held.pop_front() else {
-        return Ok(());
+        return;
     };
     if first.until != number {
-        held.push_back(first)?;
-        return Ok(());
+        held.push_back_reserved(first);
     }
-    let Held { until: _, item } = first;
-    feed_one(feed, item)
+}
+
+fn hold(held: &mut VecDeque<Held<Parcel>>, keeps: Option<Held<Parcel>>)
+    requires { deque_len held.old < deque_capacity held.old }
+    ensures { held.new.items ≡ held.old.items ++ option_to_list keeps }
+{
+    if let Some(packet) = keeps {
+        held.push_back_reserved(packet);
+    }
 }

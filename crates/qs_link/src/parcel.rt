@@ -3,7 +3,7 @@ ghost use Rattle.std.specs.Prelude.{◌≡◌, IfOk};
 ghost use Rattle.qs_packet.specs.Grammar.{IsPacket};
 
 use qs_base::{Bytes, Copied, NoMemory};
-use qs_packet::{Packet, decode_packet, encode_packet, reads_back};
+use qs_packet::{Packet, decode_packet, encode_packet, reads_back, valid};
 use std::alloc::Global;
 use std::marker::Model;
 
@@ -39,8 +39,10 @@ impl Parcel {
 
     /// The packet of the parcel.
     pub(crate) fn open(&self, alloc: Global) -> Result<Packet, NoMemory>
-        ensures { IfOk result (λ packet. packet ≡ self.now) }
+        ensures value { IfOk result (λ packet. packet ≡ self.now) }
+        ensures spelled { IfOk result IsPacket }
     {
+        valid();
         match decode_packet(alloc, self.bytes.as_slice()) {
             Ok(packet) => Ok(packet),
             Err(_) => Err(NoMemory),

@@ -1,5 +1,5 @@
-use Rattle.std.proofs.Common.{◌≡◌, ◌≤◌, ℕ, ◌+◌, ◌++◌, length}
-use Rattle.std.specs.VecDeque.{deque_len, deque_capacity}
+use Rattle.std.proofs.Common.{◌≡◌, ◌≤◌, ◌+◌, ◌++◌, length}
+use Rattle.std.specs.VecDeque.{deque_capacity}
 use Rattle.rtrb.specs.Ring.{received, known_items, SameConsumer}
 use Rattle.qs_link.proofs.lanes.pop_all.Given as goal
 

@@ -1,4 +1,4 @@
-use Rattle.std.proofs.Common.{◌≡◌, ℕ, drop}
+use Rattle.std.proofs.Common.{◌≡◌, drop}
 use Rattle.qs_link.specs.Plan.{fate}
 use Rattle.qs_link.proofs.outgoing.fate_of.Given as goal
 

@@ -1,4 +1,4 @@
-use Rattle.std.proofs.Common.{◌≡◌, ℕ, ◌+◌, [], length}
+use Rattle.std.proofs.Common.{◌≡◌, ◌+◌, [], length}
 use Rattle.qs_link.specs.Lane.{Fed}
 use Rattle.qs_link.proofs.lanes.Feed.push_all.Given as goal
 
