@@ -1,0 +1,2 @@
+-- What stands on the disk while a step is carried out.
+pub mod Kept

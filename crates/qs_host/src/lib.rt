@@ -1,0 +1,9 @@
+//! A node over its log: each step's records are appended, and forced, before anything else of it is carried out.
+#![tactic(auto)]
+
+mod appending;
+mod fault;
+mod host;
+
+pub use fault::HostFault;
+pub use host::{Host, HostOpen};

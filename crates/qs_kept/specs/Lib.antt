@@ -1,0 +1,4 @@
+pub mod Ledger
+pub mod Keeping
+pub mod Loans
+pub mod Places

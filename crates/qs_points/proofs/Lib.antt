@@ -1,0 +1,2 @@
+-- The first line that stops a node.
+pub mod Spent

@@ -1,0 +1,68 @@
+//! A list with room for more.
+ghost use Rattle.std.specs.Prelude.{◌≡◌, ◌<◌, ◌≤◌, ◌+◌, ◌++◌, ◌∷◌, [], OnOk, length};
+
+use qs_base::{List, NoMemory};
+use std::alloc::Global;
+use std::marker::Model;
+
+/// A list that grows at its end, with room that was made before.
+#[derive(Drop)]
+pub struct Tape<T> {
+    items: Vec<T>,
+}
+
+impl<T> Model for Tape<T> {
+    ghost use Rattle.std.specs.Prelude.{◌-◌};
+    ghost use Rattle.std.specs.Vec.{vec_capacity, vec_len};
+    ghost use Rattle.qs_points.specs.Tape.{TapeValue};
+
+    ghost Value = { TapeValue T };
+
+    ghost view = { λ t. record { items = t.items.items; spare = vec_capacity t.items - vec_len t.items } };
+}
+
+impl<T: Drop> Tape<T> {
+    /// The empty list, with no room. It takes no memory.
+    pub fn new(alloc: Global) -> Tape<T>
+        ensures { result.items ≡ [] }
+    {
+        Tape {
+            items: Vec::new(alloc),
+        }
+    }
+
+    /// The items in order.
+    pub fn items(&self) -> &[T]
+        ensures { result.now ≡ self.now.items }
+    {
+        self.items.as_slice()
+    }
+
+    /// Room for so many more.
+    pub fn make_room(&mut self, more: usize) -> Result<(), NoMemory>
+        ensures items { self.new.items ≡ self.old.items }
+        ensures ok { OnOk result (more ≤ self.new.spare) }
+        ensures kept { self.old.spare ≤ self.new.spare }
+    {
+        self.items.reserve(more)?;
+        Ok(())
+    }
+
+    /// One more, for which there is room. It takes no memory.
+    pub fn push(&mut self, item: T)
+        requires room { 0 < self.old.spare }
+        ensures items { self.new.items ≡ self.old.items ++ item ∷ [] }
+        ensures spare { self.old.spare ≤ self.new.spare + 1 }
+    {
+        self.items.push_reserved(item);
+    }
+
+    /// More, for which there is room. It takes no memory.
+    pub fn append(&mut self, more: List<T>)
+        requires room { length more ≤ self.old.spare }
+        ensures items { self.new.items ≡ self.old.items ++ more }
+        ensures spare { self.old.spare ≤ self.new.spare + length more }
+    {
+        let _ = self.items.append(&mut more.into_vec());
+    }
+}

@@ -1,0 +1,2 @@
+-- What a node asks of its log before it appends.
+pub mod Room

@@ -1,0 +1,68 @@
+//! The transactions of a log that are not ended there.
+ghost use Rattle.std.specs.Prelude.{◌≡◌, ◌<◌, ◌≤◌, ◌^◌, [], OnOk, OnErr, IfOk, length};
+ghost use Rattle.qs_room.specs.Room.{opened, after_record, unended, free_room};
+
+use qs_base::{NoMemory, Tid};
+use qs_record::Record;
+use std::alloc::Global;
+use std::collections::BTreeMap;
+use std::marker::Model;
+
+/// The transactions that have a record in a log and are not ended there.
+#[derive(Debug, Drop)]
+pub struct Unended {
+    tids: BTreeMap<Tid, ()>,
+}
+
+impl Model for Unended {
+    ghost use Rattle.qs_room.specs.Room.{Tids};
+
+    ghost Value = { Tids };
+
+    ghost view = { λ u. u.tids.entries };
+}
+
+impl Unended {
+    /// Those of a log with these records. The only error is a refusal of memory.
+    pub fn of(alloc: Global, records: &[Record]) -> Result<Unended, NoMemory>
+        ensures { IfOk result (λ tids. tids ≡ unended records.now) }
+    {
+        let mut tids = Unended {
+            tids: BTreeMap::new(alloc),
+        };
+        for rec in records {
+            tids.take_in(rec)?;
+        }
+        Ok(tids)
+    }
+
+    /// The record is the log's next. For want of memory, its only error, all is as it was.
+    pub fn take_in(&mut self, rec: &Record) -> Result<(), NoMemory>
+        ensures ok { OnOk result (self.new ≡ after_record self.old rec.now) }
+        ensures err { OnErr result (self.new ≡ self.old) }
+    {
+        match rec {
+            Record::Prepare { tid, .. } => self.open(*tid),
+            Record::Commit { tid, told } if !told.is_empty() => self.open(*tid),
+            Record::Commit { tid, .. } | Record::Aborted { tid } | Record::End { tid } => {
+                self.tids.remove(tid);
+                Ok(())
+            }
+        }
+    }
+
+    fn open(&mut self, tid: Tid) -> Result<(), NoMemory>
+        ensures ok { OnOk result (self.new ≡ opened tid self.old) }
+        ensures err { OnErr result (self.new ≡ self.old) }
+    {
+        self.tids.insert(tid, ())?;
+        Ok(())
+    }
+
+    /// How many bytes of a log that has `room` are free where it keeps `keep` for each of them; at least 0.
+    pub fn free_room(&self, room: u64, keep: u64) -> u64
+        ensures { result ≡ free_room room keep self.now }
+    {
+        room.saturating_sub(keep.saturating_mul(self.tids.len() as u64))
+    }
+}
