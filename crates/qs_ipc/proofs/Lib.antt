@@ -1,3 +1,5 @@
 pub mod Found
 pub mod Counting
 pub mod Forgetting
+mod Marking
+mod Turns

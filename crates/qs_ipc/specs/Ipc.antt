@@ -1,6 +1,6 @@
 -- The queues of a node's servers, in order of their numbers.
 use Rattle.std.specs.Prelude.{ℕ, Bool, List, [], map, Option, None, Some, is_some, unwrap_or, nat_lt, if◌then◌else◌}
-use Rattle.std.specs.List.{filter, list_any}
+use Rattle.std.specs.List.{filter, list_any, flat_map}
 use Rattle.std.specs.Map.{lookup, set_value}
 use Rattle.std.specs.BTreeMap.{insert_entry, is_at}
 use Rattle.std.specs.Ordering.{nat_cmp}
@@ -10,7 +10,7 @@ use Rattle.qs_base.specs.declared.identifiers.NodeNo.{NodeNo}
 use Rattle.qs_base.specs.declared.identifiers.ServerNo.{ServerNo}
 use Rattle.qs_base.specs.declared.identifiers.Tid.{Tid}
 use Rattle.qs_ipc.specs.declared.delivery.Delivery.{Delivery}
-use Rattle.qs_ipc.specs.Queue.{QueueValue, no_queue, counts_at, waits_at, has_some, is_full_at, added, first, after_first, forgotten, changed_entry}
+use Rattle.qs_ipc.specs.Queue.{QueueValue, no_queue, counts_at, waits_at, has_some, is_full_at, added, first, after_first, forgotten, changed_entry, marked}
 
 abbrev pub server_cmp : ServerNo → ServerNo → Ordering
 server_cmp s t = nat_cmp s.0 t.0
@@ -52,6 +52,13 @@ has_in tid entry = is_some (lookup (is_at (tid_cmp tid)) entry.1.counts)
 abbrev pub members : Tid → IpcValue → List ServerNo
 members tid ipc = map (λ (entry : ServerNo × QueueValue). entry.0) (filter (has_in tid) ipc)
 
+abbrev pub turns_at : ServerNo × QueueValue → List ServerNo
+turns_at queue = map (λ (delivery : Delivery). queue.0) queue.1.waiting
+
+-- the servers in order, each as often as a request waits there
+abbrev pub turns : IpcValue → List ServerNo
+turns queues = flat_map turns_at queues
+
 -- ---- what calls do
 
 -- a request waits at the server
@@ -79,3 +86,10 @@ forgotten_below server tid entry = if nat_lt entry.0.0 server then (entry.0, for
 -- nothing of the transaction was served
 abbrev pub forget : Tid → IpcValue → IpcValue
 forget tid ipc = map (forgotten_below servers tid) ipc
+
+abbrev pub mark_queue : NodeNo → ServerNo × QueueValue → ServerNo × QueueValue
+mark_queue peer entry = (entry.0, marked peer entry.1)
+
+-- the requests of a node that restarted are served, and their replies go nowhere
+abbrev pub mark_queues : NodeNo → IpcValue → IpcValue
+mark_queues peer ipc = map (mark_queue peer) ipc

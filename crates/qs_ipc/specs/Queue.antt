@@ -91,3 +91,13 @@ after_first queue = record { waiting = drop 1 queue.waiting; counts = counts_aft
 -- nothing of the transaction was served here
 abbrev pub forgotten : Tid → QueueValue → QueueValue
 forgotten tid queue = record queue { counts = remove_entry (is_at (tid_cmp tid)) queue.counts }
+
+-- ---- the node that asked restarted
+
+-- a request of that node is of an incarnation that is known to be dead
+abbrev pub mark_stale : NodeNo → Delivery → Delivery
+mark_stale peer delivery = if delivery.from.0 == peer.0 then record delivery { stale = true } else delivery
+
+-- so are those that wait
+abbrev pub marked : NodeNo → QueueValue → QueueValue
+marked peer queue = record queue { waiting = map (mark_stale peer) queue.waiting }

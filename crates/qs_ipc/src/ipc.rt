@@ -3,11 +3,11 @@ ghost use Rattle.std.specs.Prelude.{◌≡◌, ◌↔◌, true, false, [], OnOk,
 ghost use Rattle.std.specs.BTreeMap.{is_at, IsOrdered};
 ghost use Rattle.qs_ipc.specs.declared.delivery.Why.TheVariants as whys;
 ghost use Rattle.qs_ipc.specs.Queue.{is_for, is_full_at, changed_entry, forgotten};
-ghost use Rattle.qs_ipc.specs.Ipc.{server_cmp, queue_at, is_full, waits, queued, served, members, enqueue, next, after_next, forget};
+ghost use Rattle.qs_ipc.specs.Ipc.{server_cmp, queue_at, is_full, waits, queued, served, members, turns, enqueue, next, after_next, forget, mark_queues};
 
 use crate::delivery::{Delivery, Refused, Why, is_for};
 use crate::queue::Queue;
-use qs_base::{List, NoMemory, ServerNo, Tid};
+use qs_base::{List, NoMemory, NodeNo, ServerNo, Tid};
 use std::alloc::Global;
 use std::collections::BTreeMap;
 use std::marker::Model;
@@ -127,6 +127,17 @@ impl Ipc {
         Ok(servers)
     }
 
+    /// The servers in order, each as often as a request waits there.
+    pub fn turns(&self) -> Result<List<ServerNo>, NoMemory>
+        ensures { IfOk result (λ servers. servers ≡ turns self.now) }
+    {
+        let mut servers = List::new(self.alloc);
+        for (server, queue) in self.queues.iter() {
+            queue.add_turns(&mut servers, *server)?;
+        }
+        Ok(servers)
+    }
+
     /// Nothing of the transaction counts as served any more, and it has no members; all else stays.
     /// It takes no memory.
     pub fn forget(&mut self, tid: Tid)
@@ -136,6 +147,17 @@ impl Ipc {
         for number in 0..SERVERS {
             forget_at(&mut self.queues, ServerNo(number as u8), tid);
         }
+    }
+
+    /// The requests of that node that wait are of an incarnation that is known to be dead: they are served,
+    /// and their replies are not sent. It takes no memory.
+    pub fn mark_stale(&mut self, peer: NodeNo)
+        ensures { self.new ≡ mark_queues peer self.old }
+    {
+        self.queues.retain(|_, queue| {
+            queue.mark_stale(peer);
+            true
+        });
     }
 }
 

@@ -1,12 +1,13 @@
 //! What waits at one server, first in, first out.
-ghost use Rattle.std.specs.Prelude.{◌≡◌, ◌≤◌, ◌<◌, OnOk, OnErr, IfErr, is_some, false};
+ghost use Rattle.std.specs.Prelude.{◌≡◌, ◌≤◌, ◌<◌, ◌++◌, OnOk, OnErr, IfErr, is_some, false, map};
 ghost use Rattle.std.specs.Map.{lookup};
 ghost use Rattle.std.specs.BTreeMap.{is_at};
 ghost use Rattle.qs_base.specs.Order.{tid_cmp};
-ghost use Rattle.qs_ipc.specs.Queue.{no_queue, counts_at, is_full_at, added, first, after_first, forgotten, waits_at, has_some, changed_entry, served_more};
+ghost use Rattle.qs_ipc.specs.Ipc.{turns_at};
+ghost use Rattle.qs_ipc.specs.Queue.{no_queue, counts_at, is_full_at, added, first, after_first, forgotten, waits_at, has_some, changed_entry, served_more, mark_stale, marked};
 
 use crate::delivery::Delivery;
-use qs_base::Tid;
+use qs_base::{List, NoMemory, NodeNo, ServerNo, Tid};
 use std::alloc::Global;
 use std::collections::{BTreeMap, VecDeque};
 use std::marker::Model;
@@ -82,6 +83,16 @@ impl Queue {
         !self.waiting.is_empty()
     }
 
+    /// The server, as often as a request waits here.
+    pub fn add_turns(&self, turns: &mut List<ServerNo>, server: ServerNo) -> Result<(), NoMemory>
+        ensures { OnOk result (turns.new ≡ turns.old ++ turns_at (server, self.now)) }
+    {
+        for _turn in 0..self.waiting.len() {
+            turns.push(server)?;
+        }
+        Ok(())
+    }
+
     /// The request waits behind all others. For want of memory it is handed back, and all is as it was.
     pub fn add(&mut self, delivery: Delivery) -> Result<(), Delivery>
         requires { is_full_at delivery.tid self.old ≡ false }
@@ -120,6 +131,30 @@ impl Queue {
         ensures { self.new ≡ forgotten tid self.old }
     {
         self.counts.remove(&tid);
+    }
+
+    /// The requests of that node that wait here are of an incarnation that is known to be dead. It takes
+    /// no memory.
+    pub fn mark_stale(&mut self, peer: NodeNo)
+        ensures { self.new ≡ marked peer self.old }
+    {
+        mark_each(self.waiting.make_contiguous(), peer);
+    }
+}
+
+fn mark_each(waiting: &mut [Delivery], peer: NodeNo)
+    ensures { waiting.new ≡ map (mark_stale peer) waiting.old }
+{
+    for delivery in waiting.iter_mut() {
+        mark(delivery, peer);
+    }
+}
+
+fn mark(delivery: &mut Delivery, peer: NodeNo)
+    ensures { delivery.new ≡ mark_stale peer delivery.old }
+{
+    if delivery.from == peer {
+        delivery.stale = true;
     }
 }
 

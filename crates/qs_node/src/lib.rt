@@ -1,16 +1,8 @@
-//! The step of a node: what comes to it, what it keeps, and what it brings about.
+//! A node: it makes a step for each event, and is opened again from its log.
 #![tactic(auto)]
 
-mod event;
-mod kept;
-mod rows;
-mod setting;
-mod state;
-mod trace;
+mod commanding;
+mod happening;
+mod node;
 
-pub use event::{ClientAnswer, Effects, Event, Sending};
-pub use kept::{Begun, Decided, Kept, Lent};
-pub use rows::short_runs;
-pub use setting::Setting;
-pub use state::{Doings, Issued, OpenCommand};
-pub use trace::{Did, Step};
+pub use node::{Node, NodeOpen};

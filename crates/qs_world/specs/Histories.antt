@@ -6,11 +6,11 @@ use Rattle.qs_machine.specs.Lawful.{IsLawful}
 use Rattle.qs_machine.specs.Opening.{opening}
 use Rattle.qs_machine.specs.declared.opened.Opened.{Opened}
 use Rattle.qs_machine.specs.declared.opened.Pending.{Pending}
-use Rattle.qs_node.specs.declared.setting.Setting.{Setting}
+use Rattle.qs_step.specs.declared.setting.Setting.{Setting}
 use Rattle.qs_record.specs.declared.record.Record.{Record}
 use Rattle.qs_record.specs.declared.record.Record.TheVariants as records
 use Rattle.qs_restart.specs.declared.recovered.Recovered.{Recovered}
-use Rattle.qs_node.specs.Opening.{recovered_of, opened_servers}
+use Rattle.qs_step.specs.Opening.{recovered_of, opened_servers}
 use Rattle.qs_world.specs.World.{World, Opening, start}
 use Rattle.qs_world.specs.Moves.{Move}
 use Rattle.qs_world.specs.Openings.{IsOpening}

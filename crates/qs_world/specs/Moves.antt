@@ -12,12 +12,12 @@ use Rattle.qs_machine.specs.Clauses.{is_crash}
 use Rattle.qs_record.specs.declared.record.Record.{Record}
 use Rattle.qs_restart.specs.declared.recovered.OpenVote.{OpenVote}
 use Rattle.qs_restart.specs.declared.recovered.Recovered.{Recovered}
-use Rattle.qs_node.specs.declared.event.Effects.{Effects}
-use Rattle.qs_node.specs.declared.event.Event.{Event}
-use Rattle.qs_node.specs.declared.event.Event.TheVariants as events
-use Rattle.qs_node.specs.Opening.{recovered_of, opened_node}
-use Rattle.qs_node.specs.State.{NodeValue}
-use Rattle.qs_node.specs.Step.{after_step, effects_of}
+use Rattle.qs_step.specs.declared.event.Effects.{Effects}
+use Rattle.qs_step.specs.declared.event.Event.{Event}
+use Rattle.qs_step.specs.declared.event.Event.TheVariants as events
+use Rattle.qs_step.specs.Opening.{recovered_of, opened_node}
+use Rattle.qs_step.specs.State.{NodeValue}
+use Rattle.qs_step.specs.Step.{after_step, effects_of}
 use Rattle.qs_world.specs.World.{Host, Parcel, Client, World, with_host, inc_of, known_of}
 use Rattle.qs_world.specs.Posting.{post_all, next_parcel, entries_of, clients_after, handed, handed_back, next_line}
 
@@ -145,7 +145,7 @@ cut_with world n stamp free is_kept cause (Some event) =
     stopped world n stamp cause (cut_log (world.hosts n) is_kept (effects_of (world.hosts n).node event free))
 
 abbrev pub reopened : ℕ → Recovered → NodeValue → NodeValue
-reopened inc found node = opened_node node.manager.alloc (record node.setting { inc = inc }) found node.kept
+reopened inc found node = opened_node node.manager.alloc (record node.setting { inc = inc }) found node.kept.saved
 
 abbrev pub risen_host : ℕ → ℕ → Recovered → Host → Host
 risen_host stamp inc found host = record host { node = reopened inc found host.node; stamp = stamp }

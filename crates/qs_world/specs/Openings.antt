@@ -15,7 +15,7 @@ use Rattle.qs_journal.specs.declared.script_line.ScriptLine.{ScriptLine}
 use Rattle.qs_record.specs.declared.record.Record.{Record}
 use Rattle.qs_record.specs.declared.record.Record.TheVariants as records
 use Rattle.qs_machine.specs.Nodes.{is_recoverable}
-use Rattle.qs_node.specs.declared.setting.Setting.{Setting}
+use Rattle.qs_step.specs.declared.setting.Setting.{Setting}
 use Rattle.qs_restart.specs.Recovery.{Prepared, Untold, recovery}
 use Rattle.qs_world.specs.World.{Opening}
 use Rattle.qs_world.specs.Moves.{client_count}

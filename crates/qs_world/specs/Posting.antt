@@ -7,8 +7,8 @@ use Rattle.qs_channels.specs.Network.{with_at}
 use Rattle.qs_journal.specs.declared.entry.Act.{Act}
 use Rattle.qs_journal.specs.declared.entry.Entry.{Entry}
 use Rattle.qs_journal.specs.declared.script_line.ScriptLine.{ScriptLine}
-use Rattle.qs_node.specs.declared.event.ClientAnswer.{ClientAnswer}
-use Rattle.qs_node.specs.declared.event.Sending.{Sending}
+use Rattle.qs_step.specs.declared.event.ClientAnswer.{ClientAnswer}
+use Rattle.qs_step.specs.declared.event.Sending.{Sending}
 use Rattle.qs_world.specs.World.{Parcel, Client, World, inc_of, known_of}
 
 -- ---- messages

@@ -9,9 +9,10 @@ use Rattle.qs_journal.specs.declared.entry.Entry.{Entry}
 use Rattle.qs_journal.specs.declared.script_line.ScriptLine.{ScriptLine}
 use Rattle.qs_packet.specs.declared.message.Message.{Message}
 use Rattle.qs_record.specs.declared.record.Record.{Record}
-use Rattle.qs_node.specs.declared.setting.Setting.{Setting}
-use Rattle.qs_node.specs.Opening.{recovered_of, opened_node, no_kept}
-use Rattle.qs_node.specs.State.{NodeValue}
+use Rattle.qs_kept.specs.Keeping.{no_kept}
+use Rattle.qs_step.specs.declared.setting.Setting.{Setting}
+use Rattle.qs_step.specs.Opening.{recovered_of, opened_node}
+use Rattle.qs_step.specs.State.{NodeValue}
 
 -- a node with its log
 pub record Host : Type 0 where

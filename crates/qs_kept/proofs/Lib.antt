@@ -1,0 +1,4 @@
+mod Indexing
+mod Keys
+mod Lending
+mod Undoing

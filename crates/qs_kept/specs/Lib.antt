@@ -1,0 +1,5 @@
+pub mod Index
+pub mod Ledger
+pub mod Keeping
+pub mod Loans
+pub mod Places

@@ -1,0 +1,229 @@
+//! The labels that a node has met, found by themselves and by their transactions.
+ghost use Rattle.std.specs.Prelude.{◌≡◌, ◌++◌, ◌∷◌, [], OnOk, IfOk};
+ghost use Rattle.std.specs.List.{find};
+ghost use Rattle.std.specs.Option.{option_copied};
+ghost use Rattle.qs_base.specs.Order.{bytes_cmp, tid_cmp};
+ghost use Rattle.qs_kept.specs.Index.{IsIndexOf, found_at};
+ghost use Rattle.qs_kept.specs.Keeping.{has_label, is_label_of, IsLabelled};
+
+use crate::grown::Grown;
+use crate::kept::Begun;
+use qs_base::{Bytes, Copied, List, NoMemory, Tid};
+use std::alloc::Global;
+use std::collections::BTreeMap;
+use std::marker::Model;
+
+/// Labels in the order in which they were met.
+#[derive(Drop)]
+pub(crate) struct Labels {
+    items: Grown<Begun>,
+    by_label: BTreeMap<Bytes, usize>,
+    by_tid: BTreeMap<Tid, usize>,
+}
+
+impl Model for Labels {
+    ghost use Rattle.qs_kept.specs.Keeping.{IsLabelled};
+    ghost use Rattle.qs_kept.specs.Ledger.{LedgerValue};
+    ghost use Rattle.qs_kept.specs.declared.kept.Begun.{Begun};
+
+    ghost Value = { LedgerValue Begun };
+
+    ghost view = { λ l. l.items };
+
+    ghost invariant = { λ l. IsLabelled l.by_label.entries l.by_tid.entries l.items.now };
+}
+
+impl Labels {
+    ghost use Rattle.std.specs.Prelude.{◌≡◌, ◌++◌, ◌∷◌, [], OnOk, OnErr, IfOk, IfErr};
+    ghost use Rattle.std.specs.List.{find};
+    ghost use Rattle.std.specs.Option.{option_copied};
+    ghost use Rattle.qs_kept.specs.Keeping.{has_label, is_label_of};
+
+    /// These labels, all accepted. For want of memory they are handed back.
+    pub fn new(alloc: Global, labels: List<Begun>) -> Result<Labels, List<Begun>>
+        ensures ok { IfOk result (λ made. made ≡ record { now = labels; saved = labels }) }
+        ensures back { IfErr result (λ back. back ≡ labels) }
+    {
+        let mut by_label = BTreeMap::new(alloc);
+        let mut by_tid = BTreeMap::new(alloc);
+        match note_all(&mut by_label, &mut by_tid, labels.as_slice()) {
+            Ok(()) => Ok(Labels {
+                items: Grown::new(labels),
+                by_label,
+                by_tid,
+            }),
+            Err(NoMemory) => Err(labels),
+        }
+    }
+
+    /// The labels as they are.
+    pub fn items(&self) -> &[Begun]
+        ensures { result.now ≡ self.now.now }
+    {
+        self.items.items()
+    }
+
+    /// The label, where it was met.
+    pub fn at(&self, label: &Bytes) -> Option<&Begun>
+        ensures { option_copied result ≡ find (has_label label.now) self.now.now }
+    {
+        label_at(&self.by_label, self.items.items(), label)
+    }
+
+    /// The label of the transaction, where it was met.
+    pub fn of(&self, tid: Tid) -> Option<&Begun>
+        ensures { option_copied result ≡ find (is_label_of tid) self.now.now }
+    {
+        label_of(&self.by_tid, self.items.items(), tid)
+    }
+
+    /// One more label. After a refusal all is as it was.
+    pub fn push(&mut self, begun: Begun) -> Result<(), NoMemory>
+        ensures ok { OnOk result (self.new ≡ record self.old { now = self.old.now ++ begun ∷ [] }) }
+        ensures err { OnErr result (self.new ≡ self.old) }
+    {
+        note_label(&mut self.by_label, self.items.items(), &begun)?;
+        note_tid(&mut self.by_tid, self.items.items(), &begun)?;
+        self.items.push(begun)
+    }
+
+    /// What it is counts from now on. It takes no memory.
+    pub fn accept(&mut self)
+        ensures { self.new ≡ record self.old { saved = self.old.now } }
+    {
+        self.items.accept();
+    }
+
+    /// The labels as they were at the last `accept`. It takes no memory.
+    pub fn restore(self) -> List<Begun>
+        ensures { result ≡ self.saved }
+    {
+        self.items.restore()
+    }
+}
+
+fn has_label(label: &Bytes, begun: &Begun) -> bool
+    ensures { result ≡ has_label label.now begun.now }
+{
+    label.cmp(&begun.label).is_eq()
+}
+
+fn is_label_of(tid: Tid, begun: &Begun) -> bool
+    ensures { result ≡ is_label_of tid begun.now }
+{
+    match begun.tid {
+        None => false,
+        Some(other) => tid == other,
+    }
+}
+
+fn with_label<'a>(labels: &'a [Begun], place: usize, label: &Bytes) -> Option<&'a Begun>
+    ensures { option_copied result ≡ found_at (has_label label.now) labels.now (Some place) }
+{
+    match labels.get(place) {
+        Some(begun) => {
+            if has_label(label, begun) {
+                Some(begun)
+            } else {
+                None
+            }
+        }
+        None => None,
+    }
+}
+
+fn label_at<'a>(
+    places: &BTreeMap<Bytes, usize>,
+    labels: &'a [Begun],
+    label: &Bytes,
+) -> Option<&'a Begun>
+    requires { IsIndexOf bytes_cmp has_label places.now.entries labels.now }
+    ensures { option_copied result ≡ find (has_label label.now) labels.now }
+{
+    match places.get(label) {
+        Some(place) => with_label(labels, *place, label),
+        None => None,
+    }
+}
+
+fn with_tid(labels: &[Begun], place: usize, tid: Tid) -> Option<&Begun>
+    ensures { option_copied result ≡ found_at (is_label_of tid) labels.now (Some place) }
+{
+    match labels.get(place) {
+        Some(begun) => {
+            if is_label_of(tid, begun) {
+                Some(begun)
+            } else {
+                None
+            }
+        }
+        None => None,
+    }
+}
+
+fn label_of<'a>(places: &BTreeMap<Tid, usize>, labels: &'a [Begun], tid: Tid) -> Option<&'a Begun>
+    requires { IsIndexOf tid_cmp is_label_of places.now.entries labels.now }
+    ensures { option_copied result ≡ find (is_label_of tid) labels.now }
+{
+    match places.get(&tid) {
+        Some(place) => with_tid(labels, *place, tid),
+        None => None,
+    }
+}
+
+/// The label has the next place, unless it was met before.
+fn note_label(
+    places: &mut BTreeMap<Bytes, usize>,
+    before: &[Begun],
+    begun: &Begun,
+) -> Result<(), NoMemory>
+    requires { IsIndexOf bytes_cmp has_label places.old.entries before.now }
+    ensures ok { OnOk result (IsIndexOf bytes_cmp has_label places.new.entries (before.now ++ begun.now ∷ [])) }
+    ensures stays { IsIndexOf bytes_cmp has_label places.new.entries before.now }
+{
+    match label_at(places, before, &begun.label) {
+        Some(_) => Ok(()),
+        None => {
+            places.insert(begun.label.copy()?, before.len())?;
+            Ok(())
+        }
+    }
+}
+
+/// The transaction, if there is one, has the next place, unless a label of it was met before.
+fn note_tid(
+    places: &mut BTreeMap<Tid, usize>,
+    before: &[Begun],
+    begun: &Begun,
+) -> Result<(), NoMemory>
+    requires { IsIndexOf tid_cmp is_label_of places.old.entries before.now }
+    ensures ok { OnOk result (IsIndexOf tid_cmp is_label_of places.new.entries (before.now ++ begun.now ∷ [])) }
+    ensures stays { IsIndexOf tid_cmp is_label_of places.new.entries before.now }
+{
+    let Some(tid) = begun.tid else {
+        return Ok(());
+    };
+    match label_of(places, before, tid) {
+        Some(_) => Ok(()),
+        None => {
+            places.insert(tid, before.len())?;
+            Ok(())
+        }
+    }
+}
+
+fn note_all(
+    by_label: &mut BTreeMap<Bytes, usize>,
+    by_tid: &mut BTreeMap<Tid, usize>,
+    labels: &[Begun],
+) -> Result<(), NoMemory>
+    requires { IsLabelled by_label.old.entries by_tid.old.entries [] }
+    ensures { OnOk result (IsLabelled by_label.new.entries by_tid.new.entries labels.now) }
+{
+    for place in 0..labels.len() {
+        let (before, _) = labels.split_at(place);
+        note_label(by_label, before, &labels[place])?;
+        note_tid(by_tid, before, &labels[place])?;
+    }
+    Ok(())
+}

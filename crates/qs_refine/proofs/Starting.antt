@@ -1,0 +1,144 @@
+-- Where nothing is seen of a transaction, the agreement machine at its start shows it.
+use Rattle.std.proofs.Common.{◌≡◌, ◌≢◌, ℕ, ◌+◌, ◌*◌, ◌<◌, ◌≤◌, ◌==◌, ◌&&◌, Bool, true, false, List, [], ◌∷◌, refl, sym, ap, subst, ◌∙◌, arith, if◌then◌else◌}
+use Rattle.std.specs.Prelude.{nat_lt, ◌%◌}
+use Rattle.std.proofs.lemmas.Bool.{eqb-true}
+use Rattle.std.proofs.lemmas.Bool.Decides.{nat_tests}
+use Rattle.std.proofs.lemmas.Nat.{mod_low}
+use Rattle.qs_base.specs.declared.identifiers.Tid.{Tid}
+use Rattle.qs_agree.proofs.Carries.{lawful}
+use Rattle.qs_agree.specs.Carry.{IsLawful}
+use Rattle.qs_agree.specs.World as machine
+use Rattle.qs_agree.specs.World.{World}
+use Rattle.qs_refine.specs.Faces.{Face, ShowsFace, ShowsOpen}
+use Rattle.qs_refine.specs.Links.{Said, IsLink, link, waiting_link}
+use Rattle.qs_refine.specs.Places.{place, known_place, home_place}
+use Rattle.qs_refine.specs.Sights.{Sight, ShowsSight, ShowsLog, ShowsStage}
+use Rattle.qs_refine.specs.Starts.{IsNewFace, SaysNothing, begins_at, IsUnseen, node_of, opening_seen, MayBegin}
+
+pub node_place : (n i : ℕ) → n < 256 → node_of (place n i) ≡ n
+node_place n i below = ap (λ (k : ℕ). (k + n) % 256) (swapped i) ∙ mod_low i 8 n below
+  where
+    swapped : (i : ℕ) → 256 * i ≡ i * 256
+    swapped i = omega (arith)
+
+place_alike : (n i h j : ℕ) → n < 256 → h < 256 → (place n i == place h j) ≡ ((h == n) && (j == i))
+place_alike n i h j a b = grind (arith, nat_tests, a, b)
+
+module _ (tid : Tid) (x : Sight) (u : IsUnseen tid x) where
+  abbrev w : World
+  w = machine.start (opening_seen tid x)
+
+  below : (n : ℕ) → n < x.size → n < 256
+  below n in_run = grind (arith, nat_tests, u.small, in_run)
+
+  up_is : (n i : ℕ) → n < x.size → w.up (place n i) ≡ (x.up n && (i == x.inc n))
+  up_is n i in_run = rw (node_place n i (below n in_run)) (ap (λ (b : Bool). x.up n && b) (now (x.inc n)))
+    where
+      now : (k : ℕ) → (place n i == place n k) ≡ (i == k)
+      now k = grind (arith, nat_tests)
+
+  shown_face : (n : ℕ) → n < x.size → x.up n ≡ true → IsNewFace (begins_at tid x n) (x.face n) → ShowsFace (x.face n) (place n (x.inc n)) w
+  shown_face n in_run up f = record {
+    up = up_is n (x.inc n) in_run ∙ both (x.up n) up (x.inc n);
+    outcome = sym f.outcome;
+    engaged = place_alike n (x.inc n) tid.home.0 tid.inc (below n in_run) (below tid.home.0 u.home_in) ∙ sym f.on;
+    superior = λ on away. absurd (cc (f.on, f.is_home, on, away));
+    last = λ on away. absurd (cc (f.on, f.is_home, on, away));
+    last_new = λ p late. refl;
+    sent = λ m. sym (f.sent m);
+    told_in = λ m has. absurd (cc (f.told m, has));
+    tell = λ is m has. absurd (cc (f.tell m, has));
+    running = λ is. record {
+      covered = λ m. sym (f.covered m);
+      asked = sym f.asked;
+      refused = λ is. refl;
+      gone = λ is. refl;
+      abort_vote = λ is. refl;
+      waits = λ s. rw (f.waits s) (omega (arith));
+      uncast = λ s votes. rw (f.uncast s) (omega (arith));
+      loans = sym f.loans;
+      involved = sym f.involved;
+      told = λ m. sym (f.told m);
+    };
+  }
+    where
+      both : (b : Bool) → b ≡ true → (i : ℕ) → (b && (i == i)) ≡ true
+      both b is i = rw is (grind (arith, nat_tests))
+
+  shown_stage : ShowsStage tid x w
+  shown_stage = record {
+    small = u.small;
+    numbered = u.numbered;
+    home = refl;
+    nodes = λ n i in_run. node_place n i (below n in_run);
+    classes = λ n s. refl;
+    present = λ n in_run. refl;
+    up = up_is;
+    peers = λ n m in_run in_too up. rw (node_place n (x.inc n) (below n in_run)) (picked (nat_lt m x.size) (grind (arith, nat_tests, in_too)) (known_place m (x.knows n m)));
+  }
+    where
+      picked : (b : Bool) → b ≡ true → (k : ℕ) → (if b then k else 0) ≡ k
+      picked b is k = rw is refl
+
+  nothing_said : (p q : ℕ) (said : List Said) → said ≡ [] → IsLink (link w p q) said
+  nothing_said p q said none = subst (λ (s : List Said). IsLink (link w p q) s) (sym none)
+      (record { requests = grind (arith); closers = grind (arith); inquiries = grind (arith); all_requests = λ live. refl; all_closers = λ live. refl; all_inquiries = λ live. refl })
+
+  nothing_waits : (p m : ℕ) (said : List Said) → said ≡ [] → IsLink (waiting_link w p m) said
+  nothing_waits p m said none = subst (λ (s : List Said). IsLink (waiting_link w p m) s) (sym none)
+      (record { requests = grind (arith); closers = grind (arith); inquiries = grind (arith); all_requests = λ live. refl; all_closers = λ live. refl; all_inquiries = λ live. refl })
+
+  shown_log : (n : ℕ) → SaysNothing tid (x.found n) → ShowsLog tid n (x.found n) w
+  shown_log n says = record {
+    prepared = λ s. sym (says.prepared s);
+    committed = λ home. sym says.committed;
+    unended = λ home. sym says.untold;
+    named = λ home stands m. absurd (cc (stands));
+  }
+
+  pub unseen_shown : ShowsSight tid x w
+  unseen_shown = record {
+    stage = shown_stage;
+    faces = λ n in_run up. shown_face n in_run up (u.faces n in_run up);
+    links = λ n i m j in_run in_too up now. nothing_said (place n i) (place m j) (x.said n i m j) (u.links n i m j);
+    unmet = λ n m in_run in_too up none. nothing_waits (place n (x.inc n)) m (x.unmet n m) (u.unmet n m);
+    logs = λ n in_run. shown_log n (u.logs n in_run);
+  }
+
+-- and that is a start of the machine
+pub may_begin : (tid : Tid) (x : Sight) → MayBegin tid x → machine.IsOpening (opening_seen tid x)
+may_begin tid x may = record {
+  home_up = rw (node_place tid.home.0 tid.inc (below tid.home.0 may.home_in)) (home_runs (x.up tid.home.0) may.home_up);
+  up_present = λ p up. sym (eqb-true p (place (node_of p) (x.inc (node_of p))) (second (x.up (node_of p)) (p == place (node_of p) (x.inc (node_of p))) up));
+  peer_node = λ p m some. by_node p m (nat_lt m x.size) refl some;
+  peer_present = λ p m. by_present p m (nat_lt m x.size);
+}
+  where
+    below : (n : ℕ) → n < x.size → n < 256
+    below n in_run = grind (arith, nat_tests, may.small, in_run)
+
+    home_runs : (b : Bool) → b ≡ true → (b && (place tid.home.0 tid.inc == place tid.home.0 (x.inc tid.home.0))) ≡ true
+    home_runs b is = rw (is, may.home_now) (grind (arith, nat_tests))
+
+    second : (a b : Bool) → (a && b) ≡ true → b ≡ true
+    second true b is = is
+    second false b is = absurd (cc (is))
+
+    by_node : (p m : ℕ) (b : Bool) → nat_lt m x.size ≡ b → 1 ≤ (if b then known_place m (x.knows (node_of p) m) else 0) → node_of (if b then known_place m (x.knows (node_of p) m) else 0) ≡ m
+    by_node p m true in_run some = place_known (x.knows (node_of p) m == 0) some
+      where
+        place_known : (b : Bool) → 1 ≤ (if b then 0 else place m (x.knows (node_of p) m)) → node_of (if b then 0 else place m (x.knows (node_of p) m)) ≡ m
+        place_known true some = absurd (omega (arith, some))
+        place_known false some = node_place m (x.knows (node_of p) m) (below m (grind (arith, nat_tests, in_run)))
+    by_node p m false past some = absurd (omega (arith, some))
+
+    by_present : (p m : ℕ) (b : Bool) → (if b then known_place m (x.knows (node_of p) m) else 0) ≤ place m (x.inc m)
+    by_present p m true = place_known (x.knows (node_of p) m == 0)
+      where
+        place_known : (b : Bool) → (if b then 0 else place m (x.knows (node_of p) m)) ≤ place m (x.inc m)
+        place_known true = grind (arith)
+        place_known false = omega (arith, may.known (node_of p) m)
+    by_present p m false = grind (arith)
+
+pub begins_lawful : (tid : Tid) (x : Sight) → MayBegin tid x → IsLawful (machine.start (opening_seen tid x))
+begins_lawful tid x may = lawful (machine.start (opening_seen tid x)) (record { opening = opening_seen tid x; opens = may_begin tid x may; events = []; run = refl })

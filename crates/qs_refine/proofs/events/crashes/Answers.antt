@@ -1,0 +1,5 @@
+use Rattle.qs_refine.proofs.EventGoes.{crash, notice}
+use Rattle.qs_refine.proofs.events.crashes.Goals as goal
+
+pub returns : goal.returns
+returns c = record { crash = crash; notice = notice }

@@ -1,0 +1,5 @@
+use Rattle.qs_refine.proofs.EventGoes.{commit, commit_unlogged, tell}
+use Rattle.qs_refine.proofs.events.decisions.Goals as goal
+
+pub returns : goal.returns
+returns c = record { commit = commit; commit_unlogged = commit_unlogged; tell = tell }

@@ -1,0 +1,5 @@
+use Rattle.qs_refine.proofs.RuleGoes.{issue_away, request, request_home, answered}
+use Rattle.qs_refine.proofs.rules.requests.Goals as goal
+
+pub returns : goal.returns
+returns c = record { issue_away = issue_away; request = request; request_home = request_home; answered = answered }

@@ -1,0 +1,16 @@
+pub mod Places
+pub mod Faces
+pub mod Links
+pub mod Sights
+pub mod Seen
+pub mod EventLaws
+pub mod Messages
+pub mod NodeFaces
+pub mod Shows
+pub mod Steps
+pub mod Sound
+pub mod SoundRuns
+pub mod RuleLaws
+pub mod Starts
+pub mod StartLaws
+pub mod SoundLaws

@@ -1,0 +1,64 @@
+-- Rules of a node's step that leave a sound node sound.
+use Rattle.std.specs.Prelude.{◌≡◌, ℕ, ◌<◌, ◌≤◌, true, false, List, [], Some, nat_lt}
+use Rattle.qs_base.specs.declared.identifiers.Member.{Member}
+use Rattle.qs_base.specs.declared.identifiers.NodeNo.{NodeNo}
+use Rattle.qs_base.specs.declared.identifiers.Tid.{Tid}
+use Rattle.qs_engage.specs.Engage.{peer_of}
+use Rattle.qs_engage.specs.Nodes.{same_node}
+use Rattle.qs_journal.specs.declared.script_line.ScriptLine.{ScriptLine}
+use Rattle.qs_ops.specs.declared.answer.Cause.{Cause}
+use Rattle.qs_ops.specs.declared.operation.Op.{Op}
+use Rattle.qs_ops.specs.declared.reply.Reply.{Reply}
+use Rattle.qs_tm.specs.Manager as tm
+use Rattle.qs_tm.specs.declared.participant.Outstanding.{Outstanding}
+use Rattle.qs_tm.specs.declared.participant.Participant.{Participant}
+use Rattle.qs_step.specs.Asking.{ask_came, refusal_came, closer_came}
+use Rattle.qs_step.specs.Commands.{begin_as, begin_command, ask}
+use Rattle.qs_step.specs.Requests.{reply_came, issue_away}
+use Rattle.qs_step.specs.State.{Work, part_of}
+use Rattle.qs_world.specs.Openings.{IsOpening}
+use Rattle.qs_world.specs.World.{Opening, start}
+use Rattle.qs_refine.specs.Links.{names_node, node_no}
+use Rattle.qs_refine.specs.Sound.{is_sound, is_sound_host}
+
+abbrev pub StaysSound : Work → Work → Type 0
+StaysSound work new = is_sound work.node ≡ true → is_sound new.node ≡ true
+
+-- where a world begins with empty logs, each node is sound
+abbrev pub StartSound : Type 0
+StartSound = (o : Opening) → IsOpening o → ((n : ℕ) → n < o.size → o.logs n ≡ []) → (n : ℕ) → n < o.size → is_sound_host ((start o).hosts n) ≡ true
+
+-- a client begins a transaction
+abbrev pub BeginSound : Type 0
+BeginSound = (line : ScriptLine) (work : Work) → StaysSound work (begin_as line (tm.next_tid work.node.manager) work)
+
+-- and where its command is refused
+abbrev pub BeginCommandSound : Type 0
+BeginCommandSound = (line : ScriptLine) (work : Work) → StaysSound work (begin_command line work)
+
+-- the owner asks for the commit
+abbrev pub OwnerAsksSound : Type 0
+OwnerAsksSound = (tid : Tid) (part : Participant) (work : Work) → StaysSound work (ask tid part work)
+
+-- an AskVote comes
+abbrev pub AskCameSound : Type 0
+AskCameSound = (peer : NodeNo) (tid : Tid) (work : Work) → StaysSound work (ask_came peer tid work)
+
+-- a VotedAbort comes
+abbrev pub RefusalCameSound : Type 0
+RefusalCameSound = (tid : Tid) (cause : Cause) (work : Work) → StaysSound work (refusal_came tid cause work)
+
+-- a reply comes
+abbrev pub ReplyCameSound : Type 0
+ReplyCameSound = (tid : Tid) (member : Member) (number : ℕ) (reply : Reply) (work : Work) → StaysSound work (reply_came tid member number reply work)
+
+-- a request goes to another node of the run
+abbrev pub IssueAwaySound : Type 0
+IssueAwaySound = (tid : Tid) (request : Outstanding) (op : Op) (work : Work) → nat_lt request.member.node.0 work.node.setting.nodes ≡ true → same_node request.member.node work.node.setting.node ≡ false
+    → StaysSound work (issue_away tid request op work)
+
+-- a Covered or VotedYes comes, for a number that was sent, and names nodes of the run
+abbrev pub CloserCameSound : Type 0
+CloserCameSound = (peer : NodeNo) (tid : Tid) (up_to : ℕ) (told : List NodeNo) (work : Work) → peer.0 < 16 → tid.home.0 < 16 → ((k : ℕ) → names_node told (node_no k) ≡ true → nat_lt k work.node.setting.nodes ≡ true)
+    → ((part : Participant) → part_of tid work ≡ Some part → (1 ≤ up_to) × (up_to ≤ (peer_of part.engage peer).sent))
+    → StaysSound work (closer_came peer tid up_to told work)

@@ -1,0 +1,61 @@
+//! What single events of the agreement machine make of all that is seen of a transaction.
+ghost use Rattle.qs_refine.specs.EventLaws.{CountGoes, IgnoreGoes, IssueGoes, IssueLocalGoes, EngageGoes, JoinGoes, CoverGoes, DropEngageGoes, DropJoinGoes, DropCoverGoes, DropHomeGoes, ServeGoes, ServeToldGoes, LendGoes, YieldGoes, AskGoes, VoteReadGoes, VoteVolatileGoes, VoteAbortGoes, PrepareGoes, AgreeGoes, AnswerGoes, CommitGoes, CommitUnloggedGoes, TellGoes, LearnGoes, LearnAbortGoes, AcknowledgeGoes, NameAgainGoes, NoticeGoes, CrashGoes};
+
+/// Requests that are issued, come, and are covered.
+pub fn requests()
+    ensures issue { IssueGoes }
+    ensures issue_local { IssueLocalGoes }
+    ensures engage { EngageGoes }
+    ensures join { JoinGoes }
+    ensures cover { CoverGoes }
+{}
+
+/// Requests that come where abort is known, or where the home does not run the transaction.
+pub fn drops()
+    ensures engage { DropEngageGoes }
+    ensures join { DropJoinGoes }
+    ensures cover { DropCoverGoes }
+    ensures home { DropHomeGoes }
+{}
+
+/// Requests that are served, and loans.
+pub fn serving()
+    ensures serve { ServeGoes }
+    ensures serve_told { ServeToldGoes }
+    ensures lend { LendGoes }
+    ensures give_back { YieldGoes }
+{}
+
+/// Votes, the answers of nodes that are ready, and how these are counted.
+pub fn votes()
+    ensures ask { AskGoes }
+    ensures read { VoteReadGoes }
+    ensures volatile { VoteVolatileGoes }
+    ensures against { VoteAbortGoes }
+    ensures prepare { PrepareGoes }
+    ensures agree { AgreeGoes }
+    ensures answer { AnswerGoes }
+    ensures count { CountGoes }
+    ensures ignore { IgnoreGoes }
+{}
+
+/// The decision to commit, and how it is told.
+pub fn decisions()
+    ensures commit { CommitGoes }
+    ensures commit_unlogged { CommitUnloggedGoes }
+    ensures tell { TellGoes }
+{}
+
+/// How the outcome is learnt and acknowledged.
+pub fn outcomes()
+    ensures learn { LearnGoes }
+    ensures learn_abort { LearnAbortGoes }
+    ensures acknowledge { AcknowledgeGoes }
+    ensures name_again { NameAgainGoes }
+{}
+
+/// A node stops, in whatever part of what it would have put, and another one finds that it restarted.
+pub fn crashes()
+    ensures crash { CrashGoes }
+    ensures notice { NoticeGoes }
+{}

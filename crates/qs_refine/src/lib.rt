@@ -1,0 +1,8 @@
+//! The world of nodes runs by the agreement machine's events.
+#![tactic(auto)]
+
+pub mod events;
+pub mod rules;
+pub mod sound_rules;
+pub mod starts;
+pub mod trials;

@@ -1,0 +1,16 @@
+pub mod Answering
+pub mod Asking
+pub mod Borrowing
+pub mod Bringing
+pub mod Commands
+pub mod Deciding
+pub mod Opening
+pub mod Requests
+pub mod Restarts
+pub mod Rows
+pub mod Serving
+pub mod Settling
+pub mod State
+pub mod Step
+pub mod Telling
+pub mod Voting
