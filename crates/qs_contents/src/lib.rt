@@ -1,0 +1,14 @@
+//! Contents under names: texts in pieces, and for each transaction what it is about to make of a text and what it read.
+#![tactic(auto)]
+
+mod edit;
+mod prepared;
+mod slot;
+mod slots;
+mod text;
+
+pub use edit::{Change, Edit};
+pub use prepared::{Prepared, prepare};
+pub use slot::Slot;
+pub use slots::Slots;
+pub use text::Text;

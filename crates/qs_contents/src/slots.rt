@@ -1,0 +1,303 @@
+//! What stands under names.
+ghost use Rattle.std.specs.Prelude.{◌≡◌, [], IfOk, IfSome, OnOk, OnErr, is_some};
+ghost use Rattle.std.specs.List.{fold};
+ghost use Rattle.std.specs.List.Sorted.{IsStrictlySortedBy};
+ghost use Rattle.std.specs.Map.{keys_of};
+ghost use Rattle.qs_base.specs.Order.{bytes_cmp};
+ghost use Rattle.qs_contents.specs.Texts.{text_bytes};
+ghost use Rattle.qs_contents.specs.Slots.{slot_or_new, seen_at, first_other, is_edit, is_read, reader_at, placed, slot_changed, finished, tidied, slot_read, slot_unread, at_slot, put_slot, swept, place_for, SomePlaced, change_by, at_change, tidy_change, unread_name, add_name, add_bytes, add_entry};
+
+use crate::prepared::{Prepared, changed_name};
+use crate::slot::Slot;
+use qs_base::{Bytes, Copied, List, NoMemory, Tid};
+use qs_map::Map;
+use qs_ops::Op;
+use std::alloc::Global;
+use std::marker::Model;
+
+/// What stands under names: texts, what each transaction is about to make of them, and which
+/// transactions read them. A name under which nothing stands takes no room.
+#[derive(Drop)]
+pub struct Slots {
+    names: Map<Bytes, Slot>,
+    alloc: Global,
+}
+
+impl Model for Slots {
+    ghost use Rattle.qs_contents.specs.Slots.{Entries};
+
+    ghost Value = { Entries };
+
+    ghost view = { λ s. s.names };
+}
+
+impl Slots {
+    /// Nothing stands under any name. It takes no memory.
+    pub fn new(alloc: Global) -> Slots
+        ensures { result ≡ [] }
+    {
+        Slots {
+            names: Map::new(alloc),
+            alloc,
+        }
+    }
+
+    /// The text under a name as the transaction sees it.
+    pub fn seen(&self, name: &Bytes, tid: Tid) -> Result<Option<Bytes>, NoMemory>
+        ensures { IfOk result (λ text. text ≡ seen_at (slot_or_new self.now name.now) tid) }
+    {
+        match self.names.get(name) {
+            Some(slot) => slot.seen(self.alloc, tid),
+            None => Ok(None),
+        }
+    }
+
+    /// How many bytes it has; `None` only where they are more than a `usize` can tell.
+    pub fn length(&self, name: &Bytes, tid: Tid) -> Option<usize>
+        ensures { IfSome result (λ n. n ≡ text_bytes (seen_at (slot_or_new self.now name.now) tid)) }
+    {
+        match self.names.get(name) {
+            Some(slot) => slot.length(tid),
+            None => Some(0),
+        }
+    }
+
+    /// Whether the transaction sees a text under the name.
+    pub fn is_seen(&self, name: &Bytes, tid: Tid) -> bool
+        ensures { result ≡ is_some (seen_at (slot_or_new self.now name.now) tid) }
+    {
+        match self.names.get(name) {
+            Some(slot) => slot.is_seen(tid),
+            None => false,
+        }
+    }
+
+    /// The least transaction but this one that is about to change the text under the name.
+    pub fn other_changer(&self, name: &Bytes, me: Tid) -> Option<Tid>
+        ensures { result ≡ first_other is_edit me (slot_or_new self.now name.now).edits }
+    {
+        match self.names.get(name) {
+            Some(slot) => slot.other_changer(me),
+            None => None,
+        }
+    }
+
+    /// The least transaction but this one that read the text under the name.
+    pub fn other_reader(&self, name: &Bytes, me: Tid) -> Option<Tid>
+        ensures { result ≡ first_other is_read me (slot_or_new self.now name.now).readers }
+    {
+        match self.names.get(name) {
+            Some(slot) => slot.other_reader(me),
+            None => None,
+        }
+    }
+
+    /// Whether the transaction read the text under the name.
+    pub fn is_reader(&self, name: &Bytes, tid: Tid) -> bool
+        ensures { result ≡ reader_at (slot_or_new self.now name.now).readers tid }
+    {
+        match self.names.get(name) {
+            Some(slot) => slot.is_reader(tid),
+            None => false,
+        }
+    }
+
+    /// Makes room for a change of the transaction. After a refusal all is as it was.
+    #[tactic(auto, using(std::proofs::lemmas::Map::Steps::set_value_same))]
+    fn place(&mut self, name: &Bytes, tid: Tid) -> Result<(), NoMemory>
+        ensures ok { OnOk result (self.new ≡ put_slot (placed tid) name.now self.old) }
+        ensures err { OnErr result (self.new ≡ self.old) }
+    {
+        match self.names.get_mut(name) {
+            Some(slot) => slot.place(tid),
+            None => {
+                let mut slot = Slot::new(self.alloc);
+                slot.place(tid)?;
+                self.names.put(name.copy()?, slot)
+            }
+        }
+    }
+
+    /// Makes room for these changes of the transaction. After a refusal there is room for some.
+    pub fn place_all(&mut self, changes: &[Prepared], tid: Tid) -> Result<(), NoMemory>
+        ensures ok { OnOk result (self.new ≡ fold (place_for tid) self.old changes.now) }
+        ensures err { OnErr result (SomePlaced tid self.old self.new changes.now) }
+    {
+        for change in changes {
+            self.place(&change.name, tid)?;
+        }
+        Ok(())
+    }
+
+    /// One more change of a transaction that room was made for. It takes no memory.
+    fn change(&mut self, change: Prepared, tid: Tid)
+        ensures { self.new ≡ change_by tid self.old change }
+    {
+        let Prepared { name, change } = change;
+        if let Some(slot) = self.names.get_mut(&name) {
+            slot.change(tid, change);
+        }
+    }
+
+    /// These changes more of a transaction that room was made for. It takes no memory.
+    pub fn change_all(&mut self, changes: Vec<Prepared>, tid: Tid)
+        ensures { self.new ≡ fold (change_by tid) self.old changes.items }
+    {
+        for change in changes {
+            self.change(change, tid);
+        }
+    }
+
+    /// The transaction does not change the text under the name any more; where it commits, what it
+    /// was about to make of it is committed. Its room stays. It takes no memory.
+    fn finish(&mut self, name: &Bytes, tid: Tid, commits: bool)
+        ensures { self.new ≡ at_slot (finished tid commits) name.now self.old }
+    {
+        if let Some(slot) = self.names.get_mut(name) {
+            slot.finish(tid, commits);
+        }
+    }
+
+    /// The same for the names of these changes.
+    pub fn finish_all(&mut self, changes: &[Op], tid: Tid, commits: bool)
+        ensures { self.new ≡ fold (at_change (finished tid commits)) self.old changes.now }
+    {
+        for change in changes {
+            self.finish_change(change, tid, commits);
+        }
+    }
+
+    fn finish_change(&mut self, change: &Op, tid: Tid, commits: bool)
+        ensures { self.new ≡ at_change (finished tid commits) self.old change.now }
+    {
+        if let Some(name) = changed_name(change) {
+            self.finish(name, tid, commits);
+        }
+    }
+
+    /// Gives back the room under the name of a transaction that changes nothing there. It takes no
+    /// memory.
+    fn tidy(&mut self, name: &Bytes, tid: Tid)
+        ensures { self.new ≡ swept name.now (at_slot (tidied tid) name.now self.old) }
+    {
+        if let Some(slot) = self.names.get_mut(name) {
+            slot.tidy(tid);
+        }
+        self.sweep(name);
+    }
+
+    /// The same for the names of these changes.
+    pub fn tidy_all(&mut self, changes: &[Op], tid: Tid)
+        ensures { self.new ≡ fold (tidy_change tid) self.old changes.now }
+    {
+        for change in changes {
+            self.tidy_change(change, tid);
+        }
+    }
+
+    fn tidy_change(&mut self, change: &Op, tid: Tid)
+        ensures { self.new ≡ tidy_change tid self.old change.now }
+    {
+        if let Some(name) = changed_name(change) {
+            self.tidy(name, tid);
+        }
+    }
+
+    /// Takes the slot of the name out where nothing stands there.
+    fn sweep(&mut self, name: &Bytes)
+        ensures { self.new ≡ swept name.now self.old }
+    {
+        let empty = match self.names.get(name) {
+            Some(slot) => slot.is_empty(),
+            None => true,
+        };
+        if empty {
+            self.names.remove(name);
+        }
+    }
+
+    /// The transaction read the text under the name. After a refusal all is as it was.
+    #[tactic(auto, using(std::proofs::lemmas::Map::Steps::set_value_same))]
+    pub fn read(&mut self, name: &Bytes, tid: Tid) -> Result<(), NoMemory>
+        ensures ok { OnOk result (self.new ≡ put_slot (slot_read tid) name.now self.old) }
+        ensures err { OnErr result (self.new ≡ self.old) }
+    {
+        match self.names.get_mut(name) {
+            Some(slot) => slot.read(tid),
+            None => {
+                let mut slot = Slot::new(self.alloc);
+                slot.read(tid)?;
+                self.names.put(name.copy()?, slot)
+            }
+        }
+    }
+
+    /// The transaction did not read the text under the name any more. It takes no memory.
+    pub fn unread(&mut self, name: &Bytes, tid: Tid)
+        ensures { self.new ≡ unread_name tid self.old name.now }
+    {
+        if let Some(slot) = self.names.get_mut(name) {
+            slot.unread(tid);
+        }
+        self.sweep(name);
+    }
+
+    /// The same for these names.
+    pub fn unread_all(&mut self, names: &[Bytes], tid: Tid)
+        ensures { self.new ≡ fold (unread_name tid) self.old names.now }
+    {
+        for name in names {
+            self.unread(name, tid);
+        }
+    }
+
+    /// The names under which the transaction sees a text, in byte order.
+    pub fn names(&self, tid: Tid) -> Result<List<Bytes>, NoMemory>
+        ensures { IfOk result (λ names. names ≡ fold (add_name tid) [] self.now) }
+    {
+        let mut names = List::new(self.alloc);
+        for entry in self.names.iter() {
+            add_name(&mut names, tid, entry.0, entry.1)?;
+        }
+        Ok(names)
+    }
+
+    /// How many bytes the texts have that the transaction sees. A count past its end is a refusal of
+    /// memory too.
+    pub fn bytes(&self, tid: Tid) -> Result<u64, NoMemory>
+        ensures { IfOk result (λ bytes. bytes ≡ fold (add_entry tid) 0 self.now) }
+    {
+        let mut bytes = 0u64;
+        for entry in self.names.iter() {
+            bytes = add_bytes(bytes, tid, entry.1)?;
+        }
+        Ok(bytes)
+    }
+
+    /// Nothing stands under any name any more. It takes no memory.
+    pub fn clear(&mut self)
+        ensures { self.new ≡ [] }
+    {
+        self.names = Map::new(self.alloc);
+    }
+}
+
+/// Adds the name, where the transaction sees a text under it.
+fn add_name(names: &mut List<Bytes>, tid: Tid, name: &Bytes, slot: &Slot) -> Result<(), NoMemory>
+    ensures { OnOk result (names.new ≡ add_name tid names.old (name.now, slot.now)) }
+{
+    if slot.is_seen(tid) {
+        names.push(name.copy()?)?;
+    }
+    Ok(())
+}
+
+/// Adds the bytes of the text that the transaction sees.
+fn add_bytes(bytes: u64, tid: Tid, slot: &Slot) -> Result<u64, NoMemory>
+    ensures { IfOk result (λ sum. sum ≡ add_bytes tid bytes slot.now) }
+{
+    let Some(length) = slot.length(tid) else {
+        return Err(NoMemory);
+    };
+    bytes.checked_add(length as u64).ok_or(NoMemory)
+}

@@ -1,0 +1,11 @@
+pub mod Empty
+pub mod Ended
+pub mod Following
+pub mod Holders
+pub mod Keeping
+pub mod Locks
+pub mod Prepares
+pub mod Reading
+pub mod Replies
+pub mod Seen
+pub mod Serving

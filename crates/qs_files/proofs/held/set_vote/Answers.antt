@@ -1,0 +1,10 @@
+use Rattle.std.proofs.Common.{refl}
+use Rattle.qs_ops.specs.declared.share.Share.{Share}
+use Rattle.qs_shares.specs.Shares.{share_in}
+use Rattle.qs_files.proofs.Serving.{follows-plain}
+use Rattle.qs_files.proofs.held.set_vote.Goals as goal
+
+pub returns-clause-follows : goal.returns-clause-follows
+returns-clause-follows c =
+    let share : Share = record (share_in c.args.shares.now c.args.tid) { voted = c.args.voted } in
+    follows-plain c.args.slots.now c.args.shares.now c.set_vote.new.self c.args.tid share c.args.counts.now.committed c.requires.follows c.in_ok-set_vote.ensures.held refl refl

@@ -1,0 +1,10 @@
+use Rattle.std.proofs.Common.{sym, ap, ◌∙◌}
+use Rattle.qs_ops.specs.Table.{TableValue, least_other, changes_name}
+use Rattle.qs_files.proofs.Locks.{least-changer}
+use Rattle.qs_files.proofs.holdings.Holdings.other_changer.Goals as goal
+
+pub returns : goal.returns
+returns c =
+    c.other_changer.ensures
+    ∙ least-changer c.self.inside.slots c.self.inside.shares c.self.inside.counts.committed c.self.invariant.follows c.args.name.now c.in_order.ensures c.args.tid
+    ∙ ap (λ (table : TableValue). least_other (changes_name c.args.name.now) c.args.tid table.shares) c.self.view_is

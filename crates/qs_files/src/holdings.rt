@@ -1,0 +1,209 @@
+//! What a file server holds.
+ghost use Rattle.std.specs.Prelude.{◌≡◌, true, is_some, length, map, nat_le, IfOk, IfSome, OnOk, OnErr};
+ghost use Rattle.qs_ops.specs.Table.{no_table, text_at, view_contents, view_bytes, holder_of_name, changes_name, least_other, share_of, has_changes, served, with_vote, released, committed, text_or_empty, reads_name};
+ghost use Rattle.qs_ops.specs.Server.{vote_in_room};
+ghost use Rattle.qs_files.specs.Held.{is_file_op};
+
+use crate::held::{Counts, end, serve, set_vote};
+use qs_base::{Bytes, List, NoMemory, Tid};
+use qs_contents::Slots;
+use qs_ops::{Changes, Op, Reply, Share, Vote};
+use qs_shares::Shares;
+use std::alloc::Global;
+use std::marker::Model;
+
+/// Files, and what each transaction has pending, read and locked. Notes among its changes are the
+/// caller's.
+#[derive(Drop)]
+pub struct Holdings {
+    slots: Slots,
+    shares: Shares,
+    counts: Counts,
+    alloc: Global,
+}
+
+impl Model for Holdings {
+    ghost use Rattle.std.specs.Prelude.{[]};
+    ghost use Rattle.qs_ops.specs.Table.{TableValue};
+    ghost use Rattle.qs_contents.specs.Slots.{files_in};
+    ghost use Rattle.qs_files.specs.Held.{IsKept};
+
+    ghost Value = { TableValue };
+
+    ghost view = { λ h. record { contents = files_in h.slots; notes = []; shares = h.shares } };
+
+    ghost invariant = { λ h. IsKept h.slots h.shares h.counts.pending h.counts.committed };
+}
+
+impl Holdings {
+    /// No files, and nobody holds anything. It takes no memory.
+    pub fn new(alloc: Global) -> Holdings
+        ensures { result ≡ no_table }
+    {
+        Holdings {
+            slots: Slots::new(alloc),
+            shares: Shares::new(alloc),
+            counts: Counts {
+                committed: 0,
+                pending: 0,
+            },
+            alloc,
+        }
+    }
+
+    /// The text under the name as the transaction sees it.
+    pub fn text(&self, tid: Tid, name: &Bytes) -> Result<Option<Bytes>, NoMemory>
+        ensures { IfOk result (λ text. text ≡ text_at self.now tid name.now) }
+    {
+        self.slots.seen(name, tid)
+    }
+
+    /// How many bytes it has; `None` only where they are more than a `usize` can tell.
+    pub fn length(&self, tid: Tid, name: &Bytes) -> Option<usize>
+        ensures { IfSome result (λ n. n ≡ length (text_or_empty (view_contents self.now tid) name.now)) }
+    {
+        self.slots.length(name, tid)
+    }
+
+    /// Whether the transaction sees a file of that name.
+    pub fn has_file(&self, tid: Tid, name: &Bytes) -> bool
+        ensures { result ≡ is_some (text_at self.now tid name.now) }
+    {
+        self.slots.is_seen(name, tid)
+    }
+
+    /// The names of the files that the transaction sees, in byte order.
+    pub fn names(&self, tid: Tid) -> Result<List<Bytes>, NoMemory>
+        ensures { IfOk result (λ names. names ≡ map (λ file. file.name) (view_contents self.now tid)) }
+    {
+        self.slots.names(tid)
+    }
+
+    /// How many bytes they have. A count past its end is a refusal of memory too.
+    pub fn view_bytes(&self, tid: Tid) -> Result<u64, NoMemory>
+        ensures { IfOk result (λ bytes. bytes ≡ view_bytes self.now tid) }
+    {
+        self.slots.bytes(tid)
+    }
+
+    /// The least other transaction with a pending change to the name.
+    pub fn other_changer(&self, tid: Tid, name: &Bytes) -> Option<Tid>
+        ensures { result ≡ least_other (changes_name name.now) tid self.now.shares }
+    {
+        self.shares.in_order();
+        self.slots.other_changer(name, tid)
+    }
+
+    /// Who keeps a change to the name back: the least other transaction with a pending change to
+    /// it, else the least other that read it.
+    pub fn holder(&self, tid: Tid, name: &Bytes) -> Option<Tid>
+        ensures { result ≡ holder_of_name self.now tid name.now }
+    {
+        match self.other_changer(tid, name) {
+            Some(other) => Some(other),
+            None => self.other_reader(tid, name),
+        }
+    }
+
+    /// The least other transaction that read the name.
+    fn other_reader(&self, tid: Tid, name: &Bytes) -> Option<Tid>
+        ensures { result ≡ least_other (reads_name name.now) tid self.now.shares }
+    {
+        self.shares.in_order();
+        self.slots.other_reader(name, tid)
+    }
+
+    /// Whether as many operations of the transaction were served as a server serves.
+    pub fn is_full(&self, tid: Tid) -> bool
+        ensures { result ≡ nat_le 1024 (share_of self.now tid).operations }
+    {
+        self.shares.is_full(tid)
+    }
+
+    /// Whether the transaction has a pending change.
+    pub fn has_changes(&self, tid: Tid) -> bool
+        ensures { result ≡ has_changes self.now tid }
+    {
+        self.shares.has_changes(tid)
+    }
+
+    /// A copy of the transaction's pending changes, in the order in which they were served.
+    pub fn changes(&self, tid: Tid) -> Result<Changes, NoMemory>
+        ensures { IfOk result (λ changes. changes ≡ (share_of self.now tid).changes) }
+    {
+        self.shares.copy_changes(tid)
+    }
+
+    /// Whether the log has room for what is pending: recoverable, or abort for want of room.
+    pub fn vote_in_room(&self, tid: Tid, free: u64, frame: u64) -> Result<Vote, NoMemory>
+        ensures { IfOk result (λ ballot. ballot ≡ vote_in_room self.now tid free frame) }
+    {
+        self.shares.vote_in_room(tid, free, frame)
+    }
+
+    /// Serves an operation with this reply. After a refusal all is as it was.
+    pub fn serve(&mut self, tid: Tid, op: &Op, reply: &Reply) -> Result<(), NoMemory>
+        requires { is_file_op op.now ≡ true }
+        ensures ok { OnOk result (self.new ≡ served self.old tid op.now reply.now) }
+        ensures err { OnErr result (self.new ≡ self.old) }
+    {
+        serve(
+            self.alloc,
+            &mut self.slots,
+            &mut self.shares,
+            &mut self.counts,
+            tid,
+            op,
+            reply,
+        )
+    }
+
+    /// Keeps that the transaction's last vote is not volatile. After a refusal all is as it was.
+    pub fn set_vote(&mut self, tid: Tid, voted: bool) -> Result<(), NoMemory>
+        ensures ok { OnOk result (self.new ≡ with_vote self.old tid voted) }
+        ensures err { OnErr result (self.new ≡ self.old) }
+    {
+        set_vote(&self.slots, &mut self.shares, &self.counts, tid, voted)
+    }
+
+    /// The transaction holds nothing here any more. It takes no memory.
+    pub fn release(&mut self, tid: Tid) -> Share
+        ensures share { result ≡ share_of self.old tid }
+        ensures value { self.new ≡ released self.old tid }
+    {
+        end(
+            &mut self.slots,
+            &mut self.shares,
+            &mut self.counts,
+            tid,
+            false,
+        )
+    }
+
+    /// The pending changes of the transaction to files are committed, and it holds nothing here any
+    /// more. It takes no memory.
+    pub fn commit(&mut self, tid: Tid) -> Share
+        ensures share { result ≡ share_of self.old tid }
+        ensures value { self.new ≡ record (committed self.old tid) { notes = self.old.notes } }
+    {
+        end(
+            &mut self.slots,
+            &mut self.shares,
+            &mut self.counts,
+            tid,
+            true,
+        )
+    }
+
+    /// No files any more, and nobody holds anything. It takes no memory.
+    pub fn clear(&mut self)
+        ensures { self.new ≡ no_table }
+    {
+        self.slots.clear();
+        self.shares.clear();
+        self.counts = Counts {
+            committed: 0,
+            pending: 0,
+        };
+    }
+}
