@@ -12,13 +12,12 @@ use crate::opening::{opened_audit, opened_commits, opened_files, opened_records}
 use qs_base::{Bytes, Copied, List, NoMemory, Outcome, ServerNo, Stamp, Tid};
 use qs_book_tables::{Table, TimerTable};
 use qs_machine::{OnRecord, Opened, Reopened, Voter};
+use qs_ops::servers::{AUDIT, EXTRA, FILES, NAMES, SCRATCH, TIMERS, WINDOWS};
 use qs_ops::{Changes, Op, Reply, Vote};
 use std::alloc::Global;
 use std::collections::{BTreeMap, BTreeSet};
 use std::marker::Model;
 use std::mem;
-
-const NAMES: ServerNo = ServerNo(2);
 
 /// What the machine keeps of a node of the run.
 #[derive(Debug, Drop)]
@@ -187,12 +186,12 @@ impl NodeState {
     pub fn table(&self, server: ServerNo) -> Option<&Table>
         ensures { option_copied result ≡ table_of self.now server.0 }
     {
-        match server.0 {
-            0 => Some(&self.files),
-            1 => Some(&self.audit),
-            2 => Some(&self.names),
-            4 => Some(&self.windows),
-            5 => Some(&self.scratch),
+        match server {
+            FILES => Some(&self.files),
+            AUDIT => Some(&self.audit),
+            NAMES => Some(&self.names),
+            WINDOWS => Some(&self.windows),
+            SCRATCH => Some(&self.scratch),
             _ => None,
         }
     }
@@ -264,12 +263,12 @@ impl NodeState {
     pub fn release(&mut self, server: ServerNo, tid: Tid)
         ensures { self.new ≡ with_table server.0 (λ table. released table tid) self.old }
     {
-        match server.0 {
-            0 => self.files.release(tid),
-            1 => self.audit.release(tid),
-            2 => self.names.release(tid),
-            4 => self.windows.release(tid),
-            5 => self.scratch.release(tid),
+        match server {
+            FILES => self.files.release(tid),
+            AUDIT => self.audit.release(tid),
+            NAMES => self.names.release(tid),
+            WINDOWS => self.windows.release(tid),
+            SCRATCH => self.scratch.release(tid),
             _ => {}
         }
     }
@@ -279,12 +278,12 @@ impl NodeState {
         ensures ok { OnOk result (self.new ≡ with_table server.0 (λ table. committed table tid) self.old) }
         ensures err { OnErr result (self.new ≡ self.old) }
     {
-        match server.0 {
-            0 => self.files.commit(tid),
-            1 => self.audit.commit(tid),
-            2 => self.names.commit(tid),
-            4 => self.windows.commit(tid),
-            5 => self.scratch.commit(tid),
+        match server {
+            FILES => self.files.commit(tid),
+            AUDIT => self.audit.commit(tid),
+            NAMES => self.names.commit(tid),
+            WINDOWS => self.windows.commit(tid),
+            SCRATCH => self.scratch.commit(tid),
             _ => Ok(()),
         }
     }
@@ -294,12 +293,12 @@ impl NodeState {
         ensures ok { OnOk result (self.new ≡ with_table server.0 (λ table. with_ballot table tid voted) self.old) }
         ensures err { OnErr result (self.new ≡ self.old) }
     {
-        match server.0 {
-            0 => self.files.set_vote(tid, voted),
-            1 => self.audit.set_vote(tid, voted),
-            2 => self.names.set_vote(tid, voted),
-            4 => self.windows.set_vote(tid, voted),
-            5 => self.scratch.set_vote(tid, voted),
+        match server {
+            FILES => self.files.set_vote(tid, voted),
+            AUDIT => self.audit.set_vote(tid, voted),
+            NAMES => self.names.set_vote(tid, voted),
+            WINDOWS => self.windows.set_vote(tid, voted),
+            SCRATCH => self.scratch.set_vote(tid, voted),
             _ => Ok(()),
         }
     }
@@ -315,13 +314,13 @@ impl NodeState {
         ensures ok { OnOk result (self.new ≡ server_serve server.0 tid op.now reply.now self.old) }
         ensures err { OnErr result (self.new ≡ self.old) }
     {
-        match server.0 {
-            0 => self.files.served(tid, op, reply),
-            1 => self.audit.served(tid, op, reply),
-            2 => self.names.served(tid, op, reply),
-            3 => self.timers.served(tid, op, reply),
-            4 => self.windows.served(tid, op, reply),
-            5 => self.scratch.served(tid, op, reply),
+        match server {
+            FILES => self.files.served(tid, op, reply),
+            AUDIT => self.audit.served(tid, op, reply),
+            NAMES => self.names.served(tid, op, reply),
+            TIMERS => self.timers.served(tid, op, reply),
+            WINDOWS => self.windows.served(tid, op, reply),
+            SCRATCH => self.scratch.served(tid, op, reply),
             _ => Ok(()),
         }
     }
@@ -447,9 +446,9 @@ impl NodeState {
         ensures ok { OnOk result (self.new ≡ crossed_server tid server.0 self.old) }
         ensures err { OnErr result (self.new ≡ self.old) }
     {
-        match server.0 {
-            2 => self.cross_names(tid)?,
-            3 => self.timers.end(tid),
+        match server {
+            NAMES => self.cross_names(tid)?,
+            TIMERS => self.timers.end(tid),
             _ => self.release(server, tid),
         }
         Ok(())
@@ -485,9 +484,9 @@ impl NodeState {
     fn forget(&mut self, tid: &Tid)
         ensures { self.new ≡ without_records self.old tid.now }
     {
-        self.forget_record(*tid, ServerNo(0));
-        self.forget_record(*tid, ServerNo(1));
-        self.forget_record(*tid, ServerNo(6));
+        self.forget_record(*tid, FILES);
+        self.forget_record(*tid, AUDIT);
+        self.forget_record(*tid, EXTRA);
     }
 
     fn reopen(&mut self, left: Reopened) -> Result<(), NoMemory>

@@ -8,6 +8,7 @@ use crate::node::NodeState;
 use qs_base::{Bytes, Copied, List, NoMemory, ServerNo, Tid};
 use qs_book_tables::Table;
 use qs_machine::{Causes, OnRecord, Opened, Owner, Pending, Voter};
+use qs_ops::servers::{AUDIT, FILES};
 use qs_ops::{File, Kept, Op};
 use std::alloc::Global;
 use std::collections::{BTreeMap, BTreeSet};
@@ -44,7 +45,7 @@ pub fn opened_files(alloc: Global, opened: &Opened) -> Result<Table, NoMemory>
     ensures { IfOk result (λ table. table ≡ (opened_node opened.now).files) }
 {
     let puts = puts_of(alloc, opened.files.as_slice())?;
-    opened_table(alloc, puts, ServerNo(0), opened.pending.as_slice())
+    opened_table(alloc, puts, FILES, opened.pending.as_slice())
 }
 
 /// The audit notes of a log, with the votes of audit that it holds.
@@ -52,7 +53,7 @@ pub fn opened_audit(alloc: Global, opened: &Opened) -> Result<Table, NoMemory>
     ensures { IfOk result (λ table. table ≡ (opened_node opened.now).audit) }
 {
     let notes = notes_of(alloc, opened.audit.as_slice())?;
-    opened_table(alloc, notes, ServerNo(1), opened.pending.as_slice())
+    opened_table(alloc, notes, AUDIT, opened.pending.as_slice())
 }
 
 fn opened_table(

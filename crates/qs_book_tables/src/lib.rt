@@ -15,8 +15,6 @@ mod serving;
 mod shares;
 mod staged;
 mod table;
-#[cfg(test)]
-mod tests;
 mod timers;
 mod views;
 

@@ -5,8 +5,6 @@ mod cells;
 mod part;
 mod requests;
 mod sending;
-#[cfg(test)]
-mod tests;
 mod transaction;
 
 pub use cells::cell_of;

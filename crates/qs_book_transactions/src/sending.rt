@@ -5,6 +5,7 @@ ghost use Rattle.qs_machine.specs.Transaction.{is_by_files, is_by_client, sent_m
 use qs_base::{Copied, NoMemory};
 use qs_machine::{Noted, Peer, Request, Sent};
 use qs_ops::Op;
+use qs_ops::servers::{FILES, FIRST_CLIENT};
 
 /// Nothing was ever open towards the node.
 pub const NO_PEER: Peer = Peer {
@@ -109,11 +110,11 @@ pub fn note_of(request: &Request) -> Result<Option<Noted>, NoMemory>
 fn is_by_files(request: &Request) -> bool
     ensures { result ≡ is_by_files request.now }
 {
-    request.issuer.server.0 == 0
+    request.issuer.server == FILES
 }
 
 fn is_by_client(request: &Request) -> bool
     ensures { result ≡ is_by_client request.now }
 {
-    31 < request.issuer.server.0
+    FIRST_CLIENT.0 <= request.issuer.server.0
 }

@@ -5,8 +5,6 @@ mod area;
 mod fault;
 mod log;
 mod opening;
-#[cfg(test)]
-mod tests;
 
 pub use fault::{AppendFault, LogOpen, OpenFault};
 pub use log::{Log, Lsn};

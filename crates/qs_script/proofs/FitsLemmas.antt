@@ -1,263 +1,287 @@
--- What the commands of a script that was read keep to.
-use Rattle.std.proofs.Common.{◌≡◌, ◌⊎◌, inl, inr, ℕ, ◌+◌, ◌<◌, ◌≤◌, Bool, true, false, cond, not, ◌&&◌, ◌||◌, List, [], ◌∷◌, ◌++◌, length, map, Option, Some, None, Result, Ok, Err, refl, sym, ◌∙◌, ap, subst, arith, append_assoc, length-append}
-use Rattle.std.specs.Prelude.{IfOk, is_some, nat_le, nat_lt, codes, ⊤}
-use Rattle.std.specs.List.{list_any, list_all}
+-- What the commands of a plain script keep to.
+use Rattle.std.proofs.Common.{◌≡◌, ◌⊎◌, inl, inr, ℕ, ◌+◌, ◌≤◌, Bool, true, false, cond, not, ◌&&◌, ◌||◌, ◌==◌, List, [], ◌∷◌, ◌++◌, length, Option, Some, None, Result, Ok, Err, refl, sym, ◌∙◌, ap, subst, arith, append_assoc, append-nil}
+use Rattle.std.specs.Prelude.{nat_le, nat_lt}
 use Rattle.std.proofs.lemmas.Bool.{lt-ltb, le-leb, leb-true, ltb-true}
+use Rattle.std.proofs.lemmas.Bool.Decides.{nat_tests}
 use Rattle.std.proofs.lemmas.List.Folds.{list_any-append}
 use Rattle.qs_base.specs.Order.{same_bytes}
+use Rattle.qs_base.specs.declared.identifiers.ClientNo.{ClientNo}
 use Rattle.qs_base.specs.declared.identifiers.NodeNo.{NodeNo}
-use Rattle.qs_ops.specs.declared.operation.Op.{Op}
-use Rattle.qs_ops.specs.declared.operation.Op.TheVariants.{Put, Get}
 use Rattle.qs_journal.specs.declared.script_line.Command.{Command}
-use Rattle.qs_journal.specs.declared.script_line.Command.TheVariants.{Begin, Commit, Abort}
+use Rattle.qs_journal.specs.declared.script_line.Command.TheVariants as commands
 use Rattle.qs_journal.specs.declared.script_line.ScriptLine.{ScriptLine}
-use Rattle.qs_script.specs.declared.line.Said.{Said}
-use Rattle.qs_script.specs.declared.line.Said.TheVariants as saids
+use Rattle.qs_ops.specs.Servers.{files_no}
+use Rattle.qs_ops.specs.declared.operation.Op.{Op}
+use Rattle.qs_ops.specs.declared.operation.Op.TheVariants as ops
+use Rattle.qs_script.specs.Fits.{may_name, client_0, is_plain, is_plain_op, FitsLine, Fits, SitsBelow, IsSeated}
+use Rattle.qs_statements.specs.Lines.{lines_of}
+use Rattle.qs_script.specs.Plain.{is_put_or_get, is_plain_command, is_plain_line, first_unplain}
+use Rattle.qs_script.specs.Rules.{is_client, is_begin, is_take, begins_line, takes_line, is_begun, is_owner, is_taker, may_use, names_order, names_command, is_known, is_again, fits, fits_op, fits_command, has_command_left, fault_of, empty_script, with_line}
+use Rattle.qs_script.specs.Script.{left_open, after_fault, read_from, unless_open, closed_script, line_past_limit, script_of}
+use Rattle.qs_statements.specs.Statements.{line_states}
 use Rattle.qs_script.specs.declared.reading.ScriptFailed.{ScriptFailed}
-use Rattle.qs_script.specs.declared.script.Script.{Script}
-use Rattle.qs_script.specs.Lines.{lines_of, line_says, words_say, words_of, is_skipped, said_by, said_short, said_seat, said_get, said_put, request, seat_at, node_of, numbered, files_of, order, short_command, is_label, names_file, is_printable}
-use Rattle.qs_script.specs.Script.{seat_after, seat_from, begins, may_name, may_follow, bad_line, commands, seats, text_says, script_with, script_read, script_of, open_line, closed_script, lawful_script}
-use Rattle.qs_script.specs.Fits.{is_plain, is_plain_op, is_files_below, begins_line, FitsLine, Fits, SitsBelow, IsSeated}
-use Rattle.qs_script.specs.Words.{below, number_of}
-use Rattle.qs_script.proofs.NumberLemmas.{below_is}
-use Rattle.qs_script.proofs.ReadingLemmas.{any_more, may_name_same}
+use Rattle.qs_script.specs.declared.reading.ScriptFailed.TheVariants.{Fault}
+use Rattle.qs_statements.specs.declared.script.Script.{Script}
+use Rattle.qs_statements.specs.declared.script.Seat.{Seat}
+use Rattle.qs_statements.specs.declared.statement.Statement.{Statement}
+use Rattle.qs_statements.specs.declared.statement.Statement.TheVariants as states
+use Rattle.qs_statements.specs.declared.status.ScriptFault.{ScriptFault}
+use Rattle.qs_statements.specs.declared.status.ScriptFault.TheVariants as faults
+use Rattle.qs_script.proofs.ReadingLemmas.{any_more}
 
--- ---- a line names nodes of the run, and makes plain commands only
-
--- the node is one of so many
-abbrev IsBelow : ℕ → Option NodeNo → Type 0
-IsBelow nodes None = ⊤
-IsBelow nodes (Some node) = node.0 < nodes
-
-below_numbered : (nodes : ℕ) (number : Option ℕ) → IsBelow nodes (numbered (below nodes number))
-below_numbered nodes None = tt
-below_numbered nodes (Some n) = by (nat_lt n nodes) refl
-  where
-    by : (b : Bool) → nat_lt n nodes ≡ b → IsBelow nodes (numbered (cond b (Some n) None))
-    by true small = ltb-true n nodes small
-    by false small = tt
-
-node_below : (nodes : ℕ) (word : List ℕ) → IsBelow nodes (node_of nodes word)
-node_below nodes word = below_numbered nodes (number_of word)
-
--- a line sits its client at such a node, or commands something plain
-abbrev IsPlainSaid : ℕ → Said → Type 0
-IsPlainSaid nodes (saids.Seat node) = node.0 < nodes
-IsPlainSaid nodes (saids.Order label command) = is_plain nodes command ≡ true
-IsPlainSaid nodes _ = ⊤
-
-plain_either : (nodes : ℕ) (test : Bool) (one other : Said) → IsPlainSaid nodes one → IsPlainSaid nodes other → IsPlainSaid nodes (cond test one other)
-plain_either nodes true one other first second = first
-plain_either nodes false one other first second = second
-
-plain_seat : (nodes : ℕ) (node : Option NodeNo) → IsBelow nodes node → IsPlainSaid nodes (seat_at node)
-plain_seat nodes None below = tt
-plain_seat nodes (Some node) below = below
-
-plain_short : (nodes : ℕ) (label : List ℕ) (is_begin is_commit is_abort : Bool)
-    → IsPlainSaid nodes (order label (cond is_begin (Some Begin) (cond is_commit (Some Commit) (cond is_abort (Some Abort) None))))
-plain_short nodes label true is_commit is_abort = refl
-plain_short nodes label false true is_abort = refl
-plain_short nodes label false false true = refl
-plain_short nodes label false false false = tt
-
-plain_by_three : (nodes : ℕ) (client word label : List ℕ) → IsPlainSaid nodes (said_short nodes client word label)
-plain_by_three nodes client word label =
-    let seat : IsPlainSaid nodes (said_seat nodes word label) =
-    plain_either nodes (same_bytes word (codes "0")) (seat_at (node_of nodes label)) saids.Unreadable (plain_seat nodes (node_of nodes label) (node_below nodes label)) tt in
-    let named : IsPlainSaid nodes (order label (short_command word)) =
-    plain_short nodes label (same_bytes word (codes "begin")) (same_bytes word (codes "commit")) (same_bytes word (codes "abort")) in
-    let is_named = same_bytes client (codes "0") && is_label label in
-    plain_either nodes (same_bytes client (codes "client")) (said_seat nodes word label) (cond is_named (order label (short_command word)) saids.Unreadable) seat
-    (plain_either nodes is_named (order label (short_command word)) saids.Unreadable named tt)
-
-plain_request : (nodes : ℕ) (label : List ℕ) (node : Option NodeNo) (op : Op) → IsBelow nodes node → is_plain_op op ≡ true → IsPlainSaid nodes (request label node op)
-plain_request nodes label None op below plain = tt
-plain_request nodes label (Some node) op below plain = rw (lt-ltb node.0 nodes below, plain) refl
-
-plain_by_five : (nodes : ℕ) (client word label node name : List ℕ) → IsPlainSaid nodes (said_get nodes client word label node name)
-plain_by_five nodes client word label node name =
-    plain_either nodes (names_file client label name && same_bytes word (codes "get")) (request label (node_of nodes node) (Get name)) saids.Unreadable
-    (plain_request nodes label (node_of nodes node) (Get name) (node_below nodes node) refl) tt
-
-in_file : (size : ℕ) → nat_le size 4096 ≡ true → nat_le size 65536 ≡ true
-in_file size e = let short : size ≤ 4096 = leb-true size 4096 e in le-leb size 65536 (omega arith)
-
-plain_put : (nodes : ℕ) (label name text : List ℕ) (node : Option NodeNo) (names is_put has_byte is_short : Bool) → IsBelow nodes node → (is_short ≡ true → nat_le (length text) 65536 ≡ true)
-    → IsPlainSaid nodes (cond (names && (is_put && (has_byte && is_short))) (request label node (Put name text)) saids.Unreadable)
-plain_put nodes label name text place true true true true below fits = plain_request nodes label place (Put name text) below (fits refl)
-plain_put nodes label name text place true true true false below fits = tt
-plain_put nodes label name text place true true false is_short below fits = tt
-plain_put nodes label name text place true false has_byte is_short below fits = tt
-plain_put nodes label name text place false is_put has_byte is_short below fits = tt
-
-plain_by_six : (nodes : ℕ) (client word label node name text : List ℕ) → IsPlainSaid nodes (said_put nodes client word label node name text)
-plain_by_six nodes client word label node name text =
-    plain_put nodes label name text (node_of nodes node) (names_file client label name) (same_bytes word (codes "put")) (nat_lt 0 (length text)) (nat_le (length text) 4096) (node_below nodes node) (in_file (length text))
-
-plain_by : (nodes : ℕ) (words : List (List ℕ)) → IsPlainSaid nodes (said_by words nodes)
-plain_by nodes (client ∷ word ∷ label ∷ []) = plain_by_three nodes client word label
-plain_by nodes (client ∷ word ∷ label ∷ node ∷ name ∷ []) = plain_by_five nodes client word label node name
-plain_by nodes (client ∷ word ∷ label ∷ node ∷ name ∷ text ∷ []) = plain_by_six nodes client word label node name text
-plain_by nodes _ = tt
-
-says_plain : (nodes : ℕ) (line : List ℕ) → IsPlainSaid nodes (line_says nodes line)
-says_plain nodes line =
-    plain_either nodes (not (list_all is_printable line)) saids.Unreadable (words_say nodes (words_of line)) tt
-    (plain_either nodes (is_skipped (words_of line)) saids.Nothing (said_by (words_of line) nodes) tt (plain_by nodes (words_of line)))
-
--- ---- each line may stand after those before it
-
-good_first : (may : Bool) (rest : Option ℕ) (number : ℕ) → cond may rest (Some number) ≡ None → (may ≡ true) × (rest ≡ None)
-good_first true rest number e = (refl, e)
-good_first false rest number e = cc
-
-first_good : (before more : List Said) (line : Said) → bad_line before (line ∷ more) ≡ None → (may_follow before line ≡ true) × (bad_line (before ++ line ∷ []) more ≡ None)
-first_good before more line e = good_first (may_follow before line) (bad_line (before ++ line ∷ []) more) (length before + 1) e
+-- ---- tests
 
 both : (a b : Bool) → (a && b) ≡ true → (a ≡ true) × (b ≡ true)
 both true b e = (refl, e)
 both false b e = cc
 
-or_false : (b : Bool) → b ≡ (b || false)
-or_false true = refl
-or_false false = refl
+-- a line without a fault names what is known, says nothing again, and is within the limits
+kept : (known again within : Bool) → cond (not known) (Some faults.Unknown) (cond again (Some faults.Twice) (cond (not within) (Some faults.Limit) None)) ≡ None
+    → (known ≡ true) × (again ≡ false) × (within ≡ true)
+kept true true within e = cc
+kept true false true e = (refl, refl, refl)
+kept true false false e = cc
+kept false again within e = cc
 
-or_true : (b : Bool) → (b || true) ≡ true
-or_true true = refl
-or_true false = refl
+zero_is : (n : ℕ) → (n == 0) ≡ true → n ≡ 0
+zero_is n e = grind (arith, nat_tests)
 
--- the labels that are begun after one more line
-abbrev IsBegun : (List ℕ → Bool) → List Said → Type 0
-IsBegun begun before = (label : List ℕ) → begun label ≡ list_any (begins label) before
+-- ---- labels
 
-begun_still : (begun : List ℕ → Bool) (before : List Said) (line : Said) → IsBegun begun before → ((label : List ℕ) → begins label line ≡ false) → IsBegun begun (before ++ line ∷ [])
-begun_still begun before line same none label =
-    any_more (begins label) before line (begun label) (begun label) (same label) (or_false (begun label) ∙ ap (λ b. begun label || b) (sym (none label)))
+begun_too : (b c m old new : Bool) → (old ≡ true → new ≡ true) → ((b && (c && m)) || old) ≡ true → ((b && m) || new) ≡ true
+begun_too true true true old new more e = refl
+begun_too true true false old new more e = more e
+begun_too true false true old new more e = refl
+begun_too true false false old new more e = more e
+begun_too false c m old new more e = more e
 
-begun_more : (begun : List ℕ → Bool) (before : List Said) (label : List ℕ) (command : Command) (line : ScriptLine) → line.label ≡ label → line.command ≡ command → IsBegun begun before
-    → IsBegun (λ other. begun other || begins_line other line) (before ++ saids.Order label command ∷ [])
-begun_more begun before label command line for_label is_command same other =
-    any_more (begins other) before (saids.Order label command) (begun other) _ (same other) (rw (for_label, is_command) refl)
+-- what a client began is begun
+owner_began : (lines : List ScriptLine) (client : ℕ) (label : List ℕ) → is_owner lines client label ≡ true → is_begun lines label ≡ true
+owner_began [] client label e = cc
+owner_began (line ∷ lines) client label e =
+    begun_too (is_begin line.command) (line.client.0 == client) (same_bytes line.label label) (is_owner lines client label) (is_begun lines label) (owner_began lines client label) e
 
--- what the lines after a line keep to
-abbrev FitsAfter : ℕ → List Said → List Said → Type 0
-FitsAfter nodes before more = (begun : List ℕ → Bool) (above : ℕ) → IsBegun begun before → above ≤ length before → bad_line before more ≡ None
-    → Fits nodes begun above (commands (length before + 1) more)
+uses_own : (own taken : Bool) → taken ≡ false → (own || taken) ≡ true → own ≡ true
+uses_own true taken none e = refl
+uses_own false true none e = cc
+uses_own false false none e = cc
 
-one_more : (before : List Said) (line : Said) → length (before ++ line ∷ []) ≡ length before + 1
-one_more before line = length-append before (line ∷ [])
+named : (nodes : ℕ) (lines : List ScriptLine) (begun : List ℕ → Bool) (client : ℕ) (label : List ℕ) (command : Command) → begun label ≡ is_begun lines label
+    → is_taker lines client label ≡ false → is_plain_command command ≡ true → names_order nodes lines client label command ≡ true
+    → (is_begin command && is_begun lines label) ≡ false → may_name begun label command ≡ true
+named nodes lines begun client label commands.Begin same none plain names again = ap not (same ∙ again)
+named nodes lines begun client label commands.Commit same none plain names again = same ∙ owner_began lines client label names
+named nodes lines begun client label commands.Abort same none plain names again = same ∙ owner_began lines client label names
+named nodes lines begun client label commands.Take same none plain names again = cc
+named nodes lines begun client label commands.Yield same none plain names again = cc
+named nodes lines begun client label (commands.Request member op) same none plain names again =
+    same ∙ owner_began lines client label (uses_own (is_owner lines client label) (is_taker lines client label) none (both (nat_lt member.node.0 nodes) (may_use lines client label) names).1)
 
-fits_skipped : (nodes : ℕ) (before more : List Said) (line : Said) (begun : List ℕ → Bool) (above : ℕ) → ((label : List ℕ) → begins label line ≡ false) → IsBegun begun before → above ≤ length before
-    → bad_line before (line ∷ more) ≡ None → FitsAfter nodes (before ++ line ∷ []) more → Fits nodes begun above (commands (length before + 1 + 1) more)
-fits_skipped nodes before more line begun above none same below good rest =
-    let g = first_good before more line good in
-    let n : length (before ++ line ∷ []) ≡ length before + 1 = one_more before line in
-    subst (λ k. Fits nodes begun above (commands (k + 1) more)) n (rest begun above (begun_still begun before line same none) (omega arith) g.1)
+-- ---- plain commands
 
-fits_order : (nodes : ℕ) (before more : List Said) (label : List ℕ) (command : Command) (begun : List ℕ → Bool) (above : ℕ) → is_plain nodes command ≡ true → IsBegun begun before → above ≤ length before
-    → bad_line before (saids.Order label command ∷ more) ≡ None → FitsAfter nodes (before ++ saids.Order label command ∷ []) more
-    → Fits nodes begun above (commands (length before + 1) (saids.Order label command ∷ more))
-fits_order nodes before more label command begun above plain same below good rest =
-    let g = first_good before more (saids.Order label command) good in
-    let m = both (is_some (seat_from None before)) (may_name (λ other. list_any (begins other) before) label command) g.0 in
-    let n : length (before ++ saids.Order label command ∷ []) ≡ length before + 1 = one_more before (saids.Order label command) in
-    let line : ScriptLine = record { client = record { 0 = 0 }; line = length before + 1; label = label; command = command } in
-    let one : FitsLine nodes begun above line = record {
-      later = lt-ltb above (length before + 1) (omega arith);
-      client = refl;
+in_file : (size : ℕ) → nat_le size 4096 ≡ true → nat_le size 65536 ≡ true
+in_file size e = let short : size ≤ 4096 = leb-true size 4096 e in le-leb size 65536 (omega arith)
+
+plain_op : (op : Op) → is_put_or_get op ≡ true → fits_op op ≡ true → is_plain_op op ≡ true
+plain_op (ops.Put name text) plain fit = in_file (length text) (both (nat_le (length name) 64) (nat_le (length text) 4096) fit).1
+plain_op (ops.Get name) plain fit = refl
+plain_op (ops.Append name text) plain fit = cc
+plain_op (ops.Del name) plain fit = cc
+plain_op ops.Listing plain fit = cc
+plain_op (ops.Note text) plain fit = cc
+plain_op ops.Notes plain fit = cc
+plain_op (ops.Bind name text) plain fit = cc
+plain_op (ops.Find name) plain fit = cc
+plain_op (ops.Timer name ticks) plain fit = cc
+plain_op (ops.Left name) plain fit = cc
+plain_op (ops.Window name text) plain fit = cc
+plain_op (ops.Title name) plain fit = cc
+plain_op (ops.Keep name text) plain fit = cc
+plain_op (ops.Fetch name) plain fit = cc
+plain_op (ops.Lend client) plain fit = cc
+plain_op (ops.Extra code text) plain fit = cc
+
+plain_command : (nodes : ℕ) (lines : List ScriptLine) (client : ℕ) (label : List ℕ) (command : Command) → is_plain_command command ≡ true
+    → names_order nodes lines client label command ≡ true → fits_command command ≡ true → is_plain nodes command ≡ true
+plain_command nodes lines client label commands.Begin plain names fit = refl
+plain_command nodes lines client label commands.Commit plain names fit = refl
+plain_command nodes lines client label commands.Abort plain names fit = refl
+plain_command nodes lines client label commands.Take plain names fit = cc
+plain_command nodes lines client label commands.Yield plain names fit = cc
+plain_command nodes lines client label (commands.Request member op) plain names fit =
+    let server = both (member.server.0 == files_no) (is_put_or_get op) plain in
+    let node = both (nat_lt member.node.0 nodes) (may_use lines client label) names in
+    rw (server.0, node.0, plain_op op server.1 fit) refl
+
+no_take : (command : Command) → is_plain_command command ≡ true → is_take command ≡ false
+no_take commands.Begin plain = refl
+no_take commands.Commit plain = refl
+no_take commands.Abort plain = refl
+no_take commands.Take plain = cc
+no_take commands.Yield plain = refl
+no_take (commands.Request member op) plain = refl
+
+none_taken : (lines : List ScriptLine) (line : ScriptLine) (client : ℕ) (label : List ℕ) → is_take line.command ≡ false → is_taker lines client label ≡ false
+    → is_taker (lines ++ line ∷ []) client label ≡ false
+none_taken lines line client label none before =
+    list_any-append (takes_line client label) lines (line ∷ []) ∙ rw (before, none) refl
+
+-- ---- the script so far
+
+-- nothing is commanded and nobody sits, or client 0 alone does, at a node of the run
+abbrev SeatOf : ℕ → Script → Type 0
+SeatOf nodes script = ((script.lines ≡ []) × (script.seats ≡ [])) ⊎ SitsBelow nodes script
+
+record IsPlain (nodes : ℕ) (script : Script) : Type 0 where
+  takes : (client : ℕ) (label : List ℕ) → is_taker script.lines client label ≡ false
+  seat : SeatOf nodes script
+
+seat_same : (nodes : ℕ) (s t : Script) → t.lines ≡ s.lines → t.seats ≡ s.seats → SeatOf nodes s → SeatOf nodes t
+seat_same nodes s t lines seats (inl none) = inl (lines ∙ none.0, seats ∙ none.1)
+seat_same nodes s t lines seats (inr sits) = inr (record { node = sits.node; below = sits.below; seats = seats ∙ sits.seats })
+
+-- the first client of a plain script is client 0
+seat_is : (seat : Seat) → seat.client.0 ≡ 0 → seat ≡ record { client = client_0; node = seat.node }
+seat_is seat e = let c : seat.client ≡ client_0 = ap (λ (n : ℕ). record { 0 = n }) e in ap (λ (client : ClientNo). record { client = client; node = seat.node }) c
+
+seat_again : (seats : List Seat) (client : ℕ) (node : NodeNo) → seats ≡ record { client = client_0; node = node } ∷ [] → client ≡ 0 → is_client seats client ≡ false → ⊥
+seat_again seats client node is zero e = let f : true ≡ false = subst (λ c. is_client (record { client = client_0; node = node } ∷ []) c ≡ false) zero (subst (λ xs. is_client xs client ≡ false) is e) in cc
+
+seat_first : (nodes : ℕ) (s : Script) (seat : Seat) → seat.client.0 ≡ 0 → nat_lt seat.node.0 nodes ≡ true → is_client s.seats seat.client.0 ≡ false → SeatOf nodes s
+    → SeatOf nodes (with_line s (states.Seated seat))
+seat_first nodes s seat zero below new (inl none) =
+    inr (record { node = seat.node; below = ltb-true seat.node.0 nodes below; seats = ap (λ (xs : List Seat). xs ++ seat ∷ []) none.1 ∙ ap (λ (x : Seat). x ∷ []) (seat_is seat zero) })
+seat_first nodes s seat zero below new (inr sits) = absurd (seat_again s.seats seat.client.0 sits.node sits.seats zero new)
+
+seat_commands : (nodes : ℕ) (s t : Script) (client : ℕ) → t.seats ≡ s.seats → is_client s.seats client ≡ true → SeatOf nodes s → SeatOf nodes t
+seat_commands nodes s t client seats known (inl none) = let f : false ≡ true = subst (λ xs. is_client xs client ≡ true) none.1 known in cc
+seat_commands nodes s t client seats known (inr sits) = inr (record { node = sits.node; below = sits.below; seats = seats ∙ sits.seats })
+
+-- ---- the commands of the lines that follow
+
+record FitsMore (nodes : ℕ) (s r : Script) (begun : List ℕ → Bool) (above : ℕ) : Type 0 where
+  more : List ScriptLine
+  lines : r.lines ≡ s.lines ++ more
+  fit : Fits nodes begun above more
+  plain : IsPlain nodes r
+
+-- what the lines behind a script make of it
+abbrev Rest : ℕ → Script → Script → Type 0
+Rest nodes s r = IsPlain nodes s → (begun : List ℕ → Bool) → ((label : List ℕ) → begun label ≡ is_begun s.lines label) → (above : ℕ) → above ≤ s.count → FitsMore nodes s r begun above
+
+-- a line without a command
+skipped : (nodes : ℕ) (s t r : Script) → t.lines ≡ s.lines → t.count ≡ s.count + 1 → (IsPlain nodes s → IsPlain nodes t) → Rest nodes t r → Rest nodes s r
+skipped nodes s t r lines count next rest plain begun same above below =
+    let f = rest (next plain) begun (λ label. same label ∙ ap (λ (xs : List ScriptLine). is_begun xs label) (sym lines)) above (omega (arith, below, count)) in
+    record { more = f.more; lines = f.lines ∙ ap (λ (xs : List ScriptLine). xs ++ f.more) lines; fit = f.fit; plain = f.plain }
+
+-- a line with one
+commanded : (nodes : ℕ) (s t r : Script) (line : ScriptLine) → t.lines ≡ s.lines ++ line ∷ [] → t.count ≡ s.count + 1 → line.line ≡ s.count + 1
+    → line.client.0 ≡ 0 → is_plain nodes line.command ≡ true → ((begun : List ℕ → Bool) → ((label : List ℕ) → begun label ≡ is_begun s.lines label) → may_name begun line.label line.command ≡ true)
+    → IsPlain nodes t → Rest nodes t r → Rest nodes s r
+commanded nodes s t r line lines count number client plain names next rest was begun same above below =
+    let f = rest next (λ label. begun label || begins_line label line)
+    (λ label. any_more (begins_line label) s.lines line (begun label) (begun label || begins_line label line) (same label) refl ∙ ap (λ (xs : List ScriptLine). is_begun xs label) (sym lines))
+    line.line (omega (arith, count, number)) in
+    let first : FitsLine nodes begun above line = record {
+      later = lt-ltb above line.line (omega (arith, below, number));
+      client = client;
       plain = plain;
-      named = may_name_same begun (λ other. list_any (begins other) before) label same command ∙ m.1;
+      named = names begun same;
     } in
-    let all : Fits nodes (λ other. begun other || begins_line other line) (length before + 1) (commands (length (before ++ saids.Order label command ∷ []) + 1) more) =
-    rest (λ other. begun other || begins_line other line) (length before + 1) (begun_more begun before label command line refl refl same) (omega arith) g.1 in
-    (one, subst (λ k. Fits nodes (λ other. begun other || begins_line other line) (length before + 1) (commands (k + 1) more)) n all)
+    record {
+      more = line ∷ f.more;
+      lines = f.lines ∙ (ap (λ (xs : List ScriptLine). xs ++ f.more) lines ∙ append_assoc s.lines (line ∷ []) f.more);
+      fit = (first, f.fit);
+      plain = f.plain;
+    }
 
-fits_line : (nodes : ℕ) (before more : List Said) (line : Said) → IsPlainSaid nodes line → FitsAfter nodes (before ++ line ∷ []) more → FitsAfter nodes before (line ∷ more)
-fits_line nodes before more saids.Nothing plain rest begun above same below good = fits_skipped nodes before more saids.Nothing begun above (λ label. refl) same below good rest
-fits_line nodes before more (saids.Seat node) plain rest begun above same below good = fits_skipped nodes before more (saids.Seat node) begun above (λ label. refl) same below good rest
-fits_line nodes before more (saids.Order label command) plain rest begun above same below good = fits_order nodes before more label command begun above plain same below good rest
-fits_line nodes before more saids.Unreadable plain rest begun above same below good = fits_skipped nodes before more saids.Unreadable begun above (λ label. refl) same below good rest
+order : (nodes : ℕ) (s r : Script) (client : ClientNo) (label : List ℕ) (command : Command) → (known : names_command nodes s client.0 label command ≡ true)
+    → (is_begin command && is_begun s.lines label) ≡ false → (has_command_left s.lines && fits_command command) ≡ true
+    → client.0 ≡ 0 → is_plain_command command ≡ true → Rest nodes (with_line s (states.Order client label command)) r → Rest nodes s r
+order nodes s r client label command known again within zero plain rest was =
+    let k = both (is_client s.seats client.0) (names_order nodes s.lines client.0 label command) known in
+    let w = both (has_command_left s.lines) (fits_command command) within in
+    let t = with_line s (states.Order client label command) in
+    let line : ScriptLine = record { client = client; line = s.count + 1; label = label; command = command } in
+    commanded nodes s t r line refl refl refl zero (plain_command nodes s.lines client.0 label command plain k.1 w.1)
+    (λ begun same. named nodes s.lines begun client.0 label command (same label) (was.takes client.0 label) plain k.1 again)
+    (record {
+      takes = λ c l. none_taken s.lines line c l (no_take command plain) (was.takes c l);
+      seat = seat_commands nodes s t client.0 refl k.0 was.seat;
+    }) rest was
 
-fits_from : (nodes : ℕ) (lines : List (List ℕ)) (before : List Said) → FitsAfter nodes before (map (line_says nodes) lines)
-fits_from nodes [] before begun above same below good = tt
-fits_from nodes (line ∷ lines) before begun above same below good =
-    fits_line nodes before (map (line_says nodes) lines) (line_says nodes line) (says_plain nodes line) (fits_from nodes lines (before ++ line_says nodes line ∷ [])) begun above same below good
+step : (nodes : ℕ) (s r : Script) (line : Statement) → fault_of nodes s line ≡ None → is_plain_line line ≡ true → Rest nodes (with_line s line) r → Rest nodes s r
+step nodes s r states.Nothing none plain rest =
+    skipped nodes s (with_line s states.Nothing) r refl refl (λ was. record { takes = was.takes; seat = seat_same nodes s (with_line s states.Nothing) refl refl was.seat }) rest
+step nodes s r (states.Seated seat) none plain rest =
+    let k = kept (is_known nodes s (states.Seated seat)) (is_again s (states.Seated seat)) (fits s (states.Seated seat)) none in
+    skipped nodes s (with_line s (states.Seated seat)) r refl refl
+    (λ was. record { takes = was.takes; seat = seat_first nodes s seat (zero_is seat.client.0 plain) k.0 k.1 was.seat }) rest
+step nodes s r (states.Order client label command) none plain rest =
+    let k = kept (is_known nodes s (states.Order client label command)) (is_again s (states.Order client label command)) (fits s (states.Order client label command)) none in
+    let p = both (client.0 == 0) (is_plain_command command) plain in
+    order nodes s r client label command k.0 k.1 k.2 (zero_is client.0 p.0) p.1 rest
+step nodes s r (states.Limited quota) none plain rest = cc
+step nodes s r (states.Audited node) none plain rest = cc
+step nodes s r (states.Fault planned) none plain rest = cc
+step nodes s r (states.Lend client label to) none plain rest = cc
+step nodes s r (states.Unreadable fault) none plain rest = cc
 
--- ---- the client's line stands before all commands
+read_next : (s r : Script) (fault : Option ScriptFault) (rest : Result Script ScriptFailed) → after_fault s fault rest ≡ Ok r → (fault ≡ None) × (rest ≡ Ok r)
+read_next s r None rest e = (refl, e)
+read_next s r (Some fault) rest e = cc
 
--- a seat stays, and is at a node of the run
-seat_stays : (seat : Option NodeNo) (lines : List Said) → is_some seat ≡ true → is_some (seat_from seat lines) ≡ true
-seat_stays seat [] e = e
-seat_stays seat (saids.Nothing ∷ lines) e = seat_stays seat lines e
-seat_stays seat (saids.Seat node ∷ lines) e = seat_stays (Some node) lines refl
-seat_stays seat (saids.Order label command ∷ lines) e = seat_stays seat lines e
-seat_stays seat (saids.Unreadable ∷ lines) e = seat_stays seat lines e
+plain_next : (is_plain : Bool) (rest : Option ℕ) (number : ℕ) → cond is_plain rest (Some number) ≡ None → (is_plain ≡ true) × (rest ≡ None)
+plain_next true rest number e = (refl, e)
+plain_next false rest number e = cc
 
-seat_next : (nodes : ℕ) (seat : Option NodeNo) (line : Said) → IsBelow nodes seat → IsPlainSaid nodes line → IsBelow nodes (seat_after seat line)
-seat_next nodes seat saids.Nothing below plain = below
-seat_next nodes seat (saids.Seat node) below plain = plain
-seat_next nodes seat (saids.Order label command) below plain = below
-seat_next nodes seat saids.Unreadable below plain = below
+abbrev read_as : Script → Result Script ScriptFailed
+read_as script = Ok script
 
-seat_below : (nodes : ℕ) (seat : Option NodeNo) (lines : List (List ℕ)) → IsBelow nodes seat → IsBelow nodes (seat_from seat (map (line_says nodes) lines))
-seat_below nodes seat [] below = below
-seat_below nodes seat (line ∷ lines) below = seat_below nodes (seat_after seat (line_says nodes line)) lines (seat_next nodes seat (line_says nodes line) below (says_plain nodes line))
+ok_is : (s r : Script) → read_as s ≡ read_as r → s ≡ r
+ok_is s r e = cc
 
-seat_both : (seat : Option NodeNo) (before more : List Said) → seat_from seat (before ++ more) ≡ seat_from (seat_from seat before) more
-seat_both seat [] more = refl
-seat_both seat (line ∷ before) more = seat_both (seat_after seat line) before more
+no_line : (nodes : ℕ) (s r : Script) → s ≡ r → Rest nodes s r
+no_line nodes s r e was begun same above below =
+    record { more = []; lines = ap (λ (x : Script). x.lines) (sym e) ∙ sym (append-nil s.lines); fit = tt; plain = subst (IsPlain nodes) e was }
 
-seat_or_none : (lines before : List Said) (number : ℕ) → bad_line before lines ≡ None
-    → (commands number lines ≡ []) ⊎ (is_some (seat_from None (before ++ lines)) ≡ true)
-seat_or_none [] before number good = inl refl
-seat_or_none (saids.Nothing ∷ lines) before number good =
-    let g = first_good before lines saids.Nothing good in
-    rw (← append_assoc before (saids.Nothing ∷ []) lines) (seat_or_none lines (before ++ saids.Nothing ∷ []) (number + 1) g.1)
-seat_or_none (saids.Seat node ∷ lines) before number good = inr (rw (seat_both None before (saids.Seat node ∷ lines)) (seat_stays (Some node) lines refl))
-seat_or_none (saids.Order label command ∷ lines) before number good =
-    let g = first_good before lines (saids.Order label command) good in
-    let m = both (is_some (seat_from None before)) (may_name (λ other. list_any (begins other) before) label command) g.0 in
-    inr (rw (seat_both None before (saids.Order label command ∷ lines)) (seat_stays (seat_from None before) lines m.0))
-seat_or_none (saids.Unreadable ∷ lines) before number good =
-    let g = first_good before lines saids.Unreadable good in cc
-
-sits : (nodes : ℕ) (lines : List ScriptLine) (count : ℕ) (seat : Option NodeNo) → is_some seat ≡ true → IsBelow nodes seat → SitsBelow nodes (script_read seat lines count)
-sits nodes lines count None e below = cc
-sits nodes lines count (Some node) e below = record { node = node; below = below; seats = refl }
-
-seated_with : (nodes : ℕ) (lines : List Said) → IsBelow nodes (seat_from None lines) → (commands 1 lines ≡ []) ⊎ (is_some (seat_from None lines) ≡ true) → IsSeated nodes (script_with lines)
-seated_with nodes lines below (inl none) = inl none
-seated_with nodes lines below (inr seat) = inr (sits nodes (commands 1 lines) (length lines) (seat_from None lines) seat below)
+fits_from : (nodes : ℕ) (lines : List (List ℕ)) (s r : Script) (number : ℕ) → read_from nodes s lines ≡ Ok r → first_unplain number lines ≡ None → Rest nodes s r
+fits_from nodes [] s r number read plain = no_line nodes s r (ok_is s r read)
+fits_from nodes (line ∷ lines) s r number read plain =
+    let f = read_next s r (fault_of nodes s (line_states line)) (read_from nodes (with_line s (line_states line)) lines) read in
+    let u = plain_next (is_plain_line (line_states line)) (first_unplain (number + 1) lines) number plain in
+    step nodes s r (line_states line) f.0 u.0 (fits_from nodes lines (with_line s (line_states line)) r (number + 1) f.1 u.1)
 
 -- ---- the whole
 
-closed_as : (script read : Script) (first : Option ℕ) → closed_script read first ≡ Ok script → read ≡ script
-closed_as script read None e = cc
-closed_as script read (Some line) e = cc
+opened : (s r : Script) (found : Option ℕ) → unless_open s found ≡ Ok r → s ≡ r
+opened s r None e = ok_is s r e
+opened s r (Some line) e = cc
 
-read_as : (script : Script) (is_long : Bool) (failed : ScriptFailed) (lines : List Said) (bad : Option ℕ) → cond is_long (Err failed) (lawful_script lines bad) ≡ Ok script
-    → (bad ≡ None) × (script_with lines ≡ script)
-read_as script true failed lines bad e = cc
-read_as script false failed lines None e = (refl, closed_as script (script_with lines) (open_line (commands 1 lines)) e)
-read_as script false failed lines (Some line) e = cc
+closed : (read : Result Script ScriptFailed) (r : Script) → closed_script read ≡ Ok r → read ≡ Ok r
+closed (Err failed) r e = cc
+closed (Ok s) r e = ap Ok (opened s r (left_open s.lines) e)
 
-pub script_fits : (nodes : ℕ) (text : List ℕ) (script : Script) → script_of nodes text ≡ Ok script → Fits nodes (λ label. false) 0 script.lines
-script_fits nodes text script e =
-    let r = read_as script _ _ (text_says nodes text) (bad_line [] (text_says nodes text)) e in
-    subst (λ s. Fits nodes (λ label. false) 0 s.lines) r.1 (fits_from nodes (lines_of text) [] (λ label. false) 0 (λ label. refl) (omega arith) r.0)
+read_whole : (is_long : Bool) (failed : ScriptFailed) (read : Result Script ScriptFailed) (r : Script) → cond is_long (Err failed) (closed_script read) ≡ Ok r → read ≡ Ok r
+read_whole true failed read r e = cc
+read_whole false failed read r e = closed read r e
 
-pub script_seated : (nodes : ℕ) (text : List ℕ) (script : Script) → script_of nodes text ≡ Ok script → IsSeated nodes script
-script_seated nodes text script e =
-    let r = read_as script _ _ (text_says nodes text) (bad_line [] (text_says nodes text)) e in
-    subst (IsSeated nodes) r.1 (seated_with nodes (text_says nodes text) (seat_below nodes None (lines_of text) tt) (seat_or_none (text_says nodes text) [] 1 r.0))
+more_of : (nodes : ℕ) (text : List ℕ) (script : Script) → script_of nodes text ≡ Ok script → first_unplain 1 (lines_of text) ≡ None
+    → FitsMore nodes empty_script script (λ label. false) 0
+more_of nodes text script read plain =
+    fits_from nodes (lines_of text) empty_script script 1
+    (read_whole (nat_lt 1048576 (length text)) (Fault (line_past_limit text) faults.TooLarge) (read_from nodes empty_script (lines_of text)) script read) plain
+    (record { takes = λ client label. refl; seat = inl (refl, refl) }) (λ label. false) (λ label. refl) 0 (omega arith)
 
--- ---- of a result
+pub plain_fits : (nodes : ℕ) (text : List ℕ) (script : Script) → script_of nodes text ≡ Ok script → first_unplain 1 (lines_of text) ≡ None → Fits nodes (λ label. false) 0 script.lines
+plain_fits nodes text script read plain =
+    let f = more_of nodes text script read plain in
+    subst (Fits nodes (λ label. false) 0) (sym f.lines) f.fit
 
-pub all_fits : (nodes : ℕ) (text : List ℕ) (result : Result Script ScriptFailed) → IfOk result (λ script. script_of nodes text ≡ Ok script) → IfOk result (λ script. Fits nodes (λ label. false) 0 script.lines)
-all_fits nodes text (Ok script) e = script_fits nodes text script e
-all_fits nodes text (Err failed) e = tt
+seated : (nodes : ℕ) (script : Script) → SeatOf nodes script → IsSeated nodes script
+seated nodes script (inl none) = inl none.0
+seated nodes script (inr sits) = inr sits
 
-pub all_seated : (nodes : ℕ) (text : List ℕ) (result : Result Script ScriptFailed) → IfOk result (λ script. script_of nodes text ≡ Ok script) → IfOk result (λ script. IsSeated nodes script)
-all_seated nodes text (Ok script) e = script_seated nodes text script e
-all_seated nodes text (Err failed) e = tt
+pub plain_seated : (nodes : ℕ) (text : List ℕ) (script : Script) → script_of nodes text ≡ Ok script → first_unplain 1 (lines_of text) ≡ None → IsSeated nodes script
+plain_seated nodes text script read plain = seated nodes script (more_of nodes text script read plain).plain.seat

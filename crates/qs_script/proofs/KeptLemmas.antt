@@ -1,5 +1,5 @@
 -- What keeps to no script: each kind of entry that this stage does not make.
-use Rattle.std.proofs.Common.{◌≡◌, ℕ, List, Some, refl}
+use Rattle.std.proofs.Common.{◌≡◌, ℕ, Some, refl}
 use Rattle.qs_base.specs.declared.identifiers.Outcome.TheVariants as outcomes
 use Rattle.qs_base.specs.declared.identifiers.Tid.{Tid}
 use Rattle.qs_journal.specs.declared.entry.Act.TheVariants as acts
@@ -7,7 +7,7 @@ use Rattle.qs_machine.specs.Book.{BookValue}
 use Rattle.qs_ops.specs.declared.answer.Cause.{Cause}
 use Rattle.qs_ops.specs.declared.answer.Cause.TheVariants as causes
 use Rattle.qs_script.specs.Kept.{Progresses, Keeps, RefusesOthers}
-use Rattle.qs_script.specs.declared.script.Script.{Script}
+use Rattle.qs_statements.specs.declared.script.Script.{Script}
 
 asked_alone : (script : Script) (book : BookValue) (progress : Progresses) (node : ℕ) (tid : Tid) (cause : Cause)
     → Keeps script book progress node (acts.Decide tid outcomes.Abort (Some cause)) → cause ≡ causes.Asked

@@ -1,7 +1,5 @@
 pub mod FitsLemmas
 pub mod KeptLemmas
 pub mod LabelLemmas
-pub mod LineLemmas
-pub mod NumberLemmas
+pub mod OpenLemmas
 pub mod ReadingLemmas
-pub mod WordLemmas

@@ -1,6 +1,6 @@
--- What the commands of a script that was read keep to: one client, the nodes of the run, labels begun before they are used.
-use Rattle.std.specs.Prelude.{◌≡◌, ◌⊎◌, ◌<◌, ◌==◌, ℕ, Bool, true, false, ◌&&◌, ◌||◌, List, [], ◌∷◌, length, nat_lt, nat_le, ⊤}
-use Rattle.qs_base.specs.Order.{same_bytes}
+-- What the commands of a plain script keep to: one client, the nodes of the run, labels begun before they are used.
+use Rattle.std.specs.Prelude.{◌≡◌, ◌⊎◌, ◌<◌, ◌==◌, ℕ, Bool, true, false, not, ◌&&◌, ◌||◌, List, [], ◌∷◌, length, nat_lt, nat_le, ⊤, if◌then◌else◌}
+use Rattle.qs_base.specs.declared.identifiers.ClientNo.{ClientNo}
 use Rattle.qs_base.specs.declared.identifiers.Member.{Member}
 use Rattle.qs_base.specs.declared.identifiers.NodeNo.{NodeNo}
 use Rattle.qs_ops.specs.Servers.{files_no}
@@ -9,8 +9,8 @@ use Rattle.qs_ops.specs.declared.operation.Op.TheVariants.{Put, Get}
 use Rattle.qs_journal.specs.declared.script_line.Command.{Command}
 use Rattle.qs_journal.specs.declared.script_line.Command.TheVariants.{Begin, Commit, Abort, Request}
 use Rattle.qs_journal.specs.declared.script_line.ScriptLine.{ScriptLine}
-use Rattle.qs_script.specs.Script.{client_0, is_begin, may_name}
-use Rattle.qs_script.specs.declared.script.Script.{Script}
+use Rattle.qs_script.specs.Rules.{is_begin, begins_line}
+use Rattle.qs_statements.specs.declared.script.Script.{Script}
 
 -- an operation of files that this stage knows; a file has at most 65,536 bytes
 abbrev pub is_plain_op : Op → Bool
@@ -29,8 +29,13 @@ is_plain nodes Abort = true
 is_plain nodes (Request member op) = is_files_below nodes member && is_plain_op op
 is_plain nodes _ = false
 
-abbrev pub begins_line : List ℕ → ScriptLine → Bool
-begins_line label line = is_begin line.command && same_bytes line.label label
+-- a begin names a label that is not begun yet, any other command one that is
+abbrev pub may_name : (List ℕ → Bool) → List ℕ → Command → Bool
+may_name is_begun label command = if is_begin command then not (is_begun label) else is_begun label
+
+-- the one client whose commands are carried out at this stage
+abbrev pub client_0 : ClientNo
+client_0 = record { 0 = 0 }
 
 -- a command may stand after the line of that number, where these labels are begun
 pub record FitsLine (nodes : ℕ) (begun : List ℕ → Bool) (above : ℕ) (line : ScriptLine) : Type 0 where

@@ -27,7 +27,7 @@ use Rattle.qs_machine.specs.Book.{BookValue, find_transaction, find_label}
 use Rattle.qs_machine.specs.Lawful.{effect}
 use Rattle.qs_machine.specs.Transaction.{TransactionValue}
 use Rattle.qs_machine.specs.declared.transaction.Cell.TheVariants as cells
-use Rattle.qs_script.specs.declared.script.Script.{Script}
+use Rattle.qs_statements.specs.declared.script.Script.{Script}
 
 -- what a client's first command that is not answered has made so far
 pub data Made : Type 0 where

@@ -1,9 +1,12 @@
+pub mod Answers
+pub mod Clashes
 pub mod Fits
+pub mod Indexes
+pub mod Journal
 pub mod Kept
 pub mod Labels
-pub mod Lines
-pub mod Reads
+pub mod Plain
+pub mod Rules
 pub mod Script
-pub mod Status
 pub mod StatusLine
 pub mod Words

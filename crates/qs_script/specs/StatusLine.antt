@@ -1,11 +1,11 @@
 -- The line of each status, without the line feed at its end, and the verdict on a lawful history.
 use Rattle.std.specs.Prelude.{ℕ, List, [], ◌∷◌, ◌++◌, codes, decimal}
 use Rattle.std.specs.List.{flat_map}
-use Rattle.qs_script.specs.declared.status.ScriptFault.{ScriptFault}
-use Rattle.qs_script.specs.declared.status.ScriptFault.TheVariants as faults
-use Rattle.qs_script.specs.declared.status.Waiting.{Waiting}
-use Rattle.qs_script.specs.declared.status.Status.{Status}
-use Rattle.qs_script.specs.declared.status.Status.TheVariants.{Finished, Usage, Script, ReadFault, WriteFault, DiskFault, Damaged, Unfinished, NoMemory, NoRoom, Unlawful, Journal, LastGeneration}
+use Rattle.qs_statements.specs.declared.status.ScriptFault.{ScriptFault}
+use Rattle.qs_statements.specs.declared.status.ScriptFault.TheVariants as faults
+use Rattle.qs_statements.specs.declared.status.Waiting.{Waiting}
+use Rattle.qs_statements.specs.declared.status.Status.{Status}
+use Rattle.qs_statements.specs.declared.status.Status.TheVariants.{Finished, Usage, Script, ReadFault, WriteFault, DiskFault, Damaged, Unfinished, NoMemory, NoRoom, Unlawful, Journal, LastGeneration}
 
 abbrev pub fault_text : ScriptFault → List ℕ
 fault_text faults.TooLarge = codes "too large"

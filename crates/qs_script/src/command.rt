@@ -1,6 +1,7 @@
 //! Commands that begin and end transactions.
 ghost use Rattle.std.specs.Prelude.{◌≡◌};
-ghost use Rattle.qs_script.specs.Script.{is_begin, is_end};
+ghost use Rattle.qs_script.specs.Rules.{is_begin};
+ghost use Rattle.qs_script.specs.Script.{is_end};
 
 use qs_journal::Command;
 

@@ -2,8 +2,8 @@
 ghost use Rattle.std.specs.Prelude.{◌≡◌, ◌++◌, IfOk, OnOk, string_bytes};
 ghost use Rattle.qs_script.specs.StatusLine.{status_text, status_words, waiting_text, fault_text, lawful_text};
 
-use crate::status::{ScriptFault, Status, Waiting};
 use qs_base::{Bytes, NoMemory};
+use qs_statements::{ScriptFault, Status, Waiting};
 use std::alloc::{AllocError, Global};
 
 /// The line of a status, without the line feed at its end.

@@ -1,15 +1,14 @@
 //! Reads a script.
-ghost use Rattle.std.specs.Prelude.{◌≡◌, ◌≤◌, [], false, List, ℕ, Some, None, Ok, Err, IfOk, IsErrOf, OnOk, OnErr, length};
-ghost use Rattle.qs_script.specs.Script.{script_of, bad_line, line_past_limit, text_says, script_read, seats};
-ghost use Rattle.qs_script.specs.Fits.{Fits, IsSeated};
-ghost use Rattle.qs_script.specs.Reads.{Reads};
+ghost use Rattle.std.specs.Prelude.{◌≡◌, ◌≤◌, List, ℕ, Ok, Err, IfOk, IsErrOf, OnOk, length};
+ghost use Rattle.qs_script.specs.Indexes.{IsIndexed};
+ghost use Rattle.qs_statements.specs.Lines.{lines_of};
+ghost use Rattle.qs_script.specs.Rules.{empty_script};
+ghost use Rattle.qs_script.specs.Script.{read_from, script_of, line_past_limit};
 
-use crate::line::{line_says, next_line};
-use crate::open::open_line;
-use crate::reader::Reader;
-use crate::script::{Script, Seat};
-use crate::status::ScriptFault;
-use qs_base::{ClientNo, List, NoMemory, NodeNo};
+use crate::gathering::Gathered;
+use crate::open::left_open;
+use qs_base::NoMemory;
+use qs_statements::{Script, ScriptFault, line_states, next_line};
 use std::alloc::Global;
 
 /// The most bytes of a script.
@@ -34,14 +33,14 @@ impl From<NoMemory> for ScriptFailed {
     }
 }
 
-/// Reads a script for so many nodes. A line that names another node is `BadWord`.
+/// Reads a script for so many nodes. A text that is too long is told first; then in each line, from
+/// the first: its bytes, its leading word, the command word of a client's line, the count of its
+/// words, their spelling, `Unknown`, `Twice` and `Limit`; then `Open`.
 pub fn read_script(alloc: Global, text: &[u8], nodes: u8) -> Result<Script, ScriptFailed>
     // A fault is the first one of the text, and a text with a fault is not read.
     ensures fault { (line : ℕ) (fault : ScriptFault) → IsErrOf result (ScriptFailed.Fault line fault) → script_of nodes text.now ≡ Err (ScriptFailed.Fault line fault) }
     ensures value { IfOk result (λ script. script_of nodes text.now ≡ Ok script) }
-    // Its commands keep to the rules of scripts, and their client has a seat at one of the nodes.
-    ensures fits { IfOk result (λ script. Fits nodes (λ label. false) 0 script.lines) }
-    ensures seated { IfOk result (λ script. IsSeated nodes script) }
+    ensures short { OnOk result (length text.now ≤ 1048576) }
 {
     if LIMIT < text.len() {
         return Err(ScriptFailed::Fault {
@@ -49,14 +48,14 @@ pub fn read_script(alloc: Global, text: &[u8], nodes: u8) -> Result<Script, Scri
             fault: ScriptFault::TooLarge,
         });
     }
-    let reader = read_lines(alloc, nodes, text)?;
-    if let Some(line) = open_line(alloc, reader.commands.as_slice())? {
+    let gathered = gather(alloc, nodes, text)?;
+    if let Some(line) = left_open(alloc, gathered.script.lines.as_slice())? {
         return Err(ScriptFailed::Fault {
             line,
             fault: ScriptFault::Open,
         });
     }
-    script_of(alloc, reader)
+    Ok(gathered.script)
 }
 
 /// The line of the byte past the limit.
@@ -68,57 +67,26 @@ fn line_past_limit(text: &[u8]) -> u32
     front.iter().filter(|byte| **byte == b'\n').count() as u32 + 1
 }
 
-/// Reads all lines of a text of at most 1,048,576 bytes, up to the first that may not stand there.
-fn read_lines(alloc: Global, nodes: u8, text: &[u8]) -> Result<Reader, ScriptFailed>
+/// Reads all lines of a text of at most 1,048,576 bytes, up to the first with a fault.
+fn gather(alloc: Global, nodes: u8, text: &[u8]) -> Result<Gathered, ScriptFailed>
     requires { length text.now ≤ 1048576 }
     ensures fault { (line : ℕ) (fault : ScriptFault) → IsErrOf result (ScriptFailed.Fault line fault)
-        → (fault ≡ ScriptFault.BadWord) × (bad_line [] (text_says nodes text.now) ≡ Some line) }
-    ensures fits { OnOk result (bad_line [] (text_says nodes text.now) ≡ None) }
-    ensures reads { IfOk result (λ reader. Reads reader (text_says nodes text.now)) }
+        → read_from nodes empty_script (lines_of text.now) ≡ Err (ScriptFailed.Fault line fault) }
+    ensures value { IfOk result (λ gathered. read_from nodes empty_script (lines_of text.now) ≡ Ok gathered.script) }
 {
-    let mut reader = Reader::new(alloc);
+    let mut gathered = Gathered::new(alloc);
     let mut rest = text;
     while !rest.is_empty() {
         let (line, after) = next_line(rest);
-        let said = line_says(alloc, nodes, line)?;
-        if !reader.allows(&said) {
+        let statement = line_states(alloc, line)?;
+        if let Some(fault) = gathered.fault_of(alloc, nodes, &statement)? {
             return Err(ScriptFailed::Fault {
-                line: reader.count + 1,
-                fault: ScriptFault::BadWord,
+                line: gathered.script.count + 1,
+                fault,
             });
         }
-        reader.take(said)?;
+        gathered.take(alloc, statement)?;
         rest = after;
     }
-    Ok(reader)
-}
-
-/// The script that was read.
-fn script_of(alloc: Global, reader: Reader) -> Result<Script, ScriptFailed>
-    ensures fault { OnErr result (result ≡ Err ScriptFailed.NoMemory) }
-    ensures value { IfOk result (λ script. script ≡ script_read reader.seat reader.commands reader.count) }
-{
-    let seats = seats_of(alloc, reader.seat)?;
-    Ok(Script {
-        seats,
-        quotas: List::new(alloc),
-        audit: None,
-        faults: List::new(alloc),
-        lines: reader.commands,
-        count: reader.count,
-    })
-}
-
-/// The seat of client 0, where its line was read.
-fn seats_of(alloc: Global, seat: Option<NodeNo>) -> Result<List<Seat>, NoMemory>
-    ensures { IfOk result (λ list. list ≡ seats seat) }
-{
-    let mut list = List::new(alloc);
-    if let Some(node) = seat {
-        list.push(Seat {
-            client: ClientNo(0),
-            node,
-        })?;
-    }
-    Ok(list)
+    Ok(gathered)
 }

@@ -1,53 +1,190 @@
 //! Reads the words after the program's name.
 ghost use Rattle.std.specs.Prelude.{◌≡◌, string_bytes};
 ghost use Rattle.std.specs.Option.{ok_or};
-ghost use Rattle.qs_script.specs.Words.{form_of, check_form, serial_form, is_serial_run};
+ghost use Rattle.qs_script.specs.Words.{with_nodes, with_serial, with_journal, is_seed_word, with_option, with_word, options_of, no_options, run_with, run_form, check_form, form_with, form_of};
 
 use crate::form::{Form, WordsFault};
-use crate::number::number_of;
+use qs_statements::{is_word, number_of};
 
-/// The form that the words are of: so far `run 1 --serial SEED` or `check`. It takes no memory.
+/// The most nodes of a run.
+const NODES: u64 = 8;
+
+/// How many bytes `--serial=` has.
+const SEED_AT: usize = 9;
+
+/// What the words after `run` said so far.
+#[derive(Clone, Copy, Debug, PartialEq, Eq)]
+pub struct Options {
+    /// How many nodes the run has.
+    pub nodes: Option<u8>,
+    /// The seed of its order.
+    pub serial: Option<u64>,
+    /// Whether its history is given too.
+    pub journal: bool,
+    /// Whether the next word is the seed.
+    pub seed_due: bool,
+}
+
+/// The form that the words are of: `run N [--serial SEED] [--journal]`, in any order behind `run`
+/// and with `--serial=SEED` too, or `check`. N is from 1 to 8, SEED a number of 64 bits; no number
+/// has leading zeros, and nothing is said twice. It takes no memory.
 pub fn read_words(words: &[String]) -> Result<Form, WordsFault>
     ensures { result ≡ ok_or (form_of words.now) WordsFault.Usage }
 {
+    form_of(words).ok_or(WordsFault::Usage)
+}
+
+/// The form that the words are of, if they are of one.
+fn form_of(words: &[String]) -> Option<Form>
+    ensures { result ≡ form_of words.now }
+{
     match words {
-        [word] => check_form(word).ok_or(WordsFault::Usage),
-        [run, nodes, option, seed] => {
-            serial_form(run, nodes, option, seed).ok_or(WordsFault::Usage)
-        }
-        _ => Err(WordsFault::Usage),
+        [first, rest @ ..] => form_with(first.as_str(), rest),
+        [] => None,
     }
 }
 
-/// The form of one word.
-fn check_form(word: &String) -> Option<Form>
-    ensures { result ≡ check_form (string_bytes word.now) }
+/// The form that begins with that word.
+fn form_with(first: &str, words: &[String]) -> Option<Form>
+    ensures { result ≡ form_with first.now words.now }
 {
-    if word.as_str() == "check" {
-        Some(Form::Check)
+    if first == "run" {
+        run_form(options_of(words))
+    } else if first == "check" {
+        check_form(words)
     } else {
         None
     }
 }
 
-/// The form of four words.
-fn serial_form(run: &String, nodes: &String, option: &String, seed: &String) -> Option<Form>
-    ensures { result ≡ serial_form (string_bytes run.now) (string_bytes nodes.now) (string_bytes option.now) (string_bytes seed.now) }
+/// `check` has no further words.
+fn check_form(words: &[String]) -> Option<Form>
+    ensures { result ≡ check_form words.now }
 {
-    if !is_serial_run(run.as_str(), nodes.as_str(), option.as_str()) {
+    match words {
+        [] => Some(Form::Check),
+        [_, ..] => None,
+    }
+}
+
+/// A run needs its number of nodes.
+fn run_form(options: Option<Options>) -> Option<Form>
+    ensures { result ≡ run_form options }
+{
+    run_with(options?)
+}
+
+fn run_with(options: Options) -> Option<Form>
+    ensures { result ≡ run_with options options.nodes }
+{
+    let nodes = options.nodes?;
+    if options.seed_due {
         return None;
     }
-    let serial = number_of(seed.as_bytes())?;
     Some(Form::Run {
-        nodes: 1,
-        serial: Some(serial),
-        journal: false,
+        nodes,
+        serial: options.serial,
+        journal: options.journal,
     })
 }
 
-/// Whether the words are `run`, `1` and `--serial`.
-fn is_serial_run(run: &str, nodes: &str, option: &str) -> bool
-    ensures { result ≡ is_serial_run run.now nodes.now option.now }
+/// What the words say, if each may stand there.
+fn options_of(words: &[String]) -> Option<Options>
+    ensures { result ≡ options_of no_options words.now }
 {
-    run == "run" && nodes == "1" && option == "--serial"
+    let mut options = Options {
+        nodes: None,
+        serial: None,
+        journal: false,
+        seed_due: false,
+    };
+    let mut rest = words;
+    while let [word, more @ ..] = rest {
+        options = options.with_word(word.as_str().as_bytes())?;
+        rest = more;
+    }
+    Some(options)
+}
+
+impl Options {
+    /// With one more word, if it may stand there.
+    fn with_word(self, word: &[u8]) -> Option<Options>
+        ensures { result ≡ with_word self word.now }
+    {
+        if self.seed_due {
+            self.with_serial(number_of(word))
+        } else {
+            self.with_option(word)
+        }
+    }
+
+    fn with_option(self, word: &[u8]) -> Option<Options>
+        ensures { result ≡ with_option self word.now }
+    {
+        if is_word(word, "--journal") {
+            return self.with_journal();
+        }
+        if is_word(word, "--serial") {
+            return Some(Options {
+                seed_due: true,
+                ..self
+            });
+        }
+        if is_seed_word(word) {
+            let (_, seed) = word.split_at(SEED_AT);
+            return self.with_serial(number_of(seed));
+        }
+        self.with_nodes(number_of(word))
+    }
+
+    fn with_journal(self) -> Option<Options>
+        ensures { result ≡ with_journal self }
+    {
+        if self.journal {
+            None
+        } else {
+            Some(Options {
+                journal: true,
+                ..self
+            })
+        }
+    }
+
+    fn with_serial(self, seed: Option<u64>) -> Option<Options>
+        ensures { result ≡ with_serial self seed }
+    {
+        let seed = seed?;
+        if self.serial.is_some() {
+            return None;
+        }
+        Some(Options {
+            serial: Some(seed),
+            seed_due: false,
+            ..self
+        })
+    }
+
+    fn with_nodes(self, nodes: Option<u64>) -> Option<Options>
+        ensures { result ≡ with_nodes self nodes }
+    {
+        let nodes = nodes?;
+        if self.nodes.is_some() || nodes == 0 || NODES < nodes {
+            return None;
+        }
+        Some(Options {
+            nodes: Some(nodes as u8),
+            ..self
+        })
+    }
+}
+
+/// Whether the word is `--serial=` and more, or nothing more.
+fn is_seed_word(word: &[u8]) -> bool
+    ensures { result ≡ is_seed_word word.now }
+{
+    if word.len() < SEED_AT {
+        return false;
+    }
+    let (front, _) = word.split_at(SEED_AT);
+    is_word(front, "--serial=")
 }

@@ -11,10 +11,10 @@ use Rattle.qs_journal.specs.declared.entry.Entry.{Entry}
 use Rattle.qs_machine.specs.Book.{BookValue, find_transaction}
 use Rattle.qs_machine.specs.Nodes.{NodeValue}
 use Rattle.qs_machine.specs.Transaction.{TransactionValue, is_commit, is_abort}
-use Rattle.qs_text.specs.Answers.{told_text}
-use Rattle.qs_text.specs.Journal.{journal_text}
-use Rattle.qs_script.specs.declared.script.Script.{Script}
-use Rattle.qs_script.specs.declared.script.Seat.{Seat}
+use Rattle.qs_script.specs.Answers.{told_text}
+use Rattle.qs_script.specs.Journal.{journal_text}
+use Rattle.qs_statements.specs.declared.script.Script.{Script}
+use Rattle.qs_statements.specs.declared.script.Seat.{Seat}
 
 -- ---- clients
 

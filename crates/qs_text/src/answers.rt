@@ -1,11 +1,15 @@
 //! The texts of answers, causes and identifiers.
 ghost use Rattle.std.specs.Prelude.{◌≡◌, ◌++◌, IfOk, OnOk, string_bytes};
 ghost use Rattle.std.specs.Option.{option_copied};
-ghost use Rattle.qs_text.specs.Answers.{tid_text, server_text, reason_text, cause_text, holder_text, list_text, vote_text, answer_text, answer_words};
+ghost use Rattle.qs_script.specs.Answers.{tid_text, server_text, reason_text, cause_text, holder_text, list_text, vote_text, answer_text, answer_words};
 
 use qs_base::{Bytes, Member, NoMemory, ServerNo, Tid};
+use qs_ops::servers::{AUDIT, EXTRA, FILES, NAMES, SCRATCH, TIMERS, WINDOWS};
 use qs_ops::{Answer, Cause, Reason};
 use std::alloc::{AllocError, Global};
+
+/// The transaction manager of a node, where it is named like a server.
+const MANAGER: ServerNo = ServerNo(7);
 
 /// Adds a text.
 pub fn put(out: &mut Bytes, text: String) -> Result<(), NoMemory>
@@ -123,16 +127,16 @@ fn put_vote(alloc: Global, out: &mut Bytes, member: Member, reason: &Reason) -> 
 pub fn server_text(alloc: Global, server: ServerNo) -> Result<String, AllocError>
     ensures { IfOk result (λ name. string_bytes name ≡ server_text server.0) }
 {
-    match server.0 {
-        0 => format!(in alloc; "files"),
-        1 => format!(in alloc; "audit"),
-        2 => format!(in alloc; "names"),
-        3 => format!(in alloc; "timers"),
-        4 => format!(in alloc; "windows"),
-        5 => format!(in alloc; "scratch"),
-        6 => format!(in alloc; "extra"),
-        7 => format!(in alloc; "manager"),
-        number => format!(in alloc; "server{number}"),
+    match server {
+        FILES => format!(in alloc; "files"),
+        AUDIT => format!(in alloc; "audit"),
+        NAMES => format!(in alloc; "names"),
+        TIMERS => format!(in alloc; "timers"),
+        WINDOWS => format!(in alloc; "windows"),
+        SCRATCH => format!(in alloc; "scratch"),
+        EXTRA => format!(in alloc; "extra"),
+        MANAGER => format!(in alloc; "manager"),
+        ServerNo(number) => format!(in alloc; "server{number}"),
     }
 }
 

@@ -1,8 +1,8 @@
 //! The history as text, a line for each entry.
 ghost use Rattle.std.specs.Prelude.{◌≡◌, ◌++◌, ◌∷◌, [], IfOk, OnOk, codes, decimal, map};
 ghost use Rattle.std.specs.Option.{option_copied};
-ghost use Rattle.qs_text.specs.Answers.{list_text, tid_text};
-ghost use Rattle.qs_text.specs.Journal.{journal_text, entry_row, entry_line, act_words, begin_words, issue_words, serve_words, vote_words, counted_words, decide_words, learn_words, answer_act_words, restart_words, reply_text, ballot_text, outcome_text, cause_words, crash_words, member_text, pend_text, done_text};
+ghost use Rattle.qs_script.specs.Answers.{list_text, tid_text};
+ghost use Rattle.qs_script.specs.Journal.{journal_text, entry_row, entry_line, act_words, begin_words, issue_words, serve_words, vote_words, counted_words, decide_words, learn_words, answer_act_words, restart_words, reply_text, ballot_text, outcome_text, cause_words, crash_words, member_text, pend_text, done_text};
 ghost use Rattle.qs_text.specs.Output.{label_of};
 
 use crate::answers::{put, put_answer, put_cause, put_reason};

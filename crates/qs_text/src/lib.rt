@@ -3,20 +3,16 @@
 
 mod answers;
 mod journal;
-#[cfg(test)]
-mod journal_tests;
 mod labels;
 mod operations;
 mod output;
 mod pieces;
-#[cfg(test)]
-mod tests;
 mod totals;
 
 pub use journal::journal_text;
 pub use output::out_text;
 pub use qs_script::{
     FaultLine, Form, Planned, Quota, Script, ScriptFailed, ScriptFault, Seat, Status, Waiting,
-    WordsFault, lawful_text, numbers_have_one_spelling, other_entries_are_refused, read_script,
-    read_words, status_line,
+    WordsFault, lawful_text, numbers_have_one_spelling, other_entries_are_refused,
+    read_plain_script, read_script, read_words, status_line,
 };

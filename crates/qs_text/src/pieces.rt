@@ -1,15 +1,13 @@
 //! The pieces of journal lines, each added after a blank.
 ghost use Rattle.std.specs.Prelude.{◌≡◌, ◌∷◌, [], ◌++◌, IfOk, OnOk, decimal, string_bytes};
-ghost use Rattle.qs_text.specs.Answers.{list_text, tid_text};
-ghost use Rattle.qs_text.specs.Journal.{member_text, part_text, pend_text, done_text};
+ghost use Rattle.qs_script.specs.Answers.{list_text, tid_text};
+ghost use Rattle.qs_script.specs.Journal.{member_text, part_text, pend_text, done_text};
 
 use crate::answers::{put, server_text, tid_text};
 use qs_base::{Bytes, Member, NoMemory, ServerNo, Tid};
 use qs_journal::Found;
+use qs_ops::servers::FIRST_CLIENT;
 use std::alloc::{AllocError, Global};
-
-/// The number of client 0 as borrower.
-const FIRST_CLIENT: u8 = 32;
 
 /// Adds bytes.
 pub fn add_bytes(out: &mut Bytes, bytes: &[u8]) -> Result<(), NoMemory>
@@ -65,10 +63,10 @@ pub fn add_member(alloc: Global, out: &mut Bytes, member: Member) -> Result<(), 
 fn part_text(alloc: Global, server: ServerNo) -> Result<String, AllocError>
     ensures { IfOk result (λ text. string_bytes text ≡ part_text server.0) }
 {
-    if server.0 < FIRST_CLIENT {
+    if server.0 < FIRST_CLIENT.0 {
         server_text(alloc, server)
     } else {
-        format!(in alloc; "client{}", server.0 - FIRST_CLIENT)
+        format!(in alloc; "client{}", server.0 - FIRST_CLIENT.0)
     }
 }
 

@@ -1,13 +1,1 @@
-pub mod Acts
-pub mod Answers
-pub mod Begun
-pub mod Journal
-pub mod Laws
-pub mod Lifts
-pub mod Operations
-pub mod Reader
-pub mod Reading
-pub mod Said
-pub mod Spelled
-pub mod Words
 pub mod Checked

@@ -4,10 +4,10 @@ ghost use Rattle.qs_machine.specs.Lawful.{IsLawful, broken, effect};
 ghost use Rattle.qs_machine.specs.Opening.{opening};
 ghost use Rattle.qs_tools.specs.Checked.{first_broken_line};
 
-use crate::journal::Journal;
 use qs_base::NoMemory;
 use qs_book::{Book, BookFault};
 use qs_journal::Entry;
+use qs_reader::Journal;
 use std::alloc::Global;
 
 /// Whether each entry of a history is a lawful step of the reference machine, from the opening that

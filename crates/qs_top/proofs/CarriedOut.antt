@@ -26,10 +26,9 @@ use Rattle.qs_machine.specs.declared.transaction.Cell.{Cell}
 use Rattle.qs_machine.specs.declared.transaction.Cell.TheVariants as cells
 use Rattle.qs_machine.specs.declared.transaction.Life.{Life}
 use Rattle.qs_machine.specs.declared.transaction.Part.{Part}
-use Rattle.qs_script.specs.Fits.{FitsLine, is_files_below, is_plain, is_plain_op}
-use Rattle.qs_script.specs.Script.{may_name}
+use Rattle.qs_script.specs.Fits.{FitsLine, may_name, is_files_below, is_plain, is_plain_op}
 use Rattle.qs_script.specs.Kept.{Progresses, labelled}
-use Rattle.qs_script.specs.declared.script.Script.{Script}
+use Rattle.qs_statements.specs.declared.script.Script.{Script}
 use Rattle.qs_top.specs.Node.{node_count, files_0, link_0, next_tid, entries_of, of_labelled, of_known, of_request, committing, aborting, requesting, aborted_answer, answer_entries, begin_entries}
 use Rattle.qs_top.proofs.Chain.{Turn, Carried, labelled_is, committed_answer, ended_answer}
 use Rattle.qs_top.proofs.Chain as chain

@@ -15,9 +15,9 @@ use Rattle.qs_machine.specs.Nodes.{NodeValue}
 use Rattle.qs_machine.specs.declared.state.Owner.{Owner}
 use Rattle.qs_machine.specs.Transaction.{TransactionValue}
 use Rattle.qs_machine.specs.declared.transaction.Cell.TheVariants as cells
-use Rattle.qs_script.specs.Fits.{begins_line}
+use Rattle.qs_script.specs.Rules.{begins_line}
 use Rattle.qs_script.specs.Kept.{Made, nothing, issued, Progress, Progresses, with_progress, makes, owner_makes, owner_of, progress_after, progress_of, Keeps, IsKept, current, seat_of, CarriesOut, CarriesOutFor, OwnerCarriesOut, outcome_answer, request_answer, labelled}
-use Rattle.qs_script.specs.declared.script.Script.{Script}
+use Rattle.qs_statements.specs.declared.script.Script.{Script}
 use Rattle.qs_top.specs.Carrying.{Chain}
 use Rattle.qs_top.specs.Node.{client_0}
 use Rattle.qs_top.specs.Rest.{Resting}

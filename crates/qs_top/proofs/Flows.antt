@@ -27,11 +27,10 @@ use Rattle.qs_machine.specs.Transaction.{TransactionValue, asked_at, voted, vote
 use Rattle.qs_machine.specs.declared.transaction.Cell.TheVariants as cells
 use Rattle.qs_machine.specs.declared.transaction.Life.{Life}
 use Rattle.qs_machine.specs.declared.transaction.Part.{Part}
-use Rattle.qs_script.specs.Fits.{begins_line}
-use Rattle.qs_script.specs.Script.{is_begin}
+use Rattle.qs_script.specs.Rules.{is_begin, begins_line}
 use Rattle.qs_script.specs.Kept.{Made, nothing, began, Progress, Progresses, with_progress, makes, current, seat_of, Answers, due_answer, OwnerCarriesOut, labelled}
 use Rattle.qs_script.specs.Kept as kept
-use Rattle.qs_script.specs.declared.script.Script.{Script}
+use Rattle.qs_statements.specs.declared.script.Script.{Script}
 use Rattle.qs_top.specs.Node.{client_0, files_0, entry, answered, answer_entries, empty_commit_entries, read_commit_entries, commit_entries, empty_abort_entries, abort_entries}
 use Rattle.qs_top.specs.Carrying.{Chain}
 use Rattle.qs_top.proofs.Chain.{no_more, then_more, Turn, Carried, answered_0, same_others, owner_carries, owner_made, labelled_is, committed_answer, aborted_answer}

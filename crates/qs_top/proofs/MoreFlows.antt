@@ -33,10 +33,10 @@ use Rattle.qs_machine.specs.declared.transaction.Cell.{Cell}
 use Rattle.qs_machine.specs.declared.transaction.Cell.TheVariants as cells
 use Rattle.qs_machine.specs.declared.transaction.Life.{Life}
 use Rattle.qs_machine.specs.declared.transaction.Part.{Part}
-use Rattle.qs_script.specs.Fits.{begins_line}
+use Rattle.qs_script.specs.Rules.{begins_line}
 use Rattle.qs_script.specs.Kept.{Made, Progress, Progresses, with_progress, makes, current, seat_of, after_served, served_made, is_seat, request_answer, labelled, due_answer, commands_of, CarriesOut, CarriesOutFor, IssuesFor}
 use Rattle.qs_script.specs.Kept as kept
-use Rattle.qs_script.specs.declared.script.Script.{Script}
+use Rattle.qs_statements.specs.declared.script.Script.{Script}
 use Rattle.qs_top.specs.Node.{client_0, files_0, issuer_0, link_0, node_0, next_tid, entry, answered, begin_entries, request_entries}
 use Rattle.qs_top.proofs.Chain.{then_more, Turn, Carried, answered_0, carries, carries_for, labelled_is, reply_answer}
 use Rattle.qs_top.proofs.Flows.{Given, answer_chain, carried}

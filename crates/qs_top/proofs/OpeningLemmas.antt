@@ -8,7 +8,7 @@ use Rattle.qs_log.specs.Log.{LogValue, Stands, raised_of, HasSameRecords}
 use Rattle.qs_log.specs.Log.{IsOldOrRaised as IsOldOrRaisedLog}
 use Rattle.qs_log.specs.declared.fault.OpenFault.{OpenFault}
 use Rattle.qs_log.specs.declared.fault.OpenFault.TheVariants as faults
-use Rattle.qs_script.specs.declared.status.Status.TheVariants.{Damaged}
+use Rattle.qs_statements.specs.declared.status.Status.TheVariants.{Damaged}
 use Rattle.qs_top.specs.Opening.{IsRaised, IsTouched, OfFirst, OfOpened}
 use Rattle.qs_top.specs.Run.{IsDamageOf, not_opened}
 

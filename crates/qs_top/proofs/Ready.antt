@@ -7,9 +7,10 @@ use Rattle.qs_journal.specs.declared.script_line.ScriptLine.{ScriptLine}
 use Rattle.qs_machine.specs.Book.{BookValue, find_label}
 use Rattle.qs_machine.specs.Lawful.{IsLawful, book_after, effect}
 use Rattle.qs_machine.specs.Opening.{opened_node, no_owner}
-use Rattle.qs_script.specs.Fits.{Fits, IsSeated, begins_line}
+use Rattle.qs_script.specs.Fits.{Fits, IsSeated}
+use Rattle.qs_script.specs.Rules.{begins_line}
 use Rattle.qs_script.specs.Kept.{Progress, Progresses, at_start, commands_of, IsAnswered, IsKept, progress_after, progress_of}
-use Rattle.qs_script.specs.declared.script.Script.{Script}
+use Rattle.qs_statements.specs.declared.script.Script.{Script}
 use Rattle.qs_base.specs.declared.identifiers.NodeNo.{NodeNo}
 use Rattle.qs_top.specs.Node.{entries_of, node_count}
 use Rattle.qs_top.proofs.CarriedOut.{carried_out}

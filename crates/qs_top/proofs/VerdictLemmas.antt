@@ -3,8 +3,8 @@ use Rattle.std.proofs.Common.{◌≡◌, ◌≤◌, ◌+◌, ◌==◌, ℕ, suc,
 use Rattle.std.specs.List.{slice_split, onto_first}
 use Rattle.qs_journal.specs.declared.entry.Entry.{Entry}
 use Rattle.qs_machine.specs.declared.opened.Opened.{Opened}
-use Rattle.qs_script.specs.Lines.{lines_of, without_empty_end}
-use Rattle.qs_tools.specs.Journal.{opening_lines, AreLines, IsJournal}
+use Rattle.qs_statements.specs.Lines.{lines_of, without_empty_end}
+use Rattle.qs_reader.specs.Journal.{opening_lines, AreLines, IsJournal}
 
 -- ---- how many lines a text has
 

@@ -10,7 +10,7 @@ use Rattle.qs_machine.specs.declared.opened.Opened.{Opened}
 use Rattle.qs_machine.specs.declared.state.Owner.{Owner}
 use Rattle.qs_script.specs.Fits.{Fits, IsSeated}
 use Rattle.qs_script.specs.Kept.{nothing, Progresses, at_start, commands_of, IsKept, progress_of}
-use Rattle.qs_script.specs.declared.script.Script.{Script}
+use Rattle.qs_statements.specs.declared.script.Script.{Script}
 use Rattle.qs_top.specs.Node.{entries_of, node_count}
 use Rattle.qs_top.specs.Rest.{Resting}
 

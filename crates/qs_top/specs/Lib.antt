@@ -1,3 +1,4 @@
+pub mod Built
 pub mod Carrying
 pub mod Node
 pub mod Opening

@@ -12,12 +12,12 @@ use Rattle.qs_log.specs.declared.fault.OpenFault.TheVariants as faults
 use Rattle.qs_machine.specs.Lawful.{IsLawful, book_after}
 use Rattle.qs_script.specs.Kept.{at_start, IsAnswered, IsKept}
 use Rattle.qs_text.specs.Output.{out_of}
-use Rattle.qs_script.specs.Script.{script_of}
+use Rattle.qs_script.specs.Plain.{plain_script_of}
 use Rattle.qs_script.specs.declared.reading.ScriptFailed.{ScriptFailed}
-use Rattle.qs_script.specs.declared.script.Script.{Script}
-use Rattle.qs_script.specs.declared.status.Status.{Status}
-use Rattle.qs_script.specs.declared.status.Status.TheVariants.{Finished, Usage, ReadFault, WriteFault, DiskFault, Damaged, NoMemory}
-use Rattle.qs_script.specs.declared.status.Status.TheVariants as statuses
+use Rattle.qs_statements.specs.declared.script.Script.{Script}
+use Rattle.qs_statements.specs.declared.status.Status.{Status}
+use Rattle.qs_statements.specs.declared.status.Status.TheVariants.{Finished, Usage, ReadFault, WriteFault, DiskFault, Damaged, NoMemory}
+use Rattle.qs_statements.specs.declared.status.Status.TheVariants as statuses
 use Rattle.qs_slot.specs.Slot.{Present}
 use Rattle.qs_top.specs.Carrying.{opening}
 use Rattle.qs_top.specs.Node.{node_count}
@@ -30,10 +30,10 @@ pub record ReadWhole (limit : ℕ) (old new : Option (List ℕ)) (P : List ℕ �
   pub whole : IsWholeOrLonger new text limit
   pub holds : P text
 
--- the text is a script
+-- the text is a script that is carried out at this stage
 pub record IsScript (text : List ℕ) : Type 0 where
   pub script : Script
-  pub read : script_of node_count text ≡ Ok script
+  pub read : plain_script_of node_count text ≡ Ok script
 
 -- the bytes hold a log with no record
 pub record HasNoRecord (content : List ℕ) : Type 0 where
@@ -54,7 +54,7 @@ pub record IsFirstRaised {D : Type 0} (told : Type 0) (state : D → DiskState) 
 -- the journal is a run of the script that the text is: it keeps to the script, and answers every command
 pub record IsRunOf (inc : ℕ) (text : List ℕ) (journal : List Entry) : Type 0 where
   pub script : Script
-  pub read : script_of node_count text ≡ Ok script
+  pub read : plain_script_of node_count text ≡ Ok script
   pub kept : IsKept script (opening inc) at_start journal
   pub answered : IsAnswered script (opening inc) journal
 
@@ -74,14 +74,14 @@ pub record IsGiven {D : Type 0} (told : Type 0) (state : D → DiskState) (text 
   pub inc : ℕ
   pub run : IsRunOf inc text journal
   pub raised : OfFirst (λ first later. told → IsRaised inc (state first) (state later)) old new
-  pub given : Appends before after (output_of inc journal (script_of node_count text))
+  pub given : Appends before after (output_of inc journal (plain_script_of node_count text))
 
 -- a run of which a part was given
 pub record IsCutOff {D : Type 0} (told : Type 0) (state : D → DiskState) (text : List ℕ) (journal : List Entry) (before after : Option (List ℕ)) (old new : List D) : Type 0 where
   pub inc : ℕ
   pub run : IsRunOf inc text journal
   pub raised : OfFirst (λ first later. told → IsRaised inc (state first) (state later)) old new
-  pub given : GivesPart before after (output_of inc journal (script_of node_count text))
+  pub given : GivesPart before after (output_of inc journal (plain_script_of node_count text))
 
 -- the node's disk is the first, and its count of faults rose
 pub record IsFaultOf {D : Type 0} (faults : D → ℕ) (node : NodeNo) (old new : List D) : Type 0 where

@@ -1,5 +1,5 @@
 //! The top call.
-ghost use Rattle.std.specs.Prelude.{◌≡◌, ◌≢◌, ◌↔◌, ◌≤◌, ℕ, [], Ok, Err, None, Some, IfOk, length};
+ghost use Rattle.std.specs.Prelude.{◌≡◌, ◌≢◌, ◌↔◌, ◌≤◌, ℕ, [], Ok, Err, None, Some, IfOk, IfSome, length};
 ghost use Rattle.std.specs.Io.KnownBytes.{Appends};
 ghost use Rattle.qs_base.specs.declared.identifiers.NodeNo.{NodeNo};
 ghost use Rattle.qs_machine.specs.Lawful.{IsLawful, book_after};
@@ -9,10 +9,11 @@ ghost use Rattle.std.specs.Prelude.{false};
 ghost use Rattle.qs_script.specs.Fits.{Fits, IsSeated};
 ghost use Rattle.qs_script.specs.declared.reading.ScriptFailed.TheVariants.{Fault};
 ghost use Rattle.qs_text.specs.Output.{out_of};
-ghost use Rattle.qs_script.specs.Script.{script_of};
+ghost use Rattle.qs_script.specs.Plain.{plain_script_of};
 ghost use Rattle.qs_script.specs.Words.{form_of};
-ghost use Rattle.qs_script.specs.declared.status.ScriptFault.{ScriptFault};
-ghost use Rattle.qs_tools.specs.Journal.{IsFault};
+ghost use Rattle.qs_statements.specs.declared.status.ScriptFault.{ScriptFault};
+ghost use Rattle.qs_reader.specs.Journal.{IsFault};
+ghost use Rattle.qs_top.specs.Built.{is_built, built_form};
 ghost use Rattle.qs_top.specs.Carrying.{opening};
 ghost use Rattle.qs_top.specs.Node.{node_count};
 ghost use Rattle.qs_top.specs.Run.{ReadWhole, IsRunOf, HasLawful, IsFaultOf, IsDamageOf, IsGiven, IsCutOff, IsBuilt, IsEarly, IsScript, IsPastScript, IsPastOpening, IsFirstRaised, HoldsNoRecord, AreTouched, not_opened};
@@ -28,7 +29,7 @@ use qs_disk::Disk;
 use qs_io::{ReadFault, Sink, Source, give_all, read_text};
 use qs_journal::Entry;
 use qs_log::OpenFault;
-use qs_text::{Form, Script, ScriptFailed, Status, out_text, read_script, read_words};
+use qs_text::{Form, Script, ScriptFailed, Status, out_text, read_plain_script, read_words};
 use std::alloc::Global;
 use std::thread::Threads;
 
@@ -56,7 +57,7 @@ fn made(
     text: &[u8],
     script: &Script,
 ) -> Result<(List<Entry>, Bytes), NoMemory>
-    requires read { script_of node_count text.now ≡ Ok script.now }
+    requires read { plain_script_of node_count text.now ≡ Ok script.now }
     requires fits { Fits node_count (λ label. false) 0 script.now.lines }
     requires seated { IsSeated node_count script.now }
     ensures lawful { IfOk result (λ done. IsLawful (opening inc) done.0) }
@@ -96,7 +97,7 @@ fn run_source<S: Source, K: Sink, D: Disk>(
 
     // Each status has its cause.
     ensures script { (line : ℕ) (fault : ScriptFault) → result.status ≡ Status.Script line fault
-        → ReadWhole 1048576 (S.left source.old) (S.left source.new) (λ text. script_of node_count text ≡ Err (Fault line fault)) }
+        → ReadWhole 1048576 (S.left source.old) (S.left source.new) (λ text. plain_script_of node_count text ≡ Err (Fault line fault)) }
     ensures read_fault { result.status ≡ Status.ReadFault → Rose (S.faults source.old) (S.faults source.new) }
     ensures write_fault { result.status ≡ Status.WriteFault → Rose (K.faults sink.old) (K.faults sink.new) }
     ensures disk_fault { (node : NodeNo) → result.status ≡ Status.DiskFault node
@@ -133,7 +134,7 @@ fn run_source<S: Source, K: Sink, D: Disk>(
         Err(ReadFault::Failed) => return ended(alloc, Status::ReadFault),
         Err(ReadFault::NoMemory) => return ended(alloc, Status::NoMemory),
     };
-    let script = match read_script(alloc, text.as_slice(), NODE_COUNT) {
+    let script = match read_plain_script(alloc, text.as_slice(), NODE_COUNT) {
         Ok(script) => script,
         Err(ScriptFailed::Fault { line, fault }) => {
             return ended(alloc, Status::Script { line, fault });
@@ -154,11 +155,49 @@ fn run_source<S: Source, K: Sink, D: Disk>(
     Run { status, journal }
 }
 
-/// What the words ask for. They are those after the program's name: exactly `run`, `1`, `--serial`
-/// and a number of 64 bits, or exactly `check`.
+/// Whether the form is carried out at this stage: a run of one node in one thread, without the
+/// history, and a check.
+fn is_built(form: Form) -> bool
+    ensures { result ≡ is_built form }
+{
+    match form {
+        Form::Run {
+            nodes,
+            serial,
+            journal,
+        } => nodes == NODE_COUNT && serial.is_some() && !journal,
+        Form::Check => true,
+    }
+}
+
+/// The form that the words are of, where it is carried out.
+fn form_to_run(words: &[String]) -> Option<Form>
+    ensures value { result ≡ built_form (form_of words.now) }
+    ensures form { IfSome result (λ form. form_of words.now ≡ Some form) }
+    ensures none { result ≡ None → form_of words.now ≢ Some Form.Check }
+{
+    match read_words(words) {
+        Ok(form) => built_form(form),
+        Err(_) => None,
+    }
+}
+
+/// The form, where it is carried out.
+fn built_form(form: Form) -> Option<Form>
+    ensures value { result ≡ built_form (Some form) }
+    ensures same { IfSome result (λ other. other ≡ form) }
+    ensures none { result ≡ None → form ≢ Form.Check }
+{
+    if is_built(form) { Some(form) } else { None }
+}
+
+/// What the words ask for. They are those after the program's name: `run N [--serial SEED]
+/// [--journal]` in any order behind `run`, of which `1` with a seed and without `--journal` is
+/// carried out at this stage, or `check`. A form that is not carried out yet is `Usage`.
 ///
 /// `run` reads a script from the source, runs it on one node over the log of the first disk, and
-/// gives the output to the sink. At most 1,048,577 bytes are taken of the source. After the script the
+/// gives the output to the sink. A script with a line that is not carried out yet is `Script` with
+/// `BadWord` at the first such line; one with a fault is told that fault. At most 1,048,577 bytes are taken of the source. After the script the
 /// log of the first disk is opened and its incarnation raised; nothing else is written to it yet, and
 /// the other disks are not used. There are at least 8 disks.
 ///
@@ -190,9 +229,9 @@ pub fn run<R: Threads + Sync, S: Source, K: Sink, D: Disk>(
     ensures lawful { HoldsNoRecord D.told D.state disks.old.items → HasLawful D.told D.state result.journal disks.old.items disks.new.items }
 
     // Each status has its cause.
-    ensures usage { (result.status ≡ Status.Usage) ↔ (form_of words.now ≡ None) }
+    ensures usage { (result.status ≡ Status.Usage) ↔ (built_form (form_of words.now) ≡ None) }
     ensures script { (line : ℕ) (fault : ScriptFault) → result.status ≡ Status.Script line fault
-        → ReadWhole 1048576 (S.left source.old) (S.left source.new) (λ text. script_of node_count text ≡ Err (Fault line fault)) }
+        → ReadWhole 1048576 (S.left source.old) (S.left source.new) (λ text. plain_script_of node_count text ≡ Err (Fault line fault)) }
     ensures read_fault { result.status ≡ Status.ReadFault → Rose (S.faults source.old) (S.faults source.new) }
     ensures write_fault { result.status ≡ Status.WriteFault → Rose (K.faults sink.old) (K.faults sink.new) }
     ensures disk_fault { (node : NodeNo) → result.status ≡ Status.DiskFault node
@@ -244,9 +283,9 @@ pub fn run<R: Threads + Sync, S: Source, K: Sink, D: Disk>(
     ensures check_journal { form_of words.now ≡ Some Form.Check → result.journal ≡ [] }
     ensures check_disks { form_of words.now ≡ Some Form.Check → disks.new.items ≡ disks.old.items }
 {
-    match read_words(words) {
-        Ok(Form::Run { .. }) => run_source(alloc, source, sink, disks),
-        Ok(Form::Check) => ended(alloc, check_source(alloc, source, sink)),
-        Err(_) => ended(alloc, Status::Usage),
+    match form_to_run(words) {
+        Some(Form::Run { .. }) => run_source(alloc, source, sink, disks),
+        Some(Form::Check) => ended(alloc, check_source(alloc, source, sink)),
+        None => ended(alloc, Status::Usage),
     }
 }

@@ -12,6 +12,7 @@ use qs_base::{Bytes, ClientNo, Copied, Member, NoMemory, NodeNo, Outcome, Stamp,
 use qs_book_transactions::Transaction;
 use qs_journal::{Act, copied_cause};
 use qs_machine::{Asking, Link, Request, RequestNo};
+use qs_ops::servers::FIRST_CLIENT;
 use qs_ops::{Cause, Op, Reply, Vote};
 use std::collections::BTreeMap;
 
@@ -51,12 +52,16 @@ impl Book {
     fn wait(&mut self, tid: Tid, issuer: Member, member: Member) -> Result<(), NoMemory>
         ensures { OnOk result (self.new ≡ with_waiting tid issuer member self.old) }
     {
-        if issuer.server.0 > 31 {
+        if issuer.server.0 >= FIRST_CLIENT.0 {
             let asking = Asking {
                 tid,
                 node: member.node,
             };
-            owners::wait(&mut self.owners, usize::from(issuer.server.0) - 32, asking)?;
+            owners::wait(
+                &mut self.owners,
+                usize::from(issuer.server.0 - FIRST_CLIENT.0),
+                asking,
+            )?;
         }
         Ok(())
     }

@@ -10,6 +10,7 @@ use crate::node::{NodeState, bound_names};
 use qs_base::{Bytes, Copied, List, Member, NoMemory, NodeNo, Outcome, ServerNo, Stamp, Tid};
 use qs_book_transactions::Transaction;
 use qs_machine::{OnRecord, Reopened, Request, RequestNo, Voter};
+use qs_ops::servers::NAMES;
 use qs_ops::{Op, Reply, Vote};
 use std::alloc::Global;
 
@@ -80,7 +81,7 @@ fn learn_at(
     ensures { OnOk result (node.new ≡ doubts_after tid server.0 (learn_node outcome tid server.0 node.old)) }
 {
     node.learn(outcome, tid, server)?;
-    if server.0 == 2 {
+    if server == NAMES {
         node.settle_doubts(tid);
     }
     Ok(())
@@ -171,7 +172,7 @@ fn crossed_serve(
     ensures { OnOk result (node.new ≡ crossed_serve server.0 tid requests.now reply.now node.old) }
 {
     match reply {
-        Reply::Done if server.0 == 2 => {
+        Reply::Done if server == NAMES => {
             let names = names_of(alloc, requests)?;
             node.add_doubts(tid, names)
         }

@@ -19,6 +19,7 @@ use qs_book_transactions::Transaction;
 use qs_journal::Found;
 use qs_machine::{Cell, Voter};
 use qs_ops::Vote;
+use qs_ops::servers::{AUDIT, EXTRA, FILES};
 use std::alloc::Global;
 use std::collections::BTreeSet;
 
@@ -40,7 +41,7 @@ fn is_on_record(node: &NodeState, found: Found) -> bool
 fn is_recoverable(server: ServerNo) -> bool
     ensures { result ≡ is_recoverable server.0 }
 {
-    server.0 == 0 || server.0 == 1 || server.0 == 6
+    server == FILES || server == AUDIT || server == EXTRA
 }
 
 fn has_pending(node: &NodeState, found: Found) -> bool

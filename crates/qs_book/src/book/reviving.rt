@@ -17,14 +17,9 @@ use crate::node::NodeState;
 use qs_base::{Copied, List, NoMemory, NodeNo, Outcome, ServerNo, Tid};
 use qs_journal::Found;
 use qs_machine::{OnRecord, Reopened, Voter};
+use qs_ops::servers::{AUDIT, EXTRA, FILES};
 use qs_ops::{Cause, Kept, Op};
 use std::collections::BTreeSet;
-
-const FILES: ServerNo = ServerNo(0);
-
-const AUDIT: ServerNo = ServerNo(1);
-
-const EXTRA: ServerNo = ServerNo(6);
 
 impl Book {
     /// Adds a vote that was found, where it is a new one.

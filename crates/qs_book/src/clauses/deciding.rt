@@ -7,10 +7,11 @@ use crate::clauses::{
     ABORT_HAS_ITS_CAUSE, ASK_ONCE, COUNTED_PEER, DECIDE_ONCE_AT_HOME, UNANIMOUS_COMMIT,
 };
 use crate::node::NodeState;
-use qs_base::{NodeNo, Outcome, ServerNo, Stamp, Tid};
+use qs_base::{NodeNo, Outcome, Stamp, Tid};
 use qs_book_transactions::Transaction;
 use qs_machine::{Cell, Link};
 use qs_ops::Cause;
+use qs_ops::servers::{AUDIT, EXTRA, FILES};
 
 /// The first clause that asking for commit at `here` breaks.
 pub fn broken_ask(here: NodeNo, tid: Tid, tx: Option<&Transaction>) -> Option<u16>
@@ -111,9 +112,9 @@ fn broken_outcome(
 fn has_no_record(node: &NodeState, tid: Tid) -> bool
     ensures { result ≡ has_no_record node.now tid }
 {
-    node.record(tid, ServerNo(0)).is_none()
-        && node.record(tid, ServerNo(1)).is_none()
-        && node.record(tid, ServerNo(6)).is_none()
+    node.record(tid, FILES).is_none()
+        && node.record(tid, AUDIT).is_none()
+        && node.record(tid, EXTRA).is_none()
 }
 
 fn is_room_cause(

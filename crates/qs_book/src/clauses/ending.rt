@@ -14,6 +14,7 @@ use qs_base::{Class, ClientNo, Member, NodeNo, Outcome, ServerNo, Stamp};
 use qs_book_transactions::{Transaction, cell_of, is_let_go, may_learn_still};
 use qs_journal::CrashCause;
 use qs_machine::{Cell, Owner, Part};
+use qs_ops::servers::{AUDIT, EXTRA, FILES, FIRST_CLIENT, NAMES, WINDOWS};
 use qs_ops::{Answer, class_of, learns_outcome};
 
 /// The first clause that an answer to a client breaks.
@@ -46,12 +47,12 @@ fn is_known(owner: &Owner, answer: &Answer) -> bool
 pub fn borrower_at(client: ClientNo, here: NodeNo) -> Option<Member>
     ensures { result ≡ borrower_at client here.0 }
 {
-    if client.0 >= 224 {
+    if client.0 > u8::MAX - FIRST_CLIENT.0 {
         return None;
     }
     Some(Member {
         node: here,
-        server: ServerNo(client.0 + 32),
+        server: ServerNo(client.0 + FIRST_CLIENT.0),
     })
 }
 
@@ -171,20 +172,17 @@ fn some_wait(tx: &Transaction, member: Member, inc: u64) -> bool
     if class != Class::Standard && class != Class::Delayed {
         return false;
     }
-    waits_for(tx, member, inc, 0)
-        || waits_for(tx, member, inc, 1)
-        || waits_for(tx, member, inc, 2)
-        || waits_for(tx, member, inc, 6)
-        || class == Class::Delayed && waits_for(tx, member, inc, 4)
+    waits_for(tx, member, inc, FILES)
+        || waits_for(tx, member, inc, AUDIT)
+        || waits_for(tx, member, inc, NAMES)
+        || waits_for(tx, member, inc, EXTRA)
+        || class == Class::Delayed && waits_for(tx, member, inc, WINDOWS)
 }
 
-fn waits_for(tx: &Transaction, member: Member, inc: u64, server: u8) -> bool
-    ensures { result ≡ waits_for tx.now member inc server }
+fn waits_for(tx: &Transaction, member: Member, inc: u64, server: ServerNo) -> bool
+    ensures { result ≡ waits_for tx.now member inc server.0 }
 {
-    let member = Member {
-        server: ServerNo(server),
-        ..member
-    };
+    let member = Member { server, ..member };
     may_learn_still(&tx.part(member, inc))
 }
 

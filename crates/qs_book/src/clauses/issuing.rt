@@ -10,6 +10,7 @@ use crate::node::NodeState;
 use qs_base::{Bytes, ClientNo, Member, NoMemory, NodeNo, ServerNo, Tid};
 use qs_book_transactions::Transaction;
 use qs_machine::{Cell, Link, Noted};
+use qs_ops::servers::{FILES, FIRST_CLIENT};
 use qs_ops::{Op, server_of};
 use std::alloc::Global;
 use std::collections::BTreeMap;
@@ -122,20 +123,20 @@ fn broken_issuer(
 fn is_client_here(here: NodeNo, issuer: Member) -> bool
     ensures { result ≡ is_client_here here.0 issuer }
 {
-    issuer.node == here && issuer.server.0 > 31
+    issuer.node == here && issuer.server >= FIRST_CLIENT
 }
 
 fn is_files_here(here: NodeNo, issuer: Member) -> bool
     ensures { result ≡ is_files_here here.0 issuer }
 {
-    issuer.node == here && issuer.server.0 == 0
+    issuer.node == here && issuer.server == FILES
 }
 
 fn is_owner_of(server: ServerNo, owner: Option<ClientNo>) -> bool
     ensures { result ≡ is_owner_of server.0 owner }
 {
     match owner {
-        Some(owner) => u32::from(owner.0) + 32 == u32::from(server.0),
+        Some(owner) => u32::from(owner.0) + u32::from(FIRST_CLIENT.0) == u32::from(server.0),
         None => false,
     }
 }
@@ -185,7 +186,7 @@ fn files_count(here: NodeNo, node: &NodeState, tx: &Transaction) -> u64
 {
     let files = Member {
         node: here,
-        server: ServerNo(0),
+        server: FILES,
     };
     tx.part(files, node.inc()).pending
 }

@@ -10,6 +10,7 @@ use qs_base::{Member, NoMemory, NodeNo, ServerNo, Tid};
 use qs_book_tables::Table;
 use qs_book_transactions::Transaction;
 use qs_machine::{Link, Request, RequestNo};
+use qs_ops::servers::{AUDIT, EXTRA, FILES, FIRST_CLIENT, NAMES, SCRATCH, TIMERS, WINDOWS};
 use qs_ops::{Op, Reply};
 use std::collections::BTreeMap;
 
@@ -78,15 +79,16 @@ fn request_here<'a>(here: NodeNo, tx: &'a Transaction, serve: &Serve<'_>) -> Opt
 fn has_reply(server: ServerNo, reply: &Reply) -> bool
     ensures { result ≡ has_reply server.0 reply.now }
 {
-    let server = server.0;
     match reply {
-        Reply::Done => server != 6,
-        Reply::Value { .. } => server == 0 || server == 2 || server == 4 || server == 5,
-        Reply::Left { .. } => server == 3,
-        Reply::Names { .. } | Reply::Busy { .. } | Reply::TooLong => server == 0,
-        Reply::Notes { .. } => server == 1,
-        Reply::Absent => server != 1 && server < 32,
-        Reply::TooMany => server < 6,
+        Reply::Done => server != EXTRA,
+        Reply::Value { .. } => {
+            server == FILES || server == NAMES || server == WINDOWS || server == SCRATCH
+        }
+        Reply::Left { .. } => server == TIMERS,
+        Reply::Names { .. } | Reply::Busy { .. } | Reply::TooLong => server == FILES,
+        Reply::Notes { .. } => server == AUDIT,
+        Reply::Absent => server != AUDIT && server < FIRST_CLIENT,
+        Reply::TooMany => server < EXTRA,
     }
 }
 
@@ -101,7 +103,7 @@ fn may_hold(
 {
     let files = Member {
         node: here,
-        server: ServerNo(0),
+        server: FILES,
     };
     holds_as(find(transactions, holder), files, node.inc())
 }
@@ -167,10 +169,10 @@ fn is_server_reply(
 ) -> Result<bool, NoMemory>
     ensures { IfOk result (λ yes. yes ≡ is_server_reply node.now server.0 tid op.now reply.now) }
 {
-    match server.0 {
-        3 => Ok(node.timers().is_reply(tid, op, reply)),
-        6 => Ok(Reply::Absent.is(reply)),
-        32.. => Ok(Reply::Done.is(reply)),
+    match server {
+        TIMERS => Ok(node.timers().is_reply(tid, op, reply)),
+        EXTRA => Ok(Reply::Absent.is(reply)),
+        client if client >= FIRST_CLIENT => Ok(Reply::Done.is(reply)),
         _ => is_table_reply(node.table(server), tid, op, reply),
     }
 }
@@ -195,5 +197,5 @@ fn is_reply(
     if is_server_reply(node, member.server, tid, op, reply)? {
         return Ok(true);
     }
-    Ok(member.server.0 == 0 && is_crossed_busy(here, node, transactions, tid, op, reply))
+    Ok(member.server == FILES && is_crossed_busy(here, node, transactions, tid, op, reply))
 }

@@ -10,6 +10,7 @@ use qs_base::{Bytes, Member, NoMemory, NodeNo, ServerNo, Tid};
 use qs_book_tables::Table;
 use qs_book_transactions::Transaction;
 use qs_machine::Cell;
+use qs_ops::servers::{AUDIT, EXTRA, FILES, NAMES};
 use qs_ops::{Reason, Vote, class_of, is_two_phase};
 
 /// How a member votes, for so many requests.
@@ -142,11 +143,11 @@ fn is_server_vote(
 ) -> Result<bool, NoMemory>
     ensures { IfOk result (λ yes. yes ≡ is_server_vote node.now server.0 tid vote.now) }
 {
-    match server.0 {
-        0 => is_files_vote(node, tid, vote),
-        1 => Ok(is_audit_vote(node, tid, vote)),
-        2 => Ok(is_names_vote(node, tid, vote)),
-        6 => Ok(is_read_only(vote)),
+    match server {
+        FILES => is_files_vote(node, tid, vote),
+        AUDIT => Ok(is_audit_vote(node, tid, vote)),
+        NAMES => Ok(is_names_vote(node, tid, vote)),
+        EXTRA => Ok(is_read_only(vote)),
         _ => Ok(false),
     }
 }
@@ -164,15 +165,14 @@ fn is_read_only(vote: &Vote) -> bool
 pub fn has_vote(server: ServerNo, vote: &Vote) -> bool
     ensures { result ≡ has_vote server.0 vote.now }
 {
-    let server = server.0;
     match vote {
         Vote::ReadOnly => true,
-        Vote::Volatile => server == 2,
-        Vote::Recoverable => server == 0 || server == 1,
+        Vote::Volatile => server == NAMES,
+        Vote::Recoverable => server == FILES || server == AUDIT,
         Vote::Abort { reason } => match reason {
-            Reason::Quota { bytes, limit } => server == 0 && *limit < *bytes,
-            Reason::LogRoom { need, room } => (server == 0 || server == 1) && *room < *need,
-            Reason::Taken { .. } => server == 2,
+            Reason::Quota { bytes, limit } => server == FILES && *limit < *bytes,
+            Reason::LogRoom { need, room } => (server == FILES || server == AUDIT) && *room < *need,
+            Reason::Taken { .. } => server == NAMES,
             Reason::Code { .. } => false,
         },
     }

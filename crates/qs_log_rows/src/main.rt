@@ -1,0 +1,291 @@
+//! Prints what a log's room is, its bytes on the disk, and what power cuts leave of it.
+//!
+//! What is to be printed stands beside this program: the bytes are those of the format, with
+//! digests that another program reckoned.
+#![tactic(auto)]
+
+ghost use Rattle.std.specs.Prelude.{IfOk, OnOk};
+ghost use Rattle.qs_log.specs.Log.{Stands};
+ghost use Rattle.qs_record.specs.Grammar.{IsRecord};
+
+use anyhow::{Error, bail};
+use qs_base::{List, ServerNo};
+use qs_codec::Reader;
+use qs_disk::{Disk, Fused, MemDisk};
+use qs_log::{AppendFault, Log, LogOpen, Lsn};
+use qs_record::{Record, decode};
+use std::alloc::Global;
+
+/// Every number of a slot is below it.
+const LIMIT: u64 = 1 << 61;
+
+/// The bytes of each disk.
+const SIZE: u64 = 65_536;
+
+/// Where the first area begins.
+const AREA: usize = 8_192;
+
+/// A Prepare at server 0 that covers one request, with the one change Put "f" "hello".
+const PREPARE: [u8; 38] = [
+    1, 0, 0, 0, 0, 0, 0, 0, 0, 1, 0, 0, 0, 1, 0, 0, 0, 0, 1, 0, 0, 0, 1, 1, 0, 0, 0, 1, 0x66, 0, 0,
+    0, 5, 0x68, 0x65, 0x6c, 0x6c, 0x6f,
+];
+
+/// The bytes of that Prepare in front of the count of its changes' low byte.
+const FRONT: usize = 22;
+
+/// A Commit that tells nobody.
+const COMMIT: [u8; 15] = [2, 0, 0, 0, 0, 0, 0, 0, 0, 1, 0, 0, 0, 1, 0];
+
+/// How many bytes the two take, each in a batch, with the next gate.
+const TWO_BATCHES: usize = 136;
+
+/// How many disks each disk call is tried with, whose power cuts differ.
+const SEEDS: u64 = 8;
+
+fn record_of(alloc: Global, bytes: &[u8]) -> Result<Record, Error>
+    ensures { IfOk result IsRecord }
+{
+    let mut reader = Reader::new(bytes);
+    let rec = decode(alloc, &mut reader)?;
+    Ok(rec)
+}
+
+/// A Prepare of six changes with texts of 4,096 bytes and one of 4,004.
+fn long_prepare(alloc: Global) -> Result<Record, Error>
+    ensures { IfOk result IsRecord }
+{
+    let mut bytes = Vec::from_slice(alloc, &PREPARE[..FRONT])?;
+    bytes.push(7)?;
+    for length in [4_096, 4_096, 4_096, 4_096, 4_096, 4_096, 4_004u32] {
+        bytes.extend_from_slice(&[1, 0, 0, 0, 1, b'f'])?;
+        bytes.extend_from_slice(&length.to_be_bytes())?;
+        for _byte in 0..length {
+            bytes.push(b'x')?;
+        }
+    }
+    record_of(alloc, bytes.as_slice())
+}
+
+fn fresh(alloc: Global, seed: u64) -> Result<Fused<MemDisk>, Error> {
+    let Ok(disk) = MemDisk::new(alloc, SIZE, seed, &[]) else {
+        bail!("no memory");
+    };
+    Ok(Fused::new(disk))
+}
+
+fn opened(alloc: Global, disk: Fused<MemDisk>) -> Result<Log<Fused<MemDisk>>, Error>
+    ensures { IfOk result (λ log. Stands log log.disk.disk.disk) }
+{
+    match Log::open(alloc, disk, LIMIT) {
+        Ok(log) => Ok(log),
+        Err(LogOpen { disk: _, why }) => Err(why.into()),
+    }
+}
+
+/// Appends the record that the bytes spell.
+fn add(alloc: Global, log: &mut Log<Fused<MemDisk>>, bytes: &[u8]) -> Result<Lsn, Error>
+    requires { Stands log.old log.old.disk.disk.disk }
+    ensures { OnOk result (Stands log.new log.new.disk.disk.disk) }
+{
+    let rec = record_of(alloc, bytes)?;
+    let lsn = log.append(&rec)?;
+    Ok(lsn)
+}
+
+/// A log with the Prepare forced.
+fn prepared(alloc: Global, seed: u64) -> Result<Log<Fused<MemDisk>>, Error>
+    ensures { IfOk result (λ log. Stands log log.disk.disk.disk) }
+{
+    let mut log = opened(alloc, fresh(alloc, seed)?)?;
+    add(alloc, &mut log, &PREPARE)?;
+    log.force()?;
+    Ok(log)
+}
+
+/// And then the Commit.
+fn committed(alloc: Global) -> Result<Log<Fused<MemDisk>>, Error> {
+    let mut log = prepared(alloc, 1)?;
+    add(alloc, &mut log, &COMMIT)?;
+    log.force()?;
+    Ok(log)
+}
+
+/// Appends the long Prepare, which is to be refused.
+fn show_refusal<R: AllocGlobal + Print>(rt: &R) -> Result<(), Error> {
+    let mut log = opened(rt.alloc(), fresh(rt.alloc(), 1)?)?;
+    let long = long_prepare(rt.alloc())?;
+    match log.append(&long) {
+        Err(AppendFault::LogFull { need, room }) => {
+            println!(rt; "a record needs {need} bytes of {room}")?;
+            Ok(())
+        }
+        Ok(_) | Err(AppendFault::NoMemory) => bail!("not refused"),
+    }
+}
+
+/// Prints the room of a fresh log, and as records wait and are forced.
+fn show_room<R: AllocGlobal + Print>(rt: &R) -> Result<(), Error> {
+    let alloc = rt.alloc();
+    let mut log = opened(alloc, fresh(alloc, 1)?)?;
+    println!(rt; "room {}", log.room())?;
+    let lsn = add(alloc, &mut log, &PREPARE)?;
+    println!(rt; "record {lsn}, room {}", log.room())?;
+    let mut log = prepared(alloc, 1)?;
+    println!(rt; "forced, room {}", log.room())?;
+    add(alloc, &mut log, &PREPARE)?;
+    let lsn = add(alloc, &mut log, &PREPARE)?;
+    println!(rt; "record {lsn}, room {}", log.room())?;
+    Ok(())
+}
+
+/// Prints the bytes of two batches, and of the gate behind them.
+fn show_bytes<R: AllocGlobal + Print>(rt: &R) -> Result<(), Error> {
+    let mem = committed(rt.alloc())?.into_disk().into_inner();
+    for byte in mem.bytes().iter().skip(AREA).take(TWO_BATCHES) {
+        print!(rt; "{byte:02x}")?;
+    }
+    println!(rt)?;
+    Ok(())
+}
+
+/// Prints how many records of a server a scan from a place finds.
+fn show_scan<R: Print>(
+    rt: &R,
+    log: &Log<Fused<MemDisk>>,
+    server: u8,
+    from: Lsn,
+) -> Result<(), Error> {
+    let Ok(found) = log.scan(ServerNo(server), from) else {
+        bail!("no memory");
+    };
+    println!(rt; "server {server} from {from}: {}", found.len())?;
+    Ok(())
+}
+
+/// Prints what scans find of a Prepare of server 0 and a Commit.
+fn show_scans<R: AllocGlobal + Print>(rt: &R) -> Result<(), Error> {
+    let mut log = prepared(rt.alloc(), 1)?;
+    add(rt.alloc(), &mut log, &COMMIT)?;
+    for (server, from) in [(7, 0), (7, 1), (7, 2), (0, 0), (1, 0)] {
+        show_scan(rt, &log, server, from)?;
+    }
+    Ok(())
+}
+
+/// Prints what the slots of a fresh disk say.
+fn show_fresh<R: AllocGlobal + Print>(rt: &R) -> Result<(), Error> {
+    let log = opened(rt.alloc(), fresh(rt.alloc(), 1)?)?;
+    println!(rt;
+        "generation {} format {} incarnation {} top {}",
+        log.generation(),
+        log.format(),
+        log.inc(),
+        log.top()
+    )?;
+    Ok(())
+}
+
+/// A disk with the Prepare forced, the Commit waiting, and a disk call to trip at.
+fn armed(alloc: Global, seed: u64, call: u64) -> Result<Log<Fused<MemDisk>>, Error>
+    ensures { IfOk result (λ log. Stands log log.disk.disk.disk) }
+{
+    let mut log = prepared(alloc, seed)?;
+    add(alloc, &mut log, &COMMIT)?;
+    let mut plan = List::new(alloc);
+    if plan.push(call).is_err() {
+        bail!("no memory");
+    }
+    log.arm(plan);
+    Ok(log)
+}
+
+/// What a power cut leaves: how many records, and the incarnation.
+type Left = (usize, u64);
+
+/// What stands after a power cut.
+fn after_cut(alloc: Global, log: Log<Fused<MemDisk>>) -> Result<Left, Error> {
+    let mut disk = log.into_disk();
+    disk.power_cut()?;
+    let again = opened(alloc, disk)?;
+    Ok((again.records().len(), again.inc()))
+}
+
+/// The same after a force that tripped.
+fn after_force(alloc: Global, seed: u64, call: u64) -> Result<Left, Error> {
+    let mut log = armed(alloc, seed, call)?;
+    if log.force().is_ok() {
+        bail!("no disk call tripped");
+    }
+    after_cut(alloc, log)
+}
+
+/// The same after a raise that tripped.
+fn after_raise(alloc: Global, seed: u64, call: u64) -> Result<Left, Error> {
+    let mut log = armed(alloc, seed, call)?;
+    if log.top() > 0 || log.raise().is_ok() {
+        bail!("no disk call tripped");
+    }
+    after_cut(alloc, log)
+}
+
+/// Which of two outcomes were seen, and whether another one was.
+#[derive(Clone, Copy)]
+struct Seen {
+    old: bool,
+    new: bool,
+    other: bool,
+}
+
+impl Seen {
+    const NONE: Seen = Seen {
+        old: false,
+        new: false,
+        other: false,
+    };
+
+    fn see(&mut self, left: Left, old: Left, new: Left) {
+        if left == old {
+            self.old = true;
+        } else if left == new {
+            self.new = true;
+        } else {
+            self.other = true;
+        }
+    }
+
+    fn show<R: Print>(&self, rt: &R, what: &str) -> Result<(), Error> {
+        println!(rt;
+            "{what}: the old one {}, the new one {}, another {}",
+            self.old, self.new, self.other
+        )?;
+        Ok(())
+    }
+}
+
+/// Cuts the power at each disk call of a force, and of a raise, and prints which outcomes were seen.
+fn show_cuts<R: AllocGlobal + Print>(rt: &R) -> Result<(), Error> {
+    let mut lists = Seen::NONE;
+    for call in 1..5 {
+        for seed in 0..SEEDS {
+            lists.see(after_force(rt.alloc(), seed, call)?, (1, 0), (2, 0));
+        }
+    }
+    lists.show(rt, "a force")?;
+    let mut incs = Seen::NONE;
+    for call in 1..7 {
+        for seed in 0..SEEDS {
+            incs.see(after_raise(rt.alloc(), seed, call)?, (1, 0), (1, 1));
+        }
+    }
+    incs.show(rt, "a raise")
+}
+
+fn main(rt: HostRuntime) -> Result<(), Error> {
+    show_fresh(&rt)?;
+    show_refusal(&rt)?;
+    show_room(&rt)?;
+    show_bytes(&rt)?;
+    show_scans(&rt)?;
+    show_cuts(&rt)
+}
