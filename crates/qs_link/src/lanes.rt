@@ -2,8 +2,8 @@
 ghost use Rattle.std.specs.Prelude.{◌≡◌, ◌∷◌, ◌++◌, [], length, drop, option_to_list, IfOk, IfErr, OnOk, OnErr, IsNone, IsTrue, IsFalse, ◌+◌, ◌↔◌, ◌≢◌};
 ghost use Rattle.std.specs.Prelude.{◌<◌, ◌≤◌};
 ghost use Rattle.std.specs.VecDeque.{deque_len, deque_capacity};
-ghost use Rattle.rtrb.specs.Ring.{sent, received, known_free, known_items, SameConsumer};
-ghost use Rattle.qs_link.specs.Lane.{IsLane, on_way, Fed, Drawn, IsFifo};
+ghost use Rattle.rtrb.specs.Ring.{sent, received, known_free, known_items, SameProducer, SameConsumer};
+ghost use Rattle.qs_link.specs.Lane.{IsLane, HasPlaces, IsFront, on_way, Fed, Drawn, IsFifo};
 
 use qs_base::NoMemory;
 use rtrb::{Consumer, Producer, RingBuffer};
@@ -50,6 +50,7 @@ where
     T: Drop,
     ensures lane { IfOk result (λ ends. IsLane ends.0 ends.1) }
     ensures empty { IfOk result (λ ends. on_way ends.0 ends.1 ≡ []) }
+    ensures places { IfOk result (λ ends. HasPlaces ends.0 ends.1) }
 {
     let (feed, draw) = RingBuffer::new(alloc, PLACES)?;
     Ok((
@@ -140,13 +141,17 @@ impl<T: Drop> Draw<T> {
     }
 }
 
-/// Moves what stands in the ring, and then what stands in the outbox, into the inbox, and says how many items that then holds.
+/// Moves what stands in the ring, and then what stands in the outbox, into the inbox, and says how many items that then
+/// holds. After `NoMemory`, which comes where memory was refused, a front was moved and nothing is lost.
 pub fn carry<T>(from: &mut Feed<T>, to: &mut Draw<T>) -> Result<usize, NoMemory>
 where
     T: Drop,
     requires { IsLane from.old to.old }
     ensures lane { IsLane from.new to.new }
+    ensures feed { SameProducer from.old.ring from.new.ring }
+    ensures draw { SameConsumer to.old.ring to.new.ring }
     ensures way { on_way from.new to.new ≡ on_way from.old to.old }
+    ensures front { IsFront to.old.inbox to.new.inbox }
     ensures all { OnOk result (to.new.inbox ≡ on_way from.old to.old) }
     ensures held { IfOk result (λ n. n ≡ length to.new.inbox) }
 {
@@ -162,6 +167,7 @@ fn pop_all<T: Drop>(ring: &mut Consumer<T>, inbox: &mut VecDeque<T>) -> Result<(
     ensures inbox { inbox.new.items ++ known_items ring.new ≡ inbox.old.items ++ known_items ring.old }
     ensures ring { received ring.new ++ known_items ring.new ≡ received ring.old ++ known_items ring.old }
     ensures all { OnOk result (known_items ring.new ≡ []) }
+    ensures none { OnErr result (inbox.new.items ≡ inbox.old.items) }
 {
     let count = ring.cached_slots();
     inbox.reserve(count)?;

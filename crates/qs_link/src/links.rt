@@ -1,12 +1,12 @@
 //! Links: lanes of parcels.
 ghost use Rattle.std.specs.Prelude.{◌≡◌, ◌↔◌, [], length, IfOk, IfSome, OnOk, IsErr};
 ghost use Rattle.qs_base.specs.declared.memory.NoMemory.{NoMemory};
-ghost use Rattle.qs_link.specs.Lane.{IsLane, on_way};
+ghost use Rattle.qs_link.specs.Lane.{IsLane, HasPlaces, IsFront, on_way};
 ghost use Rattle.qs_link.specs.Link.{Took, TookNone};
 ghost use Rattle.qs_link.specs.Plan.{IsPlan, IsFresh};
 ghost use Rattle.qs_link.specs.Planned.{Carried};
 ghost use Rattle.qs_packet.specs.Grammar.{IsPacket};
-ghost use Rattle.rtrb.specs.Ring.{known_items, received};
+ghost use Rattle.rtrb.specs.Ring.{known_items, received, SameProducer, SameConsumer};
 
 use crate::lanes::{Draw, carry, lane};
 use crate::outgoing::{LinkPlan, Outgoing};
@@ -37,6 +37,7 @@ pub fn link(alloc: Global, plan: LinkPlan) -> Result<(Outgoing, Incoming), NoMem
     requires { IsPlan plan }
     ensures lane { IfOk result (λ ends. IsLane ends.0.feed ends.1) }
     ensures empty { IfOk result (λ ends. on_way ends.0.feed ends.1 ≡ []) }
+    ensures places { IfOk result (λ ends. HasPlaces ends.0.feed ends.1) }
     ensures fresh { IfOk result (λ ends. IsFresh plan ends.0) }
 {
     let (feed, draw) = lane(alloc)?;
@@ -79,7 +80,10 @@ impl Incoming {
 pub fn carry_link(from: &mut Outgoing, to: &mut Incoming) -> Result<usize, NoMemory>
     requires { IsLane from.old.feed to.old }
     ensures lane { IsLane from.new.feed to.new }
+    ensures feed { SameProducer from.old.feed.ring from.new.feed.ring }
+    ensures draw { SameConsumer to.old.ring to.new.ring }
     ensures carried { Carried from.old from.new to.old to.new }
+    ensures front { IsFront to.old.inbox to.new.inbox }
     ensures all { OnOk result (to.new.inbox ≡ on_way from.old.feed to.old) }
     ensures held { IfOk result (λ n. n ≡ length to.new.inbox) }
 {
