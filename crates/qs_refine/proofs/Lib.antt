@@ -76,3 +76,12 @@ pub mod SoundRules
 pub mod SoundBegin
 pub mod SoundStart
 pub mod SoundSent
+pub mod SoundCount
+pub mod SoundFrames
+pub mod SoundKnown
+pub mod SoundQueued
+pub mod SoundViews
+pub mod SoundRequest
+pub mod SoundLoans
+pub mod SoundMembers
+pub mod SoundServe

@@ -1,5 +1,5 @@
 //! Rules of a node's step that leave a sound node sound.
-ghost use Rattle.qs_refine.specs.SoundLaws.{StartSound, BeginSound, BeginCommandSound, OwnerAsksSound, AskCameSound, RefusalCameSound, ReplyCameSound, IssueAwaySound};
+ghost use Rattle.qs_refine.specs.SoundLaws.{StartSound, BeginSound, BeginCommandSound, OwnerAsksSound, AskCameSound, RefusalCameSound, ReplyCameSound, IssueAwaySound, CloserCameSound, RequestCameSound, ServeAllSound, TakeSound, YieldSound};
 
 /// Where a world begins with empty logs, every node is sound.
 pub fn opening()
@@ -23,4 +23,21 @@ pub fn asking()
 /// A request goes to another node of the run.
 pub fn issuing()
     ensures issue_away { IssueAwaySound }
+{}
+
+/// What answers for requests comes.
+pub fn counting()
+    ensures closer_came { CloserCameSound }
+{}
+
+/// A request of another node comes, and what waits is served.
+pub fn serving()
+    ensures request_came { RequestCameSound }
+    ensures serve_all { ServeAllSound }
+{}
+
+/// A client takes its loan, and gives it back.
+pub fn borrowing()
+    ensures take { TakeSound }
+    ensures gives_back { YieldSound }
 {}
