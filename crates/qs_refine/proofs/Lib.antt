@@ -85,3 +85,15 @@ pub mod SoundRequest
 pub mod SoundLoans
 pub mod SoundMembers
 pub mod SoundServe
+pub mod SoundHolds
+pub mod SoundIssue
+pub mod SoundNotices
+pub mod SoundVotes
+pub mod SoundAnswer
+pub mod SoundEnds
+pub mod SoundDecide
+pub mod SoundSettle
+pub mod SoundTell
+pub mod SoundHome
+pub mod SoundCommands
+pub mod SoundRestart

@@ -15,6 +15,7 @@ use Rattle.qs_tm.specs.Participant.{is_undecided}
 use Rattle.qs_tm.specs.declared.participant.Participant.{Participant}
 use Rattle.qs_step.specs.Asking.{closer_came, count}
 use Rattle.qs_step.specs.State.{NodeValue, Work, part_of}
+use Rattle.qs_world.specs.Openings.{is_audit}
 use Rattle.qs_refine.specs.Links.{names_node, node_no}
 use Rattle.qs_refine.specs.Sound.{is_sound, fits_setting, is_sound_part, where_so, is_whole, is_sound_peer}
 use Rattle.qs_refine.specs.SoundLaws.{StaysSound, CloserCameSound}
@@ -40,6 +41,13 @@ few_nodes node fits =
     (and_both (nat_le node.setting.nodes 16) (nat_lt 0 node.setting.inc)
     (and_both (nat_lt node.setting.node.0 node.setting.nodes) (nat_le node.setting.nodes 16 && nat_lt 0 node.setting.inc)
     (and_both (nat_lt node.setting.node.0 node.setting.nodes && (nat_le node.setting.nodes 16 && nat_lt 0 node.setting.inc)) _ fits).0).1).0
+
+-- the node at which files note their changes is of the run
+pub audit_fits : (node : NodeValue) → fits_setting node ≡ true → is_audit node.setting.nodes node.setting.audit ≡ true
+audit_fits node fits =
+    (and_both (node.manager.keep == node.setting.keep) (is_audit node.setting.nodes node.setting.audit)
+    (and_both (node.manager.extra == node.setting.extra) _ (and_both (node.manager.inc == node.setting.inc) _ (and_both (same_node node.manager.node node.setting.node) _
+    (and_both (nat_lt node.setting.node.0 node.setting.nodes && (nat_le node.setting.nodes 16 && nat_lt 0 node.setting.inc)) _ fits).1).1).1).1).1
 
 pub peers_length : (part : Participant) → is_whole part ≡ true → length part.engage.peers ≡ 16
 peers_length part is = eqb-true (length part.engage.peers) 16 (and_both (length part.engage.peers == 16) (length part.members == 7) (and_both ((length part.engage.peers == 16) && (length part.members == 7)) _ is).0).0

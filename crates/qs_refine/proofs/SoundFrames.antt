@@ -27,7 +27,7 @@ use Rattle.qs_refine.proofs.SoundViews.{PartSound, is_apart, part_seen, part_as}
 
 -- ---- transactions in order: each stands once
 
-less_on : (a b c : Tid) → is_less (tid_cmp a b) ≡ true → is_less (tid_cmp b c) ≡ true → is_less (tid_cmp a c) ≡ true
+pub less_on : (a b c : Tid) → is_less (tid_cmp a b) ≡ true → is_less (tid_cmp b c) ≡ true → is_less (tid_cmp a c) ≡ true
 less_on a b c first next = grind (arith, nat_tests, first, next)
 
 abbrev is_below : Tid → Tid × Participant → Bool

@@ -32,7 +32,7 @@ use Rattle.qs_refine.proofs.SoundViews.{PartSound, seen, sound_as, part_as}
 use Rattle.qs_refine.proofs.SoundFrames.{moved, parts_moved, queues_moved, loans_moved, labels_moved}
 use Rattle.qs_refine.proofs.SoundQueued.{either}
 
-same_is : (t u : Tid) → same_tid t u ≡ true → t ≡ u
+pub same_is : (t u : Tid) → same_tid t u ≡ true → t ≡ u
 same_is t u is = tid_exact t u (grind (arith, nat_tests, is))
 
 -- ---- what waits and is lent
