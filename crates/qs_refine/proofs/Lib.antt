@@ -97,3 +97,5 @@ pub mod SoundTell
 pub mod SoundHome
 pub mod SoundCommands
 pub mod SoundRestart
+pub mod SoundHappen
+pub mod SoundStep

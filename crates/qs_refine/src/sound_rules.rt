@@ -1,5 +1,6 @@
 //! Rules of a node's step that leave a sound node sound.
 ghost use Rattle.qs_refine.specs.SoundLaws.{StartSound, BeginSound, BeginCommandSound, OwnerAsksSound, AskCameSound, RefusalCameSound, ReplyCameSound, IssueAwaySound, CloserCameSound, RequestCameSound, ServeAllSound, TakeSound, YieldSound, PassRuleSound, AnswerSuperiorSound, RefuseElsewhereSound, ForgetRuleSound, DecideAbortSound, DecideCommitSound, SettleSound, TellCameSound, InquiryCameSound, ToldCameSound, PeerRestartedSound, BeginIncarnationSound, BorrowerCommandSound, OwnerCommandSound};
+ghost use Rattle.qs_refine.specs.SoundSteps.{HappenSound, AnswerWaitingSound, StepSound};
 
 /// Where a world begins with empty logs, every node is sound.
 pub fn opening()
@@ -82,4 +83,11 @@ pub fn restarting()
 pub fn commanding()
     ensures borrower { BorrowerCommandSound }
     ensures owner { OwnerCommandSound }
+{}
+
+/// A whole step: what comes is done, the node settles, and commands that stayed open are answered.
+pub fn stepping()
+    ensures happens { HappenSound }
+    ensures answers { AnswerWaitingSound }
+    ensures step { StepSound }
 {}
