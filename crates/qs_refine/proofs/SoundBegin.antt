@@ -39,14 +39,14 @@ pub all_implied : {X : Type 0} (p q : X → Bool) → ((x : X) → p x ≡ true 
 all_implied p q more [] all = refl
 all_implied p q more (x ∷ xs) all = let is : (p x ≡ true) × (list_all p xs ≡ true) = and_both (p x) (list_all p xs) all in both_and (q x) (list_all q xs) (more x is.0) (all_implied p q more xs is.1)
 
-all_last : {X : Type 0} (p : X → Bool) (xs : List X) (x : X) → list_all p xs ≡ true → p x ≡ true → list_all p (xs ++ x ∷ []) ≡ true
+pub all_last : {X : Type 0} (p : X → Bool) (xs : List X) (x : X) → list_all p xs ≡ true → p x ≡ true → list_all p (xs ++ x ∷ []) ≡ true
 all_last p [] x all is = rw is refl
 all_last p (y ∷ xs) x all is = let first : (p y ≡ true) × (list_all p xs ≡ true) = and_both (p y) (list_all p xs) all in both_and (p y) (list_all p (xs ++ x ∷ [])) first.0 (all_last p xs x first.1 is)
 
 -- ---- an entry is put into what is in order
 
 module _ (k : Tid) (v : Participant) where
-  all_put : (q : Tid × Participant → Bool) (es : List (Tid × Participant)) → q (k, v) ≡ true → list_all q es ≡ true → list_all q (insert_entry tid_cmp es k v) ≡ true
+  pub all_put : (q : Tid × Participant → Bool) (es : List (Tid × Participant)) → q (k, v) ≡ true → list_all q es ≡ true → list_all q (insert_entry tid_cmp es k v) ≡ true
   all_put q [] new all = rw new refl
   all_put q (e ∷ es) new all = by (tid_cmp k e.0) refl (all_put q es new (and_both (q e) (list_all q es) all).1)
     where
@@ -58,7 +58,7 @@ module _ (k : Tid) (v : Participant) where
   turned : (t : Tid) → tid_cmp k t ≡ Greater → is_less (tid_cmp t k) ≡ true
   turned t is = grind (arith, nat_tests, is)
 
-  order_put : (es : List (Tid × Participant)) → in_order es ≡ true → in_order (insert_entry tid_cmp es k v) ≡ true
+  pub order_put : (es : List (Tid × Participant)) → in_order es ≡ true → in_order (insert_entry tid_cmp es k v) ≡ true
   order_put [] ordered = refl
   order_put (e ∷ []) ordered = by (tid_cmp k e.0) refl
     where

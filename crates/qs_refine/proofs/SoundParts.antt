@@ -65,7 +65,7 @@ module _ (tid : Tid) where
       by true is more = rw is (both_and (q (e.0, v)) (list_all q es) (subst (λ (k : Tid). q (k, v) ≡ true) (equal_key e.0 is) new) (and_both (q e) (list_all q es) all).1)
       by false is more = rw is (both_and (q e) (list_all q (set_value here es v)) (and_both (q e) (list_all q es) all).0 more)
 
-order_set : (p : Tid → Bool) (es : List (Tid × Participant)) (v : Participant) → in_order (set_value p es v) ≡ in_order es
+pub order_set : (p : Tid → Bool) (es : List (Tid × Participant)) (v : Participant) → in_order (set_value p es v) ≡ in_order es
 order_set p [] v = refl
 order_set p (e ∷ []) v = by (p e.0) refl
   where

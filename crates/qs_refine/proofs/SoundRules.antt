@@ -93,7 +93,7 @@ ask_came_sound peer tid work = undecided_sound tid (asked_by peer tid) work (λ 
 
 -- ---- refusals
 
-block_sound : (tid : Tid) (cause : Cause) (work : Work) → StaysSound work (block tid cause work)
+pub block_sound : (tid : Tid) (cause : Cause) (work : Work) → StaysSound work (block tid cause work)
 block_sound tid cause work sound =
     hidden_sound tid (participant.add_cause cause) (record work.node { manager = tm.refused tid work.node.manager }) (λ part. refl) (λ part. refl)
     (hidden_sound tid participant.refused work.node (λ part. refl) (λ part. refl) sound)

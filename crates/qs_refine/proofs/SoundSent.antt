@@ -28,7 +28,7 @@ use Rattle.qs_refine.proofs.SoundBegin.{all_implied}
 use Rattle.qs_refine.proofs.SoundParts.{and_both, all_found, part_sound, hidden_sound}
 use Rattle.qs_refine.proofs.SoundRules.{send_node}
 
-so_true : (b : Bool) → where_so b true ≡ true
+pub so_true : (b : Bool) → where_so b true ≡ true
 so_true true = refl
 so_true false = refl
 

@@ -14,3 +14,4 @@ pub mod RuleLaws
 pub mod Starts
 pub mod StartLaws
 pub mod SoundLaws
+pub mod SoundSteps

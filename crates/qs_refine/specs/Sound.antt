@@ -1,5 +1,5 @@
 -- What holds of each node between its steps, as tests that can be tried on whole runs.
-use Rattle.std.specs.Prelude.{◌==◌, Bool, true, false, not, ◌&&◌, ◌||◌, List, [], ◌∷◌, ◌++◌, length, Option, Some, None, is_some, nat_le, nat_lt, if◌then◌else◌}
+use Rattle.std.specs.Prelude.{ℕ, ◌==◌, Bool, true, false, not, ◌&&◌, ◌||◌, List, [], ◌∷◌, ◌++◌, length, Option, Some, None, is_some, nat_le, nat_lt, if◌then◌else◌}
 use Rattle.std.specs.List.{list_all, list_any}
 use Rattle.std.specs.declared.cmp.Ordering.TheVariants.{Less}
 use Rattle.std.specs.declared.cmp.Ordering.{Ordering}
@@ -12,6 +12,8 @@ use Rattle.qs_engage.specs.Engage.{peer_of}
 use Rattle.qs_ipc.specs.Ipc as ipc
 use Rattle.qs_ipc.specs.Queue.{QueueValue, is_for}
 use Rattle.qs_ipc.specs.declared.delivery.Delivery.{Delivery}
+use Rattle.qs_journal.specs.declared.script_line.Command.{Command}
+use Rattle.qs_journal.specs.declared.script_line.Command.TheVariants as commands
 use Rattle.qs_restart.specs.Recovery.{Recovery, Prepared, Untold, recovery, is_of, is_untold_of}
 use Rattle.qs_tm.specs.Manager as tm
 use Rattle.qs_tm.specs.Members.{all_servers}
@@ -21,10 +23,11 @@ use Rattle.qs_tm.specs.declared.members.MemberPart.{MemberPart}
 use Rattle.qs_tm.specs.declared.participant.Participant.{Participant}
 use Rattle.qs_kept.specs.declared.kept.Lent.{Lent}
 use Rattle.qs_kept.specs.declared.kept.Begun.{Begun}
-use Rattle.qs_step.specs.Answering.{was_committed}
+use Rattle.qs_step.specs.Answering.{kept_outcome, was_committed}
 use Rattle.qs_step.specs.Settling.{is_lent}
 use Rattle.qs_kept.specs.Loans.{is_standing_loan}
 use Rattle.qs_step.specs.State.{NodeValue}
+use Rattle.qs_world.specs.Openings.{is_audit}
 use Rattle.qs_world.specs.World.{Host}
 use Rattle.qs_refine.specs.NodeFaces.{began_here}
 
@@ -42,7 +45,7 @@ abbrev pub fits_setting : NodeValue → Bool
 fits_setting node =
     (nat_lt node.setting.node.0 node.setting.nodes && (nat_le node.setting.nodes 16 && nat_lt 0 node.setting.inc))
     && (same_node node.manager.node node.setting.node
-    && ((node.manager.inc == node.setting.inc) && ((node.manager.extra == node.setting.extra) && (node.manager.keep == node.setting.keep))))
+    && ((node.manager.inc == node.setting.inc) && ((node.manager.extra == node.setting.extra) && ((node.manager.keep == node.setting.keep) && is_audit node.setting.nodes node.setting.audit))))
 
 abbrev pub is_less : Ordering → Bool
 is_less Less = true
@@ -165,3 +168,34 @@ is_sound_said node said =
 
 abbrev pub is_sound_host : Host → Bool
 is_sound_host host = is_sound host.node && is_sound_said host.node (recovery (host.log ++ host.waiting))
+
+-- ---- what a home committed in this incarnation is kept as committed for its owner, so that it may be forgotten
+
+abbrev pub is_kept_part : NodeValue → Tid × Participant → Bool
+is_kept_part node entry = where_so (began_here node entry.0 && (is_some entry.1.outcome && not (is_abort entry.1.outcome))) (was_committed entry.0 node)
+
+abbrev pub keeps_commits : NodeValue → Bool
+keeps_commits node = list_all (is_kept_part node) node.manager.known
+
+-- ---- what clients command
+
+-- a request goes to a node of the run
+abbrev pub goes_in_run : ℕ → Command → Bool
+goes_in_run nodes command = elim command [
+  | commands.Begin ↦ true
+  | commands.Commit ↦ true
+  | commands.Abort ↦ true
+  | commands.Take ↦ true
+  | commands.Yield ↦ true
+  | commands.Request member op ↦ nat_lt member.node.0 nodes
+]
+
+-- what a client here owns is decided, and kept so, or runs at its home here
+abbrev pub is_owned : NodeValue → Tid → Bool
+is_owned node tid = is_some (kept_outcome tid node) || tm.told_of tid false (λ part. part.engage.home && is_undecided part) node.manager
+
+abbrev pub is_owned_label : NodeValue → Begun → Bool
+is_owned_label node begun = not (is_some begun.owner) || elim begun.tid [ None ↦ true | Some tid ↦ is_owned node tid ]
+
+abbrev pub keeps_owned : NodeValue → Bool
+keeps_owned node = list_all (is_owned_label node) node.kept.now.labels
