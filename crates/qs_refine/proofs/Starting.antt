@@ -45,7 +45,7 @@ module _ (tid : Tid) (x : Sight) (u : IsUnseen tid x) where
     superior = λ on away. absurd (cc (f.on, f.is_home, on, away));
     last = λ on away. absurd (cc (f.on, f.is_home, on, away));
     last_new = λ p late. refl;
-    sent = λ m. sym (f.sent m);
+    sent = λ _ m. sym (f.sent m);
     told_in = λ m has. absurd (cc (f.told m, has));
     tell = λ is m has. absurd (cc (f.tell m, has));
     running = λ is. record {

@@ -38,6 +38,15 @@ within (Outcome_told commit ∷ rest) l is = within rest l is.1
 within (Taken_in further ∷ rest) l is = within rest l is.1
 within (Inquired ∷ rest) l is = let more = within rest (record l { inquiry_taken = l.inquiry_taken + 1 }) is in record { requests = more.requests; closers = more.closers }
 
+-- and so were the inquiries
+pub asked : (saids : List Said) (l : Link) → IsLink l saids → l.inquiry_taken ≤ l.inquiry_put
+asked [] l is = is.inquiries
+asked (Requested number server ∷ rest) l is = asked rest (record l { received = l.received + 1 }) is.2
+asked (Closed number told ∷ rest) l is = asked rest (record l { taken = l.taken + 1 }) is.2
+asked (Outcome_told commit ∷ rest) l is = asked rest l is.1
+asked (Taken_in further ∷ rest) l is = asked rest l is.1
+asked (Inquired ∷ rest) l is = let more = asked rest (record l { inquiry_taken = l.inquiry_taken + 1 }) is in omega (arith, more)
+
 told_still : (commit : Bool) (l k : Link) → Carries l k → IsTold l commit → IsTold k commit
 told_still true l k c is = c.tell_commit is
 told_still false l k c is = c.tell_abort is
