@@ -109,3 +109,4 @@ pub mod IssuingUnmet
 pub mod IssueAwaits
 pub mod Lending
 pub mod ToldAbort
+pub mod ToldAgain

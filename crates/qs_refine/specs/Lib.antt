@@ -19,6 +19,7 @@ pub mod DecisionLaws
 pub mod SettleLaws
 pub mod LoanLaws
 pub mod ToldRules
+pub mod AgainLaws
 pub mod InquiryRules
 pub mod AbortRules
 pub mod Starts

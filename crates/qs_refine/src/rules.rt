@@ -6,6 +6,7 @@ ghost use Rattle.qs_refine.specs.SettleLaws.{ReadyHomeGoes, ReadyElsewhereGoes, 
 ghost use Rattle.qs_refine.specs.WaitingLaws.{IssueAwaitsGoes};
 ghost use Rattle.qs_refine.specs.LoanLaws.{TakeGoes, GiveBackGoes};
 ghost use Rattle.qs_refine.specs.ToldRules.{ToldAbortGoes};
+ghost use Rattle.qs_refine.specs.AgainLaws.{TellCommitUnknownGoes, TellCommitAgainGoes, TellHomeGoes, ToldElsewhereGoes, ToldRunningGoes, ToldNobodyGoes};
 ghost use Rattle.qs_refine.specs.InquiryRules.{InquiryRunningGoes, InquiryCommitGoes, InquiryPastGoes, InquiryAbortGoes, InquiryUnknownGoes};
 
 /// What answers for requests is counted where the transaction is known and not decided, and ignored where the node is not engaged.
@@ -98,4 +99,14 @@ pub fn settling()
 pub fn lending()
     ensures take { TakeGoes }
     ensures give_back { GiveBackGoes }
+{}
+
+/// Messages about an outcome that bring nothing new.
+pub fn repeats()
+    ensures commit_unknown { TellCommitUnknownGoes }
+    ensures commit_again { TellCommitAgainGoes }
+    ensures tell_home { TellHomeGoes }
+    ensures told_elsewhere { ToldElsewhereGoes }
+    ensures told_running { ToldRunningGoes }
+    ensures told_nobody { ToldNobodyGoes }
 {}
