@@ -110,3 +110,6 @@ pub mod IssueAwaits
 pub mod Lending
 pub mod ToldAbort
 pub mod ToldAgain
+pub mod PeerNoticed
+pub mod NamesPut
+pub mod Resuming

@@ -53,6 +53,7 @@ use Rattle.qs_refine.proofs.Learning.{uncounted_taken, uncounted_said}
 use Rattle.qs_refine.proofs.LearningAbort.{learn_abort, name_again}
 use Rattle.qs_refine.proofs.Maps.{lookup_changed, lookup_put}
 use Rattle.qs_refine.proofs.MetWork.{tid_itself}
+use Rattle.qs_refine.proofs.NamesPut.{names_put}
 use Rattle.qs_refine.proofs.NodeSets.{listed_has, none_listed, where_length}
 use Rattle.qs_refine.proofs.NodeTests.{drawn_has}
 use Rattle.qs_refine.proofs.Notices.{Learns, notices_learn}
@@ -63,7 +64,7 @@ use Rattle.qs_refine.proofs.StartWorlds.{nobody}
 use Rattle.qs_refine.proofs.Streams.{ended}
 
 -- the names that a Told carries are of nodes that it drew in, and not of the home
-named_drew : (home : NodeNo) (part : Participant) (k : ℕ) → IsWhole part → home.0 < 16 → names_node (listed (named_by home part)) (node_no k) ≡ true
+pub named_drew : (home : NodeNo) (part : Participant) (k : ℕ) → IsWhole part → home.0 < 16 → names_node (listed (named_by home part)) (node_no k) ≡ true
     → (k ≢ home.0) × ((if has_node part.told (node_no k) then true else (if (peer_of part.engage (node_no k)).sent == 0 then false else true)) ≡ true)
 named_drew home part k whole home_in named = by (k == home.0) refl (sym (node_dropped home.0 k (drawn_in part) (rw drawn_length home_in)) ∙ has)
   where
@@ -124,29 +125,8 @@ module _ (tid : Tid) (scene : Scene) (n m i : ℕ) (rest : List Message) (work :
   pub told_put : (new : Work) (f : Face) (further : List NodeNo) (turn : NamedGoes tid x (sight_faced x n f) w n) → f.outcome ≡ Aborted → new.node.setting ≡ work.node.setting → ShowsWork tid later n new turn.next
       → ((k : ℕ) → names_node further (node_no k) ≡ true → (k ≢ tid.home.0) × (drew (x.face n) k ≡ true))
       → Goes tid later n (send (node_no m) (messages.Told tid further) new) w
-  told_put new f further turn aborted setting seen names = record {
-    next = turn.next;
-    leads = turn.leads;
-    shown = subst (λ (k : Work). ShowsWork tid later n k turn.next) (sym (send_is (node_no m) (messages.Told tid further) new goes_out))
-        (put_shown tid later n (node_no m) (messages.Told tid further) (Taken_in further) new new turn.next (quiet_itself tid new) (rw (tid_same tid) refl) m i refl is.next.from.knows is.next.from.some ((sight_during tid later n new).face n)
-        (uncounted_said tid (sight_during tid later n new) turn.next n m i (Taken_in further) seen (runs tid later n new (at_later new setting)) is.next.from.in_run (inr (cell_aborted, λ k named. let both = names k named in turn.named k both.0 both.1), ends_empty))
-        (rw (face_here tid later n new) (same_itself (face_at new.node tid))));
-  }
-    where
-      goes_out : is_other new.node.setting (node_no m) ≡ true
-      goes_out = rw ((at_later new setting).node, (at_later new setting).nodes) (grind (arith, nat_tests, is.next.from.other, is.next.from.in_run))
-
-      here_aborted : (k : ℕ) (b : Bool) → b ≡ true → (if b then f else x.face n).outcome ≡ Aborted
-      here_aborted k b is = rw is aborted
-
-      knows : turn.next.outcome (place n (scene.inc n)) ≡ Aborted
-      knows = (turn.shown.faces n is.at.in_run is.at.up).outcome ∙ here_aborted n (n == n) (grind (arith, nat_tests))
-
-      cell_aborted : is_aborted turn.next ≡ true
-      cell_aborted = rw ((lawful_on w turn.next lawful turn.leads).agreed.knows_abort (place n (scene.inc n)) knows) refl
-
-      ends_empty : IsEmpty (ended (link turn.next (place n (scene.inc n)) (place m i)) (link turn.next (place n (scene.inc n)) (place m i)))
-      ends_empty = record { requests = omega arith; closers = omega arith; inquiries = omega arith; all_requests = λ _. refl; all_closers = λ _. refl; all_inquiries = λ _. refl }
+  told_put new f further turn aborted setting seen names =
+      names_put tid later n m i work w lawful (record { in_run = is.next.from.in_run; other = is.next.from.other; knows = is.next.from.knows; some = is.next.from.some }) new f further turn aborted (at_later new setting) seen names
 
   -- ---- what the rule comes to
 

@@ -20,6 +20,7 @@ pub mod SettleLaws
 pub mod LoanLaws
 pub mod ToldRules
 pub mod AgainLaws
+pub mod RestartLaws
 pub mod InquiryRules
 pub mod AbortRules
 pub mod Starts

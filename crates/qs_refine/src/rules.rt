@@ -7,6 +7,7 @@ ghost use Rattle.qs_refine.specs.WaitingLaws.{IssueAwaitsGoes};
 ghost use Rattle.qs_refine.specs.LoanLaws.{TakeGoes, GiveBackGoes};
 ghost use Rattle.qs_refine.specs.ToldRules.{ToldAbortGoes};
 ghost use Rattle.qs_refine.specs.AgainLaws.{TellCommitUnknownGoes, TellCommitAgainGoes, TellHomeGoes, ToldElsewhereGoes, ToldRunningGoes, ToldNobodyGoes};
+ghost use Rattle.qs_refine.specs.RestartLaws.{FindGoneGoes, NoticeDecidedGoes, TellAgainGoes, NameHomeGoes, NameOtherGoes, ResumeCommitGoes, ResumeAbortGoes};
 ghost use Rattle.qs_refine.specs.InquiryRules.{InquiryRunningGoes, InquiryCommitGoes, InquiryPastGoes, InquiryAbortGoes, InquiryUnknownGoes};
 
 /// What answers for requests is counted where the transaction is known and not decided, and ignored where the node is not engaged.
@@ -109,4 +110,20 @@ pub fn repeats()
     ensures told_elsewhere { ToldElsewhereGoes }
     ensures told_running { ToldRunningGoes }
     ensures told_nobody { ToldNobodyGoes }
+{}
+
+/// A node finds that another one restarted, and looks at one transaction: what that one owes will never come, and an outcome
+/// is told again.
+pub fn restarts()
+    ensures find_gone { FindGoneGoes }
+    ensures decided { NoticeDecidedGoes }
+    ensures tell_again { TellAgainGoes }
+    ensures name_home { NameHomeGoes }
+    ensures name_other { NameOtherGoes }
+{}
+
+/// The home's node makes the first step of an incarnation, with what it found in its log.
+pub fn resumptions()
+    ensures commit { ResumeCommitGoes }
+    ensures abort { ResumeAbortGoes }
 {}
