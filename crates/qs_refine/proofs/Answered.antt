@@ -22,7 +22,7 @@ use Rattle.qs_refine.proofs.Same.{tid_same}
 use Rattle.qs_refine.proofs.Streams.{ended}
 
 ends_empty : (l : Link) → IsEmpty (ended l l)
-ends_empty l = record { requests = omega arith; closers = omega arith; inquiries = omega arith; all_requests = λ _. refl; all_closers = λ _. refl; all_inquiries = λ _. refl }
+ends_empty l = record { requests = omega arith; closers = omega arith; inquiries = λ _. omega arith; all_requests = λ _. refl; all_closers = λ _. refl; all_inquiries = λ _ _. refl }
 
 module _ (tid : Tid) (scene : Scene) (n m i : ℕ) (work : Work) (w : World) (at : IsAt scene n work) (peer : IsKnown scene n m i) (shown : ShowsWork tid scene n work w) where
   told_put : (message : Message) (commit : Bool) → said tid message ≡ Outcome_told commit ∷ [] → IsTold (link w (place n (scene.inc n)) (place m i)) commit → ShowsWork tid scene n (send (node_no m) message work) w

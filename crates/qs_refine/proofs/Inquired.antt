@@ -37,8 +37,11 @@ module _ (tid : Tid) (x : Sight) (w : World) (n m i : ℕ) (rest : List Said) (s
   rest_link = subst (λ (l : List Said). IsLink (link w q h) l) head (shown.links m i n (x.inc n) peer.in_run at.in_run at.up refl)
 
   pub next_inquiry : NextInquiry w h q
-  next_inquiry = ((shown.faces n at.in_run at.up).up, home_same tid x w n shown at home, known, omega (arith, asked rest behind_it rest_link))
+  next_inquiry = ((shown.faces n at.in_run at.up).up, home_same tid x w n shown at home, known, omega (arith, asked rest behind_it leads_home rest_link))
     where
+      leads_home : (w.node h == w.node w.home) ≡ true
+      leads_home = rw (home_same tid x w n shown at home) (grind (arith, nat_tests))
+
       known : w.peer h (w.node q) ≡ q
       known = rw node_q (shown.stage.peers n m at.in_run peer.in_run at.up ∙ rw peer.knows (known_is m i peer.some))
 

@@ -23,7 +23,7 @@ same_stage : (w : World) → SameStage w w
 same_stage w = record { node = refl; class = refl; home = refl; present = refl; up = refl; peer = refl }
 
 stays_itself : (l : Link) → Stays l l
-stays_itself l = record { carries = carries_itself l; posted = refl; closers = refl; inquiry_put = refl }
+stays_itself l = record { carries = carries_itself l; posted = refl; closers = refl; inquiry_put = λ _. refl }
 
 -- what comes first on a link is one that the machine's link doesn't count
 pub uncounted_taken : (tid : Tid) (x : Sight) (w : World) (n m i : ℕ) (rest : List Said) → ShowsSight tid x w → Runs x n → Meets x n m i → IsLink (link w (place m i) (place n (x.inc n))) rest → ShowsSight tid (sight_taken x n m i (x.face n) rest) w

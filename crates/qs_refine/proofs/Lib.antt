@@ -113,3 +113,5 @@ pub mod ToldAgain
 pub mod PeerNoticed
 pub mod NamesPut
 pub mod Resuming
+pub mod Inquiring
+pub mod InquireSent

@@ -53,4 +53,4 @@ module _ (tid : Tid) (scene : Scene) (n m i : ℕ) (work : Work) (w : World) (la
       cell_aborted = rw ((lawful_on w turn.next lawful turn.leads).agreed.knows_abort (place n (scene.inc n)) knows) refl
 
       ends_empty : IsEmpty (ended (link turn.next (place n (scene.inc n)) (place m i)) (link turn.next (place n (scene.inc n)) (place m i)))
-      ends_empty = record { requests = omega arith; closers = omega arith; inquiries = omega arith; all_requests = λ _. refl; all_closers = λ _. refl; all_inquiries = λ _. refl }
+      ends_empty = record { requests = omega arith; closers = omega arith; inquiries = λ _. omega arith; all_requests = λ _. refl; all_closers = λ _. refl; all_inquiries = λ _ _. refl }

@@ -54,7 +54,7 @@ use Rattle.qs_refine.proofs.Streams.{ended}
 -- ---- a link to which one message is put that the machine doesn't count
 
 ends_empty : (l : Link) → IsEmpty (ended l l)
-ends_empty l = record { requests = omega arith; closers = omega arith; inquiries = omega arith; all_requests = λ _. refl; all_closers = λ _. refl; all_inquiries = λ _. refl }
+ends_empty l = record { requests = omega arith; closers = omega arith; inquiries = λ _. omega arith; all_requests = λ _. refl; all_closers = λ _. refl; all_inquiries = λ _ _. refl }
 
 -- a Told on commit is put where the place has acknowledged it
 pub told_put : (tid : Tid) (scene : Scene) (n m i : ℕ) (work : Work) (w : World) → IsAt scene n work → IsKnown scene n m i → w.ack_put (place n (scene.inc n)) ≡ true → ShowsWork tid scene n work w

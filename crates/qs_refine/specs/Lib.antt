@@ -21,6 +21,7 @@ pub mod LoanLaws
 pub mod ToldRules
 pub mod AgainLaws
 pub mod RestartLaws
+pub mod InquireLaws
 pub mod InquiryRules
 pub mod AbortRules
 pub mod Starts

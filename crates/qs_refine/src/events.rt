@@ -2,6 +2,7 @@
 ghost use Rattle.qs_refine.specs.EventLaws.{CountGoes, IgnoreGoes, IssueGoes, IssueLocalGoes, EngageGoes, JoinGoes, CoverGoes, DropEngageGoes, DropJoinGoes, DropCoverGoes, DropHomeGoes, ServeGoes, ServeToldGoes, LendGoes, YieldGoes, AskGoes, VoteReadGoes, VoteVolatileGoes, VoteAbortGoes, PrepareGoes, AgreeGoes, AnswerGoes, CommitGoes, CommitUnloggedGoes, TellGoes, LearnGoes, LearnAbortGoes, AcknowledgeGoes, NameAgainGoes, NoticeGoes, CrashGoes};
 ghost use Rattle.qs_refine.specs.OutcomeLaws.{CommitAloneGoes, AbortGoes, TellWaitsGoes, TellAbortGoes, TellAbortWaitsGoes, TakeToldGoes, ForgetGoes};
 ghost use Rattle.qs_refine.specs.WaitingLaws.{IssueUnmetGoes};
+ghost use Rattle.qs_refine.specs.InquireLaws.{InquireGoes, InquireWaitsGoes};
 ghost use Rattle.qs_refine.specs.InquiryLaws.{AnswerRunningGoes, AnswerCommitGoes, AnswerAbortGoes, TakeNameGoes};
 
 /// Requests that are issued, come, and are covered.
@@ -76,8 +77,10 @@ pub fn tellings()
     ensures forget { ForgetGoes }
 {}
 
-/// The home answers inquiries, and takes in whom an abort is to be told.
+/// A node inquires, and the home answers inquiries, and takes in whom an abort is to be told.
 pub fn inquiries()
+    ensures inquire { InquireGoes }
+    ensures inquire_waits { InquireWaitsGoes }
     ensures running { AnswerRunningGoes }
     ensures commit { AnswerCommitGoes }
     ensures abort { AnswerAbortGoes }

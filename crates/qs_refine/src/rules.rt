@@ -8,6 +8,7 @@ ghost use Rattle.qs_refine.specs.LoanLaws.{TakeGoes, GiveBackGoes};
 ghost use Rattle.qs_refine.specs.ToldRules.{ToldAbortGoes};
 ghost use Rattle.qs_refine.specs.AgainLaws.{TellCommitUnknownGoes, TellCommitAgainGoes, TellHomeGoes, ToldElsewhereGoes, ToldRunningGoes, ToldNobodyGoes};
 ghost use Rattle.qs_refine.specs.RestartLaws.{FindGoneGoes, NoticeDecidedGoes, TellAgainGoes, NameHomeGoes, NameOtherGoes, ResumeCommitGoes, ResumeAbortGoes};
+ghost use Rattle.qs_refine.specs.InquireLaws.{InquireRuleGoes, ResumeDoubtGoes};
 ghost use Rattle.qs_refine.specs.InquiryRules.{InquiryRunningGoes, InquiryCommitGoes, InquiryPastGoes, InquiryAbortGoes, InquiryUnknownGoes};
 
 /// What answers for requests is counted where the transaction is known and not decided, and ignored where the node is not engaged.
@@ -120,10 +121,12 @@ pub fn restarts()
     ensures tell_again { TellAgainGoes }
     ensures name_home { NameHomeGoes }
     ensures name_other { NameOtherGoes }
+    ensures inquire { InquireRuleGoes }
 {}
 
-/// The home's node makes the first step of an incarnation, with what it found in its log.
+/// A node makes the first step of an incarnation, with what it found in its log.
 pub fn resumptions()
     ensures commit { ResumeCommitGoes }
     ensures abort { ResumeAbortGoes }
+    ensures doubt { ResumeDoubtGoes }
 {}
