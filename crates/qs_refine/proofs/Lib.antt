@@ -115,3 +115,4 @@ pub mod NamesPut
 pub mod Resuming
 pub mod Inquiring
 pub mod InquireSent
+pub mod Lasting

@@ -3,7 +3,7 @@ use Rattle.std.specs.Prelude.{◌≡◌, ◌≢◌, ℕ, ◌<◌, Bool, true, fa
 use Rattle.qs_base.specs.declared.identifiers.NodeNo.{NodeNo}
 use Rattle.qs_base.specs.declared.identifiers.Tid.{Tid}
 use Rattle.qs_agree.specs.World.{World, Open, Committed, Aborted}
-use Rattle.qs_agree.specs.Carry.{IsLawful}
+use Rattle.qs_agree.specs.Carry.{Leads, IsLawful}
 use Rattle.qs_refine.specs.Links.{Said, Outcome_told, Taken_in}
 use Rattle.qs_refine.specs.Places.{place}
 use Rattle.qs_refine.specs.Sights.{Sight, ShowsSight}
@@ -53,3 +53,7 @@ abbrev pub ForgetGoes : Type 0
 ForgetGoes = (tid : Tid) (x : Sight) (w : World) (n : ℕ) → IsLawful w → ShowsSight tid x w → Runs x n → tid.home.0 ≢ n → tid.home.0 < x.size
     → (x.face n).outcome ≡ Open → (x.face n).on ≡ false → (x.face n).involved ≡ false → ((m : ℕ) → (x.face n).told m ≡ false)
     → SightGoes tid (sight_faced x n (forgotten_face (x.face n))) w
+
+-- whoever acknowledged a commit has done so as long as the home's node runs in the same incarnation
+abbrev pub AcksStay : Type 0
+AcksStay = (w v : World) → Leads w v → v.present (w.node w.home) ≡ w.present (w.node w.home) → (m : ℕ) → w.acknowledged m ≡ true → v.acknowledged m ≡ true

@@ -1,6 +1,6 @@
 //! What single events of the agreement machine make of all that is seen of a transaction.
 ghost use Rattle.qs_refine.specs.EventLaws.{CountGoes, IgnoreGoes, IssueGoes, IssueLocalGoes, EngageGoes, JoinGoes, CoverGoes, DropEngageGoes, DropJoinGoes, DropCoverGoes, DropHomeGoes, ServeGoes, ServeToldGoes, LendGoes, YieldGoes, AskGoes, VoteReadGoes, VoteVolatileGoes, VoteAbortGoes, PrepareGoes, AgreeGoes, AnswerGoes, CommitGoes, CommitUnloggedGoes, TellGoes, LearnGoes, LearnAbortGoes, AcknowledgeGoes, NameAgainGoes, NoticeGoes, CrashGoes};
-ghost use Rattle.qs_refine.specs.OutcomeLaws.{CommitAloneGoes, AbortGoes, TellWaitsGoes, TellAbortGoes, TellAbortWaitsGoes, TakeToldGoes, ForgetGoes};
+ghost use Rattle.qs_refine.specs.OutcomeLaws.{CommitAloneGoes, AbortGoes, TellWaitsGoes, TellAbortGoes, TellAbortWaitsGoes, TakeToldGoes, ForgetGoes, AcksStay};
 ghost use Rattle.qs_refine.specs.WaitingLaws.{IssueUnmetGoes};
 ghost use Rattle.qs_refine.specs.InquireLaws.{InquireGoes, InquireWaitsGoes};
 ghost use Rattle.qs_refine.specs.InquiryLaws.{AnswerRunningGoes, AnswerCommitGoes, AnswerAbortGoes, TakeNameGoes};
@@ -74,6 +74,7 @@ pub fn tellings()
     ensures tell_abort { TellAbortGoes }
     ensures tell_abort_waits { TellAbortWaitsGoes }
     ensures take_told { TakeToldGoes }
+    ensures acks_stay { AcksStay }
     ensures forget { ForgetGoes }
 {}
 
