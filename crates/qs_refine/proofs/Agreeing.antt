@@ -38,6 +38,7 @@ yes_carries q b w v s = record {
   live = grind (arith, s);
   received = grind (arith, s);
   taken = grind (arith, s);
+  to_home = grind (arith, nat_tests, s);
   inquiry_taken = grind (arith, s);
   server = grind (arith, s);
   closer = λ k in_put. grind (arith, nat_tests, in_put, s);

@@ -35,13 +35,13 @@ after_commit old = record old {
   learnt_commit = with_at old.learnt_commit (old.node old.home) true;
 }
 
-commit_stays : (a b : ℕ) (w v : World) → w.cell ≡ Open → Step Commit w v → Stays (link w a b) (link v a b)
+pub commit_stays : (a b : ℕ) (w v : World) → w.cell ≡ Open → Step Commit w v → Stays (link w a b) (link v a b)
 commit_stays a b w v undecided s = record { carries = grind (arith, undecided, s); posted = grind (arith, s); closers = grind (arith, s); inquiry_put = grind (arith, s) }
 
-commit_waiting : (a b : ℕ) (w v : World) → w.cell ≡ Open → Step Commit w v → Stays (waiting_link w a b) (waiting_link v a b)
+pub commit_waiting : (a b : ℕ) (w v : World) → w.cell ≡ Open → Step Commit w v → Stays (waiting_link w a b) (waiting_link v a b)
 commit_waiting a b w v undecided s = record { carries = grind (arith, undecided, s); posted = grind (arith, s); closers = grind (arith, s); inquiry_put = grind (arith, s) }
 
-commit_other : (k : ℕ) (w v : World) (f : Face) → k ≢ w.home → ShowsFace f k w → Step Commit w v → ShowsFace f k v
+pub commit_other : (k : ℕ) (w v : World) (f : Face) → k ≢ w.home → ShowsFace f k w → Step Commit w v → ShowsFace f k v
 commit_other k w v f other i s = grind (arith, nat_tests, other, i, s)
 
 -- ---- the log with the Commit
@@ -59,7 +59,7 @@ marked_none tid s (v ∷ votes) = by (same_tid v.tid tid) refl (marked_none tid 
     by true e more = rw (e, e) (off (v.server.0 == s) more)
     by false e more = rw (e, e) more
 
-any_last : (tids : List Tid) (tid : Tid) → list_any (same_tid tid) (tids ++ tid ∷ []) ≡ true
+pub any_last : (tids : List Tid) (tid : Tid) → list_any (same_tid tid) (tids ++ tid ∷ []) ≡ true
 any_last [] tid = rw (tid_same tid) refl
 any_last (t ∷ tids) tid = by (same_tid tid t) (any_last tids tid)
   where

@@ -17,7 +17,7 @@ use Rattle.qs_refine.proofs.Still.{log_still}
 record AllWithin (l : Link) : Type 0 where
   requests : l.received ≤ l.posted
   closers : l.taken ≤ l.closers
-  inquiries : l.inquiry_taken ≤ l.inquiry_put
+  inquiries : l.to_home ≡ true → l.inquiry_taken ≤ l.inquiry_put
 
 all_within : (saids : List Said) (l : Link) → IsLink l saids → AllWithin l
 all_within [] l is = record { requests = is.requests; closers = is.closers; inquiries = is.inquiries }
@@ -25,7 +25,7 @@ all_within (Requested number server ∷ rest) l is = let more = all_within rest 
 all_within (Closed number told ∷ rest) l is = let more = all_within rest (record l { taken = l.taken + 1 }) is.2 in record { requests = more.requests; closers = omega (arith, more.closers); inquiries = more.inquiries }
 all_within (Outcome_told commit ∷ rest) l is = all_within rest l is.1
 all_within (Taken_in further ∷ rest) l is = all_within rest l is.1
-all_within (Inquired ∷ rest) l is = let more = all_within rest (record l { inquiry_taken = l.inquiry_taken + 1 }) is in record { requests = more.requests; closers = more.closers; inquiries = omega (arith, more.inquiries) }
+all_within (Inquired ∷ rest) l is = let more = all_within rest (record l { inquiry_taken = l.inquiry_taken + 1 }) is in record { requests = more.requests; closers = more.closers; inquiries = λ home. let all = more.inquiries home in omega (arith, all) }
 
 -- of a sender that does not run, a part is enough
 pub cut_short : (saids more : List Said) (l : Link) → l.live ≡ false → IsLink l (saids ++ more) → IsLink l saids
@@ -35,7 +35,7 @@ cut_short [] more l dead is = let all = all_within more l is in record {
   inquiries = all.inquiries;
   all_requests = λ on. absurd (cc (on, dead));
   all_closers = λ on. absurd (cc (on, dead));
-  all_inquiries = λ on. absurd (cc (on, dead));
+  all_inquiries = λ on _. absurd (cc (on, dead));
 }
 cut_short (Requested number server ∷ rest) more l dead is = (is.0, is.1, cut_short rest more (record l { received = l.received + 1 }) dead is.2)
 cut_short (Closed number told ∷ rest) more l dead is = (is.0, is.1, cut_short rest more (record l { taken = l.taken + 1 }) dead is.2)

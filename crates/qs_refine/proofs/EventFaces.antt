@@ -105,7 +105,7 @@ pub face_vote_read : (q r : ℕ) (w v : World) (f : Face) → ShowsFace f q w �
 face_vote_read q r w v f i s = grind (arith, nat_tests, i, s)
 
 -- ---- Notice
-pub face_notice : (p q : ℕ) (w v : World) (f : Face) (blocked : Bool) → ShowsFace f p w → (blocked ≡ false → (f.blocked ≡ false) × (w.covered p (w.node q) ≡ w.sent p (w.node q))) → Knows w p → Step (Notice p q) w v → ShowsFace (record f { last = with_at f.last (w.node q) 0; blocked = blocked }) p v
+pub face_notice : (p q : ℕ) (w v : World) (f : Face) (blocked : Bool) → ShowsFace f p w → (f.outcome ≡ Open → blocked ≡ false → (f.blocked ≡ false) × (w.covered p (w.node q) ≡ w.sent p (w.node q))) → Knows w p → Step (Notice p q) w v → ShowsFace (record f { last = with_at f.last (w.node q) 0; blocked = blocked }) p v
 face_notice p q w v f blocked i owed known s = grind (arith, nat_tests, owed, i, s)
 
 -- ---- decisions

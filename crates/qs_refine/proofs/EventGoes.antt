@@ -1,9 +1,9 @@
 -- Each law of an event, from the event's step and from what holds of each lawful world of the machine.
-use Rattle.std.proofs.Common.{◌≡◌, ◌⊎◌, inl, inr, ℕ, ◌+◌, ◌≤◌, true, false, sym, ap, subst, ◌∙◌, arith}
+use Rattle.std.proofs.Common.{◌≡◌, ◌≢◌, ◌⊎◌, inl, inr, ℕ, ◌+◌, ◌≤◌, true, false, sym, ap, subst, ◌∙◌, arith}
 use Rattle.qs_base.specs.declared.identifiers.Class.TheVariants as classes
 use Rattle.qs_base.specs.declared.identifiers.Tid.{Tid}
 use Rattle.qs_ops.specs.Members.{class_of}
-use Rattle.qs_agree.specs.World.{World, Open, Immediate}
+use Rattle.qs_agree.specs.World.{World, Open, Committed, Immediate}
 use Rattle.qs_agree.specs.Carry.{Leads, IsLawful}
 use Rattle.qs_agree.specs.Guards.{Votes}
 use Rattle.qs_refine.specs.EventLaws.{CountGoes, IssueGoes, EngageGoes, CoverGoes, ServeGoes, ServeToldGoes, LendGoes, PrepareGoes, AgreeGoes, CommitGoes, CommitUnloggedGoes, TellGoes, NoticeGoes, CrashGoes}
@@ -39,7 +39,7 @@ all_posted tid x w n m i lawful shown at peer = posted_all w lawful (place n (x.
     peer_is = shown.stage.peers n m at.in_run peer.in_run at.up ∙ rw peer.knows (known_is m i peer.some)
 
 -- the home that is undecided has decided nothing
-undecided_cell : (tid : Tid) (x : Sight) (w : World) → IsLawful w → ShowsSight tid x w → Runs x tid.home.0 → x.inc tid.home.0 ≡ tid.inc → (x.face tid.home.0).outcome ≡ Open → w.cell ≡ Open
+pub undecided_cell : (tid : Tid) (x : Sight) (w : World) → IsLawful w → ShowsSight tid x w → Runs x tid.home.0 → x.inc tid.home.0 ≡ tid.inc → (x.face tid.home.0).outcome ≡ Open → w.cell ≡ Open
 undecided_cell tid x w lawful shown at first undecided = sym (lawful.agreed.kept (subst (λ (q : ℕ). w.up q ≡ true) home_is here.up)) ∙ subst (λ (q : ℕ). w.outcome q ≡ Open) home_is (here.outcome ∙ undecided)
   where
     home_is : place tid.home.0 (x.inc tid.home.0) ≡ w.home
@@ -59,10 +59,19 @@ issue tid x w n m i s lawful shown at peer may =
     let all = all_posted tid x w n m i lawful shown at peer in
     record {
       next = issuing.after_issue (place n (x.inc n)) m s w;
-      leads = issuing.leads tid x w n m i s shown at.in_run peer.in_run peer.other at.up peer.knows peer.some (lent may) below all;
-      shown = issuing.after tid x w n m i s shown at.in_run peer.in_run peer.other at.up peer.knows peer.some (lent may) below all;
+      leads = issuing.leads tid x w n m i s shown at.in_run peer.in_run peer.other at.up peer.knows peer.some (lent may) (running may) below all;
+      shown = issuing.after tid x w n m i s shown at.in_run peer.in_run peer.other at.up peer.knows peer.some (lent may) (running may) below all;
     }
   where
+    -- who is engaged, or is lent it, knows no commit
+    running : ((x.face n).on ≡ true) ⊎ (((x.face n).outcome ≡ Open) × (1 ≤ (x.face n).loans)) → (x.face n).outcome ≢ Committed
+    running (inl on) is =
+        let here = shown.faces n at.in_run at.up in
+        let passive = (lawful.settled (lawful.agreed.knows_commit (place n (x.inc n)) (here.outcome ∙ is))).passive (place n (x.inc n)) in
+        let engaged : w.engaged (place n (x.inc n)) ≡ true = here.engaged ∙ on in
+        cc (passive, engaged)
+    running (inr has) is = cc (has.0, is)
+
     lent : ((x.face n).on ≡ true) ⊎ (((x.face n).outcome ≡ Open) × (1 ≤ (x.face n).loans)) → ((x.face n).on ≡ true) ⊎ (1 ≤ w.loans (place n (x.inc n)))
     lent (inl on) = inl on
     lent (inr has) = inr (rw (((shown.faces n at.in_run at.up).running has.0).loans) has.1)

@@ -21,6 +21,7 @@ pub record Fresh (w : World) (q p : ℕ) : Type 0 where
   pub sets_back : (x : ℕ) → w.closer_set p q x (w.node w.home) ≡ false
   pub asks : 1 ≤ w.inquiries q → w.node q ≢ w.node w.home
   pub asks_below : w.inquiry_put q p ≤ w.inquiries q
+  pub asks_all : w.peer q (w.node p) ≡ p → 1 ≤ p → w.node p ≡ w.node w.home → w.inquiry_put q p ≡ w.inquiries q  -- what was asked was put for the home's place that is known
   pub asks_put : 1 ≤ w.inquiry_put q p → w.node q ≢ w.node w.home
   pub unnamed : w.outcome q ≡ Open → (n : ℕ) → w.named q n ≡ false  -- who knows no outcome has named nobody
 
@@ -97,6 +98,7 @@ by_yes_lost a q p w v c i x y z s = record {
   sets_back = λ k. grind (arith, nat_tests, i.sets_back k, x, s.3);
   asks = grind (arith, nat_tests, i.asks, s.3);
   asks_below = grind (arith, nat_tests, i.asks_below, s.3);
+  asks_all = grind (arith, nat_tests, i.asks_all, s.3);
   asks_put = grind (arith, nat_tests, i.asks_put, s.3);
   unnamed = grind (arith, nat_tests, i.unnamed, s.3);
 }

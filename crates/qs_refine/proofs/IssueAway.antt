@@ -1,5 +1,5 @@
 -- A request goes to another node that is known: Issue.
-use Rattle.std.proofs.Common.{◌≡◌, ◌⊎◌, inl, inr, ℕ, ◌+◌, ◌<◌, ◌≤◌, ◌==◌, Bool, true, false, [], ◌∷◌, Some, None, refl, sym, ap, ◌∙◌, arith, if◌then◌else◌}
+use Rattle.std.proofs.Common.{◌≡◌, ◌≢◌, ◌⊎◌, inl, inr, ℕ, ◌+◌, ◌<◌, ◌≤◌, ◌==◌, Bool, true, false, [], ◌∷◌, Some, None, refl, sym, ap, ◌∙◌, arith, if◌then◌else◌}
 use Rattle.std.specs.BTreeMap.{is_at}
 use Rattle.std.proofs.lemmas.Bool.{eqb-true}
 use Rattle.std.proofs.lemmas.Bool.Decides.{nat_tests}
@@ -20,7 +20,7 @@ use Rattle.qs_step.specs.Bringing.{is_other, send}
 use Rattle.qs_step.specs.Requests.{issue_away, enter_issue, ask_on, is_asked, label_of}
 use Rattle.qs_step.specs.State.{NodeValue, Work, part_of, with_manager}
 use Rattle.qs_agree.specs.World.{World, Open, with_at}
-use Rattle.qs_agree.specs.Carry.{IsLawful}
+use Rattle.qs_agree.specs.Carry.{Leads, IsLawful}
 use Rattle.qs_refine.specs.Links.{node_no, Requested}
 use Rattle.qs_refine.specs.Messages.{said}
 use Rattle.qs_refine.specs.NodeFaces.{face, face_at, loans_at}
@@ -93,21 +93,21 @@ module _ (tid : Tid) (m : ℕ) (request : Outstanding) (node : NodeValue) (manag
 
 -- ---- the rule
 
-module _ (tid : Tid) (scene : Scene) (n m i : ℕ) (request : Outstanding) (op : Op) (work : Work) (part : Participant) (w : World)
-    (at : IsAt scene n work) (peer : IsKnown scene n m i) (to_is : request.member.node ≡ node_no m)
+module _ (tid : Tid) (scene : Scene) (n m : ℕ) (request : Outstanding) (op : Op) (work : Work) (part : Participant) (w : World)
+    (at : IsAt scene n work) (in_run : m < scene.size) (other : m ≢ n) (to_is : request.member.node ≡ node_no m)
     (knows : Knows tid work part) (undecided : part.outcome ≡ None) (numbered : next_sent (node_no m) part.engage ≡ Some request.number)
     (may : ((face work.node tid part).on ≡ true) ⊎ (1 ≤ loans_at work.node tid))
     (lawful : IsLawful w) (shown : ShowsWork tid scene n work w) where
-  abbrev before : Work
+  abbrev pub before : Work
   before = with_manager (tm.sent tid request.member.node) (enter_issue tid request op work)
 
-  abbrev message : Message
+  abbrev pub message : Message
   message = messages.Request tid (label_of tid work.node) request.member request.number request.issuer op
 
   face_before : (sight_during tid scene n work).face n ≡ face work.node tid part
   face_before = face_here tid scene n work ∙ ap (λ (p : Participant). face work.node tid p) (part_known tid work.node part knows.known)
 
-  may_now : (((sight_during tid scene n work).face n).on ≡ true) ⊎ ((((sight_during tid scene n work).face n).outcome ≡ Open) × (1 ≤ ((sight_during tid scene n work).face n).loans))
+  pub may_now : (((sight_during tid scene n work).face n).on ≡ true) ⊎ ((((sight_during tid scene n work).face n).outcome ≡ Open) × (1 ≤ ((sight_during tid scene n work).face n).loans))
   may_now = by may
     where
       by : ((face work.node tid part).on ≡ true) ⊎ (1 ≤ loans_at work.node tid) → (((sight_during tid scene n work).face n).on ≡ true) ⊎ ((((sight_during tid scene n work).face n).outcome ≡ Open) × (1 ≤ ((sight_during tid scene n work).face n).loans))
@@ -115,7 +115,7 @@ module _ (tid : Tid) (scene : Scene) (n m i : ℕ) (request : Outstanding) (op :
       by (inr some) = inr (rw (face_before, undecided) (refl, some))
 
   goes_out : is_other before.node.setting request.member.node ≡ true
-  goes_out = rw (at.node, at.nodes, to_is) (grind (arith, nat_tests, peer.other, peer.in_run))
+  goes_out = rw (at.node, at.nodes, to_is) (grind (arith, nat_tests, other, in_run))
 
   number_left : ((peer_of part.engage (node_no m)).sent == last_number) ≡ false
   number_left = by ((peer_of part.engage (node_no m)).sent == last_number) refl numbered
@@ -139,34 +139,35 @@ module _ (tid : Tid) (scene : Scene) (n m i : ℕ) (request : Outstanding) (op :
       lookup_changed (is_at (tid_cmp tid)) (participant.sent request.member.node) _ (participant.issued request part)
       (lookup_changed (is_at (tid_cmp tid)) (participant.issued request) work.node.manager.known part knows.known)
 
-  quiet : Quiet tid work before
+  pub quiet : Quiet tid work before
   quiet = record { sends = λ q. refl; logs = λ log. found_itself tid _ }
 
-  same_face : SameFace (record ((sight_during tid scene n work).face n) { sent = with_at ((sight_during tid scene n work).face n).sent m (((sight_during tid scene n work).face n).sent m + 1); involved = true }) (face_at before.node tid)
+  pub same_face : SameFace (record ((sight_during tid scene n work).face n) { sent = with_at ((sight_during tid scene n work).face n).sent m (((sight_during tid scene n work).face n).sent m + 1); involved = true }) (face_at before.node tid)
   same_face = rw (face_before, part_known tid before.node (issued_part tid request part) known_after)
-      (face_issued tid m request work.node before.node.manager part knows.whole (omega (arith, peer.in_run, shown.stage.small)) to_is number_left undecided)
+      (face_issued tid m request work.node before.node.manager part knows.whole (omega (arith, in_run, shown.stage.small)) to_is number_left undecided)
 
-  turn : SightGoes tid (sight_issued (sight_during tid scene n work) n m i request.member.server.0) w
-  turn = event.issue tid (sight_during tid scene n work) w n m i request.member.server.0 lawful shown (runs tid scene n work at) (meets tid scene n m i work peer) may_now
-
-  request_said : said tid message ≡ Requested (((sight_during tid scene n work).face n).sent m + 1) request.member.server.0 ∷ []
+  pub request_said : said tid message ≡ Requested (((sight_during tid scene n work).face n).sent m + 1) request.member.server.0 ∷ []
   request_said = rw (tid_same tid, face_before, number_is) refl
 
-  request_shown : ShowsWork tid scene n (sent_work request.member.node message before) turn.next
-  request_shown = put_shown tid scene n request.member.node message (Requested (((sight_during tid scene n work).face n).sent m + 1) request.member.server.0) work before turn.next quiet request_said m i (ap (λ (k : Rattle.qs_base.specs.declared.identifiers.NodeNo.NodeNo). k.0) to_is) peer.knows peer.some
-      (record ((sight_during tid scene n work).face n) { sent = with_at ((sight_during tid scene n work).face n).sent m (((sight_during tid scene n work).face n).sent m + 1); involved = true })
-      turn.shown same_face
+  -- what the machine shows once the request was put or waits, the node shows once it also asked for the vote
+  pub issued_goes : (v : World) → Leads w v → ShowsWork tid scene n (sent_work request.member.node message before) v → Goes tid scene n (issue_away tid request op work) w
+  issued_goes v leads sent = record { next = v; leads = leads; shown = ask_shown (is_asked tid work) (send request.member.node message before) v (rw (send_is request.member.node message before goes_out) sent) }
+    where
+      ask_shown : (asked : Bool) (sent : Work) (v : World) → ShowsWork tid scene n sent v → ShowsWork tid scene n (ask_on asked tid request.member.node sent) v
+      ask_shown false sent v is = is
+      ask_shown true sent v is = leaves_shown tid scene n sent (send request.member.node (messages.AskVote tid) sent) v (send_leaves tid request.member.node (messages.AskVote tid) sent refl) is
 
-  ask_shown : (asked : Bool) (sent : Work) → ShowsWork tid scene n sent turn.next → ShowsWork tid scene n (ask_on asked tid request.member.node sent) turn.next
-  ask_shown false sent is = is
-  ask_shown true sent is = leaves_shown tid scene n sent (send request.member.node (messages.AskVote tid) sent) turn.next (send_leaves tid request.member.node (messages.AskVote tid) sent refl) is
+  module _ (i : ℕ) (peer : IsKnown scene n m i) where
+    turn : SightGoes tid (sight_issued (sight_during tid scene n work) n m i request.member.server.0) w
+    turn = event.issue tid (sight_during tid scene n work) w n m i request.member.server.0 lawful shown (runs tid scene n work at) (meets tid scene n m i work peer) may_now
 
-  pub issue_goes : Goes tid scene n (issue_away tid request op work) w
-  issue_goes = record {
-    next = turn.next;
-    leads = turn.leads;
-    shown = ask_shown (is_asked tid work) (send request.member.node message before) (rw (send_is request.member.node message before goes_out) request_shown);
-  }
+    request_shown : ShowsWork tid scene n (sent_work request.member.node message before) turn.next
+    request_shown = put_shown tid scene n request.member.node message (Requested (((sight_during tid scene n work).face n).sent m + 1) request.member.server.0) work before turn.next quiet request_said m i (ap (λ (k : Rattle.qs_base.specs.declared.identifiers.NodeNo.NodeNo). k.0) to_is) peer.knows peer.some
+        (record ((sight_during tid scene n work).face n) { sent = with_at ((sight_during tid scene n work).face n).sent m (((sight_during tid scene n work).face n).sent m + 1); involved = true })
+        turn.shown same_face
+
+    pub issue_goes : Goes tid scene n (issue_away tid request op work) w
+    issue_goes = issued_goes turn.next turn.leads request_shown
 
 -- ---- every other transaction
 

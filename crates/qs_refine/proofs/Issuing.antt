@@ -2,7 +2,7 @@
 use Rattle.std.proofs.Common.{◌≡◌, ◌≢◌, ◌⊎◌, inl, inr, ℕ, ◌+◌, ◌<◌, ◌≤◌, true, [], ◌∷◌, ◌++◌, arith, refl, sym, ◌∙◌, ap}
 use Rattle.std.proofs.lemmas.Bool.Decides.{nat_tests}
 use Rattle.qs_base.specs.declared.identifiers.Tid.{Tid}
-use Rattle.qs_agree.specs.World.{World, with_at, with_at2, with_at3}
+use Rattle.qs_agree.specs.World.{World, Committed, with_at, with_at2, with_at3}
 use Rattle.qs_agree.specs.Guards.{held, held_at}
 use Rattle.qs_agree.specs.Step.{Step, Issue}
 use Rattle.qs_agree.specs.Carry.{Leads}
@@ -40,6 +40,7 @@ stays_issue p m s a b w v below other step = record {
     live = grind (arith, step);
     received = grind (arith, step);
     taken = grind (arith, step);
+    to_home = grind (arith, nat_tests, step);
     inquiry_taken = grind (arith, step);
     server = λ k in_posted. grind (arith, nat_tests, below a b, in_posted, step);
     closer = grind (arith, step);
@@ -60,6 +61,7 @@ carries_issue p m s b w v below step = record {
   live = grind (arith, step);
   received = grind (arith, step);
   taken = grind (arith, step);
+  to_home = grind (arith, nat_tests, step);
   inquiry_taken = grind (arith, step);
   server = λ k in_posted. grind (arith, nat_tests, below p b, in_posted, step);
   closer = grind (arith, step);
@@ -99,7 +101,7 @@ same_logs p m s w v step = rw step.3 (record { prepared = refl; commit_logged = 
 module _ (tid : Tid) (x : Sight) (w : World) (n m i s : ℕ)
     (shown : ShowsSight tid x w) (n_in : n < x.size) (m_in : m < x.size) (other : m ≢ n) (is_up : x.up n ≡ true) (knows : x.knows n m ≡ i) (some : 1 ≤ i)
     (may : ((x.face n).on ≡ true) ⊎ (1 ≤ w.loans (place n (x.inc n))))
-    (below : Posted w) (all : w.posted (place n (x.inc n)) (place m i) ≡ w.sent (place n (x.inc n)) m) where
+    (running : (x.face n).outcome ≢ Committed) (below : Posted w) (all : w.posted (place n (x.inc n)) (place m i) ≡ w.sent (place n (x.inc n)) m) where
   abbrev pub p : ℕ
   p = place n (x.inc n)
 
@@ -125,7 +127,7 @@ module _ (tid : Tid) (x : Sight) (w : World) (n m i s : ℕ)
   new_link : x.up m ≡ true → i ≡ x.inc m → IsLink (link v p (place m i)) (x.said n (x.inc n) m i ++ Requested ((x.face n).sent m + 1) s ∷ [])
   new_link m_up now = behind (x.said n (x.inc n) m i) (Requested ((x.face n).sent m + 1) s ∷ []) (link w p (place m i)) (link v p (place m i)) (carries_issue p m s (place m i) w v below step) here.up
       (shown.links n (x.inc n) m i n_in m_in m_up now)
-      (next_issue p m s (place m i) ((x.face n).sent m + 1) w v (shown.stage.nodes m i m_in) peer_is all (ap (λ (k : ℕ). k + 1) (sym (here.sent m))) step)
+      (next_issue p m s (place m i) ((x.face n).sent m + 1) w v (shown.stage.nodes m i m_in) peer_is all (ap (λ (k : ℕ). k + 1) (sym (here.sent running m))) step)
 
   pub after : ShowsSight tid (sight_issued x n m i s) v
   after = record {

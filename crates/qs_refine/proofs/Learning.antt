@@ -1,19 +1,17 @@
--- A node that is told an outcome learns it or acknowledges it: Learn, Learn_abort, Acknowledge and Name_again.
+-- A node that is told commit learns or acknowledges it: Learn and Acknowledge.
 use Rattle.std.proofs.Common.{◌≡◌, ◌≢◌, ◌⊎◌, inl, inr, ℕ, ◌<◌, Bool, true, false, List, [], ◌∷◌, ◌++◌, arith, refl, sym, ◌∙◌, ap, if◌then◌else◌}
 use Rattle.std.proofs.lemmas.Bool.Decides.{nat_tests}
 use Rattle.qs_base.specs.declared.identifiers.Tid.{Tid}
 use Rattle.qs_restart.specs.Recovery.{Recovery}
-use Rattle.qs_agree.specs.World.{World, Open, Committed, Aborted, with_at}
-use Rattle.qs_agree.specs.Guards.{names}
-use Rattle.qs_agree.specs.Step.{Step, Learn, Learn_abort, Acknowledge, Name_again}
-use Rattle.qs_refine.specs.EventLaws.{LearnGoes, LearnAbortGoes, AcknowledgeGoes, NameAgainGoes}
+use Rattle.qs_agree.specs.World.{World, Open, Committed, with_at}
+use Rattle.qs_agree.specs.Step.{Step, Learn, Acknowledge}
+use Rattle.qs_refine.specs.EventLaws.{LearnGoes, AcknowledgeGoes}
 use Rattle.qs_refine.specs.Faces.{Face, ShowsFace}
 use Rattle.qs_refine.specs.Links.{Said, Link, link, waiting_link, IsLink}
 use Rattle.qs_refine.specs.Places.{place}
 use Rattle.qs_refine.specs.Seen.{Runs, Meets, sight_taken, sight_said, sight_learnt}
 use Rattle.qs_refine.specs.Sights.{Sight, ShowsSight, ShowsLog, is_in_doubt}
 use Rattle.qs_refine.proofs.Around.{faces_around, links_around}
-use Rattle.qs_refine.proofs.FreshRuns.{fresh}
 use Rattle.qs_refine.proofs.Local.{Local, local_sight}
 use Rattle.qs_refine.proofs.Still.{SameStage, stage_still, at_one}
 use Rattle.qs_refine.proofs.Streams.{Stays, still, carries_itself, behind, ended}
@@ -25,7 +23,7 @@ same_stage : (w : World) → SameStage w w
 same_stage w = record { node = refl; class = refl; home = refl; present = refl; up = refl; peer = refl }
 
 stays_itself : (l : Link) → Stays l l
-stays_itself l = record { carries = carries_itself l; posted = refl; closers = refl; inquiry_put = refl }
+stays_itself l = record { carries = carries_itself l; posted = refl; closers = refl; inquiry_put = λ _. refl }
 
 -- what comes first on a link is one that the machine's link doesn't count
 pub uncounted_taken : (tid : Tid) (x : Sight) (w : World) (n m i : ℕ) (rest : List Said) → ShowsSight tid x w → Runs x n → Meets x n m i → IsLink (link w (place m i) (place n (x.inc n))) rest → ShowsSight tid (sight_taken x n m i (x.face n) rest) w
@@ -80,7 +78,7 @@ learn_face q w v f i e = record {
   superior = grind (arith, i.superior, e);
   last = grind (arith, i.last, e);
   last_new = grind (arith, i.last_new, e);
-  sent = grind (arith, i.sent, e);
+  sent = λ running. absurd (running refl);
   told_in = grind (arith, i.told_in, e);
   tell = λ is. absurd (cc is);
   running = λ is. absurd (cc is);
@@ -175,111 +173,3 @@ acknowledge tid x w n shown at told met elsewhere home_in may = record {
 
     step : Step (Acknowledge (place n (x.inc n))) w (after_ack (place n (x.inc n)) w)
     step = ((ap w.tell_commit node_q ∙ told, here.up, home_apart tid x w n shown at elsewhere home_in, (λ e. met (sym (ap (w.peer (place n (x.inc n))) home_node) ∙ e))), may_now may, refl)
-
--- ---- Name_again
-
-abbrev pub after_name : ℕ → World → World
-after_name q old = record old {
-  named = with_at old.named q (λ n. if old.named q n then true else names old q n);
-}
-
-name_links : (q : ℕ) (a b : ℕ) (w v : World) → Step (Name_again q) w v → Stays (link w a b) (link v a b)
-name_links q a b w v e = record { carries = grind (arith, nat_tests, e); posted = grind (arith, e); closers = grind (arith, e); inquiry_put = grind (arith, e) }
-
-name_waiting : (q : ℕ) (a b : ℕ) (w v : World) → Step (Name_again q) w v → Stays (waiting_link w a b) (waiting_link v a b)
-name_waiting q a b w v e = record { carries = grind (arith, nat_tests, e); posted = grind (arith, e); closers = grind (arith, e); inquiry_put = grind (arith, e) }
-
-name_others : (q : ℕ) (k : ℕ) (w v : World) (f : Face) → k ≢ q → ShowsFace f k w → Step (Name_again q) w v → ShowsFace f k v
-name_others q k w v f other i e = grind (arith, nat_tests, other, i, e)
-
-pub name_local : (q : ℕ) (w v : World) → Step (Name_again q) w v → Local q w v
-name_local q w v e = record {
-  stage = rw e.3 (record { node = refl; class = refl; home = refl; present = refl; up = refl; peer = refl });
-  logs = rw e.3 (record { prepared = refl; commit_logged = refl; unended = refl; commit_list = refl });
-  links = λ a b. name_links q a b w v e;
-  waiting = λ a b. name_waiting q a b w v e;
-  others = λ k f other i. name_others q k w v f other i e;
-}
-
-name_face : (q : ℕ) (w v : World) (f : Face) → ShowsFace f q w → Step (Name_again q) w v → ShowsFace f q v
-name_face q w v f i e = grind (arith, nat_tests, i, e)
-
-pub name_again : NameAgainGoes
-name_again tid x w n shown at aborted elsewhere home_in = record {
-  next = after_name (place n (x.inc n)) w;
-  leads = record { events = Name_again (place n (x.inc n)) ∷ []; run = (after_name (place n (x.inc n)) w, step, refl) };
-  shown = local_sight tid x w (after_name (place n (x.inc n)) w) n (x.face n) shown at.in_run (name_local (place n (x.inc n)) w (after_name (place n (x.inc n)) w) step) (name_face (place n (x.inc n)) w (after_name (place n (x.inc n)) w) (x.face n) here step);
-}
-  where
-    here : ShowsFace (x.face n) (place n (x.inc n)) w
-    here = shown.faces n at.in_run at.up
-
-    step : Step (Name_again (place n (x.inc n))) w (after_name (place n (x.inc n)) w)
-    step = (here.up, home_apart tid x w n shown at elsewhere home_in, here.outcome ∙ aborted, refl)
-
--- ---- Learn_abort
-
-abbrev pub after_abort : ℕ → World → World
-after_abort q old = record old {
-  outcome = with_at old.outcome q Aborted;
-  named = with_at old.named q (names old q);
-  learnt_abort = with_at old.learnt_abort (old.node q) true;
-}
-
-abort_links : (q : ℕ) (a b : ℕ) (w v : World) → ((m : ℕ) → w.named q m ≡ false) → Step (Learn_abort q) w v → Stays (link w a b) (link v a b)
-abort_links q a b w v none e = record { carries = grind (arith, nat_tests, none, e); posted = grind (arith, e); closers = grind (arith, e); inquiry_put = grind (arith, e) }
-
-abort_waiting : (q : ℕ) (a b : ℕ) (w v : World) → ((m : ℕ) → w.named q m ≡ false) → Step (Learn_abort q) w v → Stays (waiting_link w a b) (waiting_link v a b)
-abort_waiting q a b w v none e = record { carries = grind (arith, nat_tests, none, e); posted = grind (arith, e); closers = grind (arith, e); inquiry_put = grind (arith, e) }
-
-abort_others : (q : ℕ) (k : ℕ) (w v : World) (f : Face) → k ≢ q → ShowsFace f k w → Step (Learn_abort q) w v → ShowsFace f k v
-abort_others q k w v f other i e = grind (arith, nat_tests, other, i, e)
-
-pub abort_local : (q : ℕ) (w v : World) → ((m : ℕ) → w.named q m ≡ false) → Step (Learn_abort q) w v → Local q w v
-abort_local q w v none e = record {
-  stage = rw e.2 (record { node = refl; class = refl; home = refl; present = refl; up = refl; peer = refl });
-  logs = rw e.2 (record { prepared = refl; commit_logged = refl; unended = refl; commit_list = refl });
-  links = λ a b. abort_links q a b w v none e;
-  waiting = λ a b. abort_waiting q a b w v none e;
-  others = λ k f other i. abort_others q k w v f other i e;
-}
-
-abort_face : (q : ℕ) (w v : World) (f : Face) → ((m : ℕ) → f.tell m ≡ false) → ShowsFace f q w → Step (Learn_abort q) w v → ShowsFace (record f { outcome = Aborted }) q v
-abort_face q w v f nobody i e = record {
-  up = grind (arith, i.up, e);
-  outcome = grind (arith, nat_tests, e);
-  engaged = grind (arith, i.engaged, e);
-  superior = grind (arith, i.superior, e);
-  last = grind (arith, i.last, e);
-  last_new = grind (arith, i.last_new, e);
-  sent = grind (arith, i.sent, e);
-  told_in = grind (arith, i.told_in, e);
-  tell = λ _ m has. absurd (none m has);
-  running = λ is. absurd (cc is);
-}
-  where
-    none : (m : ℕ) → f.tell m ≡ true → ⊥
-    none m has = let off : f.tell m ≡ false = nobody m in cc (has, off)
-
-pub learn_abort : LearnAbortGoes
-learn_abort tid x w n lawful shown at undecided told met elsewhere home_in nobody = record {
-  next = after_abort (place n (x.inc n)) w;
-  leads = record { events = Learn_abort (place n (x.inc n)) ∷ []; run = (after_abort (place n (x.inc n)) w, step, refl) };
-  shown = local_sight tid x w (after_abort (place n (x.inc n)) w) n (record (x.face n) { outcome = Aborted }) shown at.in_run (abort_local (place n (x.inc n)) w (after_abort (place n (x.inc n)) w) unnamed step)
-      (abort_face (place n (x.inc n)) w (after_abort (place n (x.inc n)) w) (x.face n) nobody here step);
-}
-  where
-    here : ShowsFace (x.face n) (place n (x.inc n)) w
-    here = shown.faces n at.in_run at.up
-
-    unnamed : (m : ℕ) → w.named (place n (x.inc n)) m ≡ false
-    unnamed = (fresh w lawful (place n (x.inc n)) 0).unnamed (here.outcome ∙ undecided)
-
-    node_q : w.node (place n (x.inc n)) ≡ n
-    node_q = shown.stage.nodes n (x.inc n) at.in_run
-
-    home_node : w.node w.home ≡ tid.home.0
-    home_node = ap w.node shown.stage.home ∙ shown.stage.nodes tid.home.0 tid.inc home_in
-
-    step : Step (Learn_abort (place n (x.inc n))) w (after_abort (place n (x.inc n)) w)
-    step = ((ap w.tell_abort node_q ∙ told, here.up, home_apart tid x w n shown at elsewhere home_in, (λ e. met (sym (ap (w.peer (place n (x.inc n))) home_node) ∙ e))), here.outcome ∙ undecided, refl)

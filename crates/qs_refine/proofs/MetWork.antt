@@ -20,7 +20,7 @@ use Rattle.qs_refine.proofs.Maps.{lookup_put}
 use Rattle.qs_refine.proofs.Reading.{SameAround, face_around, part_known}
 use Rattle.qs_refine.proofs.Requested.{label_leaves, label_manager}
 
-tid_itself : (tid : Tid) → tid_cmp tid tid ≡ Equal
+pub tid_itself : (tid : Tid) → tid_cmp tid tid ≡ Equal
 tid_itself tid = grind (arith, nat_tests)
 
 module _ (tid : Tid) (work : Work) (label : List ℕ) (not_home : same_node tid.home (here work) ≡ false) (node_is : work.node.manager.node ≡ work.node.setting.node) where

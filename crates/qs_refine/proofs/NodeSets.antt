@@ -1,18 +1,19 @@
 -- Which nodes are in a set that is built from a list or from a test, and which a set lists.
-use Rattle.std.proofs.Common.{◌≡◌, ℕ, ◌<◌, ◌≤◌, ◌==◌, ◌&&◌, ◌||◌, Bool, true, false, List, [], ◌∷◌, ◌++◌, length, fold, arith, refl, sym, subst, ap, ◌∙◌, if◌then◌else◌}
+use Rattle.std.proofs.Common.{◌≡◌, ℕ, ◌<◌, ◌≤◌, ◌==◌, ◌&&◌, ◌||◌, not, Bool, true, false, List, [], ◌∷◌, ◌++◌, length, fold, arith, refl, sym, subst, ap, ◌∙◌, if◌then◌else◌}
 use Rattle.std.specs.Prelude.{nat_lt}
+use Rattle.std.specs.List.{list_any}
 use Rattle.std.proofs.lemmas.Bool.{eqb-true}
 use Rattle.std.proofs.lemmas.Bool.Decides.{nat_tests}
 use Rattle.std.proofs.lemmas.List.{length-set, get_or_past, get_or-set_other}
 use Rattle.qs_base.specs.declared.identifiers.NodeNo.{NodeNo}
-use Rattle.qs_engage.specs.Nodes.{all_nodes, has_node, put_node, put_where, joined, with_listed, listed}
+use Rattle.qs_engage.specs.Nodes.{all_nodes, has_node, put_node, is_no_node, put_where, joined, with_listed, listed}
 use Rattle.qs_engage.specs.declared.nodes.Nodes.{Nodes}
 use Rattle.qs_refine.specs.Links.{node_no, names_node}
 use Rattle.qs_refine.proofs.Arrays.{node_put}
 
 -- ---- a list of nodes is put into a set
 
-put_length : (nodes : Nodes) (node : NodeNo) → length (put_node nodes node).has ≡ length nodes.has
+pub put_length : (nodes : Nodes) (node : NodeNo) → length (put_node nodes node).has ≡ length nodes.has
 put_length nodes node = length-set nodes.has node.0 true
 
 pub joined_length : (more : List NodeNo) (nodes : Nodes) → length (joined nodes more).has ≡ length nodes.has
@@ -67,7 +68,7 @@ none_past k past = grind (arith, nat_tests, past)
 
 -- ---- the nodes that pass a test
 
-where_length : (test : NodeNo → Bool) (list : List NodeNo) (nodes : Nodes) → length (fold (put_where test) nodes list).has ≡ length nodes.has
+pub where_length : (test : NodeNo → Bool) (list : List NodeNo) (nodes : Nodes) → length (fold (put_where test) nodes list).has ≡ length nodes.has
 where_length test [] nodes = refl
 where_length test (node ∷ list) nodes = by (test node) (where_length test list (put_node nodes node)) (where_length test list nodes)
   where
@@ -132,3 +133,25 @@ listed_has nodes k whole = list_has nodes k all_nodes [] ∙ by (nat_lt k 16) re
     by false past =
         ap (λ (b : Bool). b && has_node nodes (node_no k)) (none_past k (grind (arith, nat_tests, past)))
         ∙ sym (get_or_past nodes.has k false (rw whole (grind (arith, nat_tests, past))))
+
+none_of : (nodes : Nodes) (k : ℕ) (list : List NodeNo) → list_any (has_node nodes) list ≡ false → names_node list (node_no k) ≡ true → has_node nodes (node_no k) ≡ false
+none_of nodes k [] clear named = absurd (cc named)
+none_of nodes k (node ∷ list) clear named = here (has_node nodes node) (k == node.0) refl refl clear named (none_of nodes k list)
+  where
+    here : (b c : Bool) → has_node nodes node ≡ b → (k == node.0) ≡ c → (b || list_any (has_node nodes) list) ≡ false → (c || names_node list (node_no k)) ≡ true
+        → (list_any (has_node nodes) list ≡ false → names_node list (node_no k) ≡ true → has_node nodes (node_no k) ≡ false) → has_node nodes (node_no k) ≡ false
+    here true c has is clear named more = absurd (cc clear)
+    here false true has is clear named more = ap (λ (n : ℕ). has_node nodes (node_no n)) (eqb-true k node.0 is) ∙ has
+    here false false has is clear named more = more clear named
+
+-- an empty set has none
+pub none_listed : (nodes : Nodes) (k : ℕ) → length nodes.has ≡ 16 → is_no_node nodes ≡ true → has_node nodes (node_no k) ≡ false
+none_listed nodes k whole none = by (nat_lt k 16) refl
+  where
+    off : (b : Bool) → not b ≡ true → b ≡ false
+    off true is = absurd (cc is)
+    off false is = refl
+
+    by : (b : Bool) → nat_lt k 16 ≡ b → has_node nodes (node_no k) ≡ false
+    by true below = none_of nodes k all_nodes (off (list_any (has_node nodes) all_nodes) none) (all_named k (grind (arith, nat_tests, below)))
+    by false past = get_or_past nodes.has k false (rw whole (grind (arith, nat_tests, past)))

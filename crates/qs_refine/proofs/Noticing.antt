@@ -3,7 +3,7 @@ use Rattle.std.proofs.Common.{◌≡◌, ◌≢◌, ℕ, ◌+◌, ◌*◌, ◌<�
 use Rattle.std.proofs.lemmas.Bool.{eqb-true}
 use Rattle.std.proofs.lemmas.Bool.Decides.{nat_tests}
 use Rattle.qs_base.specs.declared.identifiers.Tid.{Tid}
-use Rattle.qs_agree.specs.World.{World, with_at, with_at2}
+use Rattle.qs_agree.specs.World.{World, Open, with_at, with_at2}
 use Rattle.qs_agree.specs.Step.{Step, Notice}
 use Rattle.qs_agree.specs.Carry.{Leads}
 use Rattle.qs_refine.specs.Places.{place, known_place}
@@ -42,7 +42,7 @@ notice_other p q k w v f other i s = grind (arith, nat_tests, other, i, s)
 module _ (tid : Tid) (x : Sight) (w : World) (n m i new : ℕ) (blocked : Bool)
     (shown : ShowsSight tid x w) (n_in : n < x.size) (m_in : m < x.size) (other : m ≢ n) (is_up : x.up n ≡ true) (knows : x.knows n m ≡ i) (some : 1 ≤ i) (later : i < new) (begun : new ≤ x.inc m)
     (nothing : x.said n (x.inc n) m new ≡ [])
-    (owed : blocked ≡ false → ((x.face n).blocked ≡ false) × (w.covered (place n (x.inc n)) m ≡ (x.face n).sent m))
+    (owed : (x.face n).outcome ≡ Open → blocked ≡ false → ((x.face n).blocked ≡ false) × (w.covered (place n (x.inc n)) m ≡ (x.face n).sent m))
     (known : Knows w (place n (x.inc n))) where
   abbrev pub p : ℕ
   p = place n (x.inc n)
@@ -89,8 +89,8 @@ module _ (tid : Tid) (x : Sight) (w : World) (n m i new : ℕ) (blocked : Bool)
       same : (f : Face) (a b o : ℕ) (u : World) → a ≡ b → ShowsFace (record f { last = with_at f.last a 0; blocked = blocked }) o u → ShowsFace (record f { last = with_at f.last b 0; blocked = blocked }) o u
       same f a b o u e i = rw (sym e) i
 
-      settled : blocked ≡ false → ((x.face n).blocked ≡ false) × (w.covered p (w.node q) ≡ w.sent p (w.node q))
-      settled free = let o = owed free in (o.0, ap (w.covered p) node_q ∙ (o.1 ∙ sym (here.sent m)) ∙ ap (w.sent p) (sym node_q))
+      settled : (x.face n).outcome ≡ Open → blocked ≡ false → ((x.face n).blocked ≡ false) × (w.covered p (w.node q) ≡ w.sent p (w.node q))
+      settled undecided free = let o = owed undecided free in (o.0, ap (w.covered p) node_q ∙ (o.1 ∙ sym (here.sent (λ is. cc (is, undecided)) m)) ∙ ap (w.sent p) (sym node_q))
 
   links_after : (a k b l : ℕ) → a < x.size → b < x.size → x.up b ≡ true → l ≡ x.inc b → IsLink (link v (place a k) (place b l)) (x.said a k b l)
   links_after a k b l a_in b_in b_up now = by (a == n) (k == x.inc n) (b == m) (l == new) refl refl refl refl

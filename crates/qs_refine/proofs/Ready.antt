@@ -17,7 +17,7 @@ is_ready f q w counts i r = record {
   loans = o.loans ∙ r.loans;
   served = λ s. served s (o.waits s) (r.waits s);
   voted = λ s votes. voted s (o.uncast s votes) (r.voted s votes) (o.waits s) (r.waits s);
-  covered = λ m. covered m (o.covered m) (i.sent m) (r.covered m) (counts m);
+  covered = λ m. covered m (o.covered m) (i.sent (λ is. cc (is, r.undecided)) m) (r.covered m) (counts m);
 }
   where
     o : ShowsOpen f q w

@@ -41,6 +41,7 @@ refuse_back q p w v apart step = record {
   live = grind (arith, step);
   received = grind (arith, nat_tests, apart, step);
   taken = grind (arith, step);
+  to_home = grind (arith, nat_tests, step);
   inquiry_taken = grind (arith, step);
   server = grind (arith, step);
   closer = λ k in_put. grind (arith, nat_tests, in_put, step);

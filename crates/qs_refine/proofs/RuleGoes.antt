@@ -52,7 +52,7 @@ covered tid scene n m i up_to rest work part w lawful shown at next knows undeci
 
 pub issue_away : IssueAwayGoes
 issue_away tid scene n m i request op work part w lawful shown at peer to_is knows undecided numbered may =
-    issue_goes tid scene n m i request op work part w at peer to_is knows undecided numbered may lawful shown
+    issue_goes tid scene n m request op work part w at peer.in_run peer.other to_is knows undecided numbered may lawful shown i peer
 
 pub recoverable : RecoverableGoes
 recoverable tid scene n s work part w shown at knows undecided server_in may class =

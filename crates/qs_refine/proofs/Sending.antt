@@ -54,16 +54,16 @@ all_four true true false d e = absurd (cc e)
 all_four true true true false e = absurd (cc e)
 
 module _ (tid : Tid) (scene : Scene) (n : ℕ) (to : NodeNo) (message : Message) (sendings : List Sending) where
-  abbrev more : List Sending
+  abbrev pub more : List Sending
   more = sendings ++ record { to = to; message = message } ∷ []
 
-  sent_here : all_said tid (sent_to to.0 more) ≡ all_said tid (sent_to to.0 sendings) ++ said tid message
+  pub sent_here : all_said tid (sent_to to.0 more) ≡ all_said tid (sent_to to.0 sendings) ++ said tid message
   sent_here = sent_more tid to.0 to message sendings ∙ by (to.0 == to.0) (same_number to.0)
     where
       by : (b : Bool) → b ≡ true → all_said tid (sent_to to.0 sendings) ++ (if b then said tid message else []) ≡ all_said tid (sent_to to.0 sendings) ++ said tid message
       by b e = rw e refl
 
-  sent_there : (b : ℕ) → (to.0 == b) ≡ false → all_said tid (sent_to b more) ≡ all_said tid (sent_to b sendings)
+  pub sent_there : (b : ℕ) → (to.0 == b) ≡ false → all_said tid (sent_to b more) ≡ all_said tid (sent_to b sendings)
   sent_there b other = sent_more tid b to message sendings ∙ by (to.0 == b) other
     where
       by : (c : Bool) → c ≡ false → all_said tid (sent_to b sendings) ++ (if c then said tid message else []) ≡ all_said tid (sent_to b sendings)

@@ -25,7 +25,7 @@ use Rattle.qs_refine.specs.Sights.{Sight}
 use Rattle.qs_refine.specs.Starts.{IsNewFace, SaysNothing, begins_at, IsUnseen, MayBegin, HasNoRecord}
 use Rattle.qs_refine.proofs.StartLogs.{says_nothing, unknown_there}
 
-alike_at : {X : Type 0} (k m : ℕ) (x : X) → slice_index_or (replicate k x) m x ≡ x
+pub alike_at : {X : Type 0} (k m : ℕ) (x : X) → slice_index_or (replicate k x) m x ≡ x
 alike_at {X} k m x = by (nat_lt m k) refl
   where
     by : (b : Bool) → nat_lt m k ≡ b → slice_index_or (replicate k x) m x ≡ x

@@ -45,7 +45,7 @@ module _ (tid : Tid) (x : Sight) (u : IsUnseen tid x) where
     superior = λ on away. absurd (cc (f.on, f.is_home, on, away));
     last = λ on away. absurd (cc (f.on, f.is_home, on, away));
     last_new = λ p late. refl;
-    sent = λ m. sym (f.sent m);
+    sent = λ _ m. sym (f.sent m);
     told_in = λ m has. absurd (cc (f.told m, has));
     tell = λ is m has. absurd (cc (f.tell m, has));
     running = λ is. record {
@@ -82,11 +82,11 @@ module _ (tid : Tid) (x : Sight) (u : IsUnseen tid x) where
 
   nothing_said : (p q : ℕ) (said : List Said) → said ≡ [] → IsLink (link w p q) said
   nothing_said p q said none = subst (λ (s : List Said). IsLink (link w p q) s) (sym none)
-      (record { requests = grind (arith); closers = grind (arith); inquiries = grind (arith); all_requests = λ live. refl; all_closers = λ live. refl; all_inquiries = λ live. refl })
+      (record { requests = grind (arith); closers = grind (arith); inquiries = grind (arith); all_requests = λ live. refl; all_closers = λ live. refl; all_inquiries = λ live home. refl })
 
   nothing_waits : (p m : ℕ) (said : List Said) → said ≡ [] → IsLink (waiting_link w p m) said
   nothing_waits p m said none = subst (λ (s : List Said). IsLink (waiting_link w p m) s) (sym none)
-      (record { requests = grind (arith); closers = grind (arith); inquiries = grind (arith); all_requests = λ live. refl; all_closers = λ live. refl; all_inquiries = λ live. refl })
+      (record { requests = grind (arith); closers = grind (arith); inquiries = grind (arith); all_requests = λ live. refl; all_closers = λ live. refl; all_inquiries = λ live home. refl })
 
   shown_log : (n : ℕ) → SaysNothing tid (x.found n) → ShowsLog tid n (x.found n) w
   shown_log n says = record {

@@ -42,6 +42,7 @@ use Rattle.qs_refine.proofs.Handing.{taken_shown, head_said}
 use Rattle.qs_refine.proofs.Keeping.{part_keeps}
 use Rattle.qs_refine.proofs.Known.{told_is, is_open}
 use Rattle.qs_refine.proofs.Learning as learning
+use Rattle.qs_refine.proofs.LogEnds.{doubt_ended}
 use Rattle.qs_refine.proofs.Logging.{logged_shown}
 use Rattle.qs_refine.proofs.Maps.{lookup_changed}
 use Rattle.qs_refine.proofs.Notices.{notices_learn}
@@ -53,7 +54,7 @@ use Rattle.qs_refine.proofs.Streams.{ended}
 -- ---- a link to which one message is put that the machine doesn't count
 
 ends_empty : (l : Link) → IsEmpty (ended l l)
-ends_empty l = record { requests = omega arith; closers = omega arith; inquiries = omega arith; all_requests = λ _. refl; all_closers = λ _. refl; all_inquiries = λ _. refl }
+ends_empty l = record { requests = omega arith; closers = omega arith; inquiries = λ _. omega arith; all_requests = λ _. refl; all_closers = λ _. refl; all_inquiries = λ _ _. refl }
 
 -- a Told on commit is put where the place has acknowledged it
 pub told_put : (tid : Tid) (scene : Scene) (n m i : ℕ) (work : Work) (w : World) → IsAt scene n work → IsKnown scene n m i → w.ack_put (place n (scene.inc n)) ≡ true → ShowsWork tid scene n work w
@@ -65,17 +66,6 @@ told_put tid scene n m i work w at peer acks shown = subst (λ (k : Work). Shows
   where
     goes_out : is_other work.node.setting (node_no m) ≡ true
     goes_out = rw (at.node, at.nodes) (grind (arith, nat_tests, peer.other, peer.in_run))
-
--- ---- a log that says commit has nothing in doubt
-
-doubt_ended : (tid : Tid) (s : ℕ) (votes : List Prepared) → list_any (λ (v : Prepared). is_vote_of tid (server_no s) v && not v.committed) (filter (λ vote. not (is_of tid vote)) votes) ≡ false
-doubt_ended tid s [] = refl
-doubt_ended tid s (v ∷ votes) = by (same_tid v.tid tid) refl (doubt_ended tid s votes)
-  where
-    by : (b : Bool) → same_tid v.tid tid ≡ b → list_any (λ (v : Prepared). is_vote_of tid (server_no s) v && not v.committed) (filter (λ vote. not (is_of tid vote)) votes) ≡ false
-        → list_any (λ (v : Prepared). is_vote_of tid (server_no s) v && not v.committed) (if not b then v ∷ filter (λ vote. not (is_of tid vote)) votes else filter (λ vote. not (is_of tid vote)) votes) ≡ false
-    by true e more = more
-    by false e more = rw e more
 
 -- ---- the rule
 

@@ -11,7 +11,7 @@ use Rattle.qs_agree.specs.Carry.{IsLawful}
 use Rattle.qs_refine.specs.Links.{Said, Requested, Closed, names_node, node_no}
 use Rattle.qs_refine.specs.Places.{place, class_in}
 use Rattle.qs_refine.specs.Sights.{Sight, ShowsSight, is_in_doubt}
-use Rattle.qs_refine.specs.Seen.{FaceReady, MayVote, Runs, Meets, SightGoes, AckGoes, AckGoes, took_in, engaged_by, served_one, lent_one, sight_faced, sight_taken, sight_returned, sight_engaged, sight_covered, sight_issued, sight_counted, sight_prepared, sight_agreed, sight_committed, sight_told, sight_learnt, sight_noticed}
+use Rattle.qs_refine.specs.Seen.{FaceReady, MayVote, Runs, Meets, SightGoes, AckGoes, NamedGoes, took_in, engaged_by, served_one, lent_one, sight_faced, sight_taken, sight_returned, sight_engaged, sight_covered, sight_issued, sight_counted, sight_prepared, sight_agreed, sight_committed, sight_told, sight_learnt, sight_noticed}
 
 -- a Covered or VotedYes is counted: Count
 abbrev pub CountGoes : Type 0
@@ -171,7 +171,7 @@ LearnGoes = (tid : Tid) (x : Sight) (w : World) (n : ℕ) (found : Recovery) →
 abbrev pub LearnAbortGoes : Type 0
 LearnAbortGoes = (tid : Tid) (x : Sight) (w : World) (n : ℕ) → IsLawful w → ShowsSight tid x w → Runs x n → (x.face n).outcome ≡ Open → w.tell_abort n ≡ true
     → w.peer (place n (x.inc n)) tid.home.0 ≢ 0 → tid.home.0 ≢ n → tid.home.0 < x.size → ((m : ℕ) → (x.face n).tell m ≡ false)
-    → SightGoes tid (sight_faced x n (record (x.face n) { outcome = Aborted })) w
+    → NamedGoes tid x (sight_faced x n (record (x.face n) { outcome = Aborted })) w n
 
 -- one that knows it, or has nothing to learn, acknowledges it: Acknowledge
 abbrev pub AcknowledgeGoes : Type 0
@@ -183,12 +183,12 @@ AcknowledgeGoes = (tid : Tid) (x : Sight) (w : World) (n : ℕ) → ShowsSight t
 -- another node than the home that knows abort names again whom it drew in: Name_again
 abbrev pub NameAgainGoes : Type 0
 NameAgainGoes = (tid : Tid) (x : Sight) (w : World) (n : ℕ) → ShowsSight tid x w → Runs x n → (x.face n).outcome ≡ Aborted → tid.home.0 ≢ n → tid.home.0 < x.size
-    → SightGoes tid (sight_faced x n (x.face n)) w
+    → NamedGoes tid x (sight_faced x n (x.face n)) w n
 
 -- a node finds that another one restarted: Notice
 abbrev pub NoticeGoes : Type 0
 NoticeGoes = (tid : Tid) (x : Sight) (w : World) (n m i new : ℕ) (blocked : Bool) → IsLawful w → ShowsSight tid x w → Runs x n → Meets x n m i → i < new → new ≤ x.inc m
-    → x.said n (x.inc n) m new ≡ [] → (blocked ≡ false → ((x.face n).blocked ≡ false) × (w.covered (place n (x.inc n)) m ≡ (x.face n).sent m))
+    → x.said n (x.inc n) m new ≡ [] → ((x.face n).outcome ≡ Open → blocked ≡ false → ((x.face n).blocked ≡ false) × (w.covered (place n (x.inc n)) m ≡ (x.face n).sent m))
     → SightGoes tid (sight_noticed x n m new blocked) w
 
 -- a node stops, and what it has put is a part of what it would have put: Crash

@@ -4,6 +4,9 @@ pub mod Links
 pub mod Sights
 pub mod Seen
 pub mod EventLaws
+pub mod SeenOutcome
+pub mod OutcomeLaws
+pub mod InquiryLaws
 pub mod Messages
 pub mod NodeFaces
 pub mod Shows
@@ -11,6 +14,16 @@ pub mod Steps
 pub mod Sound
 pub mod SoundRuns
 pub mod RuleLaws
+pub mod WaitingLaws
+pub mod DecisionLaws
+pub mod SettleLaws
+pub mod LoanLaws
+pub mod ToldRules
+pub mod AgainLaws
+pub mod RestartLaws
+pub mod InquireLaws
+pub mod InquiryRules
+pub mod AbortRules
 pub mod Starts
 pub mod StartLaws
 pub mod SoundLaws

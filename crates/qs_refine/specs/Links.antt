@@ -1,5 +1,5 @@
 -- What is on its way from a place to a place, of one transaction.
-use Rattle.std.specs.Prelude.{◌≡◌, ◌⊎◌, ℕ, ◌+◌, ◌≤◌, Bool, true, false, List, [], ◌∷◌}
+use Rattle.std.specs.Prelude.{◌≡◌, ◌⊎◌, ℕ, ◌+◌, ◌≤◌, ◌==◌, Bool, true, false, List, [], ◌∷◌}
 use Rattle.std.specs.List.{list_any}
 use Rattle.qs_base.specs.declared.identifiers.NodeNo.{NodeNo}
 use Rattle.qs_engage.specs.Nodes.{same_node}
@@ -30,6 +30,7 @@ pub record Link : Type 0 where
   pub closers : ℕ
   pub closer : ℕ → ℕ
   pub closer_set : ℕ → ℕ → Bool
+  pub to_home : Bool  -- it leads to the home's node: inquiries go nowhere else, and are counted there alone
   pub inquiry_taken : ℕ
   pub inquiry_put : ℕ
   pub tell_commit : Bool
@@ -51,6 +52,7 @@ link w p q = record {
   closers = w.closers p q;
   closer = w.closer p q;
   closer_set = w.closer_set p q;
+  to_home = w.node q == w.node w.home;
   inquiry_taken = w.inquiry_taken q p;
   inquiry_put = w.inquiry_put p q;
   tell_commit = w.tell_commit (w.node q);
@@ -68,6 +70,7 @@ waiting_link w p m = record (link w p 0) {
   server = w.server_of p m;
   taken = 0;
   closers = 0;
+  to_home = m == w.node w.home;
   inquiry_taken = 0;
   inquiry_put = w.inquiries p;
   tell_commit = w.tell_commit m;
@@ -86,10 +89,10 @@ IsTold l false = l.tell_abort ≡ true
 pub record IsEmpty (l : Link) : Type 0 where
   pub requests : l.received ≤ l.posted
   pub closers : l.taken ≤ l.closers
-  pub inquiries : l.inquiry_taken ≤ l.inquiry_put
+  pub inquiries : l.to_home ≡ true → l.inquiry_taken ≤ l.inquiry_put
   pub all_requests : l.live ≡ true → l.received ≡ l.posted
   pub all_closers : l.live ≡ true → l.taken ≡ l.closers
-  pub all_inquiries : l.live ≡ true → l.inquiry_taken ≡ l.inquiry_put
+  pub all_inquiries : l.live ≡ true → l.to_home ≡ true → l.inquiry_taken ≡ l.inquiry_put
 
 -- what is on its way is what the machine has, message by message
 abbrev pub IsLink : Link → List Said → Type 0

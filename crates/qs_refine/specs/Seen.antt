@@ -9,6 +9,7 @@ use Rattle.qs_agree.specs.World.{World, Open, Committed, with_at}
 use Rattle.qs_agree.specs.Guards.{Votes}
 use Rattle.qs_agree.specs.Carry.{Leads}
 use Rattle.qs_refine.specs.Faces.{Face, blank_face}
+use Rattle.qs_refine.specs.Places.{place}
 use Rattle.qs_refine.specs.Links.{Said, Requested, Closed, Outcome_told}
 use Rattle.qs_refine.specs.Sights.{Sight, ShowsSight, server_no, with_at4}
 
@@ -177,3 +178,14 @@ pub record AckGoes (tid : Tid) (y : Sight) (w : World) (q : ℕ) : Type 0 where
   pub leads : Leads w next
   pub shown : ShowsSight tid y next
   pub acks : next.ack_put q ≡ true
+
+-- whom a node drew in: those of its told set, and those that it sent a request
+abbrev pub drew : Face → ℕ → Bool
+drew f k = if f.told k then true else (if f.sent k == 0 then false else true)
+
+-- and the place names all whom it drew in, the home left out
+pub record NamedGoes (tid : Tid) (x y : Sight) (w : World) (n : ℕ) : Type 0 where
+  pub next : World
+  pub leads : Leads w next
+  pub shown : ShowsSight tid y next
+  pub named : (k : ℕ) → k ≢ tid.home.0 → drew (x.face n) k ≡ true → next.named (place n (x.inc n)) k ≡ true

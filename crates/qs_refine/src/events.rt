@@ -1,10 +1,15 @@
 //! What single events of the agreement machine make of all that is seen of a transaction.
 ghost use Rattle.qs_refine.specs.EventLaws.{CountGoes, IgnoreGoes, IssueGoes, IssueLocalGoes, EngageGoes, JoinGoes, CoverGoes, DropEngageGoes, DropJoinGoes, DropCoverGoes, DropHomeGoes, ServeGoes, ServeToldGoes, LendGoes, YieldGoes, AskGoes, VoteReadGoes, VoteVolatileGoes, VoteAbortGoes, PrepareGoes, AgreeGoes, AnswerGoes, CommitGoes, CommitUnloggedGoes, TellGoes, LearnGoes, LearnAbortGoes, AcknowledgeGoes, NameAgainGoes, NoticeGoes, CrashGoes};
+ghost use Rattle.qs_refine.specs.OutcomeLaws.{CommitAloneGoes, AbortGoes, TellWaitsGoes, TellAbortGoes, TellAbortWaitsGoes, TakeToldGoes, ForgetGoes, AcksStay};
+ghost use Rattle.qs_refine.specs.WaitingLaws.{IssueUnmetGoes};
+ghost use Rattle.qs_refine.specs.InquireLaws.{InquireGoes, InquireWaitsGoes};
+ghost use Rattle.qs_refine.specs.InquiryLaws.{AnswerRunningGoes, AnswerCommitGoes, AnswerAbortGoes, TakeNameGoes};
 
 /// Requests that are issued, come, and are covered.
 pub fn requests()
     ensures issue { IssueGoes }
     ensures issue_local { IssueLocalGoes }
+    ensures issue_unmet { IssueUnmetGoes }
     ensures engage { EngageGoes }
     ensures join { JoinGoes }
     ensures cover { CoverGoes }
@@ -44,6 +49,8 @@ pub fn decisions()
     ensures commit { CommitGoes }
     ensures commit_unlogged { CommitUnloggedGoes }
     ensures tell { TellGoes }
+    ensures commit_alone { CommitAloneGoes }
+    ensures abort { AbortGoes }
 {}
 
 /// How the outcome is learnt and acknowledged.
@@ -58,4 +65,25 @@ pub fn outcomes()
 pub fn crashes()
     ensures crash { CrashGoes }
     ensures notice { NoticeGoes }
+{}
+
+/// An outcome is told, to a place that is known or to one that is to come, and the home takes in that it was told; a node
+/// forgets what it only read.
+pub fn tellings()
+    ensures tell_waits { TellWaitsGoes }
+    ensures tell_abort { TellAbortGoes }
+    ensures tell_abort_waits { TellAbortWaitsGoes }
+    ensures take_told { TakeToldGoes }
+    ensures acks_stay { AcksStay }
+    ensures forget { ForgetGoes }
+{}
+
+/// A node inquires, and the home answers inquiries, and takes in whom an abort is to be told.
+pub fn inquiries()
+    ensures inquire { InquireGoes }
+    ensures inquire_waits { InquireWaitsGoes }
+    ensures running { AnswerRunningGoes }
+    ensures commit { AnswerCommitGoes }
+    ensures abort { AnswerAbortGoes }
+    ensures take_name { TakeNameGoes }
 {}

@@ -1,4 +1,5 @@
-use Rattle.qs_refine.proofs.Learning.{learn, learn_abort, acknowledge, name_again}
+use Rattle.qs_refine.proofs.Learning.{learn, acknowledge}
+use Rattle.qs_refine.proofs.LearningAbort.{learn_abort, name_again}
 use Rattle.qs_refine.proofs.events.outcomes.Goals as goal
 
 pub returns : goal.returns
