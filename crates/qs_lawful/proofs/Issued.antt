@@ -108,10 +108,10 @@ module _ (here : NodeNo) (inc number peer_inc place : ℕ) (request : Request) (
       by (inl same) = absurd (far (sym (ap (λ (l : Link). l.to.0) same) ∙ ap (λ (n : NodeNo). n.0) at_here))
       by (inr apart) = ap (sent_in inc) (lookup_put_apart link_cmp at.link (sent_more request (sent_on tx at.link)) (link_exact at.link) (is_at (link_cmp (record { from = here; to = peer }))) apart.at tx.sent)
 
-  requests_here : requests_at now at ≡ requests_at tx at ++ request ∷ []
+  pub requests_here : requests_at now at ≡ requests_at tx at ++ request ∷ []
   requests_here = ap (λ (o : Option (List Request)). unwrap_or o []) (lookup_put request_cmp at (requests_at tx at ++ request ∷ []) (request_itself at) tx.requests)
 
-  requests_apart : (other : RequestNo) → KeyApart request_cmp request_exact request_itself at other → requests_at now other ≡ requests_at tx other
+  pub requests_apart : (other : RequestNo) → KeyApart request_cmp request_exact request_itself at other → requests_at now other ≡ requests_at tx other
   requests_apart other far = ap (λ (o : Option (List Request)). unwrap_or o []) (lookup_put_apart request_cmp at (requests_at tx at ++ request ∷ []) (request_exact at) (is_at (request_cmp other)) far.at tx.requests)
 
   -- of each number as many stand as before, or more
@@ -136,7 +136,7 @@ module _ (here : NodeNo) (inc number peer_inc place : ℕ) (request : Request) (
         stands : is_standing request.member request ≡ true
         stands = rw (same_member-self request.member, unserved) refl
 
-    key_is : (other : RequestNo) → other.link.to ≡ here → is_numbered other delivery ≡ true → at ≡ other
+    pub key_is : (other : RequestNo) → other.link.to ≡ here → is_numbered other delivery ≡ true → at ≡ other
     key_is other near is =
         let parts = both (delivery.from.0 == other.link.from.0) (delivery.number == other.number) is in
         made here other.link.from request.member.node other.link.to number other.number

@@ -32,24 +32,23 @@ ghost use Rattle.qs_kept.specs.declared.kept.Begun.{Begun};
 ghost use Rattle.qs_step.specs.Telling.{learn};
 ghost use Rattle.qs_world.specs.Posting.{entry_of};
 ghost use Rattle.qs_lawful.specs.Entering.{HoldsWork, book_at};
-ghost use Rattle.qs_lawful.specs.Filed.{HoldsFiles};
 ghost use Rattle.qs_lawful.specs.Places.{Facts, IsSettled, HoldsPlaces};
 
 /// The servers of a node that knows the outcome get their notices: endings first where it is aborted, then each that is to learn
 /// it learns it, in order of classes.
 pub fn notices_are_lawful()
-    ensures { (stamp : ℕ) (before : BookValue) (work : Work) (tid : Tid) (outcome : Outcome) (part : Participant) → HoldsWork stamp before work → HoldsFiles work.node.servers → tm.part_of tid work.node.manager ≡ Some part → part.outcome ≡ Some outcome → HoldsWork stamp before (give_notices tid outcome work) }
+    ensures { (stamp : ℕ) (before : BookValue) (work : Work) (tid : Tid) (outcome : Outcome) (part : Participant) → HoldsWork stamp before work → tm.part_of tid work.node.manager ≡ Some part → part.outcome ≡ Some outcome → HoldsWork stamp before (give_notices tid outcome work) }
 {}
 
 /// A home decides what it has not decided: the record, the entry, what it keeps for the owner, the notices, and the messages.
 /// The decision itself is to break no clause of its own.
 pub fn deciding_is_lawful()
-    ensures { (stamp : ℕ) (before : BookValue) (work : Work) (tid : Tid) (outcome : Outcome) (part : Participant) (tx : TransactionValue) → HoldsWork stamp before work → HoldsFiles work.node.servers → tm.part_of tid work.node.manager ≡ Some part → find_transaction (book_at stamp before work) tid ≡ Some tx → part.outcome ≡ None → (cause : Option Cause) → is_open tx.cell ≡ true → ((client : ClientNo) → tx.owner ≡ Some client → is_some (slice_get (book_at stamp before work).owners client.0) ≡ true) → broken (book_at stamp before work) (entry_of work.node.setting.node.0 stamp (acts.Decide tid outcome cause)) ≡ None → HoldsWork stamp before (decide tid outcome cause work) }
+    ensures { (stamp : ℕ) (before : BookValue) (work : Work) (tid : Tid) (outcome : Outcome) (part : Participant) (tx : TransactionValue) → HoldsWork stamp before work → tm.part_of tid work.node.manager ≡ Some part → find_transaction (book_at stamp before work) tid ≡ Some tx → part.outcome ≡ None → (cause : Option Cause) → is_open tx.cell ≡ true → ((client : ClientNo) → tx.owner ≡ Some client → is_some (slice_get (book_at stamp before work).owners client.0) ≡ true) → broken (book_at stamp before work) (entry_of work.node.setting.node.0 stamp (acts.Decide tid outcome cause)) ≡ None → HoldsWork stamp before (decide tid outcome cause work) }
 {}
 
 /// A node that is told the outcome that the cell has takes it in: its servers get their notices, and a Prepare is ended.
 pub fn taking_in_is_lawful()
-    ensures { (stamp : ℕ) (before : BookValue) (work : Work) (tid : Tid) (outcome : Outcome) (part : Participant) (tx : TransactionValue) → HoldsWork stamp before work → HoldsFiles work.node.servers → tm.part_of tid work.node.manager ≡ Some part → find_transaction (book_at stamp before work) tid ≡ Some tx → part.outcome ≡ None → is_outcome outcome tx.cell ≡ true → HoldsWork stamp before (learn tid outcome part work) }
+    ensures { (stamp : ℕ) (before : BookValue) (work : Work) (tid : Tid) (outcome : Outcome) (part : Participant) (tx : TransactionValue) → HoldsWork stamp before work → tm.part_of tid work.node.manager ≡ Some part → find_transaction (book_at stamp before work) tid ≡ Some tx → part.outcome ≡ None → is_outcome outcome tx.cell ≡ true → HoldsWork stamp before (learn tid outcome part work) }
 {}
 
 /// A reply comes: its request waits no longer, and the client that waits for it is answered. No note of files waits for it.
@@ -64,17 +63,17 @@ pub fn begin_command_is_lawful()
 
 /// A home commits a transaction for which commit is asked, where what all places hold of it is settled.
 pub fn commit_is_lawful()
-    ensures { (stamp : ℕ) (before : BookValue) (work : Work) (tid : Tid) (part : Participant) (tx : TransactionValue) (h : HoldsWork stamp before work) → HoldsFiles work.node.servers → tm.part_of tid work.node.manager ≡ Some part → find_transaction (book_at stamp before work) tid ≡ Some tx → tid.home ≡ work.node.setting.node → tid.inc ≡ work.node.setting.inc → part.outcome ≡ None → ((client : ClientNo) → tx.owner ≡ Some client → is_some (slice_get (book_at stamp before work).owners client.0) ≡ true) → (w : Facts) → part.asked ≡ true → IsSettled w → HoldsPlaces tx w → HoldsWork stamp before (decide tid outcomes.Commit None work) }
+    ensures { (stamp : ℕ) (before : BookValue) (work : Work) (tid : Tid) (part : Participant) (tx : TransactionValue) (h : HoldsWork stamp before work) → tm.part_of tid work.node.manager ≡ Some part → find_transaction (book_at stamp before work) tid ≡ Some tx → tid.home ≡ work.node.setting.node → tid.inc ≡ work.node.setting.inc → part.outcome ≡ None → ((client : ClientNo) → tx.owner ≡ Some client → is_some (slice_get (book_at stamp before work).owners client.0) ≡ true) → (w : Facts) → part.asked ≡ true → IsSettled w → HoldsPlaces tx w → HoldsWork stamp before (decide tid outcomes.Commit None work) }
 {}
 
 /// A home aborts a transaction for a cause that the machine finds.
 pub fn abort_is_lawful()
-    ensures { (stamp : ℕ) (before : BookValue) (work : Work) (tid : Tid) (part : Participant) (tx : TransactionValue) (h : HoldsWork stamp before work) → HoldsFiles work.node.servers → tm.part_of tid work.node.manager ≡ Some part → find_transaction (book_at stamp before work) tid ≡ Some tx → tid.home ≡ work.node.setting.node → tid.inc ≡ work.node.setting.inc → part.outcome ≡ None → ((client : ClientNo) → tx.owner ≡ Some client → is_some (slice_get (book_at stamp before work).owners client.0) ≡ true) → (cause : Cause) → is_cause h.holds.state (book_at stamp before work).nodes tid tx stamp cause ≡ true → HoldsWork stamp before (decide tid outcomes.Abort (Some cause) work) }
+    ensures { (stamp : ℕ) (before : BookValue) (work : Work) (tid : Tid) (part : Participant) (tx : TransactionValue) (h : HoldsWork stamp before work) → tm.part_of tid work.node.manager ≡ Some part → find_transaction (book_at stamp before work) tid ≡ Some tx → tid.home ≡ work.node.setting.node → tid.inc ≡ work.node.setting.inc → part.outcome ≡ None → ((client : ClientNo) → tx.owner ≡ Some client → is_some (slice_get (book_at stamp before work).owners client.0) ≡ true) → (cause : Cause) → is_cause h.holds.state (book_at stamp before work).nodes tid tx stamp cause ≡ true → HoldsWork stamp before (decide tid outcomes.Abort (Some cause) work) }
 {}
 
 /// A home aborts what it is asked to abort, where commit was not asked for.
 pub fn asked_abort_is_lawful()
-    ensures { (stamp : ℕ) (before : BookValue) (work : Work) (tid : Tid) (part : Participant) (tx : TransactionValue) (h : HoldsWork stamp before work) → HoldsFiles work.node.servers → tm.part_of tid work.node.manager ≡ Some part → find_transaction (book_at stamp before work) tid ≡ Some tx → tid.home ≡ work.node.setting.node → tid.inc ≡ work.node.setting.inc → part.outcome ≡ None → ((client : ClientNo) → tx.owner ≡ Some client → is_some (slice_get (book_at stamp before work).owners client.0) ≡ true) → part.asked ≡ false → HoldsWork stamp before (decide tid outcomes.Abort (Some causes.Asked) work) }
+    ensures { (stamp : ℕ) (before : BookValue) (work : Work) (tid : Tid) (part : Participant) (tx : TransactionValue) (h : HoldsWork stamp before work) → tm.part_of tid work.node.manager ≡ Some part → find_transaction (book_at stamp before work) tid ≡ Some tx → tid.home ≡ work.node.setting.node → tid.inc ≡ work.node.setting.inc → part.outcome ≡ None → ((client : ClientNo) → tx.owner ≡ Some client → is_some (slice_get (book_at stamp before work).owners client.0) ≡ true) → part.asked ≡ false → HoldsWork stamp before (decide tid outcomes.Abort (Some causes.Asked) work) }
 {}
 
 /// The owner commands commit of a transaction that began here since the node started: its home asks for it, once, where it is
@@ -85,5 +84,5 @@ pub fn commit_command_is_lawful()
 
 /// The owner commands abort of a transaction that began here since the node started: it is aborted, where it is undecided.
 pub fn abort_command_is_lawful()
-    ensures { (stamp : ℕ) (before : BookValue) (work : Work) → HoldsWork stamp before work → (client : ClientNo) (command : OpenCommand) → lookup (is_at (client_cmp client)) work.node.commands ≡ Some command → (begun : Begun) → label_at command.line.label work.node ≡ Some begun → (tid : Tid) → begun.tid ≡ Some tid → begun.owner ≡ Some client → tid.home ≡ work.node.setting.node → tid.inc ≡ work.node.setting.inc → command.line.command ≡ commands.Abort → HoldsFiles work.node.servers → HoldsWork stamp before (open_command client tid commands.Abort work) }
+    ensures { (stamp : ℕ) (before : BookValue) (work : Work) → HoldsWork stamp before work → (client : ClientNo) (command : OpenCommand) → lookup (is_at (client_cmp client)) work.node.commands ≡ Some command → (begun : Begun) → label_at command.line.label work.node ≡ Some begun → (tid : Tid) → begun.tid ≡ Some tid → begun.owner ≡ Some client → tid.home ≡ work.node.setting.node → tid.inc ≡ work.node.setting.inc → command.line.command ≡ commands.Abort → HoldsWork stamp before (open_command client tid commands.Abort work) }
 {}

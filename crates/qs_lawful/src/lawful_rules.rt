@@ -1,5 +1,5 @@
 //! Rules of a node's step, each as a whole: its entries are lawful, and the machine after them holds what the node has then.
-ghost use Rattle.std.specs.Prelude.{◌≡◌, ◌≢◌, ◌&&◌, not, nat_lt, ℕ, ◌+◌, true, false, None, Some, Option, slice_get, List};
+ghost use Rattle.std.specs.Prelude.{◌≡◌, ◌≢◌, ◌&&◌, ◌==◌, ◌≤◌, not, nat_lt, ℕ, ◌+◌, true, false, None, Some, Option, slice_get, List};
 ghost use Rattle.qs_base.specs.declared.identifiers.ClientNo.{ClientNo};
 ghost use Rattle.qs_base.specs.declared.identifiers.NodeNo.{NodeNo};
 ghost use Rattle.qs_base.specs.declared.identifiers.Tid.{Tid};
@@ -21,6 +21,8 @@ ghost use Rattle.qs_record.specs.declared.record.Record.{Record};
 ghost use Rattle.qs_tm.specs.Manager as tm;
 ghost use Rattle.qs_tm.specs.declared.participant.Outstanding.{Outstanding};
 ghost use Rattle.qs_tm.specs.declared.participant.Participant.{Participant};
+ghost use Rattle.qs_engage.specs.Engage.{peer_of};
+ghost use Rattle.qs_step.specs.Asking.{closer_came};
 ghost use Rattle.qs_step.specs.Bringing.{answer, enter, log, member_here, send};
 ghost use Rattle.qs_step.specs.Commands.{ask};
 ghost use Rattle.qs_step.specs.Requests.{issue_here, local_count};
@@ -54,6 +56,11 @@ pub fn ask_is_lawful()
 /// A request goes to a server of the node itself: its entry is lawful where it breaks no clause of its own.
 pub fn issue_here_is_lawful()
     ensures { (stamp : ℕ) (before : BookValue) (work : Work) (tid : Tid) (outstanding : Outstanding) (op : Op) (part : Participant) (tx : TransactionValue) → HoldsWork stamp before work → tm.part_of tid work.node.manager ≡ Some part → find_transaction (book_at stamp before work) tid ≡ Some tx → outstanding.member.node ≡ work.node.setting.node → outstanding.number ≡ local_count tid work.node + 1 → is_for outstanding.member.server op ≡ true → broken (book_at stamp before work) (entry_of work.node.setting.node.0 stamp (acts.Issue tid (member_here work outstanding.issuer) outstanding.member outstanding.number op)) ≡ None → HoldsWork stamp before (issue_here tid outstanding op work) }
+{}
+
+/// Another node of the run answers for what was sent to it, and no more: that is counted, where the transaction is undecided here.
+pub fn counting_is_lawful()
+    ensures { (stamp : ℕ) (before : BookValue) (work : Work) → HoldsWork stamp before work → (peer : NodeNo) (tid : Tid) (up_to : ℕ) (told : List NodeNo) → (peer.0 == work.node.setting.node.0) ≡ false → nat_lt peer.0 work.node.setting.nodes ≡ true → ((part : Participant) → tm.part_of tid work.node.manager ≡ Some part → up_to ≤ (peer_of part.engage peer).sent) → HoldsWork stamp before (closer_came peer tid up_to told work) }
 {}
 
 /// A message leaves all that is held.
