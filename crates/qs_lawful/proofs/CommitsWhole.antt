@@ -1,13 +1,15 @@
--- What a home commits lawfully is crossed nowhere: it is unanimous.
-use Rattle.std.proofs.Common.{◌≡◌, ℕ, Bool, true, false, Option, Some, None, refl}
-use Rattle.std.specs.Prelude.{◌&&◌, is_some, if◌then◌else◌}
+-- What a home commits lawfully is crossed nowhere: it is unanimous. And of what is committed nothing is issued.
+use Rattle.qs_base.specs.declared.identifiers.Member.{Member}
+use Rattle.qs_ops.specs.declared.operation.Op.{Op}
+use Rattle.std.proofs.Common.{length, ◌≡◌, ℕ, Bool, true, false, Option, Some, None, refl}
+use Rattle.std.specs.Prelude.{not, ◌&&◌, is_some, if◌then◌else◌}
 use Rattle.std.specs.List.{list_all}
 use Rattle.qs_base.specs.declared.identifiers.Outcome.{Outcome}
 use Rattle.qs_base.specs.declared.identifiers.Outcome.TheVariants as outcomes
 use Rattle.qs_base.specs.declared.identifiers.Tid.{Tid}
 use Rattle.qs_journal.specs.declared.entry.Act.TheVariants as acts
 use Rattle.qs_machine.specs.Book.{BookValue, find_transaction}
-use Rattle.qs_machine.specs.Clauses.{broken_decide, broken_outcome, may_decide}
+use Rattle.qs_machine.specs.Clauses.{broken_decide, broken_issuer, broken_outcome, is_numbered, may_decide}
 use Rattle.qs_machine.specs.Lawful.{broken}
 use Rattle.qs_machine.specs.Transaction.{TransactionValue, agrees, all_served, cell_of, is_commit, is_empty, is_unanimous}
 use Rattle.qs_ops.specs.declared.answer.Cause.{Cause}
@@ -42,3 +44,15 @@ module _ (stamp : ℕ) (book : BookValue) (node : NodeValue) (h : Holds stamp bo
       committed : (o : Outcome) (c : Option Cause) → is_commit (cell_of o) ≡ true → broken_decide node.setting.node.0 h.state book.nodes tid (find_transaction book tid) stamp o c ≡ None → is_empty tx.crossed ≡ true
       committed outcomes.Abort c is e = absurd (cc is)
       committed outcomes.Commit c is e = decides (may_decide node.setting.node.0 tid tx) c (rw found at e)
+
+  pub open_still : (issuer member : Member) (number : ℕ) (op : Op) → broken book (entry_of node.setting.node.0 stamp (acts.Issue tid issuer member number op)) ≡ None → is_commit tx.cell ≡ false
+  open_still issuer member number op lawful =
+      numbered (is_numbered node.setting.node.0 h.state (length book.nodes) tx member number op) refl (rw found at (act_allowed stamp book node h (acts.Issue tid issuer member number op) (λ s. refl) lawful))
+    where
+      first : (a b : Bool) → (not a && b) ≡ true → a ≡ false
+      first true b e = absurd (cc e)
+      first false b e = refl
+
+      numbered : (b : Bool) → is_numbered node.setting.node.0 h.state (length book.nodes) tx member number op ≡ b → (if b then broken_issuer node.setting.node.0 h.state tid tx issuer op else clause 20) ≡ None → is_commit tx.cell ≡ false
+      numbered true is e = first _ _ is
+      numbered false is e = absurd (cc e)

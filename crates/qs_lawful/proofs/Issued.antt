@@ -31,7 +31,7 @@ use Rattle.qs_lawful.proofs.Keys.{KeyApart, same_key_or, link_exact, link_itself
 abbrev numbered_as : NodeNo → NodeNo → ℕ → RequestNo
 numbered_as a b n = record { link = record { from = a; to = b }; number = n }
 
-sent_again : (inc : ℕ) (request : Request) (o : Option Sent) → request.inc ≡ inc → sent_in inc (Some (sent_more request o)) ≡ sent_in inc o + 1
+pub sent_again : (inc : ℕ) (request : Request) (o : Option Sent) → request.inc ≡ inc → sent_in inc (Some (sent_more request o)) ≡ sent_in inc o + 1
 sent_again inc request None same = by (request.inc == inc) refl
   where
     itself : (a b : ℕ) → a ≡ b → (a == b) ≡ false → ⊥
@@ -77,7 +77,7 @@ count_more p xs x = by (p x) refl
     by true is = rw (filter_last p xs x is, length_more (filter p xs) x) (weaker _ _ (itself (length (filter p xs))))
     by false is = rw (filter_more p xs x is) (itself (length (filter p xs)))
 
-any_more : {A : Type 0} (p : A → Bool) (xs : List A) (x : A) → list_any p xs ≡ true → list_any p (xs ++ x ∷ []) ≡ true
+pub any_more : {A : Type 0} (p : A → Bool) (xs : List A) (x : A) → list_any p xs ≡ true → list_any p (xs ++ x ∷ []) ≡ true
 any_more p [] x h = absurd (cc h)
 any_more p (y ∷ ys) x h = by (p y) refl (any_more p ys x)
   where

@@ -41,7 +41,8 @@ use Rattle.qs_lawful.specs.Face.{face_of, waiting_at}
 use Rattle.qs_lawful.specs.Holds.{HoldsTid, HoldsClients}
 use Rattle.qs_lawful.specs.Entering.{HoldsWork, book_at}
 use Rattle.qs_lawful.proofs.Apart.{Apart, same_or_apart}
-use Rattle.qs_lawful.proofs.Clauses.{act_allowed, of_tid}
+use Rattle.qs_lawful.proofs.Clauses.{of_tid}
+use Rattle.qs_lawful.proofs.CommitsWhole.{open_still}
 use Rattle.qs_lawful.proofs.Crossing.{crossed_if, crossing_owners, crossing_run, crossing_state, crossing_there, crossing_txs, waiting_nodes, waiting_owners, waiting_txs}
 use Rattle.qs_lawful.proofs.Faces.{part_apart, part_changed, queued_here, queued_elsewhere, same_server_or, waiting_apart, filter_last}
 use Rattle.qs_lawful.proofs.Frames.{SameFace, KeepsSeen, KeepsOwners, said_to, clients_on, told_of}
@@ -158,17 +159,6 @@ module _ (stamp : ℕ) (before : BookValue) (work : Work) (tid : Tid) (outstandi
   clients = clients_on book new_book node new seen_on owners_on (record { setting = refl; at = refl; in_inc = refl }) (record { commands = refl; labels = refl; outcomes = refl }) h.holds.clients
       (λ t. changed_alike (is_at (tid_cmp tid)) told_of (participant.issued outstanding) (λ p. refl) (is_at (tid_cmp t)) node.manager.known)
 
-  still : broken book (entry_of home.0 stamp (acts.Issue tid issuer outstanding.member outstanding.number op)) ≡ None → is_commit tx.cell ≡ false
-  still lawful = numbered (is_numbered home.0 h.holds.state (length book.nodes) tx outstanding.member outstanding.number op) refl (rw found at (act_allowed stamp book node h.holds (acts.Issue tid issuer outstanding.member outstanding.number op) (λ s. refl) lawful))
-    where
-      first : (a b : Bool) → (not a && b) ≡ true → a ≡ false
-      first true b e = absurd (cc e)
-      first false b e = refl
-
-      numbered : (b : Bool) → is_numbered home.0 h.holds.state (length book.nodes) tx outstanding.member outstanding.number op ≡ b → (if b then broken_issuer home.0 h.holds.state tid tx issuer op else Some 20) ≡ None → is_commit tx.cell ≡ false
-      numbered true is e = first _ _ is
-      numbered false is e = absurd (cc e)
-
   its_waits : HoldsWaits home node.setting.inc tid tx (face_of node tid).waiting node.servers
   its_waits = waits_of stamp book node h.holds tid tx found
 
@@ -242,7 +232,7 @@ module _ (stamp : ℕ) (before : BookValue) (work : Work) (tid : Tid) (outstandi
   by_issued lawful = entered stamp before work issued_work (acts.Issue tid issuer outstanding.member outstanding.number op) h refl refl lawful
       (one_changed stamp book new_book node new h.holds tid f tx found txs
       (crossed_if crossing tid outstanding.member h.holds.state) (crossing_state crossing tid outstanding.member h.holds.state) there run refl refl
-      (record { setting = refl; at = refl; in_inc = refl }) refl faces own clients servers_on (λ t far. refl) (own_waits (still lawful)))
+      (record { setting = refl; at = refl; in_inc = refl }) refl faces own clients servers_on (λ t far. refl) (own_waits (open_still stamp book node h.holds tid tx found issuer outstanding.member outstanding.number op lawful)))
 
   -- where the operation is one of its server's
   pub by_issue_here : queues.is_for outstanding.member.server op ≡ true → broken book (entry_of home.0 stamp (acts.Issue tid issuer outstanding.member outstanding.number op)) ≡ None → HoldsWork stamp before (issue_here tid outstanding op work)

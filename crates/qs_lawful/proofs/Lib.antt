@@ -77,3 +77,5 @@ pub mod FilesHeld
 pub mod Counting
 pub mod CommitsWhole
 pub mod Crossing
+pub mod IssuedAway
+pub mod IssuingAway

@@ -113,6 +113,16 @@ crossing_new place member crossed = by (lookup (is_at (member_cmp member)) cross
     by (Some earlier) is = ap is_some is
     by None is = ap is_some (lookup_put member_cmp member place (member_itself member) crossed)
 
+-- a request crosses its transaction at its own member alone
+pub crossed_elsewhere : (o : Option Request) (place : ℕ) (member m : Member) (crossed : List (Member × ℕ)) → is_at (member_cmp m) member ≡ false
+    → is_some (lookup (is_at (member_cmp m)) (crossed_by o place member crossed)) ≡ is_some (lookup (is_at (member_cmp m)) crossed)
+crossed_elsewhere None place member m crossed far = refl
+crossed_elsewhere (Some earlier) place member m crossed far = by (lookup (is_at (member_cmp member)) crossed)
+  where
+    by : (o : Option ℕ) → is_some (lookup (is_at (member_cmp m)) (elim o [ Some first ↦ crossed | None ↦ insert_entry member_cmp crossed member place ])) ≡ is_some (lookup (is_at (member_cmp m)) crossed)
+    by (Some first) = refl
+    by None = ap is_some (lookup_put_apart member_cmp member place (member_exact member) (is_at (member_cmp m)) far crossed)
+
 none_found : {A : Type 0} (p : A → Bool) (xs : List A) → find p xs ≡ None → filter p xs ≡ []
 none_found p [] e = refl
 none_found p (x ∷ xs) e = by (p x) refl (none_found p xs)
@@ -169,15 +179,7 @@ module _ (here : NodeNo) (inc number peer_inc place : ℕ) (request : Request) (
 
   -- and no other
   pub crossed_other : (m : Member) → is_at (member_cmp m) request.member ≡ false → is_crossed issued_tx m ≡ is_crossed tx m
-  crossed_other m far = by (standing_request tx issued_at request.member)
-    where
-      from_other : (o : Option ℕ) → is_some (lookup (is_at (member_cmp m)) (elim o [ Some earlier ↦ tx.crossed | None ↦ insert_entry member_cmp tx.crossed request.member place ])) ≡ is_crossed tx m
-      from_other (Some earlier) = refl
-      from_other None = ap is_some (lookup_put_apart member_cmp request.member place (member_exact request.member) (is_at (member_cmp m)) far tx.crossed)
-
-      by : (o : Option Request) → is_some (lookup (is_at (member_cmp m)) (crossed_by o place request.member tx.crossed)) ≡ is_crossed tx m
-      by None = refl
-      by (Some earlier) = from_other (lookup (is_at (member_cmp request.member)) tx.crossed)
+  crossed_other m far = crossed_elsewhere (standing_request tx issued_at request.member) place request.member m tx.crossed far
 
   not_other : (server : ServerNo) → server ≢ request.member.server → is_standing (at_server here server) request ≡ false
   not_other server far = by (same_member request.member (at_server here server)) refl
