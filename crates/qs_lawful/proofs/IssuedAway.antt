@@ -1,12 +1,10 @@
 -- A request to another node changes of a transaction what went to that node, and nothing of what came here or stands here.
-use Rattle.std.proofs.Common.{◌≡◌, ◌≢◌, ◌⊎◌, inl, inr, ℕ, ◌==◌, ◌+◌, ◌≤◌, ◌<◌, Bool, true, false, List, [], ◌∷◌, ◌++◌, Option, Some, None, zero, suc, refl, sym, ap, subst, ◌∙◌, arith, length, map}
+use Rattle.std.proofs.Common.{◌≡◌, ◌≢◌, ◌⊎◌, inl, inr, ℕ, ◌==◌, ◌+◌, ◌≤◌, ◌<◌, Bool, true, false, List, [], ◌∷◌, ◌++◌, Option, Some, None, refl, sym, ap, subst, ◌∙◌, arith, length, map}
 use Rattle.std.proofs.lemmas.Bool.Decides.{nat_tests}
-use Rattle.std.specs.Prelude.{not, ◌&&◌, is_some, slice_get, slice_set, slice_index_or, unwrap_or, if◌then◌else◌}
-use Rattle.std.specs.Option.{option_map}
-use Rattle.std.specs.List.{filter, list_any}
-use Rattle.std.specs.Map.{lookup}
+use Rattle.std.specs.Prelude.{not, ◌&&◌, slice_get, slice_set, unwrap_or, if◌then◌else◌}
+use Rattle.std.specs.List.{filter}
 use Rattle.std.specs.BTreeMap.{is_at}
-use Rattle.qs_base.specs.Order.{member_cmp, same_member, tid_cmp}
+use Rattle.qs_base.specs.Order.{member_cmp, same_member}
 use Rattle.qs_base.specs.declared.identifiers.Member.{Member}
 use Rattle.qs_base.specs.declared.identifiers.NodeNo.{NodeNo}
 use Rattle.qs_base.specs.declared.identifiers.ServerNo.{ServerNo}
@@ -16,52 +14,27 @@ use Rattle.qs_engage.specs.Engage as engage
 use Rattle.qs_engage.specs.Engage.{last_number, no_peer, peer_of}
 use Rattle.qs_engage.specs.declared.engage.Engage.{Engage}
 use Rattle.qs_engage.specs.declared.engage.PeerPart.{PeerPart}
-use Rattle.qs_journal.specs.declared.entry.Act.TheVariants as acts
-use Rattle.qs_laws.proofs.Maps.{changed_alike, changed_at_either, lookup_put, lookup_put_apart}
-use Rattle.qs_machine.specs.Book.{BookValue, changed_at, crosses, find_transaction, inc_at, with_crossing, with_transaction, with_waiting}
-use Rattle.qs_machine.specs.Clauses.{link_to}
-use Rattle.qs_machine.specs.Lawful.{broken}
-use Rattle.qs_machine.specs.Nodes as machine
-use Rattle.qs_machine.specs.Nodes.{crossed_node}
+use Rattle.qs_laws.proofs.Maps.{changed_at_either, lookup_put, lookup_put_apart}
+use Rattle.qs_machine.specs.Book.{changed_at}
 use Rattle.qs_machine.specs.Transaction.{TransactionValue, is_commit, is_crossed, is_standing, issued, link_cmp, request_cmp, requests_at, sent_in, sent_more, sent_on}
 use Rattle.qs_machine.specs.declared.transaction.Link.{Link}
 use Rattle.qs_machine.specs.declared.transaction.Request.{Request}
 use Rattle.qs_machine.specs.declared.transaction.RequestNo.{RequestNo}
-use Rattle.qs_machine.specs.declared.transaction.Sent.{Sent}
-use Rattle.qs_machine.specs.declared.state.Owner.{Owner}
 use Rattle.qs_ipc.specs.declared.delivery.Delivery.{Delivery}
-use Rattle.qs_ops.specs.declared.operation.Op.{Op}
 use Rattle.qs_servers.specs.Servers.{ServersValue}
-use Rattle.qs_packet.specs.declared.message.Message.TheVariants as messages
-use Rattle.qs_step.specs.Bringing.{member_here, send}
-use Rattle.qs_step.specs.Requests.{ask_on, enter_issue, is_asked, issue_away, label_of}
-use Rattle.qs_step.specs.State.{Work, NodeValue, with_manager}
-use Rattle.qs_tm.specs.Manager as tm
 use Rattle.qs_tm.specs.Participant as participant
 use Rattle.qs_tm.specs.Participant.{awaits_note, has_noted, is_by_files}
 use Rattle.qs_tm.specs.declared.members.MemberPart.{MemberPart}
 use Rattle.qs_tm.specs.declared.participant.Outstanding.{Outstanding}
 use Rattle.qs_tm.specs.declared.participant.Participant.{Participant}
-use Rattle.qs_world.specs.Posting.{entry_of}
-use Rattle.qs_lawful.specs.Entering.{HoldsWork, book_at}
-use Rattle.qs_lawful.specs.Face.{Face, at_server, face_of}
+use Rattle.qs_lawful.specs.Face.{Face, at_server}
 use Rattle.qs_lawful.specs.Holds.{HoldsHome, HoldsMember, HoldsTid}
-use Rattle.qs_lawful.specs.Tables.{HoldsServers, is_seen, seen_in}
 use Rattle.qs_lawful.specs.Waits.{HoldsWaits, IsWithin, op_in, waiting_ops}
-use Rattle.qs_lawful.proofs.Apart.{Apart, same_or_apart}
-use Rattle.qs_lawful.proofs.Asking.{by_send}
-use Rattle.qs_lawful.proofs.Clauses.{of_tid}
-use Rattle.qs_lawful.proofs.Crossing.{crossing_owners, crossing_run, crossing_txs, waiting_nodes, waiting_owners, waiting_txs}
-use Rattle.qs_lawful.proofs.CrossedTables.{servers_alike}
-use Rattle.qs_lawful.proofs.Faces.{filter_more, part_apart, part_changed}
-use Rattle.qs_lawful.proofs.Frames.{KeepsOwners, KeepsSeen, SameFace, clients_on, said_to, told_of}
-use Rattle.qs_lawful.proofs.Growing.{book_with, entered}
-use Rattle.qs_lawful.proofs.CommitsWhole.{open_still}
+use Rattle.qs_lawful.proofs.Faces.{filter_more}
 use Rattle.qs_lawful.proofs.Issued.{any_more, sent_again}
 use Rattle.qs_lawful.proofs.Parts.{index_apart, index_set}
 use Rattle.qs_lawful.proofs.Keys.{KeyApart, link_exact, link_itself, member_found, request_exact, request_itself, same_key_or}
 use Rattle.qs_lawful.proofs.Stands.{crossed_elsewhere}
-use Rattle.qs_lawful.proofs.Steps.{one_changed, tx_apart, tx_changed, tx_seen, waits_of}
 
 -- ---- the node's count of what went to that node
 

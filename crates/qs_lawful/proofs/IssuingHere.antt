@@ -54,7 +54,6 @@ use Rattle.qs_lawful.proofs.CrossedTables.{crossed_up, servers_alike}
 use Rattle.qs_lawful.proofs.Keys.{member_found}
 use Rattle.qs_lawful.specs.Tables.{HoldsServers, is_seen, seen_in}
 use Rattle.qs_lawful.specs.Waits.{HoldsWaits}
-use Rattle.qs_machine.specs.Clauses.{is_numbered, broken_issuer}
 use Rattle.qs_machine.specs.Transaction.{is_commit, is_crossed, standing_request}
 use Rattle.qs_base.specs.Order.{member_cmp}
 use Rattle.std.specs.Map.{lookup}

@@ -79,3 +79,5 @@ pub mod CommitsWhole
 pub mod Crossing
 pub mod IssuedAway
 pub mod IssuingAway
+pub mod KeptAborts
+pub mod Tellings

@@ -5,6 +5,7 @@ ghost use Rattle.std.specs.List.{list_any};
 ghost use Rattle.std.specs.Map.{lookup};
 ghost use Rattle.qs_base.specs.declared.identifiers.ClientNo.{ClientNo};
 ghost use Rattle.qs_base.specs.declared.identifiers.Member.{Member};
+ghost use Rattle.qs_base.specs.declared.identifiers.NodeNo.{NodeNo};
 ghost use Rattle.qs_base.specs.declared.identifiers.Outcome.{Outcome};
 ghost use Rattle.qs_base.specs.declared.identifiers.Outcome.TheVariants as outcomes;
 ghost use Rattle.qs_base.specs.declared.identifiers.Tid.{Tid};
@@ -29,9 +30,11 @@ ghost use Rattle.qs_step.specs.Serving.{label_at};
 ghost use Rattle.qs_step.specs.State.{Work, client_cmp};
 ghost use Rattle.qs_step.specs.declared.state.OpenCommand.{OpenCommand};
 ghost use Rattle.qs_kept.specs.declared.kept.Begun.{Begun};
-ghost use Rattle.qs_step.specs.Telling.{learn};
+ghost use Rattle.qs_step.specs.Telling.{learn, tell_came};
+ghost use Rattle.qs_step.specs.Answering.{inquiry_came, was_committed};
+ghost use Rattle.qs_step.specs.Asking.{refusal_came};
 ghost use Rattle.qs_world.specs.Posting.{entry_of};
-ghost use Rattle.qs_lawful.specs.Entering.{HoldsWork, book_at};
+ghost use Rattle.qs_lawful.specs.Entering.{HoldsWork, IsAborted, book_at};
 ghost use Rattle.qs_lawful.specs.Places.{Facts, IsSettled, HoldsPlaces};
 
 /// The servers of a node that knows the outcome get their notices: endings first where it is aborted, then each that is to learn
@@ -85,4 +88,21 @@ pub fn commit_command_is_lawful()
 /// The owner commands abort of a transaction that began here since the node started: it is aborted, where it is undecided.
 pub fn abort_command_is_lawful()
     ensures { (stamp : ℕ) (before : BookValue) (work : Work) → HoldsWork stamp before work → (client : ClientNo) (command : OpenCommand) → lookup (is_at (client_cmp client)) work.node.commands ≡ Some command → (begun : Begun) → label_at command.line.label work.node ≡ Some begun → (tid : Tid) → begun.tid ≡ Some tid → begun.owner ≡ Some client → tid.home ≡ work.node.setting.node → tid.inc ≡ work.node.setting.inc → command.line.command ≡ commands.Abort → HoldsWork stamp before (open_command client tid commands.Abort work) }
+{}
+
+/// A cause comes why a transaction cannot be committed: it is kept where the transaction is undecided, and passed on to its home
+/// where nothing is known of it.
+pub fn refusal_is_lawful()
+    ensures { (stamp : ℕ) (before : BookValue) (work : Work) → HoldsWork stamp before work → (tid : Tid) (cause : Cause) → HoldsWork stamp before (refusal_came tid cause work) }
+{}
+
+/// A node asks the home for an outcome: it is told what is known or kept, is to be told once it is decided, or is told abort. What
+/// is unknown here and not committed is aborted in the machine.
+pub fn inquiry_is_lawful()
+    ensures { (stamp : ℕ) (before : BookValue) (work : Work) → HoldsWork stamp before work → (tid : Tid) (peer : NodeNo) → (tm.part_of tid work.node.manager ≡ None → was_committed tid work.node ≡ false → IsAborted stamp before work tid) → HoldsWork stamp before (inquiry_came peer tid work) }
+{}
+
+/// A node is told the outcome that the cell has: it takes it in, or keeps an abort of which it knew nothing, and says so.
+pub fn tell_is_lawful()
+    ensures { (stamp : ℕ) (before : BookValue) (work : Work) → HoldsWork stamp before work → (tid : Tid) (peer : NodeNo) (outcome : Outcome) (tx : TransactionValue) → find_transaction (book_at stamp before work) tid ≡ Some tx → is_outcome outcome tx.cell ≡ true → HoldsWork stamp before (tell_came peer tid outcome work) }
 {}
