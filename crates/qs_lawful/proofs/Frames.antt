@@ -70,7 +70,7 @@ with_waiting here inc tid tx face waiting same h = record {
   home = h.home;
 }
 
-tid_alike : (here : NodeNo) (inc : ℕ) (tid : Tid) (tx : TransactionValue) (a b : Face) → SameFace a b → HoldsTid here inc tid tx a → HoldsTid here inc tid tx b
+pub tid_alike : (here : NodeNo) (inc : ℕ) (tid : Tid) (tx : TransactionValue) (a b : Face) → SameFace a b → HoldsTid here inc tid tx a → HoldsTid here inc tid tx b
 tid_alike here inc tid tx a b same h =
     subst (λ (o : Option Participant). HoldsTid here inc tid tx (made_of o b.local b.changes b.loans b.waiting)) (sym same.known)
     (subst (λ (n : ℕ). HoldsTid here inc tid tx (made_of a.known n b.changes b.loans b.waiting)) (sym same.local)

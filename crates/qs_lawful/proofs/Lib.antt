@@ -81,3 +81,5 @@ pub mod IssuedAway
 pub mod IssuingAway
 pub mod KeptAborts
 pub mod Tellings
+pub mod Forgetting
+pub mod TellingOn

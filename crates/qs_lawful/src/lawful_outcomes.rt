@@ -3,7 +3,9 @@ ghost use Rattle.std.specs.Prelude.{◌≡◌, ◌&&◌, ℕ, true, false, None,
 ghost use Rattle.std.specs.BTreeMap.{is_at};
 ghost use Rattle.std.specs.List.{list_any};
 ghost use Rattle.std.specs.Map.{lookup};
+ghost use Rattle.qs_base.specs.Order.{tid_cmp};
 ghost use Rattle.qs_base.specs.declared.identifiers.ClientNo.{ClientNo};
+ghost use Rattle.qs_laws.proofs.Rising.{IsRising};
 ghost use Rattle.qs_base.specs.declared.identifiers.Member.{Member};
 ghost use Rattle.qs_base.specs.declared.identifiers.NodeNo.{NodeNo};
 ghost use Rattle.qs_base.specs.declared.identifiers.Outcome.{Outcome};
@@ -30,7 +32,7 @@ ghost use Rattle.qs_step.specs.Serving.{label_at};
 ghost use Rattle.qs_step.specs.State.{Work, client_cmp};
 ghost use Rattle.qs_step.specs.declared.state.OpenCommand.{OpenCommand};
 ghost use Rattle.qs_kept.specs.declared.kept.Begun.{Begun};
-ghost use Rattle.qs_step.specs.Telling.{learn, tell_came};
+ghost use Rattle.qs_step.specs.Telling.{learn, tell_came, told_came};
 ghost use Rattle.qs_step.specs.Answering.{inquiry_came, was_committed};
 ghost use Rattle.qs_step.specs.Asking.{refusal_came};
 ghost use Rattle.qs_world.specs.Posting.{entry_of};
@@ -105,4 +107,11 @@ pub fn inquiry_is_lawful()
 /// A node is told the outcome that the cell has: it takes it in, or keeps an abort of which it knew nothing, and says so.
 pub fn tell_is_lawful()
     ensures { (stamp : ℕ) (before : BookValue) (work : Work) → HoldsWork stamp before work → (tid : Tid) (peer : NodeNo) (outcome : Outcome) (tx : TransactionValue) → find_transaction (book_at stamp before work) tid ≡ Some tx → is_outcome outcome tx.cell ≡ true → HoldsWork stamp before (tell_came peer tid outcome work) }
+{}
+
+/// A node took in what its home told it. Of a commit that is noted, and all is forgotten once each node did that was to be told;
+/// of an abort those that it names are told too. What is unknown here is aborted in the machine, and the node keeps each
+/// transaction once.
+pub fn told_is_lawful()
+    ensures { (stamp : ℕ) (before : BookValue) (tid : Tid) (peer : NodeNo) (further : List NodeNo) (work : Work) → HoldsWork stamp before work → (tm.part_of tid work.node.manager ≡ None → IsAborted stamp before work tid) → IsRising tid_cmp work.node.manager.known → HoldsWork stamp before (told_came peer tid further work) }
 {}

@@ -21,6 +21,7 @@ pub use lawful_outcomes::{
     abort_command_is_lawful, abort_is_lawful, asked_abort_is_lawful, begin_command_is_lawful,
     commit_command_is_lawful, commit_is_lawful, deciding_is_lawful, inquiry_is_lawful,
     notices_are_lawful, refusal_is_lawful, reply_is_lawful, taking_in_is_lawful, tell_is_lawful,
+    told_is_lawful,
 };
 pub use lawful_restarts::{first_step_is_lawful, restart_is_lawful, votes_are_found_once};
 pub use lawful_rules::{
