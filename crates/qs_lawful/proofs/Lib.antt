@@ -83,3 +83,4 @@ pub mod KeptAborts
 pub mod Tellings
 pub mod Forgetting
 pub mod TellingOn
+pub mod NotesIssued

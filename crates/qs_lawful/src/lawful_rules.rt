@@ -23,6 +23,8 @@ ghost use Rattle.qs_tm.specs.declared.participant.Outstanding.{Outstanding};
 ghost use Rattle.qs_tm.specs.declared.participant.Participant.{Participant};
 ghost use Rattle.qs_engage.specs.Engage.{last_number, peer_of};
 ghost use Rattle.qs_step.specs.Asking.{closer_came};
+ghost use Rattle.qs_step.specs.Voting.{change_count, issue_note};
+ghost use Rattle.qs_tm.specs.Participant.{awaits_note, has_noted};
 ghost use Rattle.qs_step.specs.Bringing.{answer, enter, log, member_here, send};
 ghost use Rattle.qs_step.specs.Commands.{ask};
 ghost use Rattle.qs_step.specs.Requests.{issue_away, issue_here, local_count};
@@ -72,6 +74,12 @@ pub fn issue_away_is_lawful()
 /// The owner issues a request to a server of another node of the run, where commit was not asked for and no outcome is known.
 pub fn owner_issue_away_is_lawful()
     ensures { (stamp : ℕ) (before : BookValue) (work : Work) (tid : Tid) (outstanding : Outstanding) (op : Op) (part : Participant) (tx : TransactionValue) → HoldsWork stamp before work → tm.part_of tid work.node.manager ≡ Some part → find_transaction (book_at stamp before work) tid ≡ Some tx → outstanding.member.node.0 ≢ work.node.setting.node.0 → ((peer_of part.engage outstanding.member.node).sent == last_number) ≡ false → outstanding.member.node.0 < length part.engage.peers → (client : ClientNo) → outstanding.issuer ≡ client_server client → outstanding.number ≡ (peer_of part.engage outstanding.member.node).sent + 1 → is_for outstanding.member.server op ≡ true → nat_lt outstanding.member.node.0 work.node.setting.nodes ≡ true → tx.owner ≡ Some client → tid.home ≡ work.node.setting.node → tid.inc ≡ work.node.setting.inc → part.asked ≡ false → part.outcome ≡ None → HoldsWork stamp before (issue_away tid outstanding op work) }
+{}
+
+/// Files issue a note of the changes that they have pending, to audit here or of another node of the run, once commit is asked for:
+/// none with that count was served, and files wait for none.
+pub fn note_issue_is_lawful()
+    ensures { (stamp : ℕ) (before : BookValue) (work : Work) → HoldsWork stamp before work → (tid : Tid) (part : Participant) (tx : TransactionValue) → tm.part_of tid work.node.manager ≡ Some part → find_transaction (book_at stamp before work) tid ≡ Some tx → part.asked ≡ true → is_commit tx.cell ≡ false → nat_lt 0 (change_count tid work.node) ≡ true → has_noted (change_count tid work.node) part ≡ false → awaits_note part ≡ false → (to : NodeNo) → nat_lt to.0 work.node.setting.nodes ≡ true → to.0 < length part.engage.peers → HoldsWork stamp before (issue_note tid (Some to) work) }
 {}
 
 /// A message leaves all that is held.
