@@ -33,7 +33,10 @@ use Rattle.qs_lawful.specs.Entering.{HoldsWork, book_at}
 use Rattle.qs_lawful.proofs.Frames.{seen, KeepsSeen, found_alike, owner_on, owner_back, held_on, known_on}
 use Rattle.qs_lawful.proofs.Growing.{entered, book_with}
 use Rattle.qs_lawful.proofs.Clauses.{may_answer}
-use Rattle.qs_lawful.proofs.Quiet.{quiet, at_quiet, all_heard, heard_nodes, heard_owners}
+use Rattle.qs_lawful.proofs.CrossedTables.{servers_alike}
+use Rattle.qs_lawful.proofs.SameWaits.{crossings, seen_alike}
+use Rattle.qs_lawful.specs.Tables.{is_seen}
+use Rattle.qs_lawful.proofs.Quiet.{waits_quiet, quiet, at_quiet, all_heard, heard_nodes, heard_owners}
 use Rattle.qs_lawful.proofs.Steps.{next_again}
 
 client_exact : (c d : ClientNo) → is_at (client_cmp c) d ≡ true → c ≡ d
@@ -200,6 +203,8 @@ module _ (stamp : ℕ) (before : BookValue) (work : Work) (client : ClientNo) (s
           (known_on book new_book seen_on)
           (λ t. at_quiet work.node.setting.node work.node.setting.inc t (find_transaction book t) (find_transaction new_book t) (face_of work.node t) (quiet_on t) (h.holds.at t))
           clients
+          (servers_alike (is_seen book work.node.setting.node) (is_seen new_book work.node.setting.node) h.holds.state work.node.servers (seen_alike book new_book work.node.setting.node (all_heard crossings (λ node inc tx. refl) asked started)) h.holds.servers)
+          (λ t. waits_quiet work.node.setting.node work.node.setting.inc t (find_transaction book t) (find_transaction new_book t) (face_of work.node t).waiting work.node.servers (quiet_on t) (h.holds.waits t))
 
       by_waiting : HoldsWork stamp before (record work {
         node = answered;

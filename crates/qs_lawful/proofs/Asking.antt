@@ -28,7 +28,7 @@ use Rattle.qs_lawful.proofs.Faces.{part_apart, part_changed}
 use Rattle.qs_lawful.proofs.Frames.{SameFace, SameClients, clients_with, asking_on, KeepsSeen}
 use Rattle.qs_lawful.proofs.Growing.{entered, kept_on, book_with}
 use Rattle.qs_lawful.proofs.Clauses.{may_ask, of_tid}
-use Rattle.qs_lawful.proofs.Steps.{one_changed, same_owners, tx_seen}
+use Rattle.qs_lawful.proofs.Steps.{one_changed, same_owners, servers_still, tx_seen, waits_of}
 
 -- ---- messages leave the node and its entries
 
@@ -149,7 +149,9 @@ module _ (stamp : ℕ) (before : BookValue) (work : Work) (tid : Tid) (part : Pa
         held = entered stamp before work mid (acts.Ask tid) h refl refl (may_ask stamp book work.node h.holds tid tx found part known home inc unasked unknown)
             (one_changed stamp book new_book work.node asked_node h.holds tid (asked_at book.place) tx found refl
             h.holds.state (record { up = refl; inc = refl; begun = refl; format = refl }) h.holds.there refl refl refl
-            (record { setting = refl; at = refl; in_inc = refl }) refl faces own clients)
+            (record { setting = refl; at = refl; in_inc = refl }) refl faces own clients
+            (servers_still tid (asked_at book.place) (λ x. refl) book new_book refl work.node.setting.node h.holds.state work.node.servers h.holds.servers) (λ t far. refl)
+            (let k = waits_of stamp book work.node h.holds tid tx found in record { whole = k.whole; due = k.due; within = k.within; once = k.once }))
 
         by : (b : Bool) → b ≡ false → HoldsWork stamp before (if b then work else become_asked tid part (enter_ask tid work))
         by true is = absurd (cc is)

@@ -99,7 +99,7 @@ held_bare stamp book node manager same h =
     h.order refl h.there (λ t is. is)
     (λ t. at_bare node.setting.node node.setting.inc t (find_transaction book t) (face_of node t) (tm.part_of t node.manager) (tm.part_of t manager) (same.parts t) (h.at t))
     (clients_on book book node (record node { manager = manager }) (λ t. refl) (λ k. refl) (record { setting = refl; at = same.node; in_inc = same.inc }) (record { commands = refl; labels = refl; outcomes = refl }) h.clients
-    (λ t. told_bare (tm.part_of t node.manager) (tm.part_of t manager) (same.parts t)))
+    (λ t. told_bare (tm.part_of t node.manager) (tm.part_of t manager) (same.parts t))) h.servers h.waits
 
 pub by_bare : (stamp : ℕ) (before : BookValue) (work : Work) (tid : Tid) (g : Participant → Participant) → ((p : Participant) → bare (g p) ≡ bare p) → HoldsWork stamp before work → HoldsWork stamp before (with_manager (tm.with_part tid g) work)
 by_bare stamp before work tid g keeps h = kept_on stamp before work (with_manager (tm.with_part tid g) work) h refl refl (held_bare stamp (book_at stamp before work) work.node (tm.with_part tid g work.node.manager) (bare_part tid g keeps work.node.manager) h.holds)

@@ -1,5 +1,5 @@
 -- The rule by which a client begins a transaction, but for its answer.
-use Rattle.std.proofs.Common.{◌≡◌, ◌⊎◌, inl, inr, ℕ, ◌+◌, ◌≤◌, ◌<◌, true, false, List, Option, Some, None, refl, sym, ap, subst, ◌∙◌, arith}
+use Rattle.std.proofs.Common.{◌≡◌, ◌⊎◌, inl, inr, ℕ, ◌+◌, ◌≤◌, ◌<◌, true, false, List, [], Option, Some, None, refl, sym, ap, subst, ◌∙◌, arith}
 use Rattle.std.specs.Prelude.{slice_get, is_some}
 use Rattle.std.specs.List.{find}
 use Rattle.std.specs.BTreeMap.{is_at}
@@ -33,6 +33,12 @@ use Rattle.qs_lawful.proofs.Faces.{put_apart}
 use Rattle.qs_lawful.proofs.Frames.{SameFace, at_each}
 use Rattle.qs_lawful.proofs.Growing.{entered, book_with}
 use Rattle.qs_lawful.proofs.Steps.{next_again, changed_length}
+use Rattle.qs_ipc.specs.declared.delivery.Delivery.{Delivery}
+use Rattle.qs_ops.specs.Table.{share_of}
+use Rattle.qs_lawful.specs.Tables.{is_seen, seen_in}
+use Rattle.qs_lawful.specs.Waits.{HoldsWaits, HoldsWaitsAt, IsWithin, waiting_ops, is_idle}
+use Rattle.qs_lawful.proofs.Alike.{other_state}
+use Rattle.qs_lawful.proofs.CrossedTables.{servers_alike}
 use Rattle.qs_lawful.proofs.Begins.{begun_tid, label_stays, label_more}
 
 module _ (stamp : ℕ) (before : BookValue) (work : Work) (label : List ℕ) (client : ClientNo) (h : HoldsWork stamp before work) (fresh : is_fresh (book_at stamp before work).labels label ≡ true) where
@@ -186,6 +192,38 @@ module _ (stamp : ℕ) (before : BookValue) (work : Work) (label : List ℕ) (cl
     asking = asking_on;
   }
 
+  seen_on : (n : ℕ) (t : Tid) → is_seen new_book here n t ≡ is_seen book here n t
+  seen_on n t = by (same_or_apart tid t)
+    where
+      by : (tid ≡ t) ⊎ Apart tid t → is_seen new_book here n t ≡ is_seen book here n t
+      by (inl same) = subst (λ (u : Tid). is_seen new_book here n u ≡ is_seen book here n u) same (ap (seen_in here n) found_here ∙ sym (ap (seen_in here n) unknown))
+      by (inr far) = ap (seen_in here n) (found_apart t far)
+
+  waits_on : (t : Tid) → HoldsWaitsAt here node.setting.inc t (find_transaction new_book t) (face_of new t).waiting new.servers
+  waits_on t = by (same_or_apart tid t)
+    where
+      clash : true ≡ false → ⊥
+      clash e = cc e
+
+      idle : is_idle (share_of node.servers.files.table tid) ≡ true
+      idle = subst (λ (o : Option TransactionValue). HoldsWaitsAt here node.setting.inc tid o (face_of node tid).waiting node.servers) unknown (h.holds.waits tid)
+
+      nothing : 0 ≤ 1
+      nothing = grind arith
+
+      own_waits : HoldsWaits here node.setting.inc tid tx (face_of node tid).waiting node.servers
+      own_waits = record {
+        whole = λ is. absurd (clash (sym is));
+        due = λ busy. absurd (clash (sym idle ∙ busy));
+        within = λ server at near. subst (λ (ds : List Delivery). IsWithin (waiting_ops at ds) []) (sym (none.waiting server)) tt;
+        once = λ server at is. nothing;
+      }
+
+      by : (tid ≡ t) ⊎ Apart tid t → HoldsWaitsAt here node.setting.inc t (find_transaction new_book t) (face_of new t).waiting new.servers
+      by (inl same) = subst (λ (u : Tid). HoldsWaitsAt here node.setting.inc u (find_transaction new_book u) (face_of new u).waiting new.servers) same
+          (subst (λ (o : Option TransactionValue). HoldsWaitsAt here node.setting.inc tid o (face_of node tid).waiting node.servers) (sym found_here) own_waits)
+      by (inr far) = subst (λ (o : Option TransactionValue). HoldsWaitsAt here node.setting.inc t o (face_of node t).waiting node.servers) (sym (found_apart t far)) (h.holds.waits t)
+
   held : Holds stamp new_book new
   held = record {
     order = next_again stamp here.0 book new_book refl refl h.holds.order;
@@ -196,6 +234,8 @@ module _ (stamp : ℕ) (before : BookValue) (work : Work) (label : List ℕ) (cl
     at = at_each here node.setting.inc book new_book node new tid h.holds.at found_apart faces own;
     begun = begun_on;
     clients = clients;
+    servers = other_state (is_seen new_book here) h.holds.state (record h.holds.state { begun = tid.seq }) node.servers refl refl refl refl refl refl (servers_alike (is_seen book here) (is_seen new_book here) h.holds.state node.servers seen_on h.holds.servers);
+    waits = waits_on;
   }
 
   pub by_begin : HoldsWork stamp before begun_work

@@ -1,4 +1,5 @@
 -- A server that serves or votes by the rules of its kind does so lawfully: no more is asked of the entry.
+use Rattle.qs_lawful.specs.Waits.{IsWithin, waiting_ops, standing_ops}
 use Rattle.qs_base.specs.declared.identifiers.ServerNo.{ServerNo}
 use Rattle.qs_base.specs.declared.identifiers.Tid.{Tid}
 use Rattle.qs_engage.specs.Engage.{last_number}
@@ -8,26 +9,27 @@ use Rattle.qs_lawful.proofs.Clauses.{may_serve, may_vote}
 use Rattle.qs_lawful.proofs.ServingFiled.{by_serving_filed}
 use Rattle.qs_lawful.proofs.VotingWhole.{by_vote_with}
 use Rattle.qs_lawful.specs.Entering.{HoldsWork, book_at}
-use Rattle.qs_lawful.specs.Face.{at_server, face_of, is_numbered, part_in, part_or_new, waiting_at}
+use Rattle.qs_lawful.specs.Face.{at_server, face_of, part_in, part_or_new, waiting_at}
 use Rattle.qs_lawful.specs.Filed.{HoldsFiles}
 use Rattle.qs_lawful.specs.Holds.{is_kept}
 use Rattle.qs_machine.specs.Book.{BookValue, find_transaction, is_done}
 use Rattle.qs_machine.specs.Clauses.{is_reply, is_vote, note_text}
 use Rattle.qs_machine.specs.Lawful.{broken}
-use Rattle.qs_machine.specs.Transaction.{TransactionValue, has_note, is_commit, is_standing, requests_at, served_in, standing_request}
+use Rattle.qs_machine.specs.Transaction.{TransactionValue, has_note, is_commit, served_in, standing_request}
 use Rattle.qs_machine.specs.declared.transaction.Request.{Request}
 use Rattle.qs_ops.specs.Members.{class_of, is_two_phase}
-use Rattle.qs_ops.specs.Server.{reply_of}
+use Rattle.qs_ops.specs.Server.{reply_of, vote_of}
+use Rattle.qs_servers.specs.Servers.{server_at}
+use Rattle.qs_lawful.proofs.VoteRules.{vote_is_right}
 use Rattle.qs_ops.specs.declared.reply.Reply.{Reply}
 use Rattle.qs_ops.specs.declared.vote.Vote.{Vote}
 use Rattle.qs_step.specs.Serving.{enter_serve, lent_to, make_loan}
 use Rattle.qs_step.specs.State.{Work}
-use Rattle.qs_step.specs.Voting.{served_count, vote_with}
+use Rattle.qs_step.specs.Voting.{served_count, vote_frame, vote_with}
 use Rattle.qs_tm.specs.Participant.{awaits_note, has_noted, member_of}
 use Rattle.qs_tm.specs.declared.participant.Participant.{Participant}
 use Rattle.qs_world.specs.Posting.{entry_of}
-use Rattle.std.proofs.Common.{None, Option, Some, ap, false, length, refl, suc, sym, true, ℕ, ◌==◌, ◌∙◌, ◌≡◌, ◌≤◌, ◌⊎◌}
-use Rattle.std.specs.List.{filter}
+use Rattle.std.proofs.Common.{◌∷◌, None, Option, Some, ap, false, refl, sym, true, ℕ, ◌==◌, ◌∙◌, ◌≡◌, ◌≤◌, ◌⊎◌}
 use Rattle.qs_journal.specs.declared.entry.Act.TheVariants as acts
 use Rattle.qs_ops.specs.Servers as numbers
 use Rattle.qs_tm.specs.Manager as tm
@@ -50,12 +52,17 @@ module _ (stamp : ℕ) (before : BookValue) (work : Work) (tid : Tid) (part : Pa
       count : served_count tid server work ≡ (member_of (part_in (face_of work.node tid)) server).served
       count = ap (λ (o : Option Participant). elim o [ None ↦ 0 | Some p ↦ (member_of p server).served ]) known ∙ sym (ap (λ (p : Participant). (member_of p server).served) part_here)
 
+  -- and any but names votes by them
+  pub by_own_vote : (server : ServerNo) → is_kept server ≡ true → is_two_phase (class_of server.0) ≡ true → (server.0 == numbers.names_no) ≡ false → part.asked ≡ true → is_commit tx.cell ≡ false → rules.is_covering (member_of part server) ≡ false
+      → HoldsWork stamp before (vote_with tid server (vote_of (server_at work.node.servers server) tid work.room (vote_frame work)) work)
+  by_own_vote server kept two other asked still due =
+      by_voting_rules server (vote_of (server_at work.node.servers server) tid work.room (vote_frame work)) kept two asked still due (vote_is_right stamp (book_at stamp before work) work.node h.holds tid tx found server kept two other work.room)
+
 -- a member serves by the rules what stands there, where no outcome is known
 pub by_serving_rules : (stamp : ℕ) (before : BookValue) (work : Work) (server : ServerNo) (delivery : Delivery) (reply : Reply) (part : Participant) (tx : TransactionValue) → (h : HoldsWork stamp before work) → HoldsFiles work.node.servers
     → tm.part_of delivery.tid work.node.manager ≡ Some part → find_transaction (book_at stamp before work) delivery.tid ≡ Some tx → part.outcome ≡ None
     → (is_kept server ≡ true → ((member_of part server).served == last_number) ≡ false)
-    → suc (length (filter (is_numbered (record { link = record { from = delivery.from; to = work.node.setting.node }; number = delivery.number })) (waiting_at work.node delivery.tid server)))
-    ≤ length (filter (is_standing (at_server work.node.setting.node server)) (requests_at tx (record { link = record { from = delivery.from; to = work.node.setting.node }; number = delivery.number })))
+    → IsWithin (delivery.op ∷ waiting_ops (record { link = record { from = delivery.from; to = work.node.setting.node }; number = delivery.number }) (waiting_at work.node delivery.tid server)) (standing_ops tx (record { link = record { from = delivery.from; to = work.node.setting.node }; number = delivery.number }) work.node.setting.node server)
     → ((count : ℕ) → 1 ≤ count → has_note (served_in (record { link = record { from = delivery.from; to = work.node.setting.node }; number = delivery.number }) (at_server work.node.setting.node server) work.node.setting.inc stamp (is_done reply) tx)
     (record { node = work.node.setting.node; inc = work.node.setting.inc; text = note_text delivery.tid work.node.setting.node.0 count }) ≡ true → (has_noted count part ≡ true) ⊎ (awaits_note part ≡ true))
     → is_for server delivery.op ≡ true

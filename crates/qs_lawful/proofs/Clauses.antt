@@ -44,6 +44,11 @@ module _ (stamp : ℕ) (book : BookValue) (node : NodeValue) (h : Holds stamp bo
       → broken_act book stamp node.setting.node.0 h.state act ≡ None → broken book (entry_of node.setting.node.0 stamp act) ≡ None
   lawful_act act runs is = rw (h.order, h.there, runs h.state, h.same.up) is
 
+  -- and where it is lawful it breaks none
+  pub act_allowed : (act : Act) → ((state : machine.NodeValue) → broken_node book stamp node.setting.node.0 state act ≡ (if state.up then broken_act book stamp node.setting.node.0 state act else Some 2))
+      → broken book (entry_of node.setting.node.0 stamp act) ≡ None → broken_act book stamp node.setting.node.0 h.state act ≡ None
+  act_allowed act runs is = rw (h.order, h.there, runs h.state, h.same.up) at is
+
   -- ---- 10, 11
 
   own : (m a j i s n b : ℕ) → m ≡ a → j ≡ s → i ≡ s → n ≡ b → ((m == a) && ((j == i) && (b + 1 == n + 1))) ≡ true

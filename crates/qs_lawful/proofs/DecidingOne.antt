@@ -38,11 +38,12 @@ use Rattle.qs_lawful.specs.Entering.{HoldsWork, book_at}
 use Rattle.qs_lawful.proofs.Apart.{Apart, same_or_apart}
 use Rattle.qs_lawful.proofs.Bare.{held_bare, bare_part}
 use Rattle.qs_lawful.proofs.Clauses.{of_tid}
+use Rattle.qs_lawful.proofs.CommitsWhole.{committed_whole}
 use Rattle.qs_lawful.proofs.Faces.{part_apart, part_changed}
 use Rattle.qs_lawful.proofs.Frames.{found_alike}
 use Rattle.qs_lawful.proofs.Growing.{entered, book_with}
 use Rattle.qs_lawful.proofs.States.{state_itself}
-use Rattle.qs_lawful.proofs.Steps.{one_changed, found_now, found_apart}
+use Rattle.qs_lawful.proofs.Steps.{one_changed, servers_still, waits_of, found_now, found_apart}
 use Rattle.qs_lawful.proofs.Told.{known_still, known_now}
 
 -- ---- the transaction itself
@@ -272,10 +273,12 @@ module _ (stamp : ℕ) (before : BookValue) (work : Work) (tid : Tid) (outcome :
       (decided_tid book.place outcome cause here node.setting.inc tid tx (face_of node tid) part unknown
       (subst (λ (o : Option Participant). HoldsTid here node.setting.inc tid tx (record (face_of node tid) { known = o })) known (of_tid stamp book node h.holds tid tx found)))
 
-  held : Holds stamp new_book decided_node
-  held = one_changed stamp book new_book node decided_node h.holds tid f tx found refl h.holds.state (state_itself h.holds.state) h.holds.there refl refl refl
+  held : broken book (entry_of here.0 stamp (acts.Decide tid outcome cause)) ≡ None → Holds stamp new_book decided_node
+  held lawful = one_changed stamp book new_book node decided_node h.holds tid f tx found refl h.holds.state (state_itself h.holds.state) h.holds.there refl refl refl
       (record { setting = refl; at = refl; in_inc = refl }) refl
       (λ t far. record { known = part_apart tid t (outcome_rules.decided outcome) node.manager far; local = refl; changes = refl; loans = refl; waiting = λ s. refl }) own clients
+      (servers_still tid f (λ x. refl) book new_book refl here h.holds.state node.servers h.holds.servers) (λ t far. refl)
+      (let k = waits_of stamp book node h.holds tid tx found in record { whole = λ is. committed_whole stamp book node h.holds tid tx found outcome cause is lawful; due = k.due; within = k.within; once = k.once })
 
   abbrev pub decided_work : Work
   decided_work = enter (acts.Decide tid outcome cause) (keep_outcome tid outcome cause (log_if rec (with_manager (tm.decide tid outcome) work)))
@@ -284,6 +287,6 @@ module _ (stamp : ℕ) (before : BookValue) (work : Work) (tid : Tid) (outcome :
   by_decide lawful = by rec
     where
       by : (o : Option Record) → HoldsWork stamp before (enter (acts.Decide tid outcome cause) (keep_outcome tid outcome cause (log_if o (with_manager (tm.decide tid outcome) work))))
-      by None = entered stamp before work _ (acts.Decide tid outcome cause) h refl refl lawful held
+      by None = entered stamp before work _ (acts.Decide tid outcome cause) h refl refl lawful (held lawful)
       by (Some r) = entered stamp before work _ (acts.Decide tid outcome cause) h refl refl lawful
-          (held_bare stamp new_book decided_node (tm.logged (tid_of r) r decided_node.manager) (bare_part (tid_of r) (outcome_rules.logged r) (λ p. refl) decided_node.manager) held)
+          (held_bare stamp new_book decided_node (tm.logged (tid_of r) r decided_node.manager) (bare_part (tid_of r) (outcome_rules.logged r) (λ p. refl) decided_node.manager) (held lawful))

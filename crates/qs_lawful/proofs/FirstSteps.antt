@@ -74,7 +74,7 @@ module _ (stamp : ℕ) (before : BookValue) where
     not_first = kept_on stamp before work begun_work h refl refl
         (held_on stamp book book node new h.holds (record { setting = refl; at = refl; in_inc = refl }) refl h.holds.state (record { up = refl; inc = refl; begun = refl; format = refl })
         h.holds.order refl h.holds.there (λ t is. is) (at_none node.setting.node node.setting.inc book node new h.holds.at (λ t. record { known = refl; local = refl; changes = refl; loans = refl; waiting = λ s. refl }))
-        (clients_on book book node new (λ t. refl) (λ k. refl) (record { setting = refl; at = refl; in_inc = refl }) (record { commands = refl; labels = refl; outcomes = refl }) h.holds.clients (λ t. refl)))
+        (clients_on book book node new (λ t. refl) (λ k. refl) (record { setting = refl; at = refl; in_inc = refl }) (record { commands = refl; labels = refl; outcomes = refl }) h.holds.clients (λ t. refl)) h.holds.servers h.holds.waits)
       where
         node : NodeValue
         node = work.node

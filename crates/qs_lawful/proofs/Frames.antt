@@ -32,6 +32,8 @@ use Rattle.qs_kept.specs.Keeping.{has_label}
 use Rattle.qs_step.specs.State.{NodeValue, client_cmp}
 use Rattle.qs_laws.proofs.Rising.{IsRising}
 use Rattle.qs_lawful.specs.Face.{Face, face_of}
+use Rattle.qs_lawful.specs.Tables.{HoldsServers, is_seen}
+use Rattle.qs_lawful.specs.Waits.{HoldsWaitsAt}
 use Rattle.qs_lawful.specs.Holds.{Holds, HoldsTid, HoldsAt, HoldsClients, IsBehind, IsOwner, MayBeTold, HasEnded, IsAsking, HasBegun, is_next}
 use Rattle.qs_lawful.proofs.Apart.{Apart, same_or_apart}
 
@@ -68,7 +70,7 @@ with_waiting here inc tid tx face waiting same h = record {
   home = h.home;
 }
 
-tid_alike : (here : NodeNo) (inc : ℕ) (tid : Tid) (tx : TransactionValue) (a b : Face) → SameFace a b → HoldsTid here inc tid tx a → HoldsTid here inc tid tx b
+pub tid_alike : (here : NodeNo) (inc : ℕ) (tid : Tid) (tx : TransactionValue) (a b : Face) → SameFace a b → HoldsTid here inc tid tx a → HoldsTid here inc tid tx b
 tid_alike here inc tid tx a b same h =
     subst (λ (o : Option Participant). HoldsTid here inc tid tx (made_of o b.local b.changes b.loans b.waiting)) (sym same.known)
     (subst (λ (n : ℕ). HoldsTid here inc tid tx (made_of a.known n b.changes b.loans b.waiting)) (sym same.local)
@@ -240,8 +242,12 @@ module _ (stamp : ℕ) (book new_book : BookValue) (node new : NodeValue) (h : H
   pub held_on : (same : SameNode node new) → new.manager.begun ≡ node.manager.begun → (state : machine.NodeValue) → SameState h.state state
       → is_next stamp node.setting.node.0 new_book ≡ true → length new_book.nodes ≡ length book.nodes → slice_get new_book.nodes node.setting.node.0 ≡ Some state
       → ((t : Tid) → is_some (find_transaction new_book t) ≡ true → is_some (find_transaction book t) ≡ true) → ((t : Tid) → HoldsAt node.setting.node node.setting.inc t (find_transaction new_book t) (face_of new t)) → HoldsClients new_book new
+      → HoldsServers (is_seen new_book node.setting.node) state new.servers → ((t : Tid) → HoldsWaitsAt node.setting.node node.setting.inc t (find_transaction new_book t) (face_of new t).waiting new.servers)
       → Holds stamp new_book new
-  held_on same begun state left order run there stands at clients = record {
+  held_on same begun state left order run there stands at clients servers waits = record {
+    servers = subst (λ (n : NodeNo). HoldsServers (is_seen new_book n) state new.servers) (sym here) servers;
+    waits = λ t. subst (λ (n : NodeNo). HoldsWaitsAt n new.setting.inc t (find_transaction new_book t) (face_of new t).waiting new.servers) (sym here)
+        (subst (λ (i : ℕ). HoldsWaitsAt node.setting.node i t (find_transaction new_book t) (face_of new t).waiting new.servers) (sym (ap (λ s. s.inc) same.setting)) (waits t));
     order = subst (λ (n : NodeNo). is_next stamp n.0 new_book ≡ true) (sym here) order;
     run = run ∙ (h.run ∙ sym (ap (λ s. s.nodes) same.setting));
     state = state;

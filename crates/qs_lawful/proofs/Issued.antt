@@ -31,7 +31,7 @@ use Rattle.qs_lawful.proofs.Keys.{KeyApart, same_key_or, link_exact, link_itself
 abbrev numbered_as : NodeNo → NodeNo → ℕ → RequestNo
 numbered_as a b n = record { link = record { from = a; to = b }; number = n }
 
-sent_again : (inc : ℕ) (request : Request) (o : Option Sent) → request.inc ≡ inc → sent_in inc (Some (sent_more request o)) ≡ sent_in inc o + 1
+pub sent_again : (inc : ℕ) (request : Request) (o : Option Sent) → request.inc ≡ inc → sent_in inc (Some (sent_more request o)) ≡ sent_in inc o + 1
 sent_again inc request None same = by (request.inc == inc) refl
   where
     itself : (a b : ℕ) → a ≡ b → (a == b) ≡ false → ⊥
@@ -77,7 +77,7 @@ count_more p xs x = by (p x) refl
     by true is = rw (filter_last p xs x is, length_more (filter p xs) x) (weaker _ _ (itself (length (filter p xs))))
     by false is = rw (filter_more p xs x is) (itself (length (filter p xs)))
 
-any_more : {A : Type 0} (p : A → Bool) (xs : List A) (x : A) → list_any p xs ≡ true → list_any p (xs ++ x ∷ []) ≡ true
+pub any_more : {A : Type 0} (p : A → Bool) (xs : List A) (x : A) → list_any p xs ≡ true → list_any p (xs ++ x ∷ []) ≡ true
 any_more p [] x h = absurd (cc h)
 any_more p (y ∷ ys) x h = by (p y) refl (any_more p ys x)
   where
@@ -108,10 +108,10 @@ module _ (here : NodeNo) (inc number peer_inc place : ℕ) (request : Request) (
       by (inl same) = absurd (far (sym (ap (λ (l : Link). l.to.0) same) ∙ ap (λ (n : NodeNo). n.0) at_here))
       by (inr apart) = ap (sent_in inc) (lookup_put_apart link_cmp at.link (sent_more request (sent_on tx at.link)) (link_exact at.link) (is_at (link_cmp (record { from = here; to = peer }))) apart.at tx.sent)
 
-  requests_here : requests_at now at ≡ requests_at tx at ++ request ∷ []
+  pub requests_here : requests_at now at ≡ requests_at tx at ++ request ∷ []
   requests_here = ap (λ (o : Option (List Request)). unwrap_or o []) (lookup_put request_cmp at (requests_at tx at ++ request ∷ []) (request_itself at) tx.requests)
 
-  requests_apart : (other : RequestNo) → KeyApart request_cmp request_exact request_itself at other → requests_at now other ≡ requests_at tx other
+  pub requests_apart : (other : RequestNo) → KeyApart request_cmp request_exact request_itself at other → requests_at now other ≡ requests_at tx other
   requests_apart other far = ap (λ (o : Option (List Request)). unwrap_or o []) (lookup_put_apart request_cmp at (requests_at tx at ++ request ∷ []) (request_exact at) (is_at (request_cmp other)) far.at tx.requests)
 
   -- of each number as many stand as before, or more
@@ -136,7 +136,7 @@ module _ (here : NodeNo) (inc number peer_inc place : ℕ) (request : Request) (
         stands : is_standing request.member request ≡ true
         stands = rw (same_member-self request.member, unserved) refl
 
-    key_is : (other : RequestNo) → other.link.to ≡ here → is_numbered other delivery ≡ true → at ≡ other
+    pub key_is : (other : RequestNo) → other.link.to ≡ here → is_numbered other delivery ≡ true → at ≡ other
     key_is other near is =
         let parts = both (delivery.from.0 == other.link.from.0) (delivery.number == other.number) is in
         made here other.link.from request.member.node other.link.to number other.number

@@ -66,7 +66,7 @@ fewer client inc (loan ∷ loans) h = by (is_loan_here client inc loan) refl loa
 
 module _ (stamp : ℕ) (book : BookValue) (node : NodeValue) (h : Holds stamp book node) (tid : Tid) (tx : TransactionValue) (found : find_transaction book tid ≡ Some tx) where
   -- the numbers that the machine and the node give it
-  number_is : (member : Member) → is_commit tx.cell ≡ false → next_to node tid member.node ≡ sent_in h.state.inc (sent_on tx (link_to node.setting.node.0 member)) + 1
+  pub number_is : (member : Member) → is_commit tx.cell ≡ false → next_to node tid member.node ≡ sent_in h.state.inc (sent_on tx (link_to node.setting.node.0 member)) + 1
   number_is member still = by (same_node member.node node.setting.node) refl
     where
       equal : (m n : NodeNo) → same_node m n ≡ true → m ≡ n

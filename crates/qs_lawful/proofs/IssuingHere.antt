@@ -1,6 +1,6 @@
 -- A request goes to a server of the node itself: the rule as a whole.
-use Rattle.std.proofs.Common.{◌≡◌, ◌≢◌, ℕ, ◌+◌, Bool, true, false, List, [], ◌∷◌, ◌++◌, Option, Some, None, refl, sym, ap, subst, ◌∙◌, length}
-use Rattle.std.specs.Prelude.{unwrap_or, slice_get, ◌-◌, if◌then◌else◌}
+use Rattle.std.proofs.Common.{◌⊎◌, inl, inr, ◌≡◌, ◌≢◌, ℕ, ◌+◌, Bool, true, false, List, [], ◌∷◌, ◌++◌, Option, Some, None, refl, sym, ap, subst, ◌∙◌, length}
+use Rattle.std.specs.Prelude.{not, ◌&&◌, is_some, unwrap_or, slice_get, if◌then◌else◌}
 use Rattle.std.specs.Option.{option_map}
 use Rattle.std.specs.List.{filter}
 use Rattle.std.specs.BTreeMap.{is_at}
@@ -17,14 +17,13 @@ use Rattle.qs_ipc.specs.Queue.{QueueValue, is_of}
 use Rattle.qs_ipc.specs.Queue as queues
 use Rattle.qs_ipc.specs.declared.delivery.Delivery.{Delivery}
 use Rattle.qs_laws.proofs.Alikes.{tid_itself}
-use Rattle.qs_laws.proofs.Maps.{lookup_put, lookup_put_apart, changed_at_here, changed_alike}
-use Rattle.qs_ops.specs.Servers.{is_client_no}
+use Rattle.qs_laws.proofs.Maps.{lookup_put, lookup_put_apart, changed_alike}
 use Rattle.qs_ops.specs.declared.operation.Op.{Op}
 use Rattle.qs_journal.specs.declared.entry.Act.TheVariants as acts
 use Rattle.qs_machine.specs.Transaction.{TransactionValue, issued}
 use Rattle.qs_machine.specs.declared.transaction.Request.{Request}
 use Rattle.qs_machine.specs.declared.transaction.RequestNo.{RequestNo}
-use Rattle.qs_machine.specs.Book.{BookValue, find_transaction, inc_at, with_waiting, with_crossing, crosses, with_transaction, with_owner}
+use Rattle.qs_machine.specs.Book.{BookValue, find_transaction, inc_at, with_waiting, crosses, with_transaction}
 use Rattle.qs_machine.specs.Clauses.{link_to}
 use Rattle.qs_machine.specs.Lawful.{broken}
 use Rattle.qs_machine.specs.Nodes as machine
@@ -41,61 +40,23 @@ use Rattle.qs_world.specs.Posting.{entry_of}
 use Rattle.qs_lawful.specs.Face.{face_of, waiting_at}
 use Rattle.qs_lawful.specs.Holds.{HoldsTid, HoldsClients}
 use Rattle.qs_lawful.specs.Entering.{HoldsWork, book_at}
-use Rattle.qs_lawful.proofs.Apart.{Apart}
+use Rattle.qs_lawful.proofs.Apart.{Apart, same_or_apart}
 use Rattle.qs_lawful.proofs.Clauses.{of_tid}
+use Rattle.qs_lawful.proofs.CommitsWhole.{open_still}
+use Rattle.qs_lawful.proofs.Crossing.{crossed_if, crossing_owners, crossing_run, crossing_state, crossing_there, crossing_txs, waiting_nodes, waiting_owners, waiting_txs}
 use Rattle.qs_lawful.proofs.Faces.{part_apart, part_changed, queued_here, queued_elsewhere, same_server_or, waiting_apart, filter_last}
-use Rattle.qs_lawful.proofs.Frames.{SameFace, SameState, KeepsSeen, KeepsOwners, said_to, clients_on, told_of}
+use Rattle.qs_lawful.proofs.Frames.{SameFace, KeepsSeen, KeepsOwners, said_to, clients_on, told_of}
 use Rattle.qs_lawful.proofs.Growing.{entered, book_with}
 use Rattle.qs_lawful.proofs.Issued.{issued_tid}
-use Rattle.qs_lawful.proofs.States.{state_itself, crossed_state}
-use Rattle.qs_lawful.proofs.Steps.{one_changed, tx_seen, owner_changed, changed_length}
-
--- what the machine's waiting and crossing leave
-waiting_txs : (tid : Tid) (issuer member : Member) (book : BookValue) → (with_waiting tid issuer member book).transactions ≡ book.transactions
-waiting_txs tid issuer member book = by (is_client_no issuer.server.0)
-  where
-    by : (b : Bool) → (if b then with_owner (issuer.server.0 - 32) (λ owner. record owner { waiting = owner.waiting ++ record { tid = tid; node = member.node } ∷ [] }) book else book).transactions ≡ book.transactions
-    by true = refl
-    by false = refl
-
-waiting_nodes : (tid : Tid) (issuer member : Member) (book : BookValue) → (with_waiting tid issuer member book).nodes ≡ book.nodes
-waiting_nodes tid issuer member book = by (is_client_no issuer.server.0)
-  where
-    by : (b : Bool) → (if b then with_owner (issuer.server.0 - 32) (λ owner. record owner { waiting = owner.waiting ++ record { tid = tid; node = member.node } ∷ [] }) book else book).nodes ≡ book.nodes
-    by true = refl
-    by false = refl
-
-waiting_owners : (tid : Tid) (issuer member : Member) (book : BookValue) → KeepsOwners book (with_waiting tid issuer member book)
-waiting_owners tid issuer member book = by (is_client_no issuer.server.0)
-  where
-    by : (b : Bool) → KeepsOwners book (if b then with_owner (issuer.server.0 - 32) (λ owner. record owner { waiting = owner.waiting ++ record { tid = tid; node = member.node } ∷ [] }) book else book)
-    by true = owner_changed (issuer.server.0 - 32) (λ owner. record owner { waiting = owner.waiting ++ record { tid = tid; node = member.node } ∷ [] }) (λ o. refl) book (with_owner (issuer.server.0 - 32) (λ owner. record owner { waiting = owner.waiting ++ record { tid = tid; node = member.node } ∷ [] }) book) refl
-    by false = λ k. refl
-
-crossing_txs : (b : Bool) (tid : Tid) (member : Member) (book : BookValue) → (with_crossing b tid member book).transactions ≡ book.transactions
-crossing_txs true tid member book = refl
-crossing_txs false tid member book = refl
-
-crossing_owners : (b : Bool) (tid : Tid) (member : Member) (book : BookValue) → (with_crossing b tid member book).owners ≡ book.owners
-crossing_owners true tid member book = refl
-crossing_owners false tid member book = refl
-
--- the machine's state of a node after it
-abbrev crossed_if : Bool → Tid → Member → machine.NodeValue → machine.NodeValue
-crossed_if b tid member state = if b then crossed_node tid member.server.0 state else state
-
-crossing_there : (b : Bool) (tid : Tid) (member : Member) (book : BookValue) (state : machine.NodeValue) → slice_get book.nodes member.node.0 ≡ Some state
-    → slice_get (with_crossing b tid member book).nodes member.node.0 ≡ Some (crossed_if b tid member state)
-crossing_there true tid member book state there = changed_at_here (crossed_node tid member.server.0) book.nodes member.node.0 state there
-crossing_there false tid member book state there = there
-
-crossing_run : (b : Bool) (tid : Tid) (member : Member) (book : BookValue) → length (with_crossing b tid member book).nodes ≡ length book.nodes
-crossing_run true tid member book = changed_length member.node.0 (crossed_node tid member.server.0) book.nodes
-crossing_run false tid member book = refl
-
-crossing_state : (b : Bool) (tid : Tid) (member : Member) (state : machine.NodeValue) → SameState state (crossed_if b tid member state)
-crossing_state true tid member state = crossed_state tid member.server.0 state
-crossing_state false tid member state = state_itself state
+use Rattle.qs_lawful.proofs.Stands.{crossed_none, crossed_some, crossed_other, issued_waits}
+use Rattle.qs_lawful.proofs.Steps.{one_changed, tx_apart, tx_changed, tx_seen, waits_of}
+use Rattle.qs_lawful.proofs.CrossedTables.{crossed_up, servers_alike}
+use Rattle.qs_lawful.proofs.Keys.{member_found}
+use Rattle.qs_lawful.specs.Tables.{HoldsServers, is_seen, seen_in}
+use Rattle.qs_lawful.specs.Waits.{HoldsWaits}
+use Rattle.qs_machine.specs.Transaction.{is_commit, is_crossed, standing_request}
+use Rattle.qs_base.specs.Order.{member_cmp}
+use Rattle.std.specs.Map.{lookup}
 
 module _ (stamp : ℕ) (before : BookValue) (work : Work) (tid : Tid) (outstanding : Outstanding) (op : Op) (part : Participant) (tx : TransactionValue) (h : HoldsWork stamp before work)
     (known : tm.part_of tid work.node.manager ≡ Some part) (found : find_transaction (book_at stamp before work) tid ≡ Some tx)
@@ -197,11 +158,80 @@ module _ (stamp : ℕ) (before : BookValue) (work : Work) (tid : Tid) (outstandi
   clients = clients_on book new_book node new seen_on owners_on (record { setting = refl; at = refl; in_inc = refl }) (record { commands = refl; labels = refl; outcomes = refl }) h.holds.clients
       (λ t. changed_alike (is_at (tid_cmp tid)) told_of (participant.issued outstanding) (λ p. refl) (is_at (tid_cmp t)) node.manager.known)
 
+  its_waits : HoldsWaits home node.setting.inc tid tx (face_of node tid).waiting node.servers
+  its_waits = waits_of stamp book node h.holds tid tx found
+
+  own_waits : is_commit tx.cell ≡ false → HoldsWaits home node.setting.inc tid (f tx) (face_of new tid).waiting node.servers
+  own_waits open_still = issued_waits home node.setting.inc outstanding.number (inc_at book outstanding.member.node) book.place request tx near inc_is refl delivery refl refl refl tid (waiting_at node tid) (waiting_at new tid) waits_here waits_elsewhere node.servers its_waits open_still
+
+  member_here_is : outstanding.member ≡ record { node = home; server = record { 0 = outstanding.member.server.0 } }
+  member_here_is = ap (λ (n : NodeNo). record { node = n; server = outstanding.member.server }) near
+
+  found_now : find_transaction new_book tid ≡ Some (f tx)
+  found_now = ap (lookup (is_at (tid_cmp tid))) txs ∙ tx_changed tid f book.transactions tx found
+
+  found_far : (t : Tid) → Apart tid t → find_transaction new_book t ≡ find_transaction book t
+  found_far t far = ap (lookup (is_at (tid_cmp t))) txs ∙ tx_apart tid t f book.transactions far
+
+  -- what is seen of each transaction where this one is not crossed by the request
+  seen_where : (n : ℕ) → is_crossed (f tx) (record { node = home; server = record { 0 = n } }) ≡ is_crossed tx (record { node = home; server = record { 0 = n } }) → (t : Tid) → is_seen new_book home n t ≡ is_seen book home n t
+  seen_where n same t = by (same_or_apart tid t)
+    where
+      by : (tid ≡ t) ⊎ Apart tid t → is_seen new_book home n t ≡ is_seen book home n t
+      by (inl is) = subst (λ (u : Tid). is_seen new_book home n u ≡ is_seen book home n u) is (ap (seen_in home n) found_now ∙ (ap not same ∙ sym (ap (seen_in home n) found)))
+      by (inr far) = ap (seen_in home n) (found_far t far)
+
+  servers_on : HoldsServers (is_seen new_book home) (crossed_if crossing tid outstanding.member h.holds.state) node.servers
+  servers_on = by (standing_request tx key outstanding.member) refl
+    where
+      crosses_is : (o : Option Request) → standing_request tx key outstanding.member ≡ o → crossing ≡ (elim o [ None ↦ false | Some r ↦ true ])
+      crosses_is o is = ap (λ (x : Option TransactionValue). crosses x key outstanding.member) found ∙ ap (λ (x : Option Request). elim x [ None ↦ false | Some r ↦ true ]) is
+
+      hides : (earlier : Request) → standing_request tx key outstanding.member ≡ Some earlier → (t : Tid) → is_seen new_book home outstanding.member.server.0 t ≡ (is_seen book home outstanding.member.server.0 t && not (is_at (tid_cmp tid) t))
+      hides earlier is t = of (same_or_apart tid t)
+        where
+          and_false : (b : Bool) → (b && false) ≡ false
+          and_false true = refl
+          and_false false = refl
+
+          and_true : (b : Bool) → (b && true) ≡ b
+          and_true true = refl
+          and_true false = refl
+
+          itself : (u : Tid) → is_at (tid_cmp u) u ≡ true
+          itself u = rw (tid_itself u) refl
+
+          now_hidden : is_seen new_book home outstanding.member.server.0 tid ≡ false
+          now_hidden = ap (seen_in home outstanding.member.server.0) found_now
+              ∙ ap not (subst (λ (m : Member). is_crossed (f tx) m ≡ true) member_here_is (crossed_some home node.setting.inc outstanding.number (inc_at book outstanding.member.node) book.place request tx near inc_is earlier is))
+
+          own_it : is_seen new_book home outstanding.member.server.0 tid ≡ (is_seen book home outstanding.member.server.0 tid && not (is_at (tid_cmp tid) tid))
+          own_it = now_hidden ∙ sym (ap (λ (b : Bool). is_seen book home outstanding.member.server.0 tid && not b) (itself tid) ∙ and_false (is_seen book home outstanding.member.server.0 tid))
+
+          of : (tid ≡ t) ⊎ Apart tid t → is_seen new_book home outstanding.member.server.0 t ≡ (is_seen book home outstanding.member.server.0 t && not (is_at (tid_cmp tid) t))
+          of (inl same) = subst (λ (u : Tid). is_seen new_book home outstanding.member.server.0 u ≡ (is_seen book home outstanding.member.server.0 u && not (is_at (tid_cmp tid) u))) same own_it
+          of (inr far) = ap (seen_in home outstanding.member.server.0) (found_far t far)
+              ∙ sym (ap (λ (b : Bool). is_seen book home outstanding.member.server.0 t && not b) (far.keys t (itself t)) ∙ and_true (is_seen book home outstanding.member.server.0 t))
+
+      others : (n : ℕ) → n ≢ outstanding.member.server.0 → (t : Tid) → is_seen new_book home n t ≡ is_seen book home n t
+      others n far t = seen_where n (crossed_other home node.setting.inc outstanding.number (inc_at book outstanding.member.node) book.place request tx near inc_is (record { node = home; server = record { 0 = n } }) (member_far (is_at (member_cmp (record { node = home; server = record { 0 = n } })) outstanding.member) refl)) t
+        where
+          member_far : (b : Bool) → is_at (member_cmp (record { node = home; server = record { 0 = n } })) outstanding.member ≡ b → b ≡ false
+          member_far false is = refl
+          member_far true is = absurd (far (ap (λ (m : Member). m.server.0) (member_found (record { node = home; server = record { 0 = n } }) outstanding.member is)))
+
+      by : (o : Option Request) → standing_request tx key outstanding.member ≡ o → HoldsServers (is_seen new_book home) (crossed_if crossing tid outstanding.member h.holds.state) node.servers
+      by None is = subst (λ (b : Bool). HoldsServers (is_seen new_book home) (crossed_if b tid outstanding.member h.holds.state) node.servers) (sym (crosses_is None is))
+          (servers_alike (is_seen book home) (is_seen new_book home) h.holds.state node.servers
+          (λ n t. seen_where n (ap (λ (xs : List (Member × ℕ)). is_some (lookup (is_at (member_cmp (record { node = home; server = record { 0 = n } }))) xs)) (crossed_none home node.setting.inc outstanding.number (inc_at book outstanding.member.node) book.place request tx near inc_is is)) t) h.holds.servers)
+      by (Some earlier) is = subst (λ (b : Bool). HoldsServers (is_seen new_book home) (crossed_if b tid outstanding.member h.holds.state) node.servers) (sym (crosses_is (Some earlier) is))
+          (crossed_up (is_seen book home) (is_seen new_book home) h.holds.state node.servers h.holds.servers tid outstanding.member.server.0 (hides earlier is) others h.holds.same.up)
+
   pub by_issued : broken book (entry_of home.0 stamp (acts.Issue tid issuer outstanding.member outstanding.number op)) ≡ None → HoldsWork stamp before issued_work
   by_issued lawful = entered stamp before work issued_work (acts.Issue tid issuer outstanding.member outstanding.number op) h refl refl lawful
       (one_changed stamp book new_book node new h.holds tid f tx found txs
       (crossed_if crossing tid outstanding.member h.holds.state) (crossing_state crossing tid outstanding.member h.holds.state) there run refl refl
-      (record { setting = refl; at = refl; in_inc = refl }) refl faces own clients)
+      (record { setting = refl; at = refl; in_inc = refl }) refl faces own clients servers_on (λ t far. refl) (own_waits (open_still stamp book node h.holds tid tx found issuer outstanding.member outstanding.number op lawful)))
 
   -- where the operation is one of its server's
   pub by_issue_here : queues.is_for outstanding.member.server op ≡ true → broken book (entry_of home.0 stamp (acts.Issue tid issuer outstanding.member outstanding.number op)) ≡ None → HoldsWork stamp before (issue_here tid outstanding op work)

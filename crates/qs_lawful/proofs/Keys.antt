@@ -55,6 +55,12 @@ request_itself r = rw (tied_itself nat_cmp_total r.link.from.0, tied_itself nat_
 pub member_exact : (m n : Member) → member_cmp m n ≡ Equal → m ≡ n
 member_exact m n e = ap (λ (p : ℕ × ℕ). record { node = record { 0 = p.0 }; server = record { 0 = p.1 } }) (exact_pairs nat_cmp nat_cmp exact_unsigned exact_unsigned (m.node.0, m.server.0) (n.node.0, n.server.0) e)
 
+pub member_itself : (m : Member) → member_cmp m m ≡ Equal
+member_itself m = rw (tied_itself nat_cmp_total m.node.0, tied_itself nat_cmp_total m.server.0) refl
+
+pub member_found : (m n : Member) → is_at (member_cmp m) n ≡ true → m ≡ n
+member_found m n is = at_exact member_cmp member_exact member_itself m n is
+
 pub life_exact : (l m : Life) → life_cmp l m ≡ Equal → l ≡ m
 life_exact l m e = ap (λ (p : Member × ℕ). record { member = p.0; inc = p.1 }) (exact_pairs member_cmp nat_cmp member_exact exact_unsigned (l.member, l.inc) (m.member, m.inc) e)
 

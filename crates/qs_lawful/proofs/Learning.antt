@@ -1,4 +1,15 @@
 -- A server learns how a transaction ends, or is told that it ends: the rules as a whole.
+use Rattle.qs_lawful.specs.Tables.{is_seen}
+use Rattle.qs_lawful.specs.Waits.{HoldsWaits}
+use Rattle.qs_lawful.proofs.Alike.{learnt_servers}
+use Rattle.qs_lawful.proofs.ServedTables.{ended_servers}
+use Rattle.qs_lawful.proofs.Files.{noted_share}
+use Rattle.qs_lawful.proofs.MemberWaits.{seen_committed, learnt_waits, ended_waits}
+use Rattle.qs_lawful.proofs.Steps.{waits_of}
+use Rattle.qs_ops.specs.Servers.{files_no, names_no, timers_no, windows_no, scratch_no, is_client_no}
+use Rattle.qs_machine.specs.declared.transaction.Cell.{Cell}
+use Rattle.qs_machine.specs.declared.transaction.Cell.TheVariants as cells
+use Rattle.qs_machine.specs.Transaction.{is_commit, is_outcome}
 use Rattle.std.proofs.Common.{◌≡◌, ℕ, ◌==◌, ◌≤◌, Bool, true, false, Option, Some, None, refl, sym, ap, subst, ◌∙◌, arith, length}
 use Rattle.std.proofs.lemmas.Bool.Decides.{nat_tests}
 use Rattle.std.specs.Prelude.{not, ◌&&◌, ◌||◌, unwrap_or, is_some, if◌then◌else◌}
@@ -68,6 +79,10 @@ learnt_parts member inc outcomes.Abort tx = refl
 pub learnt_elsewhere : (member : Member) (inc : ℕ) (outcome : Outcome) (tx : TransactionValue) (other : Member) → LivesApart (life member inc) (life other inc) → part_of (learnt member inc outcome tx) other inc ≡ part_of tx other inc
 learnt_elsewhere member inc outcome tx other far = ap (λ ps. unwrap_or (lookup (is_at (life_cmp (life other inc))) ps) no_part) (learnt_parts member inc outcome tx) ∙ changed_part_apart (life member inc) (learnt_part outcome) tx.parts other inc far
 
+learnt_crossed : (member : Member) (inc : ℕ) (outcome : Outcome) (tx : TransactionValue) → (learnt member inc outcome tx).crossed ≡ tx.crossed
+learnt_crossed member inc outcomes.Commit tx = refl
+learnt_crossed member inc outcomes.Abort tx = refl
+
 -- ---- the rules
 
 module _ (stamp : ℕ) (before : BookValue) (work : Work) (tid : Tid) (server : ServerNo) (part : Participant) (tx : TransactionValue) (h : HoldsWork stamp before work)
@@ -92,6 +107,9 @@ module _ (stamp : ℕ) (before : BookValue) (work : Work) (tid : Tid) (server : 
 
   held : HoldsTid here inc tid tx (record (face_of node tid) { known = Some part })
   held = subst (λ (o : Option Participant). HoldsTid here inc tid tx (record (face_of node tid) { known = o })) known (of_tid stamp book node h.holds tid tx found)
+
+  waits : HoldsWaits here inc tid tx (face_of node tid).waiting node.servers
+  waits = waits_of stamp book node h.holds tid tx found
 
   own_is : member_of (p_now part) server ≡ told_all (member_of part server)
   own_is = with_own server (told_all (member_of part server)) part held.sized kept
@@ -122,6 +140,15 @@ module _ (stamp : ℕ) (before : BookValue) (work : Work) (tid : Tid) (server : 
     silent_on outcomes.Commit is e = held.silent (sym (aborts_alike tx (learnt member inc outcomes.Commit tx) here inc (λ m. parts_alike (λ (p : Part). p.aborted) (life member inc) (learnt_part outcomes.Commit) (λ p. refl) tx.parts m inc)) ∙ e)
     silent_on outcomes.Abort is e = is
 
+    -- what is committed is crossed nowhere
+    whole : outcome ≡ outcomes.Commit → is_seen book here server.0 tid ≡ true
+    whole is = seen_committed book here server tid tx found (waits.whole (committed tx.cell (held.outcome outcomes.Commit (knows ∙ ap Some is))))
+      where
+        committed : (c : Cell) → is_outcome outcomes.Commit c ≡ true → is_commit c ≡ true
+        committed cells.Commit e = refl
+        committed cells.Open e = absurd (cc e)
+        committed cells.Abort e = absurd (cc e)
+
     module _ (pending : (part_of after (at_server here rules.files_no) inc).pending ≡ changes_after (notice_of outcome)) where
       own_tid : HoldsTid here inc tid after (record (face_of node tid) { known = Some (p_now part); changes = changes_after (notice_of outcome) })
       own_tid = member_tid here inc tid tx after (face_of node tid) part (p_now part) server (changes_after (notice_of outcome)) held kept
@@ -134,7 +161,10 @@ module _ (stamp : ℕ) (before : BookValue) (work : Work) (tid : Tid) (server : 
           (by_member stamp book node server tid part tx h.holds known found (acts.Learn tid member outcome) (learnt member (inc_at book (record { 0 = here.0 })) outcome)
           (λ state. doubts_after tid server.0 (learn_node outcome tid server.0 state)) (λ value. after_notice value tid (notice_of outcome)) p_now refl
           (learnt_seen member (inc_at book (record { 0 = here.0 })) outcome) (learn_state outcome tid server.0) (λ q. refl) (λ t far value. noted_apart tid t (notice_of outcome) value far)
-          (subst (λ (i : ℕ). HoldsTid here inc tid (learnt member i outcome tx) (record (face_of node tid) { known = Some (p_now part); changes = changes_after (notice_of outcome) })) (sym (inc_here stamp book node h.holds)) own_tid))
+          (subst (λ (i : ℕ). HoldsTid here inc tid (learnt member i outcome tx) (record (face_of node tid) { known = Some (p_now part); changes = changes_after (notice_of outcome) })) (sym (inc_here stamp book node h.holds)) own_tid)
+          (learnt_crossed member (inc_at book (record { 0 = here.0 })) outcome) (learnt_servers (is_seen book here) h.holds.state node.servers h.holds.servers server tid outcome whole) (λ t far value. noted_share tid t (notice_of outcome) value far)
+          (subst (λ (i : ℕ). HoldsWaits here inc tid (learnt member i outcome tx) (face_of node tid).waiting (with_server server (λ value. after_notice value tid (notice_of outcome)) node.servers)) (sym (inc_here stamp book node h.holds))
+          (learnt_waits here inc tid tx (face_of node tid).waiting node.servers (is_seen book here) h.holds.state h.holds.servers waits server outcome)))
 
   -- ---- an immediate server is told that the transaction ends
 
@@ -196,10 +226,31 @@ module _ (stamp : ℕ) (before : BookValue) (work : Work) (tid : Tid) (server : 
           (by_member stamp book node server tid part tx h.holds known found (acts.Ending tid member) (ended member (inc_at book (record { 0 = here.0 })))
           (end_node tid) (λ value. after_notice value tid notices.Ending) p_now refl
           (λ x. refl) (λ s. record { up = refl; inc = refl; begun = refl; format = refl }) (λ q. refl) (λ t far value. noted_apart tid t notices.Ending value far)
-          (subst (λ (i : ℕ). HoldsTid here inc tid (ended member i tx) (record (face_of node tid) { known = Some (p_now part); changes = changes_after notices.Ending })) (sym (inc_here stamp book node h.holds)) ended_tid))
+          (subst (λ (i : ℕ). HoldsTid here inc tid (ended member i tx) (record (face_of node tid) { known = Some (p_now part); changes = changes_after notices.Ending })) (sym (inc_here stamp book node h.holds)) ended_tid)
+          (λ x. refl) (ended_servers (is_seen book here) h.holds.state node.servers h.holds.servers server (at_timers server.0 immediate) tid) (λ t far value. noted_share tid t notices.Ending value far)
+          (subst (λ (i : ℕ). HoldsWaits here inc tid (ended member i tx) (face_of node tid).waiting (with_server server (λ value. after_notice value tid notices.Ending) node.servers)) (sym (inc_here stamp book node h.holds))
+          (ended_waits here inc tid tx (face_of node tid).waiting node.servers (is_seen book here) h.holds.state h.holds.servers waits server (no_files server.0 (at_timers server.0 immediate)))))
         where
           clause : ℕ → Option ℕ
           clause n = Some n
+
+          -- timers alone are immediate
+          at_timers : (n : ℕ) → rules.is_immediate (class_of n) ≡ true → n ≡ timers_no
+          at_timers n = by (n == names_no) (n == timers_no) (n == windows_no) (n == scratch_no) (is_client_no n) refl
+            where
+              number_is : (a b : ℕ) → (a == b) ≡ true → a ≡ b
+              number_is a b e = grind (arith, nat_tests, e)
+
+              by : (a b c d e : Bool) → (n == timers_no) ≡ b → rules.is_immediate (if a then classes.Volatile else if b then classes.Immediate else if c then classes.Standard else if d then classes.Delayed else if e then classes.Activity else classes.Recoverable) ≡ true → n ≡ timers_no
+              by a true c d e at is = number_is n timers_no at
+              by true false c d e at is = absurd (cc is)
+              by false false true d e at is = absurd (cc is)
+              by false false false true e at is = absurd (cc is)
+              by false false false false true at is = absurd (cc is)
+              by false false false false false at is = absurd (cc is)
+
+          no_files : (n : ℕ) → n ≡ timers_no → (n == files_no) ≡ false
+          no_files n e = grind (arith, nat_tests, e)
 
           itself : (n : ℕ) → (n == n) ≡ true
           itself n = grind (arith, nat_tests)

@@ -1,4 +1,5 @@
 -- A loan is made, and one is given back: the rules as a whole, but for the answer.
+use Rattle.qs_tm.specs.Members as rules
 use Rattle.std.proofs.Common.{◌≡◌, ◌≢◌, ℕ, ◌+◌, ◌==◌, ◌≤◌, Bool, true, false, List, [], ◌∷◌, ◌++◌, Option, Some, None, suc, refl, sym, ap, subst, ◌∙◌, arith, length, nat_lt}
 use Rattle.std.proofs.lemmas.Bool.Decides.{nat_tests}
 use Rattle.std.specs.Prelude.{unwrap_or, if◌then◌else◌}
@@ -24,7 +25,7 @@ use Rattle.qs_step.specs.State.{Work, NodeValue, with_kept}
 use Rattle.qs_kept.specs.Keeping.{with_now}
 use Rattle.qs_kept.specs.declared.kept.Lent.{Lent}
 use Rattle.qs_world.specs.Posting.{entry_of}
-use Rattle.qs_lawful.specs.Face.{face_of, is_loan_in, is_loan_here, is_given_back}
+use Rattle.qs_lawful.specs.Face.{at_server, face_of, is_loan_in, is_loan_here, is_given_back}
 use Rattle.qs_lawful.specs.Holds.{Holds, HoldsTid, HoldsClients}
 use Rattle.qs_lawful.specs.Entering.{HoldsWork, book_at}
 use Rattle.qs_lawful.proofs.Apart.{Apart}
@@ -35,7 +36,10 @@ use Rattle.qs_lawful.proofs.Issuing.{most}
 use Rattle.qs_lawful.proofs.LentTid.{changed, loan_tid, other_client, own_client}
 use Rattle.qs_lawful.proofs.Loans.{new_loan, made_more, made_other, made_back, made_in, made_apart, back_more, back_same, back_other, back_apart, both}
 use Rattle.qs_lawful.proofs.States.{state_itself}
-use Rattle.qs_lawful.proofs.Steps.{one_changed, tx_seen, same_owners}
+use Rattle.qs_lawful.proofs.LentTid.{borrower_apart}
+use Rattle.qs_lawful.proofs.Parts.{changed_part_apart}
+use Rattle.qs_lawful.specs.Waits.{HoldsWaits}
+use Rattle.qs_lawful.proofs.Steps.{one_changed, servers_still, tx_seen, same_owners, waits_of}
 
 -- where one of a client's counts is not 0, the machine has its part
 some_part : (of : Part → ℕ) → of no_part ≡ 0 → (tx : TransactionValue) (member : Member) (inc : ℕ) → nat_lt 0 (of (part_of tx member inc)) ≡ true → lookup (is_at (life_cmp (life member inc))) tx.parts ≡ Some (part_of tx member inc)
@@ -104,7 +108,19 @@ module _ (stamp : ℕ) (before : BookValue) (work : Work) (tid : Tid) (client : 
         (λ t far. record { known = refl; local = refl; changes = refl; loans = others t far; waiting = λ s. refl })
         (subst (λ (i : ℕ). HoldsTid here inc tid (record tx { parts = changed_value (is_at (life_cmp (life its i))) g tx.parts }) (face_of new tid)) (sym inc_is)
         (loan_tid here inc client g aborts tid tx (face_of node tid) (filter (is_loan_in tid) loans) (of_tid stamp book node h.holds tid tx found) made yielded))
-        clients)
+        clients
+        (servers_still tid (with_its g) (λ x. refl) book target refl here h.holds.state node.servers h.holds.servers) (λ t far. refl)
+        (subst (λ (i : ℕ). HoldsWaits here inc tid (record tx { parts = changed_value (is_at (life_cmp (life its i))) g tx.parts }) (face_of new tid).waiting new.servers) (sym inc_is) its_waits))
+      where
+        its_waits : HoldsWaits here inc tid (record tx { parts = changed_value (is_at (life_cmp (life its inc))) g tx.parts }) (face_of new tid).waiting new.servers
+        its_waits =
+            let k = waits_of stamp book node h.holds tid tx found in
+            record {
+              whole = k.whole;
+              due = λ busy. ap (λ (p : Part). p.due) (changed_part_apart (life its inc) g tx.parts (at_server here rules.files_no) inc (borrower_apart client here inc rules.files_no refl)) ∙ k.due busy;
+              within = k.within;
+              once = k.once;
+            }
 
   -- ---- a loan is made, where the client was asked to take it in this step
 

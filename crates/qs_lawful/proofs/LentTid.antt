@@ -20,7 +20,7 @@ use Rattle.qs_lawful.specs.Holds.{HoldsTid, is_kept}
 use Rattle.qs_lawful.proofs.Parts.{LivesApart, member_like, changed_part_apart, same_life_or, aborts_alike}
 
 -- a borrower is none of the servers
-borrower_apart : (client : ClientNo) (here : NodeNo) (inc : ℕ) (server : ServerNo) → is_kept server ≡ true → LivesApart (life (borrower client here) inc) (life (at_server here server) inc)
+pub borrower_apart : (client : ClientNo) (here : NodeNo) (inc : ℕ) (server : ServerNo) → is_kept server ≡ true → LivesApart (life (borrower client here) inc) (life (at_server here server) inc)
 borrower_apart client here inc server kept = by (same_life_or (borrower client here) (at_server here server) inc)
   where
     no : (k n : ℕ) → k + 32 ≡ n → nat_lt n 7 ≡ true → ⊥

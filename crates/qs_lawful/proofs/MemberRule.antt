@@ -27,9 +27,12 @@ use Rattle.qs_lawful.specs.Face.{face_of}
 use Rattle.qs_lawful.specs.Holds.{Holds, HoldsTid}
 use Rattle.qs_lawful.proofs.Apart.{Apart}
 use Rattle.qs_lawful.proofs.Faces.{part_apart, part_changed}
-use Rattle.qs_lawful.proofs.Files.{files_apart}
+use Rattle.qs_ops.specs.Table.{share_of}
+use Rattle.qs_lawful.specs.Tables.{HoldsServers, is_seen}
+use Rattle.qs_lawful.specs.Waits.{HoldsWaits, is_idle}
+use Rattle.qs_lawful.proofs.Files.{files_apart, files_keep, idle_in}
 use Rattle.qs_lawful.proofs.Frames.{SameState, seen, clients_on, told_of}
-use Rattle.qs_lawful.proofs.Steps.{one_changed, tx_seen, same_owners, changed_length}
+use Rattle.qs_lawful.proofs.Steps.{one_changed, servers_still, tx_seen, same_owners, changed_length}
 
 -- what a change of one life leaves of a part, it leaves of each
 pub parts_alike : {A : Type 0} (of : Part → A) (l : Life) (g : Part → Part) → ((p : Part) → of (g p) ≡ of p) → (parts : List (Life × Part)) (member : Member) (inc : ℕ)
@@ -61,11 +64,17 @@ module _ (stamp : ℕ) (book : BookValue) (node : NodeValue) (server : ServerNo)
   pub by_member : ((x : TransactionValue) → seen (f x) ≡ seen x) → ((s : machine.NodeValue) → SameState s (w s)) → ((q : Participant) → told_of (p q) ≡ told_of q)
       → ((t : Tid) → Apart tid t → (value : ServerValue) → length (changes_in (u value) t) ≡ length (changes_in value t))
       → HoldsTid here node.setting.inc tid (f tx) (record (face_of node tid) { known = Some (p part); changes = length (changes_in (with_server server u node.servers).files tid) })
+      → ((x : TransactionValue) → (f x).crossed ≡ x.crossed)
+      → HoldsServers (is_seen book here) (w h.state) (with_server server u node.servers)
+      → ((t : Tid) → Apart tid t → (value : ServerValue) → share_of (u value).table t ≡ share_of value.table t)
+      → HoldsWaits here node.setting.inc tid (f tx) (face_of node tid).waiting (with_server server u node.servers)
       → Holds stamp (effect book (entry_of here.0 stamp act)) member_node
-  by_member keeps state told apart own = subst (λ (b : BookValue). Holds stamp b member_node) (sym does)
+  by_member keeps state told apart own uncrossed servers shares waits = subst (λ (b : BookValue). Holds stamp b member_node) (sym does)
       (one_changed stamp book target node member_node h tid f tx found refl (w h.state) (state h.state) (changed_at_here w book.nodes here.0 h.state h.there) (changed_length here.0 w book.nodes) refl refl
       (record { setting = refl; at = refl; in_inc = refl }) refl
       (λ t far. record { known = part_apart tid t p node.manager far; local = refl; changes = files_apart server u node.servers t (apart t far); loans = refl; waiting = λ s. refl })
       (subst (λ (o : Option Participant). HoldsTid here node.setting.inc tid (f tx) (record (face_of member_node tid) { known = o })) (sym (part_changed tid p node.manager part known)) own)
       (clients_on book target node member_node (tx_seen tid f keeps book target refl) (same_owners book target refl) (record { setting = refl; at = refl; in_inc = refl }) (record { commands = refl; labels = refl; outcomes = refl }) h.clients
-      (λ t. changed_alike (is_at (tid_cmp tid)) told_of p told (is_at (tid_cmp t)) node.manager.known)))
+      (λ t. changed_alike (is_at (tid_cmp tid)) told_of p told (is_at (tid_cmp t)) node.manager.known))
+      (servers_still tid f uncrossed book target refl here (w h.state) (with_server server u node.servers) servers)
+      (λ t far. files_keep (idle_in t) server u node.servers (λ value. ap is_idle (shares t far value))) waits)

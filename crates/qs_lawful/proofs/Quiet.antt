@@ -12,6 +12,10 @@ use Rattle.qs_machine.specs.declared.state.Asking.{Asking}
 use Rattle.qs_tm.specs.declared.members.MemberPart.{MemberPart}
 use Rattle.qs_tm.specs.declared.participant.Participant.{Participant}
 use Rattle.qs_laws.proofs.Maps.{changed_alike}
+use Rattle.qs_base.specs.declared.identifiers.ServerNo.{ServerNo}
+use Rattle.qs_ipc.specs.declared.delivery.Delivery.{Delivery}
+use Rattle.qs_servers.specs.Servers.{ServersValue}
+use Rattle.qs_lawful.specs.Waits.{HoldsWaits, HoldsWaitsAt}
 use Rattle.qs_lawful.specs.Face.{Face}
 use Rattle.qs_lawful.specs.Holds.{HoldsMember, HoldsHome, HoldsTid, HoldsAt}
 
@@ -74,6 +78,23 @@ at_quiet here inc tid (Some x) (Some y) face same h = tid_heard here inc tid y f
   where
     same_some : (a b : TransactionValue) → Some a ≡ Some b → a ≡ b
     same_some a b e = cc e
+
+-- and so of what waits
+pub waits_quiet : (here : NodeNo) (inc : ℕ) (tid : Tid) (o new : Option TransactionValue) (waiting : ServerNo → List Delivery) (servers : ServersValue) → option_map quiet new ≡ option_map quiet o → HoldsWaitsAt here inc tid o waiting servers → HoldsWaitsAt here inc tid new waiting servers
+waits_quiet here inc tid None None waiting servers same h = h
+waits_quiet here inc tid None (Some y) waiting servers same h = absurd (cc same)
+waits_quiet here inc tid (Some x) None waiting servers same h = absurd (cc same)
+waits_quiet here inc tid (Some x) (Some y) waiting servers same h =
+    heard_waits y (subst (λ (tx : TransactionValue). HoldsWaits here inc tid tx waiting servers) (sym (same_some (quiet y) (quiet x) same)) (quiet_waits x h))
+  where
+    same_some : (a b : TransactionValue) → Some a ≡ Some b → a ≡ b
+    same_some a b e = cc e
+
+    quiet_waits : (tx : TransactionValue) → HoldsWaits here inc tid tx waiting servers → HoldsWaits here inc tid (quiet tx) waiting servers
+    quiet_waits tx k = record { whole = k.whole; due = k.due; within = k.within; once = k.once }
+
+    heard_waits : (tx : TransactionValue) → HoldsWaits here inc tid (quiet tx) waiting servers → HoldsWaits here inc tid tx waiting servers
+    heard_waits tx k = record { whole = k.whole; due = k.due; within = k.within; once = k.once }
 
 -- ---- the answers that end the wait for requests
 

@@ -82,7 +82,7 @@ by_notes stamp before work tid g part tx h known found told same notes = kept_on
     h.holds.order refl h.holds.there (λ t is. is)
     (at_each node.setting.node node.setting.inc book book node new tid h.holds.at (λ t far. refl) (λ t far. record { known = part_apart tid t g node.manager far; local = refl; changes = refl; loans = refl; waiting = λ s. refl }) own)
     (clients_on book book node new (λ t. refl) (λ k. refl) (record { setting = refl; at = refl; in_inc = refl }) (record { commands = refl; labels = refl; outcomes = refl }) h.holds.clients
-    (λ t. changed_alike (is_at (tid_cmp tid)) told_of g told (is_at (tid_cmp t)) node.manager.known)))
+    (λ t. changed_alike (is_at (tid_cmp tid)) told_of g told (is_at (tid_cmp t)) node.manager.known)) h.holds.servers h.holds.waits)
   where
     node : NodeValue
     node = work.node

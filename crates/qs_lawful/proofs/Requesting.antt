@@ -88,7 +88,7 @@ module _ (stamp : ℕ) (before : BookValue) (work : Work) (h : HoldsWork stamp b
   pub by_issued : (issued : Issued) → HoldsWork stamp before (with_issued client issued work)
   by_issued issued = kept_on stamp before work (with_issued client issued work) h refl refl
       (held_on stamp book book node new h.holds (record { setting = refl; at = refl; in_inc = refl }) refl h.holds.state (record { up = refl; inc = refl; begun = refl; format = refl })
-      h.holds.order refl h.holds.there (λ t is. is) (at_none node.setting.node node.setting.inc book node new h.holds.at faces) clients)
+      h.holds.order refl h.holds.there (λ t is. is) (at_none node.setting.node node.setting.inc book node new h.holds.at faces) clients h.holds.servers h.holds.waits)
     where
       its : ClientNo → Bool
       its = is_at (client_cmp client)

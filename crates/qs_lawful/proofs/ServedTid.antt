@@ -99,14 +99,14 @@ module _ (at : RequestNo) (member : Member) (inc stamp : ℕ) (done : Bool) (tx 
   abbrev listed : Option (List Request) → List Request
   listed o = unwrap_or o []
 
-  requests_at_key : requests_at now at ≡ mark_served member (requests_at tx at)
+  pub requests_at_key : requests_at now at ≡ mark_served member (requests_at tx at)
   requests_at_key = by (lookup (is_at (request_cmp at)) tx.requests) refl
     where
       by : (o : Option (List Request)) → lookup (is_at (request_cmp at)) tx.requests ≡ o → requests_at now at ≡ mark_served member (listed o)
       by None is = ap listed (changed_none (is_at (request_cmp at)) (mark_served member) tx.requests is)
       by (Some rs) is = ap listed (lookup_changed (is_at (request_cmp at)) (mark_served member) tx.requests rs is)
 
-  requests_apart : (other : RequestNo) → KeyApart request_cmp request_exact request_itself at other → requests_at now other ≡ requests_at tx other
+  pub requests_apart : (other : RequestNo) → KeyApart request_cmp request_exact request_itself at other → requests_at now other ≡ requests_at tx other
   requests_apart other far = ap listed (changed_apart (is_at (request_cmp at)) (is_at (request_cmp other)) far.keys (mark_served member) tx.requests)
 
   part_elsewhere : (other : Member) → LivesApart (life member inc) (life other inc) → part_of now other inc ≡ part_of tx other inc

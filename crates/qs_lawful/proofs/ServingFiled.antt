@@ -1,8 +1,8 @@
 -- A member serves a request with its server's reply: the rule as a whole, with files as they are.
-use Rattle.std.proofs.Common.{◌≡◌, ◌⊎◌, ℕ, ◌==◌, ◌≤◌, Bool, true, false, Some, None, suc, refl, ap, subst, arith, length}
+use Rattle.qs_lawful.specs.Waits.{IsWithin, waiting_ops, standing_ops}
+use Rattle.std.proofs.Common.{◌∷◌, ◌≡◌, ◌⊎◌, ℕ, ◌==◌, ◌≤◌, Bool, true, false, Some, None, refl, ap, subst, arith, length}
 use Rattle.std.proofs.lemmas.Bool.Decides.{nat_tests}
 use Rattle.std.specs.Prelude.{if◌then◌else◌}
-use Rattle.std.specs.List.{filter}
 use Rattle.qs_base.specs.declared.identifiers.ServerNo.{ServerNo}
 use Rattle.qs_engage.specs.Engage.{last_number}
 use Rattle.qs_ipc.specs.Queue.{is_for}
@@ -11,7 +11,7 @@ use Rattle.qs_ops.specs.Server.{changes_in, after_serving, reply_of}
 use Rattle.qs_ops.specs.Servers as numbers
 use Rattle.qs_ops.specs.declared.reply.Reply.{Reply}
 use Rattle.qs_journal.specs.declared.entry.Act.TheVariants as acts
-use Rattle.qs_machine.specs.Transaction.{TransactionValue, part_of, served_in, is_standing, requests_at, has_note}
+use Rattle.qs_machine.specs.Transaction.{TransactionValue, part_of, served_in, has_note}
 use Rattle.qs_machine.specs.declared.transaction.RequestNo.{RequestNo}
 use Rattle.qs_machine.specs.Book.{BookValue, find_transaction, is_done}
 use Rattle.qs_machine.specs.Clauses.{note_text}
@@ -24,7 +24,7 @@ use Rattle.qs_servers.specs.Servers.{is_client, with_server}
 use Rattle.qs_step.specs.Serving.{enter_serve, make_loan, lent_to}
 use Rattle.qs_step.specs.State.{Work}
 use Rattle.qs_world.specs.Posting.{entry_of}
-use Rattle.qs_lawful.specs.Face.{waiting_at, at_server, is_numbered}
+use Rattle.qs_lawful.specs.Face.{waiting_at, at_server}
 use Rattle.qs_lawful.specs.Filed.{HoldsFiles}
 use Rattle.qs_lawful.specs.Holds.{is_kept}
 use Rattle.qs_lawful.specs.Entering.{HoldsWork, book_at}
@@ -35,8 +35,7 @@ use Rattle.qs_lawful.proofs.ServingWhole.{by_serving}
 pub by_serving_filed : (stamp : ℕ) (before : BookValue) (work : Work) (server : ServerNo) (delivery : Delivery) (reply : Reply) (part : Participant) (tx : TransactionValue) → HoldsWork stamp before work → HoldsFiles work.node.servers
     → tm.part_of delivery.tid work.node.manager ≡ Some part → find_transaction (book_at stamp before work) delivery.tid ≡ Some tx
     → (is_kept server ≡ true → ((member_of part server).served == last_number) ≡ false)
-    → suc (length (filter (is_numbered (record { link = record { from = delivery.from; to = work.node.setting.node }; number = delivery.number })) (waiting_at work.node delivery.tid server)))
-    ≤ length (filter (is_standing (at_server work.node.setting.node server)) (requests_at tx (record { link = record { from = delivery.from; to = work.node.setting.node }; number = delivery.number })))
+    → IsWithin (delivery.op ∷ waiting_ops (record { link = record { from = delivery.from; to = work.node.setting.node }; number = delivery.number }) (waiting_at work.node delivery.tid server)) (standing_ops tx (record { link = record { from = delivery.from; to = work.node.setting.node }; number = delivery.number }) work.node.setting.node server)
     → ((count : ℕ) → 1 ≤ count → has_note (served_in (record { link = record { from = delivery.from; to = work.node.setting.node }; number = delivery.number }) (at_server work.node.setting.node server) work.node.setting.inc stamp (is_done reply) tx)
     (record { node = work.node.setting.node; inc = work.node.setting.inc; text = note_text delivery.tid work.node.setting.node.0 count }) ≡ true → (has_noted count part ≡ true) ⊎ (awaits_note part ≡ true))
     → is_for server delivery.op ≡ true

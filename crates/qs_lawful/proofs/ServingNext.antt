@@ -1,5 +1,5 @@
 -- The request that waits first at a server leaves its queue and is served, with its loan and its reply: as a whole.
-use Rattle.std.proofs.Common.{◌≡◌, ◌⊎◌, ℕ, ◌==◌, ◌≤◌, ◌+◌, Bool, true, false, List, [], ◌∷◌, Option, Some, None, suc, refl, sym, ap, subst, ◌∙◌, arith, length, drop}
+use Rattle.std.proofs.Common.{◌≡◌, ◌⊎◌, ℕ, ◌==◌, ◌≤◌, ◌+◌, Bool, true, false, List, [], ◌∷◌, Option, Some, None, refl, sym, ap, subst, ◌∙◌, arith, drop}
 use Rattle.std.proofs.lemmas.Bool.Decides.{nat_tests}
 use Rattle.std.specs.Prelude.{not, ◌&&◌, ◌||◌, is_none, if◌then◌else◌}
 use Rattle.std.specs.List.{filter, list_any}
@@ -19,13 +19,11 @@ use Rattle.qs_ops.specs.Server.{after_serving, reply_of}
 use Rattle.qs_ops.specs.Servers as numbers
 use Rattle.qs_ops.specs.declared.reply.Reply.{Reply}
 use Rattle.qs_ops.specs.declared.reply.Reply.TheVariants as replies
-use Rattle.qs_journal.specs.declared.entry.Act.TheVariants as acts
 use Rattle.qs_packet.specs.declared.message.Message.TheVariants as messages
-use Rattle.qs_machine.specs.Transaction.{TransactionValue, served_in, is_standing, requests_at, has_note}
+use Rattle.qs_machine.specs.Transaction.{TransactionValue, served_in, has_note}
 use Rattle.qs_machine.specs.declared.transaction.RequestNo.{RequestNo}
 use Rattle.qs_machine.specs.Book.{BookValue, find_transaction, is_done}
 use Rattle.qs_machine.specs.Clauses.{note_text}
-use Rattle.qs_machine.specs.Lawful.{broken}
 use Rattle.qs_tm.specs.Manager as tm
 use Rattle.qs_tm.specs.Members.{class_here, is_told_class}
 use Rattle.qs_tm.specs.Participant as participant
@@ -38,23 +36,25 @@ use Rattle.qs_step.specs.Requests as requests
 use Rattle.qs_step.specs.Requests.{reply_came, take_reply}
 use Rattle.qs_step.specs.Serving.{enter_serve, make_loan, lent_to, give_reply, serve, serve_or_drop, serve_next, reply_here}
 use Rattle.qs_step.specs.State.{Work, here, with_manager, with_queues, change_server}
-use Rattle.qs_world.specs.Posting.{entry_of}
-use Rattle.qs_lawful.specs.Face.{face_of, waiting_at, at_server, is_numbered}
+use Rattle.qs_lawful.specs.Face.{face_of, waiting_at, at_server}
 use Rattle.qs_lawful.specs.Filed.{HoldsFiles}
 use Rattle.qs_lawful.specs.Holds.{HoldsAt, is_kept}
 use Rattle.qs_lawful.specs.Entering.{HoldsWork, book_at}
 use Rattle.qs_lawful.proofs.Asking.{by_send}
-use Rattle.qs_lawful.proofs.Clauses.{of_tid}
+use Rattle.qs_lawful.proofs.Steps.{waits_of}
+use Rattle.qs_lawful.specs.Waits.{IsWithin, waiting_ops, standing_ops}
+use Rattle.qs_ops.specs.declared.operation.Op.{Op}
 use Rattle.qs_lawful.proofs.Faces.{part_changed, left_here}
 use Rattle.qs_lawful.proofs.Replying.{by_reply}
 use Rattle.qs_lawful.proofs.ServingFiled.{by_serving_filed}
+use Rattle.qs_lawful.proofs.ReplyRules.{may_serve_first}
 use Rattle.qs_lawful.proofs.Silent.{by_next}
 
 of_some : {X : Type 0} {x y : X} → Some x ≡ Some y → x ≡ y
 of_some {x = x} e = ap (λ o. elim o [ None ↦ x | Some z ↦ z ]) e
 
 -- what the node knows the machine knows
-found_of : (stamp : ℕ) (before : BookValue) (work : Work) → HoldsWork stamp before work → (tid : Tid) (part : Participant) → tm.part_of tid work.node.manager ≡ Some part → (tx : TransactionValue) × (find_transaction (book_at stamp before work) tid ≡ Some tx)
+pub found_of : (stamp : ℕ) (before : BookValue) (work : Work) → HoldsWork stamp before work → (tid : Tid) (part : Participant) → tm.part_of tid work.node.manager ≡ Some part → (tx : TransactionValue) × (find_transaction (book_at stamp before work) tid ≡ Some tx)
 found_of stamp before work h tid part known = by (find_transaction (book_at stamp before work) tid) refl
   where
     clash : Some part ≡ None → ⊥
@@ -125,12 +125,12 @@ by_serve stamp before work server delivery reply part known none served =
         sym (part_changed delivery.tid (participant.served server) work.node.manager part known) ∙ (sym (ap (tm.part_of delivery.tid) (loan_alike server delivery reply work (lent_to delivery.op)).1) ∙ is) in
         ap (λ (q : Participant). q.waiting) (sym (of_some it)) ∙ served_waiting server part
 
--- what waits first is one more than waits behind it
+-- what waits first waits before those behind it
 first_more : (delivery : Delivery) (at : RequestNo) → at.link.from ≡ delivery.from → at.number ≡ delivery.number → (waiting : List Delivery) → first_of waiting ≡ Some delivery
-    → length (filter (is_numbered at) (filter (is_of delivery.tid) waiting)) ≡ suc (length (filter (is_numbered at) (filter (is_of delivery.tid) (drop 1 waiting))))
+    → waiting_ops at (filter (is_of delivery.tid) waiting) ≡ delivery.op ∷ waiting_ops at (filter (is_of delivery.tid) (drop 1 waiting))
 first_more delivery at from same [] is = absurd (cc is)
 first_more delivery at from same (d ∷ ds) is =
-    subst (λ (e : Delivery). length (filter (is_numbered at) (filter (is_of delivery.tid) (e ∷ ds))) ≡ suc (length (filter (is_numbered at) (filter (is_of delivery.tid) ds)))) (sym (of_some is))
+    subst (λ (e : Delivery). waiting_ops at (filter (is_of delivery.tid) (e ∷ ds)) ≡ delivery.op ∷ waiting_ops at (filter (is_of delivery.tid) ds)) (sym (of_some is))
     (rw (same_tid-self delivery.tid) (rw (itself delivery.from.0 at.link.from.0 (sym (ap (λ n. n.0) from)), itself delivery.number at.number (sym same)) refl))
   where
     itself : (a b : ℕ) → a ≡ b → (a == b) ≡ true
@@ -146,14 +146,14 @@ module _ (stamp : ℕ) (before : BookValue) (work : Work) (h : HoldsWork stamp b
   abbrev its_at : Delivery → RequestNo
   its_at delivery = record { link = record { from = delivery.from; to = work.node.setting.node }; number = delivery.number }
 
-  -- one more stands than waits
+  -- it stands before what waits behind it
   one_more : (delivery : Delivery) → ipc.next server work.node.queues ≡ Some delivery → (tx : TransactionValue) → find_transaction (book_at stamp before work) delivery.tid ≡ Some tx
-      → suc (length (filter (is_numbered (its_at delivery)) (waiting_at left_work.node delivery.tid server))) ≤ length (filter (is_standing (at_server work.node.setting.node server)) (requests_at tx (its_at delivery)))
+      → IsWithin (delivery.op ∷ waiting_ops (its_at delivery) (waiting_at left_work.node delivery.tid server)) (standing_ops tx (its_at delivery) work.node.setting.node server)
   one_more delivery next tx found =
-      subst (λ (n : ℕ). n ≤ length (filter (is_standing (at_server work.node.setting.node server)) (requests_at tx (its_at delivery))))
+      subst (λ (ops : List Op). IsWithin ops (standing_ops tx (its_at delivery) work.node.setting.node server))
       (first_more delivery (its_at delivery) refl refl (queue_at work.node.queues server).waiting next
-      ∙ sym (ap (λ (w : List Delivery). suc (length (filter (is_numbered (its_at delivery)) (filter (is_of delivery.tid) w)))) (left_here server work.node.queues)))
-      ((of_tid stamp (book_at stamp before work) work.node h.holds delivery.tid tx found).queued server (its_at delivery) refl)
+      ∙ sym (ap (λ (w : List Delivery). delivery.op ∷ waiting_ops (its_at delivery) (filter (is_of delivery.tid) w)) (left_here server work.node.queues)))
+      ((waits_of stamp (book_at stamp before work) work.node h.holds delivery.tid tx found).within server (its_at delivery) refl)
 
   -- a server replies to what is its own, and files by what they hold
   replies_by : (delivery : Delivery) (reply : Reply) → reply_here server delivery.tid delivery.op work.node ≡ Some reply
@@ -177,9 +177,7 @@ module _ (stamp : ℕ) (before : BookValue) (work : Work) (h : HoldsWork stamp b
       → has_note (served_in (record { link = record { from = delivery.from; to = work.node.setting.node }; number = delivery.number }) (at_server work.node.setting.node server) work.node.setting.inc stamp (is_done reply) tx)
       (record { node = work.node.setting.node; inc = work.node.setting.inc; text = note_text delivery.tid work.node.setting.node.0 count }) ≡ true → (has_noted count part ≡ true) ⊎ (awaits_note part ≡ true))
       (clients : (delivery : Delivery) (part : Participant) → ipc.next server work.node.queues ≡ Some delivery → tm.part_of delivery.tid work.node.manager ≡ Some part
-      → same_node delivery.from work.node.setting.node ≡ true → list_any (λ (r : Outstanding). is_answered_by (at_server work.node.setting.node server) delivery.number r && is_by_files r) part.waiting ≡ false)
-      (lawful : (delivery : Delivery) (reply : Reply) (part : Participant) → ipc.next server work.node.queues ≡ Some delivery → tm.part_of delivery.tid work.node.manager ≡ Some part → part.outcome ≡ None → reply_here server delivery.tid delivery.op work.node ≡ Some reply
-      → broken (book_at stamp before work) (entry_of work.node.setting.node.0 stamp (acts.Serve delivery.tid (at_server work.node.setting.node server) delivery.from delivery.number reply)) ≡ None) where
+      → same_node delivery.from work.node.setting.node ≡ true → list_any (λ (r : Outstanding). is_answered_by (at_server work.node.setting.node server) delivery.number r && is_by_files r) part.waiting ≡ false) where
     served_next : (delivery : Delivery) → ipc.next server work.node.queues ≡ Some delivery → (part : Participant) → tm.part_of delivery.tid work.node.manager ≡ Some part → part.outcome ≡ None
         → (reply : Reply) → reply_here server delivery.tid delivery.op work.node ≡ Some reply → HoldsWork stamp before (serve server delivery reply left_work)
     served_next delivery next part known unknown reply says =
@@ -187,7 +185,7 @@ module _ (stamp : ℕ) (before : BookValue) (work : Work) (h : HoldsWork stamp b
         let own = replies_by delivery reply says in
         by_serve stamp before left_work server delivery reply part known (clients delivery part next known)
         (by_serving_filed stamp before left_work server delivery reply part tx.0 left files known tx.1 (room delivery part next known) (one_more delivery next tx.0 tx.1) (noted delivery reply part tx.0 next known tx.1 says) own.0 own.1
-        (lawful delivery reply part next known unknown says))
+        (may_serve_first stamp (book_at stamp before work) work.node h.holds server delivery (waiting_ops (its_at delivery) (waiting_at left_work.node delivery.tid server)) reply part tx.0 tx.1 known unknown says (one_more delivery next tx.0 tx.1)))
 
     -- what waits first is served, or dropped where it is not undecided here
     pub by_serve_next : HoldsWork stamp before (serve_next work server)

@@ -1,8 +1,8 @@
 -- A member serves a request, and a client that takes a loan makes it at once: the rule as a whole, but for its reply.
-use Rattle.std.proofs.Common.{◌≡◌, ◌⊎◌, ℕ, ◌==◌, ◌≤◌, Bool, true, false, Option, Some, None, suc, refl, ap, subst, ◌∙◌, arith, length, nat_lt}
+use Rattle.qs_lawful.specs.Waits.{IsWithin, waiting_ops, standing_ops}
+use Rattle.std.proofs.Common.{◌∷◌, ◌≡◌, ◌⊎◌, ℕ, ◌==◌, ◌≤◌, Bool, true, false, Option, Some, None, refl, ap, subst, ◌∙◌, arith, length, nat_lt}
 use Rattle.std.proofs.lemmas.Bool.Decides.{nat_tests}
 use Rattle.std.specs.Prelude.{if◌then◌else◌}
-use Rattle.std.specs.List.{filter}
 use Rattle.qs_base.specs.declared.identifiers.ClientNo.{ClientNo}
 use Rattle.qs_base.specs.declared.identifiers.NodeNo.{NodeNo}
 use Rattle.qs_base.specs.declared.identifiers.ServerNo.{ServerNo}
@@ -15,7 +15,7 @@ use Rattle.qs_ops.specs.declared.operation.Op.{Op}
 use Rattle.qs_ops.specs.declared.operation.Op.TheVariants.{Lend}
 use Rattle.qs_ops.specs.declared.reply.Reply.{Reply}
 use Rattle.qs_journal.specs.declared.entry.Act.TheVariants as acts
-use Rattle.qs_machine.specs.Transaction.{TransactionValue, part_of, served_in, is_standing, requests_at, has_note, is_loan_due, borrower}
+use Rattle.qs_machine.specs.Transaction.{TransactionValue, part_of, served_in, has_note, is_loan_due, borrower}
 use Rattle.qs_machine.specs.declared.transaction.RequestNo.{RequestNo}
 use Rattle.qs_machine.specs.Book.{BookValue, find_transaction, is_done}
 use Rattle.qs_machine.specs.Clauses.{note_text}
@@ -28,7 +28,7 @@ use Rattle.qs_servers.specs.Servers.{is_client, with_server}
 use Rattle.qs_step.specs.Serving.{enter_serve, make_loan, lent_to}
 use Rattle.qs_step.specs.State.{Work}
 use Rattle.qs_world.specs.Posting.{entry_of}
-use Rattle.qs_lawful.specs.Face.{waiting_at, at_server, is_numbered}
+use Rattle.qs_lawful.specs.Face.{waiting_at, at_server}
 use Rattle.qs_lawful.specs.Holds.{is_kept}
 use Rattle.qs_lawful.specs.Entering.{HoldsWork, book_at}
 use Rattle.qs_lawful.proofs.Lending.{by_loan}
@@ -67,7 +67,7 @@ module _ (stamp : ℕ) (before : BookValue) (work : Work) (server : ServerNo) (d
       by false is e = absurd (cc e)
 
   pub by_serving : (is_kept server ≡ true → ((member_of part server).served == last_number) ≡ false)
-      → suc (length (filter (is_numbered at) (waiting_at work.node delivery.tid server))) ≤ length (filter (is_standing (at_server here server)) (requests_at tx at))
+      → IsWithin (delivery.op ∷ waiting_ops at (waiting_at work.node delivery.tid server)) (standing_ops tx at here server)
       → (part_of after (at_server here rules.files_no) inc).pending ≡ length (changes_in (if is_client server then work.node.servers else with_server server (λ value. after_serving value delivery.tid delivery.op reply) work.node.servers).files delivery.tid)
       → ((count : ℕ) → 1 ≤ count → has_note after (record { node = here; inc = inc; text = note_text delivery.tid here.0 count }) ≡ true → (has_noted count part ≡ true) ⊎ (awaits_note part ≡ true))
       → is_for server delivery.op ≡ true

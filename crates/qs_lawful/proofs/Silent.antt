@@ -41,7 +41,13 @@ use Rattle.qs_lawful.proofs.Clauses.{may_tick}
 use Rattle.qs_lawful.proofs.Faces.{left_here, left_elsewhere, same_server_or}
 use Rattle.qs_lawful.proofs.Frames.{SameFace, held_on, at_none, clients_on}
 use Rattle.qs_lawful.proofs.Growing.{entered, kept_on, book_with}
+use Rattle.qs_lawful.proofs.SameWaits.{waits_alike}
+use Rattle.qs_lawful.proofs.ServedTables.{ticked_servers}
 use Rattle.qs_lawful.proofs.Steps.{next_again, changed_length}
+use Rattle.qs_lawful.proofs.Within.{within_left}
+use Rattle.qs_lawful.specs.Tables.{is_seen}
+use Rattle.qs_lawful.specs.Waits.{HoldsWaitsAt, IsWithin, waiting_ops, op_of}
+use Rattle.qs_ops.specs.declared.operation.Op.{Op}
 
 -- ---- a request leaves its queue
 
@@ -124,7 +130,7 @@ module _ (stamp : ℕ) (before : BookValue) (work : Work) (h : HoldsWork stamp b
       (held_on stamp book book node new h.holds (record { setting = refl; at = refl; in_inc = refl }) refl h.holds.state (record { up = refl; inc = refl; begun = refl; format = refl })
       h.holds.order refl h.holds.there (λ t is. is)
       (λ t. at_fewer here node.setting.inc t (find_transaction book t) (face_of node t) (face_of new t).waiting (fewer t) (none t) (h.holds.at t))
-      (clients_on book book node new (λ t. refl) (λ k. refl) (record { setting = refl; at = refl; in_inc = refl }) (record { commands = refl; labels = refl; outcomes = refl }) h.holds.clients (λ t. refl)))
+      (clients_on book book node new (λ t. refl) (λ k. refl) (record { setting = refl; at = refl; in_inc = refl }) (record { commands = refl; labels = refl; outcomes = refl }) h.holds.clients (λ t. refl)) h.holds.servers waits)
     where
       new : NodeValue
       new = record work.node { queues = ipc.after_next server work.node.queues }
@@ -144,12 +150,37 @@ module _ (stamp : ℕ) (before : BookValue) (work : Work) (h : HoldsWork stamp b
           (λ e. rw (left_here server node.queues) (filter_none t (queue_at node.queues server).waiting e)) is)
           (λ far apart. ap (λ (q : QueueValue). filter (is_of t) q.waiting) (left_elsewhere server other node.queues apart) ∙ is)
 
+      ops_left : (t : Tid) (at : RequestNo) (ds : List Delivery) (rs : List Op) → IsWithin (waiting_ops at (filter (is_of t) ds)) rs → IsWithin (waiting_ops at (filter (is_of t) (drop 1 ds))) rs
+      ops_left t at [] rs w = w
+      ops_left t at (d ∷ ds) rs w = by (is_of t d) refl w
+        where
+          of : (b : Bool) → is_numbered at d ≡ b → IsWithin (waiting_ops at (d ∷ filter (is_of t) ds)) rs → IsWithin (waiting_ops at (filter (is_of t) ds)) rs
+          of true is v = within_left (op_of d ∷ waiting_ops at (filter (is_of t) ds)) rs (rw is at v)
+          of false is v = rw is at v
+
+          by : (b : Bool) → is_of t d ≡ b → IsWithin (waiting_ops at (filter (is_of t) (d ∷ ds))) rs → IsWithin (waiting_ops at (filter (is_of t) ds)) rs
+          by true is v = of (is_numbered at d) refl (rw is at v)
+          by false is v = rw is at v
+
+      within_on : (t : Tid) (other : ServerNo) (at : RequestNo) (rs : List Op) → IsWithin (waiting_ops at ((face_of node t).waiting other)) rs → IsWithin (waiting_ops at ((face_of new t).waiting other)) rs
+      within_on t other at rs w = same_server_or server other _
+          (λ same. subst (λ (s : ServerNo). IsWithin (waiting_ops at (filter (is_of t) (queue_at node.queues s).waiting)) rs → IsWithin (waiting_ops at (filter (is_of t) (queue_at (ipc.after_next server node.queues) s).waiting)) rs) same
+          (λ v. rw (left_here server node.queues) (ops_left t at (queue_at node.queues server).waiting rs v)) w)
+          (λ far apart. rw (left_elsewhere server other node.queues apart) w)
+
+      waits : (t : Tid) → HoldsWaitsAt here node.setting.inc t (find_transaction book t) (face_of new t).waiting new.servers
+      waits t = by (find_transaction book t) (h.holds.waits t)
+        where
+          by : (o : Option TransactionValue) → HoldsWaitsAt here node.setting.inc t o (face_of node t).waiting node.servers → HoldsWaitsAt here node.setting.inc t o (face_of new t).waiting new.servers
+          by None k = k
+          by (Some tx) k = record { whole = k.whole; due = k.due; within = λ s at near. within_on t s at _ (k.within s at near); once = k.once }
+
   -- ---- a label is kept: of a begin that was refused, or of a transaction of another node's client
 
   pub by_label : (b : Begun) → ((t : Tid) (c : ClientNo) → b.tid ≡ Some t → b.owner ≡ Some c → ⊥) → HoldsWork stamp before (put_label b work)
   by_label b nobody = kept_on stamp before work (put_label b work) h refl refl
       (held_on stamp book book node new h.holds (record { setting = refl; at = refl; in_inc = refl }) refl h.holds.state (record { up = refl; inc = refl; begun = refl; format = refl })
-      h.holds.order refl h.holds.there (λ t is. is) (at_none here node.setting.inc book node new h.holds.at faces) clients)
+      h.holds.order refl h.holds.there (λ t is. is) (at_none here node.setting.inc book node new h.holds.at faces) clients h.holds.servers h.holds.waits)
     where
       new : NodeValue
       new = (put_label b work).node
@@ -181,7 +212,7 @@ module _ (stamp : ℕ) (before : BookValue) (work : Work) (h : HoldsWork stamp b
   pub by_command : (line : ScriptLine) → lookup (is_at (client_cmp line.client)) node.commands ≡ None → IsBehind book line.client line.line → HoldsWork stamp before (with_command line work)
   by_command line idle behind = kept_on stamp before work (with_command line work) h refl refl
       (held_on stamp book book node new h.holds (record { setting = refl; at = refl; in_inc = refl }) refl h.holds.state (record { up = refl; inc = refl; begun = refl; format = refl })
-      h.holds.order refl h.holds.there (λ t is. is) (at_none here node.setting.inc book node new h.holds.at faces) clients)
+      h.holds.order refl h.holds.there (λ t is. is) (at_none here node.setting.inc book node new h.holds.at faces) clients h.holds.servers h.holds.waits)
     where
       command : OpenCommand
       command = record { line = line; issued = None }
@@ -258,4 +289,6 @@ module _ (stamp : ℕ) (before : BookValue) (work : Work) (h : HoldsWork stamp b
       (next_again stamp here.0 book (book_with stamp before work acts.Tick) refl refl h.holds.order)
       (changed_length here.0 (tick_node stamp) book.nodes) (changed_at_here (tick_node stamp) book.nodes here.0 h.holds.state h.holds.there) (λ t is. is)
       (at_none here node.setting.inc book node ticked_work.node h.holds.at (λ t. record { known = refl; local = refl; changes = refl; loans = refl; waiting = λ s. refl }))
-      (clients_on book (book_with stamp before work acts.Tick) node ticked_work.node (λ t. refl) (λ k. refl) (record { setting = refl; at = refl; in_inc = refl }) (record { commands = refl; labels = refl; outcomes = refl }) h.holds.clients (λ t. refl)))
+      (clients_on book (book_with stamp before work acts.Tick) node ticked_work.node (λ t. refl) (λ k. refl) (record { setting = refl; at = refl; in_inc = refl }) (record { commands = refl; labels = refl; outcomes = refl }) h.holds.clients (λ t. refl))
+      (ticked_servers (is_seen book here) h.holds.state node.servers h.holds.servers stamp)
+      (λ t. waits_alike here node.setting.inc t (find_transaction book t) (face_of node t).waiting (face_of ticked_work.node t).waiting node.servers ticked_work.node.servers (λ s. refl) refl (h.holds.waits t)))

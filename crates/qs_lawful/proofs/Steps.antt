@@ -1,5 +1,5 @@
 -- What an entry of a node leaves of the order, of the nodes, and of what clients see.
-use Rattle.std.proofs.Common.{◌≡◌, ℕ, ◌==◌, Bool, true, List, [], ◌∷◌, Option, Some, None, zero, suc, refl, sym, ap, subst, ◌∙◌, arith, nat_lt, length}
+use Rattle.std.proofs.Common.{◌≡◌, ◌⊎◌, inl, inr, ℕ, ◌==◌, Bool, true, List, [], ◌∷◌, Option, Some, None, zero, suc, refl, sym, ap, subst, ◌∙◌, arith, nat_lt, length}
 use Rattle.std.proofs.lemmas.Bool.Decides.{nat_tests}
 use Rattle.std.specs.Prelude.{not, ◌&&◌, ◌||◌, ◌^◌, slice_get, slice_set, is_some}
 use Rattle.std.specs.Option.{option_map}
@@ -15,7 +15,14 @@ use Rattle.qs_machine.specs.Nodes as machine
 use Rattle.qs_step.specs.State.{NodeValue}
 use Rattle.qs_lawful.specs.Face.{face_of}
 use Rattle.qs_lawful.specs.Holds.{Holds, HoldsTid, HoldsAt, HoldsClients, is_next}
-use Rattle.qs_lawful.proofs.Apart.{Apart}
+use Rattle.qs_base.specs.declared.identifiers.NodeNo.{NodeNo}
+use Rattle.qs_ops.specs.Table.{share_of}
+use Rattle.qs_servers.specs.Servers.{ServersValue}
+use Rattle.qs_lawful.specs.Tables.{HoldsServers, is_seen}
+use Rattle.qs_lawful.specs.Waits.{HoldsWaits, HoldsWaitsAt, is_idle}
+use Rattle.qs_lawful.proofs.Apart.{Apart, same_or_apart}
+use Rattle.qs_lawful.proofs.CrossedTables.{servers_alike}
+use Rattle.qs_lawful.proofs.SameWaits.{waits_alike, crossings, seen_alike}
 use Rattle.qs_lawful.proofs.Frames.{seen, KeepsSeen, said_to, KeepsOwners, SameNode, SameState, SameFace, held_on, at_each}
 
 -- the next entry of the same step stands in order behind an entry of this node
@@ -66,6 +73,16 @@ same_owners book new is k = ap (λ (os : List Owner). option_map said_to (slice_
 pub owner_changed : (client : ℕ) (f : Owner → Owner) → ((owner : Owner) → said_to (f owner) ≡ said_to owner) → (book new : BookValue) → new.owners ≡ changed_at client f book.owners → KeepsOwners book new
 owner_changed client f keeps book new is k = ap (λ (os : List Owner). option_map said_to (slice_get os k)) is ∙ changed_at_alike said_to f keeps book.owners client k
 
+-- where a change crosses nothing the servers hold what they held
+pub servers_still : (tid : Tid) (f : TransactionValue → TransactionValue) → ((tx : TransactionValue) → (f tx).crossed ≡ tx.crossed) → (book new : BookValue) → new.transactions ≡ changed_value (is_at (tid_cmp tid)) f book.transactions
+    → (here : NodeNo) (state : machine.NodeValue) (servers : ServersValue) → HoldsServers (is_seen book here) state servers → HoldsServers (is_seen new here) state servers
+servers_still tid f keeps book new is here state servers h = servers_alike (is_seen book here) (is_seen new here) state servers
+    (seen_alike book new here (λ t. ap (λ (txs : List (Tid × TransactionValue)). option_map crossings (lookup (is_at (tid_cmp t)) txs)) is ∙ changed_alike (is_at (tid_cmp tid)) crossings f keeps (is_at (tid_cmp t)) book.transactions)) h
+
+-- what is held of what waits of a transaction
+pub waits_of : (stamp : ℕ) (book : BookValue) (node : NodeValue) → Holds stamp book node → (tid : Tid) (tx : TransactionValue) → find_transaction book tid ≡ Some tx → HoldsWaits node.setting.node node.setting.inc tid tx (face_of node tid).waiting node.servers
+waits_of stamp book node h tid tx found = subst (λ (o : Option TransactionValue). HoldsWaitsAt node.setting.node node.setting.inc tid o (face_of node tid).waiting node.servers) found (h.waits tid)
+
 -- ---- one transaction of the machine is changed, and what the node has of it
 
 module _ (stamp : ℕ) (book new_book : BookValue) (node new : NodeValue) (h : Holds stamp book node) (tid : Tid) (f : TransactionValue → TransactionValue) (tx : TransactionValue) (found : find_transaction book tid ≡ Some tx)
@@ -82,10 +99,22 @@ module _ (stamp : ℕ) (book new_book : BookValue) (node new : NodeValue) (h : H
       → ((t : Tid) → Apart tid t → SameFace (face_of node t) (face_of new t))
       → HoldsTid node.setting.node node.setting.inc tid (f tx) (face_of new tid)
       → HoldsClients new_book new
+      → HoldsServers (is_seen new_book node.setting.node) state new.servers
+      → ((t : Tid) → Apart tid t → is_idle (share_of new.servers.files.table t) ≡ is_idle (share_of node.servers.files.table t))
+      → HoldsWaits node.setting.node node.setting.inc tid (f tx) (face_of new tid).waiting new.servers
       → Holds stamp new_book new
-  one_changed state left there run at_stamp at_node same begun faces own clients =
+  one_changed state left there run at_stamp at_node same begun faces own clients servers idle own_waits =
       held_on stamp book new_book node new h same begun state left (next_again stamp node.setting.node.0 book new_book at_stamp at_node h.order) run there
       (λ t is. tx_stands tid f book.transactions t (sym (ap (λ (es : List (Tid × TransactionValue)). is_some (lookup (is_at (tid_cmp t)) es)) txs) ∙ is))
       (at_each node.setting.node node.setting.inc book new_book node new tid h.at found_apart faces
       (subst (λ (o : Option TransactionValue). HoldsAt node.setting.node node.setting.inc tid o (face_of new tid)) (sym found_now) own))
-      clients
+      clients servers waits
+    where
+      waits : (t : Tid) → HoldsWaitsAt node.setting.node node.setting.inc t (find_transaction new_book t) (face_of new t).waiting new.servers
+      waits t = by (same_or_apart tid t)
+        where
+          by : (tid ≡ t) ⊎ Apart tid t → HoldsWaitsAt node.setting.node node.setting.inc t (find_transaction new_book t) (face_of new t).waiting new.servers
+          by (inl is) = subst (λ (u : Tid). HoldsWaitsAt node.setting.node node.setting.inc u (find_transaction new_book u) (face_of new u).waiting new.servers) is
+              (subst (λ (o : Option TransactionValue). HoldsWaitsAt node.setting.node node.setting.inc tid o (face_of new tid).waiting new.servers) (sym found_now) own_waits)
+          by (inr far) = subst (λ (o : Option TransactionValue). HoldsWaitsAt node.setting.node node.setting.inc t o (face_of new t).waiting new.servers) (sym (found_apart t far))
+              (waits_alike node.setting.node node.setting.inc t (find_transaction book t) (face_of node t).waiting (face_of new t).waiting node.servers new.servers (faces t far).waiting (idle t far) (h.waits t))

@@ -65,7 +65,7 @@ by_took stamp before work tid outcome part tx h known found unknown cell = kept_
     (held_on stamp book book node new h.holds (record { setting = refl; at = refl; in_inc = refl }) refl h.holds.state (record { up = refl; inc = refl; begun = refl; format = refl })
     h.holds.order refl h.holds.there (λ t is. is)
     (at_each node.setting.node node.setting.inc book book node new tid h.holds.at (λ t far. refl) (λ t far. record { known = part_apart tid t (outcome_rules.took_outcome outcome) node.manager far; local = refl; changes = refl; loans = refl; waiting = λ s. refl }) own)
-    (clients_with book book node new (λ t. refl) (λ k. refl) (record { setting = refl; at = refl; in_inc = refl }) (record { commands = refl; labels = refl; outcomes = refl }) h.holds.clients asking))
+    (clients_with book book node new (λ t. refl) (λ k. refl) (record { setting = refl; at = refl; in_inc = refl }) (record { commands = refl; labels = refl; outcomes = refl }) h.holds.clients asking) h.holds.servers h.holds.waits)
   where
     node : NodeValue
     node = work.node

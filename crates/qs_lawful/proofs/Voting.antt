@@ -1,4 +1,10 @@
 -- A server votes: the rule as a whole, but for its Prepare.
+use Rattle.qs_lawful.specs.Tables.{is_seen}
+use Rattle.qs_lawful.specs.Waits.{HoldsWaits}
+use Rattle.qs_lawful.proofs.Alike.{voted_servers}
+use Rattle.qs_lawful.proofs.Files.{voted_share}
+use Rattle.qs_lawful.proofs.MemberWaits.{seen_here, voted_waits}
+use Rattle.qs_lawful.proofs.Steps.{waits_of}
 use Rattle.std.proofs.Common.{◌≡◌, ℕ, ◌+◌, ◌==◌, Bool, true, false, List, [], ◌∷◌, Option, Some, None, Less, Equal, Greater, refl, sym, ap, subst, ◌∙◌, length, nat_lt}
 use Rattle.std.specs.Prelude.{not, ◌&&◌, ◌||◌}
 use Rattle.std.specs.List.{list_any}
@@ -136,4 +142,7 @@ module _ (stamp : ℕ) (before : BookValue) (work : Work) (tid : Tid) (server : 
         (vote_node (pending_in (find_transaction book tid) member (inc_at book (record { 0 = here.0 }))) (crossed_in (find_transaction book tid) member) tid server.0 ballot count)
         (λ value. after_vote value tid ballot) p_now refl
         (λ x. refl) (vote_state _ _ tid server.0 ballot count) (λ q. refl) (λ t far value. voted_apart tid t ballot value far)
-        (subst (λ (i : ℕ). HoldsTid here inc tid (f i tx) (record (face_of node tid) { known = Some (p_now part); changes = length (changes_in (with_server server (λ value. after_vote value tid ballot) node.servers).files tid) })) (sym (inc_here stamp book node h.holds)) own_tid))
+        (subst (λ (i : ℕ). HoldsTid here inc tid (f i tx) (record (face_of node tid) { known = Some (p_now part); changes = length (changes_in (with_server server (λ value. after_vote value tid ballot) node.servers).files tid) })) (sym (inc_here stamp book node h.holds)) own_tid)
+        (λ x. refl) (voted_servers (is_seen book here) h.holds.state node.servers h.holds.servers server tid ballot _ count _ (seen_here book here server tid)) (λ t far value. voted_share tid t ballot value far)
+        (subst (λ (i : ℕ). HoldsWaits here inc tid (f i tx) (face_of node tid).waiting (with_server server (λ value. after_vote value tid ballot) node.servers)) (sym (inc_here stamp book node h.holds))
+        (voted_waits here inc tid tx (face_of node tid).waiting node.servers (is_seen book here) h.holds.state h.holds.servers (waits_of stamp book node h.holds tid tx found) server ballot)))

@@ -34,6 +34,8 @@ use Rattle.qs_step.specs.Answering.{kept_outcome}
 use Rattle.qs_step.specs.Commands.{outcome_answer}
 use Rattle.qs_step.specs.Serving.{label_at}
 use Rattle.qs_step.specs.State.{NodeValue, client_cmp}
+use Rattle.qs_lawful.specs.Tables.{HoldsServers, is_seen}
+use Rattle.qs_lawful.specs.Waits.{HoldsWaitsAt}
 use Rattle.qs_lawful.specs.Face.{Face, face_of, part_in, is_held, at_server, is_numbered, is_loan_here, is_given_back, IsEmpty}
 
 -- ---- one member, in the node's present incarnation
@@ -156,7 +158,7 @@ HasBegun inc begun tid = (tid.inc < inc) ⊎ ((tid.inc ≡ inc) × (tid.seq ≤ 
 abbrev pub is_next : ℕ → ℕ → BookValue → Bool
 is_next stamp here book = nat_lt stamp (2 ^ 62) && (nat_lt book.stamp stamp || ((book.stamp == stamp) && not (nat_lt here book.node)))
 
--- of the node, of each transaction, and of the clients; what its servers hold is said apart
+-- of the node and its servers, of each transaction, and of the clients
 pub record Holds (stamp : ℕ) (book : BookValue) (node : NodeValue) : Type 0 where
   pub order : is_next stamp node.setting.node.0 book ≡ true  -- clause 1
   pub run : length book.nodes ≡ node.setting.nodes
@@ -166,3 +168,5 @@ pub record Holds (stamp : ℕ) (book : BookValue) (node : NodeValue) : Type 0 wh
   pub at : (tid : Tid) → HoldsAt node.setting.node node.setting.inc tid (find_transaction book tid) (face_of node tid)
   pub begun : (tid : Tid) → tid.home ≡ node.setting.node → is_some (find_transaction book tid) ≡ true → HasBegun node.setting.inc node.manager.begun tid  -- clause 10
   pub clients : HoldsClients book node
+  pub servers : HoldsServers (is_seen book node.setting.node) state node.servers  -- clauses 31, 42
+  pub waits : (tid : Tid) → HoldsWaitsAt node.setting.node node.setting.inc tid (find_transaction book tid) (face_of node tid).waiting node.servers

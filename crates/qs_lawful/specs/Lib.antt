@@ -7,3 +7,6 @@ pub mod Issues
 pub mod Tests
 pub mod Tried
 pub mod Filed
+pub mod Tables
+pub mod Waits
+pub mod TableTests

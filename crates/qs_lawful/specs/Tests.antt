@@ -33,6 +33,7 @@ use Rattle.qs_step.specs.declared.state.OpenCommand.{OpenCommand}
 use Rattle.qs_step.specs.Commands.{outcome_answer}
 use Rattle.qs_step.specs.Serving.{label_at}
 use Rattle.qs_step.specs.State.{NodeValue, client_cmp}
+use Rattle.qs_lawful.specs.TableTests.{servers_ok, waits_ok, idle_ok}
 use Rattle.qs_lawful.specs.Face.{Face, face_of, part_in, is_held, at_server, is_numbered, is_loan_here, is_given_back}
 
 abbrev alike : Bool → Bool → Bool
@@ -179,7 +180,9 @@ state_ok node state =
 
 abbrev pub holds_test : BookValue → NodeValue → Bool
 holds_test book node =
-    ((length book.nodes == node.setting.nodes) && (elim (slice_get book.nodes node.setting.node.0) [ None ↦ false | Some state ↦ state_ok node state ]))
+    ((length book.nodes == node.setting.nodes)
+    && (elim (slice_get book.nodes node.setting.node.0) [ None ↦ false | Some state ↦ state_ok node state && servers_ok book node.setting.node state node.servers ]))
+    && ((list_all (waits_ok node) book.transactions && list_all (idle_ok book) node.servers.files.table.shares)
     && ((list_all (entry_ok node) book.transactions && list_all (stands book) (tids_of node))
     && ((list_all (command_ok book) node.commands && list_all (label_ok book) node.kept.now.labels)
-    && (list_all (ended_ok book) node.kept.now.outcomes && list_all (asking_ok book node) node.manager.known)))
+    && (list_all (ended_ok book) node.kept.now.outcomes && list_all (asking_ok book node) node.manager.known))))

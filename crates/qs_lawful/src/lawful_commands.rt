@@ -16,7 +16,6 @@ ghost use Rattle.qs_kept.specs.declared.kept.Begun.{Begun};
 ghost use Rattle.qs_kept.specs.declared.kept.Lent.{Lent};
 ghost use Rattle.qs_lawful.specs.Entering.{HoldsWork, book_at};
 ghost use Rattle.qs_lawful.specs.Face.{face_of, is_loan_here};
-ghost use Rattle.qs_lawful.specs.Filed.{HoldsFiles};
 ghost use Rattle.qs_lawful.specs.Holds.{IsAsking, IsBehind};
 ghost use Rattle.qs_machine.specs.Book.{BookValue, find_transaction};
 ghost use Rattle.qs_machine.specs.Clauses.{is_fresh};
@@ -70,7 +69,7 @@ pub fn coming_commit_is_lawful()
 /// The owner's command comes to abort what began here since the node started: it is aborted where it is undecided, and the owner is
 /// answered where the outcome is kept.
 pub fn coming_abort_is_lawful()
-    ensures { (stamp : ℕ) (before : BookValue) (work : Work) → HoldsWork stamp before work → (line : ScriptLine) → lookup (is_at (client_cmp line.client)) work.node.commands ≡ None → IsBehind (book_at stamp before work) line.client line.line → (begun : Begun) → label_at line.label work.node ≡ Some begun → (tid : Tid) → begun.tid ≡ Some tid → begun.owner ≡ Some line.client → tid.home ≡ work.node.setting.node → tid.inc ≡ work.node.setting.inc → line.command ≡ commands.Abort → HoldsFiles work.node.servers → HoldsWork stamp before (command_came line work) }
+    ensures { (stamp : ℕ) (before : BookValue) (work : Work) → HoldsWork stamp before work → (line : ScriptLine) → lookup (is_at (client_cmp line.client)) work.node.commands ≡ None → IsBehind (book_at stamp before work) line.client line.line → (begun : Begun) → label_at line.label work.node ≡ Some begun → (tid : Tid) → begun.tid ≡ Some tid → begun.owner ≡ Some line.client → tid.home ≡ work.node.setting.node → tid.inc ≡ work.node.setting.inc → line.command ≡ commands.Abort → HoldsWork stamp before (command_came line work) }
 {}
 
 /// The owner's command comes for a request to a server of its node, of what began here since the node started. Where no outcome

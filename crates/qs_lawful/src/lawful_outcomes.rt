@@ -3,8 +3,11 @@ ghost use Rattle.std.specs.Prelude.{◌≡◌, ◌&&◌, ℕ, true, false, None,
 ghost use Rattle.std.specs.BTreeMap.{is_at};
 ghost use Rattle.std.specs.List.{list_any};
 ghost use Rattle.std.specs.Map.{lookup};
+ghost use Rattle.qs_base.specs.Order.{tid_cmp};
 ghost use Rattle.qs_base.specs.declared.identifiers.ClientNo.{ClientNo};
+ghost use Rattle.qs_laws.proofs.Rising.{IsRising};
 ghost use Rattle.qs_base.specs.declared.identifiers.Member.{Member};
+ghost use Rattle.qs_base.specs.declared.identifiers.NodeNo.{NodeNo};
 ghost use Rattle.qs_base.specs.declared.identifiers.Outcome.{Outcome};
 ghost use Rattle.qs_base.specs.declared.identifiers.Outcome.TheVariants as outcomes;
 ghost use Rattle.qs_base.specs.declared.identifiers.Tid.{Tid};
@@ -29,27 +32,28 @@ ghost use Rattle.qs_step.specs.Serving.{label_at};
 ghost use Rattle.qs_step.specs.State.{Work, client_cmp};
 ghost use Rattle.qs_step.specs.declared.state.OpenCommand.{OpenCommand};
 ghost use Rattle.qs_kept.specs.declared.kept.Begun.{Begun};
-ghost use Rattle.qs_step.specs.Telling.{learn};
+ghost use Rattle.qs_step.specs.Telling.{learn, tell_came, told_came};
+ghost use Rattle.qs_step.specs.Answering.{inquiry_came, was_committed};
+ghost use Rattle.qs_step.specs.Asking.{refusal_came};
 ghost use Rattle.qs_world.specs.Posting.{entry_of};
-ghost use Rattle.qs_lawful.specs.Entering.{HoldsWork, book_at};
-ghost use Rattle.qs_lawful.specs.Filed.{HoldsFiles};
+ghost use Rattle.qs_lawful.specs.Entering.{HoldsWork, IsAborted, book_at};
 ghost use Rattle.qs_lawful.specs.Places.{Facts, IsSettled, HoldsPlaces};
 
 /// The servers of a node that knows the outcome get their notices: endings first where it is aborted, then each that is to learn
 /// it learns it, in order of classes.
 pub fn notices_are_lawful()
-    ensures { (stamp : ℕ) (before : BookValue) (work : Work) (tid : Tid) (outcome : Outcome) (part : Participant) → HoldsWork stamp before work → HoldsFiles work.node.servers → tm.part_of tid work.node.manager ≡ Some part → part.outcome ≡ Some outcome → HoldsWork stamp before (give_notices tid outcome work) }
+    ensures { (stamp : ℕ) (before : BookValue) (work : Work) (tid : Tid) (outcome : Outcome) (part : Participant) → HoldsWork stamp before work → tm.part_of tid work.node.manager ≡ Some part → part.outcome ≡ Some outcome → HoldsWork stamp before (give_notices tid outcome work) }
 {}
 
 /// A home decides what it has not decided: the record, the entry, what it keeps for the owner, the notices, and the messages.
 /// The decision itself is to break no clause of its own.
 pub fn deciding_is_lawful()
-    ensures { (stamp : ℕ) (before : BookValue) (work : Work) (tid : Tid) (outcome : Outcome) (part : Participant) (tx : TransactionValue) → HoldsWork stamp before work → HoldsFiles work.node.servers → tm.part_of tid work.node.manager ≡ Some part → find_transaction (book_at stamp before work) tid ≡ Some tx → part.outcome ≡ None → (cause : Option Cause) → is_open tx.cell ≡ true → ((client : ClientNo) → tx.owner ≡ Some client → is_some (slice_get (book_at stamp before work).owners client.0) ≡ true) → broken (book_at stamp before work) (entry_of work.node.setting.node.0 stamp (acts.Decide tid outcome cause)) ≡ None → HoldsWork stamp before (decide tid outcome cause work) }
+    ensures { (stamp : ℕ) (before : BookValue) (work : Work) (tid : Tid) (outcome : Outcome) (part : Participant) (tx : TransactionValue) → HoldsWork stamp before work → tm.part_of tid work.node.manager ≡ Some part → find_transaction (book_at stamp before work) tid ≡ Some tx → part.outcome ≡ None → (cause : Option Cause) → is_open tx.cell ≡ true → ((client : ClientNo) → tx.owner ≡ Some client → is_some (slice_get (book_at stamp before work).owners client.0) ≡ true) → broken (book_at stamp before work) (entry_of work.node.setting.node.0 stamp (acts.Decide tid outcome cause)) ≡ None → HoldsWork stamp before (decide tid outcome cause work) }
 {}
 
 /// A node that is told the outcome that the cell has takes it in: its servers get their notices, and a Prepare is ended.
 pub fn taking_in_is_lawful()
-    ensures { (stamp : ℕ) (before : BookValue) (work : Work) (tid : Tid) (outcome : Outcome) (part : Participant) (tx : TransactionValue) → HoldsWork stamp before work → HoldsFiles work.node.servers → tm.part_of tid work.node.manager ≡ Some part → find_transaction (book_at stamp before work) tid ≡ Some tx → part.outcome ≡ None → is_outcome outcome tx.cell ≡ true → HoldsWork stamp before (learn tid outcome part work) }
+    ensures { (stamp : ℕ) (before : BookValue) (work : Work) (tid : Tid) (outcome : Outcome) (part : Participant) (tx : TransactionValue) → HoldsWork stamp before work → tm.part_of tid work.node.manager ≡ Some part → find_transaction (book_at stamp before work) tid ≡ Some tx → part.outcome ≡ None → is_outcome outcome tx.cell ≡ true → HoldsWork stamp before (learn tid outcome part work) }
 {}
 
 /// A reply comes: its request waits no longer, and the client that waits for it is answered. No note of files waits for it.
@@ -64,17 +68,17 @@ pub fn begin_command_is_lawful()
 
 /// A home commits a transaction for which commit is asked, where what all places hold of it is settled.
 pub fn commit_is_lawful()
-    ensures { (stamp : ℕ) (before : BookValue) (work : Work) (tid : Tid) (part : Participant) (tx : TransactionValue) (h : HoldsWork stamp before work) → HoldsFiles work.node.servers → tm.part_of tid work.node.manager ≡ Some part → find_transaction (book_at stamp before work) tid ≡ Some tx → tid.home ≡ work.node.setting.node → tid.inc ≡ work.node.setting.inc → part.outcome ≡ None → ((client : ClientNo) → tx.owner ≡ Some client → is_some (slice_get (book_at stamp before work).owners client.0) ≡ true) → (w : Facts) → part.asked ≡ true → IsSettled w → HoldsPlaces tx w → HoldsWork stamp before (decide tid outcomes.Commit None work) }
+    ensures { (stamp : ℕ) (before : BookValue) (work : Work) (tid : Tid) (part : Participant) (tx : TransactionValue) (h : HoldsWork stamp before work) → tm.part_of tid work.node.manager ≡ Some part → find_transaction (book_at stamp before work) tid ≡ Some tx → tid.home ≡ work.node.setting.node → tid.inc ≡ work.node.setting.inc → part.outcome ≡ None → ((client : ClientNo) → tx.owner ≡ Some client → is_some (slice_get (book_at stamp before work).owners client.0) ≡ true) → (w : Facts) → part.asked ≡ true → IsSettled w → HoldsPlaces tx w → HoldsWork stamp before (decide tid outcomes.Commit None work) }
 {}
 
 /// A home aborts a transaction for a cause that the machine finds.
 pub fn abort_is_lawful()
-    ensures { (stamp : ℕ) (before : BookValue) (work : Work) (tid : Tid) (part : Participant) (tx : TransactionValue) (h : HoldsWork stamp before work) → HoldsFiles work.node.servers → tm.part_of tid work.node.manager ≡ Some part → find_transaction (book_at stamp before work) tid ≡ Some tx → tid.home ≡ work.node.setting.node → tid.inc ≡ work.node.setting.inc → part.outcome ≡ None → ((client : ClientNo) → tx.owner ≡ Some client → is_some (slice_get (book_at stamp before work).owners client.0) ≡ true) → (cause : Cause) → is_cause h.holds.state (book_at stamp before work).nodes tid tx stamp cause ≡ true → HoldsWork stamp before (decide tid outcomes.Abort (Some cause) work) }
+    ensures { (stamp : ℕ) (before : BookValue) (work : Work) (tid : Tid) (part : Participant) (tx : TransactionValue) (h : HoldsWork stamp before work) → tm.part_of tid work.node.manager ≡ Some part → find_transaction (book_at stamp before work) tid ≡ Some tx → tid.home ≡ work.node.setting.node → tid.inc ≡ work.node.setting.inc → part.outcome ≡ None → ((client : ClientNo) → tx.owner ≡ Some client → is_some (slice_get (book_at stamp before work).owners client.0) ≡ true) → (cause : Cause) → is_cause h.holds.state (book_at stamp before work).nodes tid tx stamp cause ≡ true → HoldsWork stamp before (decide tid outcomes.Abort (Some cause) work) }
 {}
 
 /// A home aborts what it is asked to abort, where commit was not asked for.
 pub fn asked_abort_is_lawful()
-    ensures { (stamp : ℕ) (before : BookValue) (work : Work) (tid : Tid) (part : Participant) (tx : TransactionValue) (h : HoldsWork stamp before work) → HoldsFiles work.node.servers → tm.part_of tid work.node.manager ≡ Some part → find_transaction (book_at stamp before work) tid ≡ Some tx → tid.home ≡ work.node.setting.node → tid.inc ≡ work.node.setting.inc → part.outcome ≡ None → ((client : ClientNo) → tx.owner ≡ Some client → is_some (slice_get (book_at stamp before work).owners client.0) ≡ true) → part.asked ≡ false → HoldsWork stamp before (decide tid outcomes.Abort (Some causes.Asked) work) }
+    ensures { (stamp : ℕ) (before : BookValue) (work : Work) (tid : Tid) (part : Participant) (tx : TransactionValue) (h : HoldsWork stamp before work) → tm.part_of tid work.node.manager ≡ Some part → find_transaction (book_at stamp before work) tid ≡ Some tx → tid.home ≡ work.node.setting.node → tid.inc ≡ work.node.setting.inc → part.outcome ≡ None → ((client : ClientNo) → tx.owner ≡ Some client → is_some (slice_get (book_at stamp before work).owners client.0) ≡ true) → part.asked ≡ false → HoldsWork stamp before (decide tid outcomes.Abort (Some causes.Asked) work) }
 {}
 
 /// The owner commands commit of a transaction that began here since the node started: its home asks for it, once, where it is
@@ -85,5 +89,29 @@ pub fn commit_command_is_lawful()
 
 /// The owner commands abort of a transaction that began here since the node started: it is aborted, where it is undecided.
 pub fn abort_command_is_lawful()
-    ensures { (stamp : ℕ) (before : BookValue) (work : Work) → HoldsWork stamp before work → (client : ClientNo) (command : OpenCommand) → lookup (is_at (client_cmp client)) work.node.commands ≡ Some command → (begun : Begun) → label_at command.line.label work.node ≡ Some begun → (tid : Tid) → begun.tid ≡ Some tid → begun.owner ≡ Some client → tid.home ≡ work.node.setting.node → tid.inc ≡ work.node.setting.inc → command.line.command ≡ commands.Abort → HoldsFiles work.node.servers → HoldsWork stamp before (open_command client tid commands.Abort work) }
+    ensures { (stamp : ℕ) (before : BookValue) (work : Work) → HoldsWork stamp before work → (client : ClientNo) (command : OpenCommand) → lookup (is_at (client_cmp client)) work.node.commands ≡ Some command → (begun : Begun) → label_at command.line.label work.node ≡ Some begun → (tid : Tid) → begun.tid ≡ Some tid → begun.owner ≡ Some client → tid.home ≡ work.node.setting.node → tid.inc ≡ work.node.setting.inc → command.line.command ≡ commands.Abort → HoldsWork stamp before (open_command client tid commands.Abort work) }
+{}
+
+/// A cause comes why a transaction cannot be committed: it is kept where the transaction is undecided, and passed on to its home
+/// where nothing is known of it.
+pub fn refusal_is_lawful()
+    ensures { (stamp : ℕ) (before : BookValue) (work : Work) → HoldsWork stamp before work → (tid : Tid) (cause : Cause) → HoldsWork stamp before (refusal_came tid cause work) }
+{}
+
+/// A node asks the home for an outcome: it is told what is known or kept, is to be told once it is decided, or is told abort. What
+/// is unknown here and not committed is aborted in the machine.
+pub fn inquiry_is_lawful()
+    ensures { (stamp : ℕ) (before : BookValue) (work : Work) → HoldsWork stamp before work → (tid : Tid) (peer : NodeNo) → (tm.part_of tid work.node.manager ≡ None → was_committed tid work.node ≡ false → IsAborted stamp before work tid) → HoldsWork stamp before (inquiry_came peer tid work) }
+{}
+
+/// A node is told the outcome that the cell has: it takes it in, or keeps an abort of which it knew nothing, and says so.
+pub fn tell_is_lawful()
+    ensures { (stamp : ℕ) (before : BookValue) (work : Work) → HoldsWork stamp before work → (tid : Tid) (peer : NodeNo) (outcome : Outcome) (tx : TransactionValue) → find_transaction (book_at stamp before work) tid ≡ Some tx → is_outcome outcome tx.cell ≡ true → HoldsWork stamp before (tell_came peer tid outcome work) }
+{}
+
+/// A node took in what its home told it. Of a commit that is noted, and all is forgotten once each node did that was to be told;
+/// of an abort those that it names are told too. What is unknown here is aborted in the machine, and the node keeps each
+/// transaction once.
+pub fn told_is_lawful()
+    ensures { (stamp : ℕ) (before : BookValue) (tid : Tid) (peer : NodeNo) (further : List NodeNo) (work : Work) → HoldsWork stamp before work → (tm.part_of tid work.node.manager ≡ None → IsAborted stamp before work tid) → IsRising tid_cmp work.node.manager.known → HoldsWork stamp before (told_came peer tid further work) }
 {}

@@ -8,7 +8,6 @@ ghost use Rattle.qs_restart.specs.Recovery.{recovery};
 ghost use Rattle.qs_step.specs.Restarts.{begin_incarnation};
 ghost use Rattle.qs_step.specs.State.{Work};
 ghost use Rattle.qs_lawful.specs.Entering.{HoldsWork};
-ghost use Rattle.qs_lawful.specs.Filed.{HoldsFiles};
 ghost use Rattle.qs_lawful.specs.Logs.{found_votes, HoldsStopped};
 
 /// A restart into a later incarnation that finds what the log says is lawful, where the log of the node that stopped says what
@@ -25,5 +24,5 @@ pub fn votes_are_found_once()
 /// The first step of an incarnation: of what was found in the log, commits are told and aborts learnt, and the home of what is in
 /// doubt is asked. In a later step nothing is done.
 pub fn first_step_is_lawful()
-    ensures { (stamp : ℕ) (before : BookValue) (work : Work) → HoldsWork stamp before work → HoldsFiles work.node.servers → HoldsWork stamp before (begin_incarnation work) }
+    ensures { (stamp : ℕ) (before : BookValue) (work : Work) → HoldsWork stamp before work → HoldsWork stamp before (begin_incarnation work) }
 {}

@@ -1,5 +1,5 @@
 //! Rules of a node's step, each as a whole: its entries are lawful, and the machine after them holds what the node has then.
-ghost use Rattle.std.specs.Prelude.{◌≡◌, ◌≢◌, ◌&&◌, not, nat_lt, ℕ, ◌+◌, true, false, None, Some, Option, slice_get, List};
+ghost use Rattle.std.specs.Prelude.{◌≡◌, ◌≢◌, ◌&&◌, ◌==◌, ◌≤◌, ◌<◌, length, not, nat_lt, ℕ, ◌+◌, true, false, None, Some, Option, slice_get, List};
 ghost use Rattle.qs_base.specs.declared.identifiers.ClientNo.{ClientNo};
 ghost use Rattle.qs_base.specs.declared.identifiers.NodeNo.{NodeNo};
 ghost use Rattle.qs_base.specs.declared.identifiers.Tid.{Tid};
@@ -21,9 +21,13 @@ ghost use Rattle.qs_record.specs.declared.record.Record.{Record};
 ghost use Rattle.qs_tm.specs.Manager as tm;
 ghost use Rattle.qs_tm.specs.declared.participant.Outstanding.{Outstanding};
 ghost use Rattle.qs_tm.specs.declared.participant.Participant.{Participant};
+ghost use Rattle.qs_engage.specs.Engage.{last_number, peer_of};
+ghost use Rattle.qs_step.specs.Asking.{closer_came};
+ghost use Rattle.qs_step.specs.Voting.{change_count, issue_note};
+ghost use Rattle.qs_tm.specs.Participant.{awaits_note, has_noted};
 ghost use Rattle.qs_step.specs.Bringing.{answer, enter, log, member_here, send};
 ghost use Rattle.qs_step.specs.Commands.{ask};
-ghost use Rattle.qs_step.specs.Requests.{issue_here, local_count};
+ghost use Rattle.qs_step.specs.Requests.{issue_away, issue_here, local_count};
 ghost use Rattle.qs_step.specs.Serving.{put_label};
 ghost use Rattle.qs_step.specs.State.{Work, with_manager, client_cmp};
 ghost use Rattle.qs_world.specs.Posting.{entry_of};
@@ -54,6 +58,28 @@ pub fn ask_is_lawful()
 /// A request goes to a server of the node itself: its entry is lawful where it breaks no clause of its own.
 pub fn issue_here_is_lawful()
     ensures { (stamp : ℕ) (before : BookValue) (work : Work) (tid : Tid) (outstanding : Outstanding) (op : Op) (part : Participant) (tx : TransactionValue) → HoldsWork stamp before work → tm.part_of tid work.node.manager ≡ Some part → find_transaction (book_at stamp before work) tid ≡ Some tx → outstanding.member.node ≡ work.node.setting.node → outstanding.number ≡ local_count tid work.node + 1 → is_for outstanding.member.server op ≡ true → broken (book_at stamp before work) (entry_of work.node.setting.node.0 stamp (acts.Issue tid (member_here work outstanding.issuer) outstanding.member outstanding.number op)) ≡ None → HoldsWork stamp before (issue_here tid outstanding op work) }
+{}
+
+/// Another node of the run answers for what was sent to it, and no more: that is counted, where the transaction is undecided here.
+pub fn counting_is_lawful()
+    ensures { (stamp : ℕ) (before : BookValue) (work : Work) → HoldsWork stamp before work → (peer : NodeNo) (tid : Tid) (up_to : ℕ) (told : List NodeNo) → (peer.0 == work.node.setting.node.0) ≡ false → nat_lt peer.0 work.node.setting.nodes ≡ true → ((part : Participant) → tm.part_of tid work.node.manager ≡ Some part → up_to ≤ (peer_of part.engage peer).sent) → HoldsWork stamp before (closer_came peer tid up_to told work) }
+{}
+
+/// A request goes to a server of another node, and whoever was asked asks on: whether it crosses the transaction there or not, its
+/// entry is lawful where it breaks no clause of its own. The node's count for that node has room.
+pub fn issue_away_is_lawful()
+    ensures { (stamp : ℕ) (before : BookValue) (work : Work) (tid : Tid) (outstanding : Outstanding) (op : Op) (part : Participant) (tx : TransactionValue) → HoldsWork stamp before work → tm.part_of tid work.node.manager ≡ Some part → find_transaction (book_at stamp before work) tid ≡ Some tx → outstanding.member.node.0 ≢ work.node.setting.node.0 → ((peer_of part.engage outstanding.member.node).sent == last_number) ≡ false → outstanding.member.node.0 < length part.engage.peers → broken (book_at stamp before work) (entry_of work.node.setting.node.0 stamp (acts.Issue tid (member_here work outstanding.issuer) outstanding.member outstanding.number op)) ≡ None → HoldsWork stamp before (issue_away tid outstanding op work) }
+{}
+
+/// The owner issues a request to a server of another node of the run, where commit was not asked for and no outcome is known.
+pub fn owner_issue_away_is_lawful()
+    ensures { (stamp : ℕ) (before : BookValue) (work : Work) (tid : Tid) (outstanding : Outstanding) (op : Op) (part : Participant) (tx : TransactionValue) → HoldsWork stamp before work → tm.part_of tid work.node.manager ≡ Some part → find_transaction (book_at stamp before work) tid ≡ Some tx → outstanding.member.node.0 ≢ work.node.setting.node.0 → ((peer_of part.engage outstanding.member.node).sent == last_number) ≡ false → outstanding.member.node.0 < length part.engage.peers → (client : ClientNo) → outstanding.issuer ≡ client_server client → outstanding.number ≡ (peer_of part.engage outstanding.member.node).sent + 1 → is_for outstanding.member.server op ≡ true → nat_lt outstanding.member.node.0 work.node.setting.nodes ≡ true → tx.owner ≡ Some client → tid.home ≡ work.node.setting.node → tid.inc ≡ work.node.setting.inc → part.asked ≡ false → part.outcome ≡ None → HoldsWork stamp before (issue_away tid outstanding op work) }
+{}
+
+/// Files issue a note of the changes that they have pending, to audit here or of another node of the run, once commit is asked for:
+/// none with that count was served, and files wait for none.
+pub fn note_issue_is_lawful()
+    ensures { (stamp : ℕ) (before : BookValue) (work : Work) → HoldsWork stamp before work → (tid : Tid) (part : Participant) (tx : TransactionValue) → tm.part_of tid work.node.manager ≡ Some part → find_transaction (book_at stamp before work) tid ≡ Some tx → part.asked ≡ true → is_commit tx.cell ≡ false → nat_lt 0 (change_count tid work.node) ≡ true → has_noted (change_count tid work.node) part ≡ false → awaits_note part ≡ false → (to : NodeNo) → nat_lt to.0 work.node.setting.nodes ≡ true → to.0 < length part.engage.peers → HoldsWork stamp before (issue_note tid (Some to) work) }
 {}
 
 /// A message leaves all that is held.

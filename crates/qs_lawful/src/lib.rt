@@ -19,17 +19,21 @@ pub use lawful_commands::{
 pub use lawful_entries::{entries_are_lawful, requests_are_lawful, settled_is_unanimous};
 pub use lawful_outcomes::{
     abort_command_is_lawful, abort_is_lawful, asked_abort_is_lawful, begin_command_is_lawful,
-    commit_command_is_lawful, commit_is_lawful, deciding_is_lawful, notices_are_lawful,
-    reply_is_lawful, taking_in_is_lawful,
+    commit_command_is_lawful, commit_is_lawful, deciding_is_lawful, inquiry_is_lawful,
+    notices_are_lawful, refusal_is_lawful, reply_is_lawful, taking_in_is_lawful, tell_is_lawful,
+    told_is_lawful,
 };
 pub use lawful_restarts::{first_step_is_lawful, restart_is_lawful, votes_are_found_once};
 pub use lawful_rules::{
     answer_is_lawful, ask_is_lawful, begin_is_lawful, borrower_issue_is_lawful, command_leaves_all,
-    issue_here_is_lawful, label_leaves_all, log_leaves_all, owner_issue_is_lawful, send_leaves_all,
+    counting_is_lawful, issue_away_is_lawful, issue_here_is_lawful, label_leaves_all,
+    log_leaves_all, note_issue_is_lawful, owner_issue_away_is_lawful, owner_issue_is_lawful,
+    send_leaves_all,
 };
 pub use lawful_servers::{
     decision_is_lawful, ending_is_lawful, give_back_is_lawful, learn_is_lawful, loan_is_lawful,
-    next_leaves_all, serve_is_lawful, serve_next_is_lawful, serving_by_rules_is_lawful,
-    serving_is_lawful, tick_is_lawful, vote_is_lawful, voting_by_rules_is_lawful, voting_is_lawful,
+    next_leaves_all, own_vote_is_lawful, serve_is_lawful, serve_next_is_lawful,
+    serving_by_rules_is_lawful, serving_is_lawful, tick_is_lawful, vote_is_lawful,
+    voting_by_rules_is_lawful, voting_is_lawful,
 };
 pub use tried::held_in_runs;

@@ -1,0 +1,5 @@
+use Rattle.qs_lawful.proofs.TellingOn.{by_told_came}
+use Rattle.qs_lawful.proofs.lawful_outcomes.told_is_lawful.Goals as goal
+
+pub returns : goal.returns
+returns c = by_told_came
