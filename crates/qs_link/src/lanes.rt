@@ -66,9 +66,10 @@ where
 }
 
 impl<T: Drop> Feed<T> {
-    /// Puts an item into the outbox, or hands it back for want of memory.
+    /// Puts an item into the outbox, or hands it back for want of memory. The ring is left alone.
     pub fn put(&mut self, item: T) -> Result<(), T>
         ensures fed { OnOk result (Fed (item ∷ []) self.old self.new) }
+        ensures ring { self.new.ring ≡ self.old.ring }
         ensures back { IfErr result (λ x. x ≡ item) }
         ensures err { OnErr result (self.new ≡ self.old) }
     {
@@ -117,9 +118,10 @@ impl<T: Drop> Feed<T> {
 }
 
 impl<T: Drop> Draw<T> {
-    /// Takes the next item that was carried.
+    /// Takes the next item that was carried. The ring is left alone.
     pub fn take_carried(&mut self) -> Option<T>
         ensures drawn { Drawn (option_to_list result) self.old self.new }
+        ensures ring { self.new.ring ≡ self.old.ring }
         ensures none { IsNone result ↔ (self.old.inbox ≡ []) }
     {
         self.inbox.pop_front()

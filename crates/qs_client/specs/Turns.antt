@@ -1,0 +1,29 @@
+-- A turn of a client: it sends the line that it stands at, where none is out, or else takes an answer.
+use Rattle.std.specs.Prelude.{◌≡◌, ◌↔◌, Bool, true, false, List, [], ◌∷◌, Option, Some, None, option_to_list}
+use Rattle.qs_journal.specs.declared.script_line.LineAnswer.{LineAnswer}
+use Rattle.qs_journal.specs.declared.script_line.ScriptLine.{ScriptLine}
+use Rattle.qs_link.specs.Lane.{Fed, Drawn}
+use Rattle.qs_client.specs.declared.cell.ClientCell.{ClientCell}
+use Rattle.qs_client.specs.Progress.{sent, heard}
+
+-- it put this line to its lane, and asked for no answer
+pub record Sends (line : ScriptLine) (old new : ClientCell) : Type 0 where
+  pub progress : new.progress ≡ sent old.progress
+  pub commands : Fed (line ∷ []) old.commands new.commands
+  pub answers : new.answers ≡ old.answers
+
+-- it put nothing to its lane, and took this answer, or none
+pub record Hears (answer : Option LineAnswer) (old new : ClientCell) : Type 0 where
+  pub progress : new.progress ≡ heard answer old.progress
+  pub commands : Fed [] old.commands new.commands
+  pub answers : Drawn (option_to_list answer) old.answers new.answers
+
+pub record Takes (old new : ClientCell) : Type 0 where
+  pub answer : LineAnswer
+  pub hears : Hears (Some answer) old new
+
+-- a turn with this line to send or with none, which did something or nothing
+abbrev pub Turns : Option ScriptLine → Bool → ClientCell → ClientCell → Type 0
+Turns (Some line) did old new = (did ≡ true) × Sends line old new
+Turns None true old new = Takes old new
+Turns None false old new = Hears None old new
