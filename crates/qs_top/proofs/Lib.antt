@@ -1,5 +1,6 @@
 pub mod CarriedOut
 pub mod Chain
+pub mod CutOff
 pub mod Flows
 pub mod Hearing
 pub mod MapSteps

@@ -1,4 +1,5 @@
-use Rattle.std.proofs.Common.{◌∙◌, sym}
+use Rattle.std.proofs.Common.{rules, ◌∙◌, sym}
+use Rattle.qs_top.proofs.CutOff.{cut_off}
 use Rattle.qs_top.proofs.OpeningLemmas.{damage_first}
 use Rattle.qs_top.proofs.running.run_source.Goals as goal
 use Rattle.qs_top.proofs.running.run_source.Goals.{in-Ok-give_all, in-Err-give_all}
@@ -15,4 +16,12 @@ returns-clause-damaged g c = λ node at e.
     elim c.match-give_all.branch [
       | in-Ok-give_all w ↦ absurd (cc (w.status-is, e))
       | in-Err-give_all w ↦ absurd (cc (w.status-is, e))
+    ]
+
+-- src/running.rt:86:1
+pub returns-clause-cut_off : goal.returns-clause-cut_off
+returns-clause-cut_off g c = λ e.
+    elim c.match-give_all.branch [
+      | in-Ok-give_all w ↦ absurd (cc (w.status-is, e))
+      | in-Err-give_all w ↦ first_of (search (rules, cut_off), search rules)
     ]
