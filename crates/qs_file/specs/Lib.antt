@@ -1,0 +1,2 @@
+-- What is told of a disk over a file.
+pub mod File
