@@ -99,3 +99,6 @@ pub mod SoundCommands
 pub mod SoundRestart
 pub mod SoundHappen
 pub mod SoundStep
+pub mod SoundVoted
+pub mod SoundOpened
+pub mod SoundLogs
