@@ -102,8 +102,10 @@ pub mod SoundHome
 pub mod SoundIssue
 pub mod SoundKnown
 pub mod SoundLoans
+pub mod SoundLogs
 pub mod SoundMembers
 pub mod SoundNotices
+pub mod SoundOpened
 pub mod SoundParts
 pub mod SoundQueued
 pub mod SoundRequest
@@ -116,6 +118,7 @@ pub mod SoundStart
 pub mod SoundStep
 pub mod SoundTell
 pub mod SoundViews
+pub mod SoundVoted
 pub mod SoundVotes
 pub mod StartGoes
 pub mod StartLogs

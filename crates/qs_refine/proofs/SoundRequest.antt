@@ -146,7 +146,7 @@ members_new : list_all (is_sound_member (new_participant false)) all_servers ≡
 unfolding all_servers
 members_new = refl
 
-no_pass : not (participant.needs_pass (new_participant false)) ≡ true
+pub no_pass : not (participant.needs_pass (new_participant false)) ≡ true
 unfolding all_servers
 no_pass = refl
 

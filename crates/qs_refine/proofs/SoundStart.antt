@@ -12,12 +12,12 @@ use Rattle.qs_refine.specs.SoundLaws.{StartSound}
 use Rattle.qs_refine.proofs.SoundParts.{and_both}
 
 -- the test of the node, with its setting
-abbrev fits : Setting → Bool
+abbrev pub fits : Setting → Bool
 fits setting =
     (nat_lt setting.node.0 setting.nodes && (nat_le setting.nodes 16 && nat_lt 0 setting.inc))
     && ((setting.node.0 == setting.node.0) && ((setting.inc == setting.inc) && ((setting.extra == setting.extra) && ((setting.keep == setting.keep) && is_audit setting.nodes setting.audit))))
 
-setting_fits : (size n : ℕ) (setting : Setting) → size ≤ 16 → n < size → is_setting size n setting ≡ true → fits setting ≡ true
+pub setting_fits : (size n : ℕ) (setting : Setting) → size ≤ 16 → n < size → is_setting size n setting ≡ true → fits setting ≡ true
 setting_fits size n setting small in_run is =
     let numbers : (((setting.node.0 == n) && (setting.nodes == size)) ≡ true) × _ = and_both ((setting.node.0 == n) && (setting.nodes == size)) _ is in
     let later : (nat_lt 0 setting.inc ≡ true) × _ = and_both (nat_lt 0 setting.inc) _ numbers.1 in

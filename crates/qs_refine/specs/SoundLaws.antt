@@ -43,6 +43,10 @@ StaysSound work new = is_sound work.node ≡ true → is_sound new.node ≡ true
 abbrev pub StartSound : Type 0
 StartSound = (o : Opening) → IsOpening o → ((n : ℕ) → n < o.size → o.logs n ≡ []) → (n : ℕ) → n < o.size → is_sound_host ((start o).hosts n) ≡ true
 
+-- where it begins with old logs too, as far as a node is seen without its log
+abbrev pub OpenedSound : Type 0
+OpenedSound = (o : Opening) → IsOpening o → (n : ℕ) → n < o.size → is_sound ((start o).hosts n).node ≡ true
+
 -- a client begins a transaction
 abbrev pub BeginSound : Type 0
 BeginSound = (line : ScriptLine) (work : Work) → StaysSound work (begin_as line (tm.next_tid work.node.manager) work)

@@ -1,10 +1,11 @@
 //! Rules of a node's step that leave a sound node sound.
-ghost use Rattle.qs_refine.specs.SoundLaws.{StartSound, BeginSound, BeginCommandSound, OwnerAsksSound, AskCameSound, RefusalCameSound, ReplyCameSound, IssueAwaySound, CloserCameSound, RequestCameSound, ServeAllSound, TakeSound, YieldSound, PassRuleSound, AnswerSuperiorSound, RefuseElsewhereSound, ForgetRuleSound, DecideAbortSound, DecideCommitSound, SettleSound, TellCameSound, InquiryCameSound, ToldCameSound, PeerRestartedSound, BeginIncarnationSound, BorrowerCommandSound, OwnerCommandSound};
+ghost use Rattle.qs_refine.specs.SoundLaws.{StartSound, OpenedSound, BeginSound, BeginCommandSound, OwnerAsksSound, AskCameSound, RefusalCameSound, ReplyCameSound, IssueAwaySound, CloserCameSound, RequestCameSound, ServeAllSound, TakeSound, YieldSound, PassRuleSound, AnswerSuperiorSound, RefuseElsewhereSound, ForgetRuleSound, DecideAbortSound, DecideCommitSound, SettleSound, TellCameSound, InquiryCameSound, ToldCameSound, PeerRestartedSound, BeginIncarnationSound, BorrowerCommandSound, OwnerCommandSound};
 ghost use Rattle.qs_refine.specs.SoundSteps.{HappenSound, AnswerWaitingSound, StepSound};
 
-/// Where a world begins with empty logs, every node is sound.
+/// Where a world begins every node is sound; with its log where the logs are empty.
 pub fn opening()
     ensures starts { StartSound }
+    ensures opens { OpenedSound }
 {}
 
 /// A client begins a transaction, or its command is refused.
