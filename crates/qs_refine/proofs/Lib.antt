@@ -116,3 +116,5 @@ pub mod Resuming
 pub mod Inquiring
 pub mod InquireSent
 pub mod Lasting
+pub mod ToldUnknown
+pub mod RequestUnknown

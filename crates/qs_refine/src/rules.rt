@@ -1,11 +1,11 @@
 //! Rules of a node's step, each as its events of the agreement machine.
-ghost use Rattle.qs_refine.specs.RuleLaws.{VotedYesGoes, CoveredGoes, IssueAwayGoes, RequestGoes, RequestHomeGoes, CloserIgnored, ForeignGoes, AnsweredGoes, RefusalGoes, AskVoteGoes, RecoverableGoes, VolatileGoes, ReadOnlyGoes, AgainstGoes, ServeNextGoes, LendNextGoes, TellCommitGoes, AnswerSuperiorGoes, IssueHereGoes, OwnerAsksGoes};
+ghost use Rattle.qs_refine.specs.RuleLaws.{VotedYesGoes, CoveredGoes, IssueAwayGoes, RequestGoes, RequestHomeGoes, RequestUnknownGoes, CloserIgnored, ForeignGoes, AnsweredGoes, RefusalGoes, AskVoteGoes, RecoverableGoes, VolatileGoes, ReadOnlyGoes, AgainstGoes, ServeNextGoes, LendNextGoes, TellCommitGoes, AnswerSuperiorGoes, IssueHereGoes, OwnerAsksGoes};
 ghost use Rattle.qs_refine.specs.DecisionLaws.{DecideCommitGoes, DecideAbortGoes, ToldCommitGoes, ToldLastGoes, ForgetReadGoes};
 ghost use Rattle.qs_refine.specs.AbortRules.{TellAbortGoes, TellAbortAgainGoes, TellAbortUnknownGoes};
 ghost use Rattle.qs_refine.specs.SettleLaws.{ReadyHomeGoes, ReadyElsewhereGoes, RefuseHomeGoes, RefuseElsewhereGoes, ForgetRuleGoes};
 ghost use Rattle.qs_refine.specs.WaitingLaws.{IssueAwaitsGoes};
 ghost use Rattle.qs_refine.specs.LoanLaws.{TakeGoes, GiveBackGoes};
-ghost use Rattle.qs_refine.specs.ToldRules.{ToldAbortGoes};
+ghost use Rattle.qs_refine.specs.ToldRules.{ToldAbortGoes, ToldUnknownGoes};
 ghost use Rattle.qs_refine.specs.AgainLaws.{TellCommitUnknownGoes, TellCommitAgainGoes, TellHomeGoes, ToldElsewhereGoes, ToldRunningGoes, ToldNobodyGoes};
 ghost use Rattle.qs_refine.specs.RestartLaws.{FindGoneGoes, NoticeDecidedGoes, TellAgainGoes, NameHomeGoes, NameOtherGoes, ResumeCommitGoes, ResumeAbortGoes};
 ghost use Rattle.qs_refine.specs.InquireLaws.{InquireRuleGoes, ResumeDoubtGoes};
@@ -24,6 +24,7 @@ pub fn requests()
     ensures issue_awaits { IssueAwaitsGoes }
     ensures request { RequestGoes }
     ensures request_home { RequestHomeGoes }
+    ensures request_unknown { RequestUnknownGoes }
     ensures answered { AnsweredGoes }
 {}
 
@@ -76,6 +77,7 @@ pub fn endings()
     ensures told_commit { ToldCommitGoes }
     ensures told_last { ToldLastGoes }
     ensures told_abort { ToldAbortGoes }
+    ensures told_unknown { ToldUnknownGoes }
     ensures forget_read { ForgetReadGoes }
 {}
 
