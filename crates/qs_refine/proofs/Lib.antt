@@ -118,3 +118,4 @@ pub mod InquireSent
 pub mod Lasting
 pub mod ToldUnknown
 pub mod RequestUnknown
+pub mod SettlesWhole
