@@ -119,3 +119,4 @@ pub mod Lasting
 pub mod ToldUnknown
 pub mod RequestUnknown
 pub mod SettlesWhole
+pub mod SettlesElsewhere

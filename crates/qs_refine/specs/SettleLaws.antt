@@ -57,3 +57,9 @@ abbrev pub SettleHomeGoes : Type 0
 SettleHomeGoes = (tid : Tid) (scene : Scene) (work : Work) (part : Participant) (w : World) → IsLawful w → ShowsWork tid scene tid.home.0 work w
     → IsHome tid scene work part → HasNoDoubt tid scene tid.home.0 work part
     → Goes tid scene tid.home.0 (try tid forget_rule (try tid refuse_rule (try tid ready_rule work))) w
+
+-- at another node
+abbrev pub SettleElsewhereGoes : Type 0
+SettleElsewhereGoes = (tid : Tid) (scene : Scene) (n : ℕ) (work : Work) (part : Participant) (w : World) → IsLawful w → ShowsWork tid scene n work w
+    → IsElsewhere tid scene n work part → in_order work.node.manager.known ≡ true → ((m : ℕ) → part.engage.superior ≡ Some (node_no m) → IsKnown scene n m (scene.knows n m)) → (part.involved ≡ false → is_no_node part.told ≡ true)
+    → Goes tid scene n (try tid forget_rule (try tid refuse_rule (try tid ready_rule work))) w

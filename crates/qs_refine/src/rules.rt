@@ -2,7 +2,7 @@
 ghost use Rattle.qs_refine.specs.RuleLaws.{VotedYesGoes, CoveredGoes, IssueAwayGoes, RequestGoes, RequestHomeGoes, RequestUnknownGoes, CloserIgnored, ForeignGoes, AnsweredGoes, RefusalGoes, AskVoteGoes, RecoverableGoes, VolatileGoes, ReadOnlyGoes, AgainstGoes, ServeNextGoes, LendNextGoes, TellCommitGoes, AnswerSuperiorGoes, IssueHereGoes, OwnerAsksGoes};
 ghost use Rattle.qs_refine.specs.DecisionLaws.{DecideCommitGoes, DecideAbortGoes, ToldCommitGoes, ToldLastGoes, ForgetReadGoes};
 ghost use Rattle.qs_refine.specs.AbortRules.{TellAbortGoes, TellAbortAgainGoes, TellAbortUnknownGoes};
-ghost use Rattle.qs_refine.specs.SettleLaws.{ReadyHomeGoes, ReadyElsewhereGoes, RefuseHomeGoes, RefuseElsewhereGoes, ForgetRuleGoes, SettleHomeGoes};
+ghost use Rattle.qs_refine.specs.SettleLaws.{ReadyHomeGoes, ReadyElsewhereGoes, RefuseHomeGoes, RefuseElsewhereGoes, ForgetRuleGoes, SettleHomeGoes, SettleElsewhereGoes};
 ghost use Rattle.qs_refine.specs.WaitingLaws.{IssueAwaitsGoes};
 ghost use Rattle.qs_refine.specs.LoanLaws.{TakeGoes, GiveBackGoes};
 ghost use Rattle.qs_refine.specs.ToldRules.{ToldAbortGoes, ToldUnknownGoes};
@@ -98,6 +98,7 @@ pub fn settling()
     ensures refuse_elsewhere { RefuseElsewhereGoes }
     ensures forget { ForgetRuleGoes }
     ensures home { SettleHomeGoes }
+    ensures elsewhere { SettleElsewhereGoes }
 {}
 
 /// A borrower takes a loan, and gives it back.
