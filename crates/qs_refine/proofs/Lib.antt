@@ -120,3 +120,4 @@ pub mod ToldUnknown
 pub mod RequestUnknown
 pub mod SettlesWhole
 pub mod SettlesElsewhere
+pub mod StepEdges

@@ -9,6 +9,7 @@ ghost use Rattle.qs_refine.specs.ToldRules.{ToldAbortGoes, ToldUnknownGoes};
 ghost use Rattle.qs_refine.specs.AgainLaws.{TellCommitUnknownGoes, TellCommitAgainGoes, TellHomeGoes, ToldElsewhereGoes, ToldRunningGoes, ToldNobodyGoes};
 ghost use Rattle.qs_refine.specs.RestartLaws.{FindGoneGoes, NoticeDecidedGoes, TellAgainGoes, NameHomeGoes, NameOtherGoes, ResumeCommitGoes, ResumeAbortGoes};
 ghost use Rattle.qs_refine.specs.InquireLaws.{InquireRuleGoes, ResumeDoubtGoes};
+ghost use Rattle.qs_refine.specs.StepLaws.{StepBegins, StepEnds};
 ghost use Rattle.qs_refine.specs.InquiryRules.{InquiryRunningGoes, InquiryCommitGoes, InquiryPastGoes, InquiryAbortGoes, InquiryUnknownGoes};
 
 /// What answers for requests is counted where the transaction is known and not decided, and ignored where the node is not engaged.
@@ -133,4 +134,10 @@ pub fn resumptions()
     ensures commit { ResumeCommitGoes }
     ensures abort { ResumeAbortGoes }
     ensures doubt { ResumeDoubtGoes }
+{}
+
+/// A step begins with what shows the world, and ends with what shows it once its messages are put and its records stand.
+pub fn steps()
+    ensures begins { StepBegins }
+    ensures ends { StepEnds }
 {}
