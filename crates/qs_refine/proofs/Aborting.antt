@@ -1,5 +1,5 @@
 -- The home decides abort: Abort.
-use Rattle.std.proofs.Common.{◌≡◌, ◌≢◌, ℕ, ◌<◌, ◌==◌, Bool, true, false, [], ◌∷◌, arith, refl, sym, ◌∙◌, subst, ap, if◌then◌else◌}
+use Rattle.std.proofs.Common.{◌≡◌, ◌≢◌, inl, ℕ, ◌<◌, ◌==◌, Bool, true, false, [], ◌∷◌, arith, refl, sym, ◌∙◌, subst, ap, if◌then◌else◌}
 use Rattle.std.proofs.lemmas.Bool.Decides.{nat_tests}
 use Rattle.qs_base.specs.declared.identifiers.Tid.{Tid}
 use Rattle.qs_agree.specs.World.{World, Open, Aborted, with_at}
@@ -55,7 +55,7 @@ abort_face w v f same here undecided i s = record {
   last_new = grind (arith, i.last_new, s.2);
   sent = λ _ m. rw s.2 (i.sent (λ is. cc (is, undecided)) m);
   told_in = grind (arith, i.told_in, s.2);
-  tell = λ _ m has. tells m (same m ∙ has);
+  tell = λ _ m has. inl (tells m (same m ∙ has));
   running = λ is. absurd (cc is);
 }
   where

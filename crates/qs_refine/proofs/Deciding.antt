@@ -1,16 +1,18 @@
 -- What the home's node makes of a transaction that it decides, before it tells anybody.
-use Rattle.std.proofs.Common.{◌≡◌, ℕ, ◌==◌, ◌&&◌, Bool, true, false, Option, Some, None, refl, sym, subst, ap, ◌∙◌, arith, List, [], ◌∷◌}
+use Rattle.std.proofs.Common.{◌≡◌, ℕ, ◌==◌, ◌&&◌, Bool, true, false, Option, Some, None, refl, sym, subst, ap, ◌∙◌, arith, if◌then◌else◌, List, [], ◌∷◌}
 use Rattle.std.specs.BTreeMap.{is_at}
 use Rattle.std.proofs.lemmas.Bool.Decides.{nat_tests}
 use Rattle.qs_base.specs.Order.{tid_cmp}
 use Rattle.qs_base.specs.declared.identifiers.NodeNo.{NodeNo}
 use Rattle.qs_base.specs.declared.identifiers.Outcome.{Outcome}
+use Rattle.qs_base.specs.declared.identifiers.Outcome.TheVariants as outcomes
 use Rattle.qs_base.specs.declared.identifiers.Tid.{Tid}
 use Rattle.qs_engage.specs.Nodes.{same_node, has_node, listed}
 use Rattle.qs_journal.specs.declared.entry.Act.TheVariants as acts
 use Rattle.qs_ops.specs.declared.answer.Cause.{Cause}
 use Rattle.qs_packet.specs.declared.message.Message.TheVariants as messages
 use Rattle.qs_record.specs.declared.record.Record.{Record}
+use Rattle.qs_record.specs.declared.record.Record.TheVariants as records
 use Rattle.qs_tm.specs.Manager as tm
 use Rattle.qs_tm.specs.Outcomes as outcome_rules
 use Rattle.qs_tm.specs.declared.manager.Decision.{Decision}
@@ -50,6 +52,19 @@ some_own tid rec its r is = by (Some r) (sym is)
     by : (o : Option Record) → o ≡ Some rec → own o ≡ tid
     by o e = ap own e ∙ its
 
+-- and so is the record of a decision
+pub record_own : (tid : Tid) (outcome : Outcome) (part : Participant) → IsOwn tid (outcome_rules.record_of tid outcome part)
+record_own tid outcomes.Commit part = by (outcome_rules.writes_commit part)
+  where
+    by : (b : Bool) → IsOwn tid (if b then Some (records.Commit tid (listed part.told)) else None)
+    by true = some_own tid (records.Commit tid (listed part.told)) refl
+    by false = none_own tid
+record_own tid outcomes.Abort part = by part.log.prepared
+  where
+    by : (b : Bool) → IsOwn tid (if b then Some (records.Aborted tid) else None)
+    by true = some_own tid (records.Aborted tid) refl
+    by false = none_own tid
+
 module _ (tid : Tid) (scene : Scene) (outcome : Outcome) (cause : Option Cause) (work : Work) (part : Participant) (is_home : IsHome tid scene work part) where
   abbrev h : ℕ
   h = tid.home.0
@@ -78,15 +93,15 @@ module _ (tid : Tid) (scene : Scene) (outcome : Outcome) (cause : Option Cause) 
   known_marked : part_of tid marked ≡ Some (outcome_rules.decided outcome part)
   known_marked = lookup_changed (is_at (tid_cmp tid)) (outcome_rules.decided outcome) work.node.manager.known part is_home.knows.known
 
+  pub known_logged : (r : Record) → IsOwn tid (Some r) → part_of tid (entered (Some r)) ≡ Some (outcome_rules.logged r (outcome_rules.decided outcome part))
+  known_logged r own = subst (λ (t : Tid). tm.part_of tid (tm.logged t r marked.node.manager) ≡ Some (outcome_rules.logged r (outcome_rules.decided outcome part))) (sym (own r refl))
+      (lookup_changed (is_at (tid_cmp tid)) (outcome_rules.logged r) marked.node.manager.known (outcome_rules.decided outcome part) known_marked)
+
   face_entered : (rec : Option Record) → IsOwn tid rec → SameFace decided_face (face_at (entered rec).node tid)
   face_entered None own = rw (part_known tid (entered None).node (outcome_rules.decided outcome part) known_marked)
       (record { is_home = refl; on = rw began refl; superior = refl; last = λ m. refl; sent = λ m. refl; covered = λ m. refl; waits = λ s. refl; uncast = λ s. refl; loans = refl; asked = refl; blocked = refl; involved = refl; told = λ m. refl; outcome = rw is_home.home refl; tell = λ m. refl })
-  face_entered (Some r) own = rw (part_known tid (entered (Some r)).node (outcome_rules.logged r (outcome_rules.decided outcome part)) known_logged)
+  face_entered (Some r) own = rw (part_known tid (entered (Some r)).node (outcome_rules.logged r (outcome_rules.decided outcome part)) (known_logged r own))
       (record { is_home = refl; on = rw began refl; superior = refl; last = λ m. refl; sent = λ m. refl; covered = λ m. refl; waits = λ s. refl; uncast = λ s. refl; loans = refl; asked = refl; blocked = refl; involved = refl; told = λ m. refl; outcome = rw is_home.home refl; tell = λ m. refl })
-    where
-      known_logged : part_of tid (entered (Some r)) ≡ Some (outcome_rules.logged r (outcome_rules.decided outcome part))
-      known_logged = subst (λ (t : Tid). tm.part_of tid (tm.logged t r marked.node.manager) ≡ Some (outcome_rules.logged r (outcome_rules.decided outcome part))) (sym (own r refl))
-          (lookup_changed (is_at (tid_cmp tid)) (outcome_rules.logged r) marked.node.manager.known (outcome_rules.decided outcome part) known_marked)
 
   pub learnt : (rec : Option Record) → Learns tid (entered rec) (noticed rec)
   learnt rec = notices_learn tid outcome (entered rec)

@@ -1,7 +1,7 @@
 -- What holds of the machine's worlds besides its own invariant: links to places that are not known yet are empty, and nobody names the home.
 use Rattle.std.proofs.Common.{◌≡◌, ◌≢◌, ℕ, ◌+◌, ◌<◌, ◌≤◌, true, false, arith}
 use Rattle.std.proofs.lemmas.Bool.Decides.{nat_tests}
-use Rattle.qs_agree.specs.World.{World, Open}
+use Rattle.qs_agree.specs.World.{World, Open, Aborted}
 use Rattle.qs_agree.specs.Guards.{carried}
 use Rattle.qs_agree.specs.Step.{Step, Issue, Issue_unmet, Issue_local, Meet, Notice, Engage, Join, Cover, Serve, Serve_told, Lend, Yield, Ask, Vote_read, Vote_volatile, Force, Vote_recoverable, Vote_abort, Yes, Yes_lost, Count, Ignore, Refuse, Miss, Forget, Crash, Restart, Restart_in_doubt, Restart_home, Commit, Commit_cut, Commit_unlogged, Abort, Tell, Learn, Learn_cut, Learn_home, Acknowledge, Take_told, End, Checkpoint, Tell_abort, Learn_abort, Name_again, Take_names, Learn_abort_home, Abort_logged, Drop_engage, Drop_join, Drop_cover, Inquire, Inquire_lost, Inquire_home, Answer_commit, Answer_running, Answer_abort}
 use Rattle.qs_agree.proofs.Counts.{Counts}
@@ -23,6 +23,8 @@ pub record Fresh (w : World) (q p : ℕ) : Type 0 where
   pub asks_below : w.inquiry_put q p ≤ w.inquiries q
   pub asks_all : w.peer q (w.node p) ≡ p → 1 ≤ p → w.node p ≡ w.node w.home → w.inquiry_put q p ≡ w.inquiries q  -- what was asked was put for the home's place that is known
   pub asks_put : 1 ≤ w.inquiry_put q p → w.node q ≢ w.node w.home
+  pub aborted : w.outcome q ≡ Aborted → w.node q ≢ w.node w.home → w.tell_abort (w.node q) ≡ true  -- another node than the home's knows abort where it may be told
+  pub named : (n : ℕ) → w.named q n ≡ true → w.tell_abort (w.node q) ≡ true  -- and so does who has named somebody
   pub unnamed : w.outcome q ≡ Open → (n : ℕ) → w.named q n ≡ false  -- who knows no outcome has named nobody
 
 pub by_issue : (a b e : ℕ) (q p : ℕ) (w v : World) → Counts w → Fresh w q p → Step (Issue a b e) w v → Fresh v q p
@@ -38,7 +40,27 @@ pub by_meet : (a b : ℕ) (q p : ℕ) (w v : World) → Counts w → Fresh w q p
 by_meet a b q p w v c i s = grind (arith, nat_tests, i, s)
 
 pub by_notice : (a b : ℕ) (q p : ℕ) (w v : World) → Counts w → Fresh w q p → Step (Notice a b) w v → Fresh v q p
-by_notice a b q p w v c i s = grind (arith, nat_tests, i, s)
+by_notice a b q p w v c i s = record {
+  set = λ k n. grind (arith, nat_tests, i.set k n, s);
+  taken = grind (arith, nat_tests, i.taken, s);
+  inquiry_taken = grind (arith, nat_tests, i.inquiry_taken, i.asks_below, s);
+  none = grind (arith, nat_tests, i.none, s);
+  inquiry_none = grind (arith, nat_tests, i.inquiry_none, s);
+  last_none = grind (arith, nat_tests, i.last_none, s);
+  known = grind (arith, nat_tests, i.known, s);
+  away = grind (arith, nat_tests, i.away, s);
+  told = grind (arith, nat_tests, i.told, s);
+  told_other = grind (arith, nat_tests, i.told_other, s);
+  sets = λ k. grind (arith, nat_tests, i.sets k, s);
+  sets_back = λ k. grind (arith, nat_tests, i.sets_back k, s);
+  asks = grind (arith, nat_tests, i.asks, s);
+  asks_below = grind (arith, nat_tests, i.asks_below, s);
+  asks_all = grind (arith, nat_tests, i.asks_all, s);
+  asks_put = grind (arith, nat_tests, i.asks_put, i.asks, s);
+  aborted = grind (arith, nat_tests, i.aborted, s);
+  named = grind (arith, nat_tests, i.named, s);
+  unnamed = grind (arith, nat_tests, i.unnamed, s);
+}
 
 pub by_engage : (a b : ℕ) (q p : ℕ) (w v : World) → Counts w → Fresh w q p → Step (Engage a b) w v → Fresh v q p
 by_engage a b q p w v c i s = grind (arith, nat_tests, i, s)
@@ -100,6 +122,8 @@ by_yes_lost a q p w v c i x y z s = record {
   asks_below = grind (arith, nat_tests, i.asks_below, s.3);
   asks_all = grind (arith, nat_tests, i.asks_all, s.3);
   asks_put = grind (arith, nat_tests, i.asks_put, s.3);
+  aborted = grind (arith, nat_tests, i.aborted, s.3);
+  named = grind (arith, nat_tests, i.named, s.3);
   unnamed = grind (arith, nat_tests, i.unnamed, s.3);
 }
 

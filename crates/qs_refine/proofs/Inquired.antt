@@ -175,7 +175,7 @@ abort_others h q k w v f other i s = grind (arith, nat_tests, other, i, s.2)
 
 -- whom it is to tell
 abbrev pub IsToTell : World → ℕ → Face → Type 0
-IsToTell w h f = (k : ℕ) → f.tell k ≡ true → w.to_tell h k ≡ true
+IsToTell w h f = (k : ℕ) → f.tell k ≡ true → (w.to_tell h k ≡ true) ⊎ (w.tell_abort k ≡ true)
 
 abort_face : (h q m : ℕ) (w v : World) (f : Face) → w.node q ≡ m → f.outcome ≢ Committed → IsToTell w h f → ShowsFace f h w → Step (Answer_abort h q) w v → ShowsFace (telling_face f m) h v
 abort_face h q m w v f node running tells i s = record {
@@ -228,7 +228,7 @@ module _ (tid : Tid) (x : Sight) (w : World) (n : ℕ) (shown : ShowsSight tid x
   pub to_tell : IsToTell w (place n (x.inc n)) (x.face n)
   to_tell k has = by may.may
     where
-      by : ((x.face n).outcome ≡ Aborted) ⊎ (((x.face n).outcome ≡ Open) × (tid.inc ≢ x.inc n) × ((k : ℕ) → (x.face n).tell k ≡ false)) → w.to_tell (place n (x.inc n)) k ≡ true
+      by : ((x.face n).outcome ≡ Aborted) ⊎ (((x.face n).outcome ≡ Open) × (tid.inc ≢ x.inc n) × ((k : ℕ) → (x.face n).tell k ≡ false)) → (w.to_tell (place n (x.inc n)) k ≡ true) ⊎ (w.tell_abort k ≡ true)
       by (inl is) = here.tell is k has
       by (inr is) = absurd (let none = is.2 k in cc (has, none))
 

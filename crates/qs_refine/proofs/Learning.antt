@@ -22,7 +22,7 @@ use Rattle.qs_refine.proofs.Taking.{home_apart}
 same_stage : (w : World) → SameStage w w
 same_stage w = record { node = refl; class = refl; home = refl; present = refl; up = refl; peer = refl }
 
-stays_itself : (l : Link) → Stays l l
+pub stays_itself : (l : Link) → Stays l l
 stays_itself l = record { carries = carries_itself l; posted = refl; closers = refl; inquiry_put = λ _. refl }
 
 -- what comes first on a link is one that the machine's link doesn't count

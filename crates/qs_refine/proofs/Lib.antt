@@ -76,6 +76,7 @@ pub mod Refusing
 pub mod RequestCame
 pub mod RequestCases
 pub mod RequestHome
+pub mod RequestUnknown
 pub mod Requested
 pub mod Requesting
 pub mod Restarting
@@ -89,6 +90,8 @@ pub mod Sending
 pub mod ServeGoes
 pub mod ServeNext
 pub mod Settles
+pub mod SettlesElsewhere
+pub mod SettlesWhole
 pub mod SoundAnswer
 pub mod SoundBegin
 pub mod SoundCommands
@@ -124,6 +127,7 @@ pub mod StartGoes
 pub mod StartLogs
 pub mod StartWorlds
 pub mod Starting
+pub mod StepEdges
 pub mod Still
 pub mod Streams
 pub mod Taking
@@ -135,6 +139,7 @@ pub mod Telling
 pub mod ToldAbort
 pub mod ToldAgain
 pub mod ToldCame
+pub mod ToldUnknown
 pub mod Unborn
 pub mod Unlogged
 pub mod Unmet

@@ -1,5 +1,5 @@
 -- The home tells an outcome, to a place that is known or to one that is to come: Tell and Tell_abort.
-use Rattle.std.proofs.Common.{◌≡◌, ◌≢◌, ℕ, ◌<◌, ◌==◌, true, false, List, [], ◌∷◌, arith, refl, sym, ◌∙◌, subst, ap, if◌then◌else◌}
+use Rattle.std.proofs.Common.{◌≡◌, ◌≢◌, ◌⊎◌, inl, inr, ℕ, ◌<◌, ◌==◌, true, false, List, [], ◌∷◌, arith, refl, sym, ◌∙◌, subst, ap, if◌then◌else◌}
 use Rattle.std.proofs.lemmas.Bool.Decides.{nat_tests}
 use Rattle.qs_base.specs.declared.identifiers.Tid.{Tid}
 use Rattle.qs_agree.specs.World.{World, Committed, Aborted, with_at}
@@ -8,10 +8,12 @@ use Rattle.qs_refine.specs.Faces.{Face, ShowsFace}
 use Rattle.qs_refine.specs.Links.{Said, Outcome_told, link, waiting_link, IsLink}
 use Rattle.qs_refine.specs.OutcomeLaws.{TellWaitsGoes, TellAbortGoes, TellAbortWaitsGoes}
 use Rattle.qs_refine.specs.Places.{place}
-use Rattle.qs_refine.specs.Seen.{Runs}
+use Rattle.qs_refine.specs.Seen.{Runs, SightGoes, sight_said}
+use Rattle.qs_refine.specs.SeenOutcome.{sight_waiting}
 use Rattle.qs_refine.specs.Sights.{Sight, ShowsSight}
+use Rattle.qs_refine.proofs.Learning.{uncounted_said, stays_itself}
 use Rattle.qs_refine.proofs.Putting.{put_sight}
-use Rattle.qs_refine.proofs.Streams.{Stays, ended}
+use Rattle.qs_refine.proofs.Streams.{Stays, carries_itself, ended}
 use Rattle.qs_refine.proofs.Waiting.{wait_sight}
 
 -- the node of the home's place, and of a place of its own
@@ -76,7 +78,7 @@ abort_waiting : (h m a b : ℕ) (w v : World) → Step (Tell_abort h m) w v → 
 abort_waiting h m a b w v s = record { carries = grind (arith, nat_tests, s); posted = grind (arith, s); closers = grind (arith, s); inquiry_put = grind (arith, s) }
 
 abort_face : (h m k : ℕ) (w v : World) (f : Face) → ShowsFace f k w → Step (Tell_abort h m) w v → ShowsFace f k v
-abort_face h m k w v f i s = grind (arith, i, s)
+abort_face h m k w v f i s = grind (arith, nat_tests, i, s)
 
 abort_next : (h m q : ℕ) (w v : World) → Step (Tell_abort h m) w v → IsLink (ended (waiting_link w q m) (waiting_link v q m)) (Outcome_told false ∷ [])
 abort_next h m q w v s = (grind (arith, nat_tests, s), record { requests = grind (arith, s); closers = grind (arith, s); inquiries = grind (arith, s); all_requests = grind (arith, s); all_closers = grind (arith, s); all_inquiries = grind (arith, s) })
@@ -84,7 +86,7 @@ abort_next h m q w v s = (grind (arith, nat_tests, s), record { requests = grind
 abort_put : (h m q : ℕ) (w v : World) → w.node q ≡ m → Step (Tell_abort h m) w v → IsLink (ended (link w h q) (link v h q)) (Outcome_told false ∷ [])
 abort_put h m q w v at s = (grind (arith, nat_tests, at, s), record { requests = grind (arith, s); closers = grind (arith, s); inquiries = grind (arith, s); all_requests = grind (arith, s); all_closers = grind (arith, s); all_inquiries = grind (arith, s) })
 
-module _ (tid : Tid) (x : Sight) (w : World) (n m : ℕ) (shown : ShowsSight tid x w) (at : Runs x n) (aborted : (x.face n).outcome ≡ Aborted) (tells : (x.face n).tell m ≡ true) (home : n ≡ tid.home.0) where
+module _ (tid : Tid) (x : Sight) (w : World) (n m : ℕ) (shown : ShowsSight tid x w) (at : Runs x n) (aborted : (x.face n).outcome ≡ Aborted) (home : n ≡ tid.home.0) where
   abbrev h : ℕ
   h = place n (x.inc n)
 
@@ -94,47 +96,87 @@ module _ (tid : Tid) (x : Sight) (w : World) (n m : ℕ) (shown : ShowsSight tid
   here : ShowsFace (x.face n) h w
   here = shown.faces n at.in_run at.up
 
-  step : Step (Tell_abort h m) w v
-  step = (here.up, home_same tid x w n shown at home, here.outcome ∙ aborted, here.tell aborted m tells, refl)
+  step : w.to_tell h m ≡ true → Step (Tell_abort h m) w v
+  step to_tell = (here.up, home_same tid x w n shown at home, here.outcome ∙ aborted, to_tell, refl)
+
+  -- who may be told by anybody is told once more
+  told_already : (i : ℕ) → m < x.size → w.tell_abort m ≡ true → SightGoes tid (sight_said x n m i (x.face n) (Outcome_told false)) w
+  told_already i m_in told = record {
+    next = w;
+    leads = record { events = []; run = refl };
+    shown = uncounted_said tid x w n m i (Outcome_told false) shown at m_in
+        (ap w.tell_abort (shown.stage.nodes m i m_in) ∙ told, record { requests = omega arith; closers = omega arith; inquiries = λ _. omega arith; all_requests = λ _. refl; all_closers = λ _. refl; all_inquiries = λ _ _. refl });
+  }
+
+  waits_already : w.tell_abort m ≡ true → SightGoes tid (sight_waiting x n m (x.face n) (Outcome_told false)) w
+  waits_already told = record {
+    next = w;
+    leads = record { events = []; run = refl };
+    shown = wait_sight tid x w w n m (x.face n) (Outcome_told false) shown at.in_run at.up
+        (record {
+          stage = record { node = refl; class = refl; home = refl; present = refl; up = refl; peer = refl };
+          logs = record { prepared = refl; commit_logged = refl; unended = refl; commit_list = refl };
+          links = λ a b. stays_itself (link w a b);
+          waiting = λ a b _. stays_itself (waiting_link w a b);
+          others = λ k f _ is. is;
+          carries = carries_itself (waiting_link w h m);
+        })
+        here
+        (told, record { requests = omega arith; closers = omega arith; inquiries = λ _. omega arith; all_requests = λ _. refl; all_closers = λ _. refl; all_inquiries = λ _ _. refl });
+  }
 
 pub tell_abort : TellAbortGoes
-tell_abort tid x w n m i shown at m_in aborted tells home =
-    let q = h tid x w n m shown at aborted tells home in
-    let u = v tid x w n m shown at aborted tells home in
-    let did = step tid x w n m shown at aborted tells home in
-    record {
-      next = u;
-      leads = record { events = Tell_abort q m ∷ []; run = (u, did, refl) };
-      shown = put_sight tid x w u n m i (x.face n) (Outcome_told false ∷ []) shown at.in_run m_in at.up
-          (record {
-            stage = rw did.4 (record { node = refl; class = refl; home = refl; present = refl; up = refl; peer = refl });
-            logs = rw did.4 (record { prepared = refl; commit_logged = refl; unended = refl; commit_list = refl });
-            links = λ a b _. abort_links q m a b w u did;
-            waiting = λ a b. abort_waiting q m a b w u did;
-            others = λ k f _ is. abort_face q m k w u f is did;
-            carries = (abort_links q m q (place m i) w u did).carries;
-          })
-          (abort_face q m q w u (x.face n) (shown.faces n at.in_run at.up) did)
-          (abort_put q m (place m i) w u (shown.stage.nodes m i m_in) did);
-    }
+tell_abort tid x w n m i shown at m_in aborted tells home = by ((shown.faces n at.in_run at.up).tell aborted m tells)
+  where
+    now : w.to_tell (place n (x.inc n)) m ≡ true → SightGoes tid (sight_said x n m i (x.face n) (Outcome_told false)) w
+    now to_tell =
+        let q = h tid x w n m shown at aborted home in
+        let u = v tid x w n m shown at aborted home in
+        let did = step tid x w n m shown at aborted home to_tell in
+        record {
+          next = u;
+          leads = record { events = Tell_abort q m ∷ []; run = (u, did, refl) };
+          shown = put_sight tid x w u n m i (x.face n) (Outcome_told false ∷ []) shown at.in_run m_in at.up
+              (record {
+                stage = rw did.4 (record { node = refl; class = refl; home = refl; present = refl; up = refl; peer = refl });
+                logs = rw did.4 (record { prepared = refl; commit_logged = refl; unended = refl; commit_list = refl });
+                links = λ a b _. abort_links q m a b w u did;
+                waiting = λ a b. abort_waiting q m a b w u did;
+                others = λ k f _ is. abort_face q m k w u f is did;
+                carries = (abort_links q m q (place m i) w u did).carries;
+              })
+              (abort_face q m q w u (x.face n) (shown.faces n at.in_run at.up) did)
+              (abort_put q m (place m i) w u (shown.stage.nodes m i m_in) did);
+        }
+
+    by : (w.to_tell (place n (x.inc n)) m ≡ true) ⊎ (w.tell_abort m ≡ true) → SightGoes tid (sight_said x n m i (x.face n) (Outcome_told false)) w
+    by (inl to_tell) = now to_tell
+    by (inr told) = told_already tid x w n m shown at aborted home i m_in told
 
 pub tell_abort_waits : TellAbortWaitsGoes
-tell_abort_waits tid x w n m shown at aborted tells home =
-    let q = h tid x w n m shown at aborted tells home in
-    let u = v tid x w n m shown at aborted tells home in
-    let did = step tid x w n m shown at aborted tells home in
-    record {
-      next = u;
-      leads = record { events = Tell_abort q m ∷ []; run = (u, did, refl) };
-      shown = wait_sight tid x w u n m (x.face n) (Outcome_told false) shown at.in_run at.up
-          (record {
-            stage = rw did.4 (record { node = refl; class = refl; home = refl; present = refl; up = refl; peer = refl });
-            logs = rw did.4 (record { prepared = refl; commit_logged = refl; unended = refl; commit_list = refl });
-            links = λ a b. abort_links q m a b w u did;
-            waiting = λ a b _. abort_waiting q m a b w u did;
-            others = λ k f _ is. abort_face q m k w u f is did;
-            carries = (abort_waiting q m q m w u did).carries;
-          })
-          (abort_face q m q w u (x.face n) (shown.faces n at.in_run at.up) did)
-          (abort_next q m q w u did);
-    }
+tell_abort_waits tid x w n m shown at aborted tells home = by ((shown.faces n at.in_run at.up).tell aborted m tells)
+  where
+    now : w.to_tell (place n (x.inc n)) m ≡ true → SightGoes tid (sight_waiting x n m (x.face n) (Outcome_told false)) w
+    now to_tell =
+        let q = h tid x w n m shown at aborted home in
+        let u = v tid x w n m shown at aborted home in
+        let did = step tid x w n m shown at aborted home to_tell in
+        record {
+          next = u;
+          leads = record { events = Tell_abort q m ∷ []; run = (u, did, refl) };
+          shown = wait_sight tid x w u n m (x.face n) (Outcome_told false) shown at.in_run at.up
+              (record {
+                stage = rw did.4 (record { node = refl; class = refl; home = refl; present = refl; up = refl; peer = refl });
+                logs = rw did.4 (record { prepared = refl; commit_logged = refl; unended = refl; commit_list = refl });
+                links = λ a b. abort_links q m a b w u did;
+                waiting = λ a b _. abort_waiting q m a b w u did;
+                others = λ k f _ is. abort_face q m k w u f is did;
+                carries = (abort_waiting q m q m w u did).carries;
+              })
+              (abort_face q m q w u (x.face n) (shown.faces n at.in_run at.up) did)
+              (abort_next q m q w u did);
+        }
+
+    by : (w.to_tell (place n (x.inc n)) m ≡ true) ⊎ (w.tell_abort m ≡ true) → SightGoes tid (sight_waiting x n m (x.face n) (Outcome_told false)) w
+    by (inl to_tell) = now to_tell
+    by (inr told) = waits_already tid x w n m shown at aborted home told

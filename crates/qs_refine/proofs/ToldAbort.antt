@@ -53,16 +53,16 @@ use Rattle.qs_agree.proofs.Carries.{leads_on}
 
 -- ---- one name after another
 
-abbrev naming_face : Face → List NodeNo → Face
+abbrev pub naming_face : Face → List NodeNo → Face
 naming_face f list = record f { tell = λ k. f.tell k || names_node list (node_no k) }
 
-faced_here : (x : Sight) (n : ℕ) (f : Face) → (sight_faced x n f).face n ≡ f
+pub faced_here : (x : Sight) (n : ℕ) (f : Face) → (sight_faced x n f).face n ≡ f
 faced_here x n f = by (n == n) (grind (arith, nat_tests))
   where
     by : (b : Bool) → b ≡ true → (if b then f else x.face n) ≡ f
     by b is = rw is refl
 
-take_all : (tid : Tid) (n q : ℕ) (list : List NodeNo) (x : Sight) (w : World) → ShowsSight tid x w → Runs x n → n ≡ tid.home.0 → (x.face n).outcome ≡ Aborted → ((k : ℕ) → names_node list (node_no k) ≡ true → w.named q k ≡ true)
+pub take_all : (tid : Tid) (n q : ℕ) (list : List NodeNo) (x : Sight) (w : World) → ShowsSight tid x w → Runs x n → n ≡ tid.home.0 → (x.face n).outcome ≡ Aborted → ((k : ℕ) → names_node list (node_no k) ≡ true → w.named q k ≡ true)
     → NamesGoes tid (sight_faced x n (naming_face (x.face n) list)) w q
 take_all tid n q [] x w shown at home aborted named = record { next = w; leads = record { events = []; run = refl }; shown = seen; kept = λ k has. has }
   where
@@ -135,7 +135,7 @@ fewer f tell q w among i = record {
 
 -- ---- the names that are new
 
-new_among : (home : NodeNo) (further : List NodeNo) (part : Participant) (k : ℕ) → home.0 < 16 → has_node (new_names home further part) (node_no k) ≡ true → names_node further (node_no k) ≡ true
+pub new_among : (home : NodeNo) (further : List NodeNo) (part : Participant) (k : ℕ) → home.0 < 16 → has_node (new_names home further part) (node_no k) ≡ true → names_node further (node_no k) ≡ true
 new_among home further part k home_in has = by (k == home.0) (sym (node_dropped home.0 k (without (joined no_nodes further) part.tell) (rw whole home_in)) ∙ has)
   where
     whole : length (without (joined no_nodes further) part.tell).has ≡ 16

@@ -55,7 +55,7 @@ module _ (tid : Tid) (scene : Scene) (n m i : ℕ) (message : Message) (rest : L
   pub nothing_came : IsLink (link w (place m i) (place n (scene.inc n))) (all_said tid rest) → message_came (node_no m) message work ≡ work → Goes tid (handed scene m i n rest) n (message_came (node_no m) message work) w
   nothing_came behind is = subst (λ (k : Work). Goes tid (handed scene m i n rest) n k w) (sym is) (nothing_goes tid (handed scene m i n rest) n work w (handed_on behind))
 
-says_told : (tid : Tid) (further : List NodeNo) → said tid (messages.Told tid further) ≡ Taken_in further ∷ []
+pub says_told : (tid : Tid) (further : List NodeNo) → said tid (messages.Told tid further) ≡ Taken_in further ∷ []
 says_told tid further = rw (tid_same tid) refl
 
 home_is : (tid : Tid) (scene : Scene) (work : Work) → IsAt scene tid.home.0 work → same_node tid.home (here work) ≡ true

@@ -1,5 +1,5 @@
 -- What a place that runs has of one transaction, and how a world of the agreement machine shows it.
-use Rattle.std.specs.Prelude.{◌≡◌, ◌≢◌, ℕ, ◌+◌, ◌<◌, Bool, true, false}
+use Rattle.std.specs.Prelude.{◌≡◌, ◌≢◌, ◌⊎◌, ℕ, ◌+◌, ◌<◌, Bool, true, false}
 use Rattle.qs_agree.specs.World as machine
 use Rattle.qs_agree.specs.World.{World}
 use Rattle.qs_agree.specs.Guards.{Votes}
@@ -68,5 +68,5 @@ pub record ShowsFace (f : Face) (q : ℕ) (w : World) : Type 0 where
   pub last_new : (p : ℕ) → w.peer q (w.node p) < p → w.last q p ≡ 0  -- nothing came from a place that is not known yet
   pub sent : f.outcome ≢ machine.Committed → (m : ℕ) → w.sent q m ≡ f.sent m  -- a home that has ended a commit knows it no more
   pub told_in : (m : ℕ) → f.told m ≡ true → w.told_set q m ≡ true
-  pub tell : f.outcome ≡ machine.Aborted → (m : ℕ) → f.tell m ≡ true → w.to_tell q m ≡ true
+  pub tell : f.outcome ≡ machine.Aborted → (m : ℕ) → f.tell m ≡ true → (w.to_tell q m ≡ true) ⊎ (w.tell_abort m ≡ true)  -- the place is to tell it, or it may be told by anybody
   pub running : f.outcome ≡ machine.Open → ShowsOpen f q w

@@ -30,7 +30,7 @@ use Rattle.qs_step.specs.Requests.{issue_away, issue_here}
 use Rattle.qs_step.specs.Serving.{serve_next, reply_here, lent_to}
 use Rattle.qs_step.specs.Settling.{is_busy, answer_superior}
 use Rattle.qs_step.specs.Step.{message_came}
-use Rattle.qs_step.specs.State.{Work}
+use Rattle.qs_step.specs.State.{Work, part_of}
 use Rattle.qs_step.specs.Voting.{vote_with}
 use Rattle.qs_agree.specs.World.{World}
 use Rattle.qs_agree.specs.Carry.{IsLawful}
@@ -124,6 +124,12 @@ RequestHomeGoes = (tid : Tid) (scene : Scene) (n m i number : ℕ) (label : List
     → IsAt scene n work → IsNext scene n m i (messages.Request tid label member number issuer op) rest → Knows tid work part → part.engage.home ≡ true → part.engage.superior ≡ None
     → tid.home.0 ≡ n → is_for member.server op ≡ true → (part.outcome ≡ None → tid.inc ≡ scene.inc n)
     → Goes tid (handed scene m i n rest) n (message_came (node_no m) (messages.Request tid label member number issuer op) work) w
+
+-- one comes to the home's node where the transaction is forgotten, or runs in a later incarnation that does not know it: Drop_cover
+abbrev pub RequestUnknownGoes : Type 0
+RequestUnknownGoes = (tid : Tid) (scene : Scene) (m i number : ℕ) (label : List ℕ) (member : Member) (issuer : ServerNo) (op : Op) (rest : List Message) (work : Work) (w : World) → IsLawful w → ShowsWork tid scene tid.home.0 work w
+    → IsAt scene tid.home.0 work → IsNext scene tid.home.0 m i (messages.Request tid label member number issuer op) rest → part_of tid work ≡ None → (face_at work.node tid).on ≡ false
+    → Goes tid (handed scene m i tid.home.0 rest) tid.home.0 (message_came (node_no m) (messages.Request tid label member number issuer op) work) w
 
 -- a message about another transaction: no event
 abbrev pub ForeignGoes : Type 0

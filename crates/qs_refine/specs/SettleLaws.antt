@@ -3,7 +3,7 @@ use Rattle.std.specs.Prelude.{◌≡◌, ◌≢◌, ℕ, ◌<◌, ◌≤◌, tru
 use Rattle.qs_base.specs.declared.identifiers.Tid.{Tid}
 use Rattle.qs_engage.specs.Nodes.{is_no_node}
 use Rattle.qs_tm.specs.declared.participant.Participant.{Participant}
-use Rattle.qs_step.specs.Settling.{ready_rule, refuse_rule, forget_rule}
+use Rattle.qs_step.specs.Settling.{ready_rule, refuse_rule, forget_rule, try}
 use Rattle.qs_step.specs.State.{Work}
 use Rattle.qs_agree.specs.World.{World}
 use Rattle.qs_agree.specs.Carry.{IsLawful}
@@ -49,3 +49,17 @@ abbrev pub ForgetRuleGoes : Type 0
 ForgetRuleGoes = (tid : Tid) (scene : Scene) (n : ℕ) (work : Work) (part : Participant) (w : World) → IsLawful w → ShowsWork tid scene n work w
     → IsElsewhere tid scene n work part → in_order work.node.manager.known ≡ true → (part.involved ≡ false → is_no_node part.told ≡ true)
     → Goes tid scene n (forget_rule tid part work) w
+
+-- ---- one after the other, behind the vote pass
+
+-- at the home
+abbrev pub SettleHomeGoes : Type 0
+SettleHomeGoes = (tid : Tid) (scene : Scene) (work : Work) (part : Participant) (w : World) → IsLawful w → ShowsWork tid scene tid.home.0 work w
+    → IsHome tid scene work part → HasNoDoubt tid scene tid.home.0 work part
+    → Goes tid scene tid.home.0 (try tid forget_rule (try tid refuse_rule (try tid ready_rule work))) w
+
+-- at another node
+abbrev pub SettleElsewhereGoes : Type 0
+SettleElsewhereGoes = (tid : Tid) (scene : Scene) (n : ℕ) (work : Work) (part : Participant) (w : World) → IsLawful w → ShowsWork tid scene n work w
+    → IsElsewhere tid scene n work part → in_order work.node.manager.known ≡ true → ((m : ℕ) → part.engage.superior ≡ Some (node_no m) → IsKnown scene n m (scene.knows n m)) → (part.involved ≡ false → is_no_node part.told ≡ true)
+    → Goes tid scene n (try tid forget_rule (try tid refuse_rule (try tid ready_rule work))) w

@@ -1,14 +1,15 @@
 //! Rules of a node's step, each as its events of the agreement machine.
-ghost use Rattle.qs_refine.specs.RuleLaws.{VotedYesGoes, CoveredGoes, IssueAwayGoes, RequestGoes, RequestHomeGoes, CloserIgnored, ForeignGoes, AnsweredGoes, RefusalGoes, AskVoteGoes, RecoverableGoes, VolatileGoes, ReadOnlyGoes, AgainstGoes, ServeNextGoes, LendNextGoes, TellCommitGoes, AnswerSuperiorGoes, IssueHereGoes, OwnerAsksGoes};
+ghost use Rattle.qs_refine.specs.RuleLaws.{VotedYesGoes, CoveredGoes, IssueAwayGoes, RequestGoes, RequestHomeGoes, RequestUnknownGoes, CloserIgnored, ForeignGoes, AnsweredGoes, RefusalGoes, AskVoteGoes, RecoverableGoes, VolatileGoes, ReadOnlyGoes, AgainstGoes, ServeNextGoes, LendNextGoes, TellCommitGoes, AnswerSuperiorGoes, IssueHereGoes, OwnerAsksGoes};
 ghost use Rattle.qs_refine.specs.DecisionLaws.{DecideCommitGoes, DecideAbortGoes, ToldCommitGoes, ToldLastGoes, ForgetReadGoes};
 ghost use Rattle.qs_refine.specs.AbortRules.{TellAbortGoes, TellAbortAgainGoes, TellAbortUnknownGoes};
-ghost use Rattle.qs_refine.specs.SettleLaws.{ReadyHomeGoes, ReadyElsewhereGoes, RefuseHomeGoes, RefuseElsewhereGoes, ForgetRuleGoes};
+ghost use Rattle.qs_refine.specs.SettleLaws.{ReadyHomeGoes, ReadyElsewhereGoes, RefuseHomeGoes, RefuseElsewhereGoes, ForgetRuleGoes, SettleHomeGoes, SettleElsewhereGoes};
 ghost use Rattle.qs_refine.specs.WaitingLaws.{IssueAwaitsGoes};
 ghost use Rattle.qs_refine.specs.LoanLaws.{TakeGoes, GiveBackGoes};
-ghost use Rattle.qs_refine.specs.ToldRules.{ToldAbortGoes};
+ghost use Rattle.qs_refine.specs.ToldRules.{ToldAbortGoes, ToldUnknownGoes};
 ghost use Rattle.qs_refine.specs.AgainLaws.{TellCommitUnknownGoes, TellCommitAgainGoes, TellHomeGoes, ToldElsewhereGoes, ToldRunningGoes, ToldNobodyGoes};
 ghost use Rattle.qs_refine.specs.RestartLaws.{FindGoneGoes, NoticeDecidedGoes, TellAgainGoes, NameHomeGoes, NameOtherGoes, ResumeCommitGoes, ResumeAbortGoes};
 ghost use Rattle.qs_refine.specs.InquireLaws.{InquireRuleGoes, ResumeDoubtGoes};
+ghost use Rattle.qs_refine.specs.StepLaws.{StepBegins, StepEnds};
 ghost use Rattle.qs_refine.specs.InquiryRules.{InquiryRunningGoes, InquiryCommitGoes, InquiryPastGoes, InquiryAbortGoes, InquiryUnknownGoes};
 
 /// What answers for requests is counted where the transaction is known and not decided, and ignored where the node is not engaged.
@@ -24,6 +25,7 @@ pub fn requests()
     ensures issue_awaits { IssueAwaitsGoes }
     ensures request { RequestGoes }
     ensures request_home { RequestHomeGoes }
+    ensures request_unknown { RequestUnknownGoes }
     ensures answered { AnsweredGoes }
 {}
 
@@ -76,6 +78,7 @@ pub fn endings()
     ensures told_commit { ToldCommitGoes }
     ensures told_last { ToldLastGoes }
     ensures told_abort { ToldAbortGoes }
+    ensures told_unknown { ToldUnknownGoes }
     ensures forget_read { ForgetReadGoes }
 {}
 
@@ -95,6 +98,8 @@ pub fn settling()
     ensures refuse_home { RefuseHomeGoes }
     ensures refuse_elsewhere { RefuseElsewhereGoes }
     ensures forget { ForgetRuleGoes }
+    ensures home { SettleHomeGoes }
+    ensures elsewhere { SettleElsewhereGoes }
 {}
 
 /// A borrower takes a loan, and gives it back.
@@ -129,4 +134,10 @@ pub fn resumptions()
     ensures commit { ResumeCommitGoes }
     ensures abort { ResumeAbortGoes }
     ensures doubt { ResumeDoubtGoes }
+{}
+
+/// A step begins with what shows the world, and ends with what shows it once its messages are put and its records stand.
+pub fn steps()
+    ensures begins { StepBegins }
+    ensures ends { StepEnds }
 {}
