@@ -36,7 +36,7 @@ use Rattle.qs_lawful.proofs.ServingNext.{found_of}
 use Rattle.qs_lawful.proofs.Steps.{one_changed, same_owners, servers_still, tx_seen, waits_of}
 
 -- what a change of an item leaves of it, each look-up finds as before
-index_alike : {A B : Type 0} (of : A → B) (xs : List A) (i j : ℕ) (x d : A) → of x ≡ of (slice_index_or xs i d) → of (slice_index_or (slice_set xs i x) j d) ≡ of (slice_index_or xs j d)
+pub index_alike : {A B : Type 0} (of : A → B) (xs : List A) (i j : ℕ) (x d : A) → of x ≡ of (slice_index_or xs i d) → of (slice_index_or (slice_set xs i x) j d) ≡ of (slice_index_or xs j d)
 index_alike of [] i j x d same = refl
 index_alike of (y ∷ ys) zero zero x d same = same
 index_alike of (y ∷ ys) zero (suc j) x d same = refl

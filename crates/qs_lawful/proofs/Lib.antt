@@ -84,3 +84,4 @@ pub mod Tellings
 pub mod Forgetting
 pub mod TellingOn
 pub mod NotesIssued
+pub mod PeerRestarts

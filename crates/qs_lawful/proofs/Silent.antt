@@ -92,7 +92,7 @@ tid_fewer here inc tid tx face waiting fewer h = record {
     less : (a b c : ℕ) → a ≤ b → b ≤ c → a ≤ c
     less a b c p q = grind (arith, p, q)
 
-at_fewer : (here : NodeNo) (inc : ℕ) (tid : Tid) (o : Option TransactionValue) (face : Face) (waiting : ServerNo → List Delivery) → Fewer waiting face.waiting → NoneMore waiting face.waiting → HoldsAt here inc tid o face → HoldsAt here inc tid o (record face { waiting = waiting })
+pub at_fewer : (here : NodeNo) (inc : ℕ) (tid : Tid) (o : Option TransactionValue) (face : Face) (waiting : ServerNo → List Delivery) → Fewer waiting face.waiting → NoneMore waiting face.waiting → HoldsAt here inc tid o face → HoldsAt here inc tid o (record face { waiting = waiting })
 at_fewer here inc tid (Some tx) face waiting fewer none h = tid_fewer here inc tid tx face waiting fewer h
 at_fewer here inc tid None face waiting fewer none h = record { known = h.known; local = h.local; changes = h.changes; loans = h.loans; waiting = λ server. none server (h.waiting server) }
 

@@ -1,11 +1,12 @@
-//! What a restart finds in the log of a node, and the first step after it.
+//! What a restart finds in the log of a node, the first step after it, and restarts of other nodes.
 ghost use Rattle.std.specs.Prelude.{◌≡◌, ℕ, true, None, List, nat_lt};
 ghost use Rattle.qs_machine.specs.Book.{BookValue};
 ghost use Rattle.qs_machine.specs.Nodes.{NodeValue};
 ghost use Rattle.qs_machine.specs.Restart.{broken_restart, votes_once};
 ghost use Rattle.qs_record.specs.declared.record.Record.{Record};
 ghost use Rattle.qs_restart.specs.Recovery.{recovery};
-ghost use Rattle.qs_step.specs.Restarts.{begin_incarnation};
+ghost use Rattle.qs_base.specs.declared.identifiers.NodeNo.{NodeNo};
+ghost use Rattle.qs_step.specs.Restarts.{begin_incarnation, peer_restarted};
 ghost use Rattle.qs_step.specs.State.{Work};
 ghost use Rattle.qs_lawful.specs.Entering.{HoldsWork};
 ghost use Rattle.qs_lawful.specs.Logs.{found_votes, HoldsStopped};
@@ -25,4 +26,10 @@ pub fn votes_are_found_once()
 /// doubt is asked. In a later step nothing is done.
 pub fn first_step_is_lawful()
     ensures { (stamp : ℕ) (before : BookValue) (work : Work) → HoldsWork stamp before work → HoldsWork stamp before (begin_incarnation work) }
+{}
+
+/// Another node restarted: what waits here of its dead incarnation is marked, and of each transaction that has to do with it a cause
+/// is noted, its home is asked, or an outcome is told again.
+pub fn peer_restart_is_lawful()
+    ensures { (stamp : ℕ) (before : BookValue) (peer : NodeNo) (old new_inc : ℕ) (work : Work) → HoldsWork stamp before work → HoldsWork stamp before (peer_restarted peer old new_inc work) }
 {}

@@ -23,7 +23,9 @@ pub use lawful_outcomes::{
     notices_are_lawful, refusal_is_lawful, reply_is_lawful, taking_in_is_lawful, tell_is_lawful,
     told_is_lawful,
 };
-pub use lawful_restarts::{first_step_is_lawful, restart_is_lawful, votes_are_found_once};
+pub use lawful_restarts::{
+    first_step_is_lawful, peer_restart_is_lawful, restart_is_lawful, votes_are_found_once,
+};
 pub use lawful_rules::{
     answer_is_lawful, ask_is_lawful, begin_is_lawful, borrower_issue_is_lawful, command_leaves_all,
     counting_is_lawful, issue_away_is_lawful, issue_here_is_lawful, label_leaves_all,
