@@ -1,0 +1,2 @@
+-- What a step makes of the log, and what stands on the disk meanwhile.
+pub mod Carrying

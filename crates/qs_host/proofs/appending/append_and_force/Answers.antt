@@ -1,0 +1,32 @@
+use Rattle.std.proofs.Common.{ap}
+use Rattle.qs_host.specs.Host.{log_after}
+use Rattle.qs_host.proofs.Carrying.{unwritten, appended_as, after_is, after_moments, records_after}
+use Rattle.qs_host.proofs.appending.append_and_force.Goals as goal
+
+pub returns-in_err-append_all-clause-moments : goal.returns-in_err-append_all-clause-moments
+returns-in_err-append_all-clause-moments g c = λ told.
+    unwritten c.args.log.now (log_after c.args.out.now c.args.log.now) (g.D.Disk.state c.args.log.now.disk) (g.D.Disk.state c.append_all.new.log.disk)
+    (ap g.D.Disk.state c.append_all.ensures.disk) (c.requires.stands told)
+
+pub force_if-requires : goal.force_if-requires
+force_if-requires g c = record { stands = λ told. c.append_all.ensures.stands told (c.requires.stands told) }
+
+pub returns-in_err-force_if-clause-moments : goal.returns-in_err-force_if-clause-moments
+returns-in_err-force_if-clause-moments g c = λ told.
+    after_moments c.args.out.now c.args.log.now c.append_all.new.log (g.D.Disk.state c.args.log.now.disk) (g.D.Disk.state c.append_all.new.log.disk)
+    (g.D.Disk.state c.force_if.new.log.disk) (appended_as c.args.log.now c.append_all.new.log c.as_slice.result.now _ c.as_slice.ensures c.in_ok-append_all.ensures.log)
+    (ap g.D.Disk.state c.append_all.ensures.disk) (c.force_if.ensures.moments told)
+
+pub returns-clause-moments : goal.returns-clause-moments
+returns-clause-moments g c = λ told.
+    after_moments c.args.out.now c.args.log.now c.append_all.new.log (g.D.Disk.state c.args.log.now.disk) (g.D.Disk.state c.append_all.new.log.disk)
+    (g.D.Disk.state c.force_if.new.log.disk) (appended_as c.args.log.now c.append_all.new.log c.as_slice.result.now _ c.as_slice.ensures c.in_ok-append_all.ensures.log)
+    (ap g.D.Disk.state c.append_all.ensures.disk) (c.force_if.ensures.moments told)
+
+pub returns-clause-log : goal.returns-clause-log
+returns-clause-log g c = after_is c.args.out.now c.args.log.now c.append_all.new.log c.force_if.new.log
+    (appended_as c.args.log.now c.append_all.new.log c.as_slice.result.now _ c.as_slice.ensures c.in_ok-append_all.ensures.log) c.in_ok-force_if.ensures.log
+
+pub returns-clause-records : goal.returns-clause-records
+returns-clause-records g c = records_after c.args.out.now.records c.args.log.now c.append_all.new.log c.force_if.new.log
+    (appended_as c.args.log.now c.append_all.new.log c.as_slice.result.now _ c.as_slice.ensures c.in_ok-append_all.ensures.log) c.force_if.ensures.records

@@ -1,0 +1,2 @@
+-- A node over its log.
+pub mod Host

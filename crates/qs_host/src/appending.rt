@@ -1,0 +1,88 @@
+//! How the records of a step go to the log.
+ghost use Rattle.std.specs.Prelude.{◌≡◌, ◌≤◌, ◌++◌, OnOk, OnErr, fold, Err};
+ghost use Rattle.qs_base.specs.Causes.{HasCause, Rose};
+ghost use Rattle.qs_disk.specs.Moments.{Keeps};
+ghost use Rattle.qs_log.specs.Log.{Stands, records_of};
+ghost use Rattle.qs_room.specs.Room.{after_record};
+ghost use Rattle.qs_host.specs.Host.{IsLogAfter, IsOldOrAfter, HasEither, forced_if, with_record};
+ghost use Rattle.qs_host.specs.declared.down.HostFault.TheVariants.{Disk as OfDisk};
+
+use crate::down::HostFault;
+use qs_base::NoMemory;
+use qs_disk::{Disk, DiskFailed};
+use qs_log::Log;
+use qs_record::Record;
+use qs_room::{Unended, is_record};
+use qs_step::Effects;
+
+/// The record waits. One that has no spelling, or for which the log has no room, is a refusal of memory.
+fn append<D: Disk>(log: &mut Log<D>, unended: &mut Unended, rec: &Record) -> Result<(), NoMemory>
+    ensures log { OnOk result (log.new ≡ with_record log.old rec.now) }
+    ensures unended { OnOk result (unended.new ≡ after_record unended.old rec.now) }
+    ensures err { OnErr result (log.new ≡ log.old) }
+    ensures disk { log.new.disk ≡ log.old.disk }
+    ensures stands { D.told → Stands log.old (D.state log.old.disk) → Stands log.new (D.state log.new.disk) }
+{
+    if !is_record(rec) {
+        return Err(NoMemory);
+    }
+    unended.take_in(rec)?;
+    match log.append(rec) {
+        Ok(_) => Ok(()),
+        Err(_) => Err(NoMemory),
+    }
+}
+
+/// The records wait, in order. After a refusal some of them may wait.
+fn append_all<D: Disk>(
+    log: &mut Log<D>,
+    unended: &mut Unended,
+    records: &[Record],
+) -> Result<(), NoMemory>
+    ensures log { OnOk result (log.new ≡ fold with_record log.old records.now) }
+    ensures unended { OnOk result (unended.new ≡ fold after_record unended.old records.now) }
+    ensures disk { log.new.disk ≡ log.old.disk }
+    ensures stands { D.told → Stands log.old (D.state log.old.disk) → Stands log.new (D.state log.new.disk) }
+{
+    for rec in records {
+        append(log, unended, rec)?;
+    }
+    Ok(())
+}
+
+/// All that waits is forced where that is due. After a fault only the disk of the log is of use.
+fn force_if<D: Disk>(log: &mut Log<D>, due: bool) -> Result<(), DiskFailed>
+    requires stands { D.told → Stands log.old (D.state log.old.disk) }
+    ensures log { OnOk result (log.new ≡ record (forced_if due log.old) { disk = log.new.disk }) }
+    ensures records { records_of log.new ≡ records_of log.old }
+    ensures stands { D.told → OnOk result (Stands log.new (D.state log.new.disk)) }
+    ensures moments { D.told → Keeps (HasEither log.old (forced_if due log.old)) (D.state log.old.disk) (D.state log.new.disk) }
+    ensures size { D.byte_count log.new.disk ≡ D.byte_count log.old.disk }
+    ensures cause { HasCause (D.fault_count log.old.disk) (D.fault_count log.new.disk) result }
+{
+    if due {
+        return log.force();
+    }
+    Ok(())
+}
+
+/// The records wait, and are forced where they are to be. After a fault only the disk of the log is of use.
+pub fn append_and_force<D: Disk>(
+    log: &mut Log<D>,
+    unended: &mut Unended,
+    out: &Effects,
+) -> Result<(), HostFault>
+    requires stands { D.told → Stands log.old (D.state log.old.disk) }
+    ensures log { OnOk result (IsLogAfter out.now log.old log.new) }
+    ensures records { OnOk result (records_of log.new ≡ records_of log.old ++ out.now.records) }
+    ensures unended { OnOk result (unended.new ≡ fold after_record unended.old out.now.records) }
+    ensures stands { D.told → OnOk result (Stands log.new (D.state log.new.disk)) }
+    ensures moments { D.told → Keeps (IsOldOrAfter out.now log.old) (D.state log.old.disk) (D.state log.new.disk) }
+    ensures size { D.byte_count log.new.disk ≡ D.byte_count log.old.disk }
+    ensures later { D.fault_count log.old.disk ≤ D.fault_count log.new.disk }
+    ensures cause { result ≡ Err OfDisk → Rose (D.fault_count log.old.disk) (D.fault_count log.new.disk) }
+{
+    append_all(log, unended, out.records.as_slice())?;
+    force_if(log, out.force)?;
+    Ok(())
+}

@@ -1,0 +1,212 @@
+//! A node over its log.
+ghost use Rattle.std.specs.Prelude.{◌≡◌, ◌≤◌, IfOk, IfErr, OnOk};
+ghost use Rattle.qs_base.specs.Causes.{Rose};
+ghost use Rattle.qs_disk.specs.Moments.{Keeps};
+ghost use Rattle.qs_ipc.specs.Ipc as ipc;
+ghost use Rattle.qs_log.specs.Log.{Stands, records_of};
+ghost use Rattle.qs_ops.specs.Server.{AreContents, cleared};
+ghost use Rattle.qs_ops.specs.declared.server.Kind.TheVariants as kinds;
+ghost use Rattle.qs_servers.specs.Kinds.{empty_server};
+ghost use Rattle.qs_servers.specs.Servers.{server_at};
+ghost use Rattle.qs_step.specs.Opening.{recovered_of};
+ghost use Rattle.qs_step.specs.Step.{accept};
+ghost use Rattle.qs_tm.specs.Manager as tm;
+ghost use Rattle.qs_host.specs.Host.{effects_at, worked_node, opened_host, IsLogAfter, IsOldOrAfter, disk_of};
+ghost use Rattle.qs_host.specs.declared.down.HostFault.TheVariants.{Disk as OfDisk};
+
+use crate::appending::append_and_force;
+use crate::down::{HostDown, HostFault};
+use qs_base::{NoMemory, ServerNo};
+use qs_disk::Disk;
+use qs_kept::Kept;
+use qs_log::Log;
+use qs_node::{Node, NodeOpen};
+use qs_ops::{Changes, Server};
+use qs_restart::Recovered;
+use qs_room::Unended;
+use qs_step::{Effects, Event, Setting};
+use std::alloc::Global;
+use std::marker::Model;
+
+/// A node over its log.
+#[derive(Drop)]
+pub struct Host<D: Disk, F: Server, X: Server> {
+    node: Node<F, X>,
+    log: Log<D>,
+    unended: Unended,
+}
+
+/// What a node that could not be opened hands back.
+#[derive(Drop)]
+pub struct HostOpen<D: Disk, X: Server> {
+    pub log: Log<D>,
+    pub kept: Kept,
+    pub extra: X,
+}
+
+impl<D: Disk, F: Server, X: Server> Model for Host<D, F, X> {
+    ghost use Rattle.std.specs.Prelude.{◌≡◌};
+    ghost use Rattle.qs_log.specs.Log.{records_of};
+    ghost use Rattle.qs_room.specs.Room as room;
+    ghost use Rattle.qs_host.specs.Host.{HostValue};
+
+    ghost Value = { HostValue D };
+
+    ghost view = { λ h. record { node = h.node; log = h.log } };
+
+    ghost invariant = { λ h. h.unended ≡ room.unended (records_of h.log) };
+}
+
+impl<D: Disk, F: Server, X: Server> Host<D, F, X> {
+    /// A node begins an incarnation over its log, which says `found`: it keeps `kept` for its clients. Its files and the
+    /// further server are empty. For want of memory alone the log, what it keeps for its clients and the further server are
+    /// handed back.
+    pub fn open(
+        alloc: Global,
+        log: Log<D>,
+        found: Recovered,
+        setting: Setting,
+        kept: Kept,
+        files: F,
+        extra: X,
+    ) -> Result<Host<D, F, X>, HostOpen<D, X>>
+        requires found { found ≡ recovered_of (records_of log) }
+        requires files { F.state files ≡ empty_server (kinds.Files setting.quota) }
+        requires extra { X.state extra ≡ empty_server kinds.Nothing }
+        requires batch { setting.extra ≤ 8 }
+        requires keep { setting.keep ≤ 144 }
+        ensures ok { IfOk result (λ host. host ≡ opened_host alloc setting kept log) }
+        ensures log { IfErr result (λ back. back.log ≡ log) }
+        ensures kept { IfErr result (λ back. back.kept ≡ kept) }
+        ensures extra { IfErr result (λ back. X.state back.extra ≡ X.state extra) }
+    {
+        let unended = match Unended::of(alloc, log.records().as_slice()) {
+            Ok(unended) => unended,
+            Err(NoMemory) => return Err(HostOpen { log, kept, extra }),
+        };
+        match Node::new(alloc, found, setting, kept, files, extra) {
+            Ok(node) => Ok(Host { node, log, unended }),
+            Err(NodeOpen { kept, extra }) => Err(HostOpen { log, kept, extra }),
+        }
+    }
+
+    /// Works out what the event brings about. Nothing of it is done: the log stays as it is, and the node waits for
+    /// `carry_out`. After `NoMemory`, its only error, only `into_parts` is to be called.
+    pub fn work_out(&mut self, event: Event) -> Result<Effects, NoMemory>
+        ensures effects { IfOk result (λ out. out ≡ effects_at (D.byte_count self.old.log.disk) self.old event) }
+        ensures node { OnOk result (self.new.node ≡ worked_node (D.byte_count self.old.log.disk) self.old event) }
+        ensures log { self.new.log ≡ self.old.log }
+        ensures saved { self.new.node.kept.saved ≡ self.old.node.kept.saved }
+    {
+        let free = self
+            .unended
+            .free_room(self.log.room(), self.node.setting().keep);
+        self.node.step(event, free)
+    }
+
+    /// Does with the log what was worked out: its records are appended, and forced where they are to be. Then the step
+    /// counts. Where it is cut off, the disk and what the node kept for its clients before the step are left; on the disk
+    /// stand the records of before, or, of a step that forces them, those of after it.
+    ///
+    /// `Disk` comes only where the disk's count of faults rose. `NoMemory` comes for want of memory, and where a record has
+    /// no spelling or no room, which no step makes.
+    #[tactic(auto, using(crate::proofs::Carrying::unended_after))]
+    pub fn carry_out(self, out: &Effects) -> Result<Host<D, F, X>, HostDown<D, X>>
+        requires stands { D.told → Stands self.log (D.state self.log.disk) }
+        ensures node { IfOk result (λ host. host.node ≡ accept self.node) }
+        ensures log { IfOk result (λ host. IsLogAfter out.now self.log host.log) }
+        ensures stands { D.told → IfOk result (λ host. Stands host.log (D.state host.log.disk)) }
+
+        // At each moment, also of a step that is cut off.
+        ensures moments { D.told → Keeps (IsOldOrAfter out.now self.log) (D.state self.log.disk) (D.state (disk_of result)) }
+        ensures size { D.byte_count (disk_of result) ≡ D.byte_count self.log.disk }
+        ensures later { D.fault_count self.log.disk ≤ D.fault_count (disk_of result) }
+
+        // What is left where it is cut off, and why it is.
+        ensures kept { IfErr result (λ down. down.kept ≡ self.node.kept.saved) }
+        ensures extra { IfErr result (λ down. X.state down.extra ≡ cleared self.node.servers.extra) }
+        ensures cause { IfErr result (λ down. down.why ≡ OfDisk → Rose (D.fault_count self.log.disk) (D.fault_count down.disk)) }
+    {
+        let Host {
+            node,
+            mut log,
+            mut unended,
+        } = self;
+        match append_and_force(&mut log, &mut unended, out) {
+            Ok(()) => {
+                let mut node = node;
+                node.accept();
+                Ok(Host { node, log, unended })
+            }
+            Err(why) => Err(down(node, log, why)),
+        }
+    }
+
+    /// The disk, what the node kept for its clients at its last whole step, or was handed where there was none, and the
+    /// further server, emptied. It takes no memory.
+    pub fn into_parts(self) -> (D, Kept, X)
+        ensures disk { result.0 ≡ self.log.disk }
+        ensures kept { result.1 ≡ self.node.kept.saved }
+        ensures extra { X.state result.2 ≡ cleared self.node.servers.extra }
+    {
+        let Host { node, log, .. } = self;
+        let (kept, extra) = node.into_parts();
+        (log.into_disk(), kept, extra)
+    }
+
+    /// Changes that give the committed contents of the server again where they are applied in order to empty contents; none
+    /// of a server whose changes no log keeps.
+    pub fn contents(&self, server: ServerNo) -> Result<Changes, NoMemory>
+        ensures { IfOk result (λ changes. AreContents (server_at self.now.node.servers server).kind (server_at self.now.node.servers server).table changes) }
+    {
+        self.node.contents(server)
+    }
+
+    /// What the node was made with.
+    pub fn setting(&self) -> &Setting
+        ensures { result.now ≡ self.now.node.setting }
+    {
+        self.node.setting()
+    }
+
+    /// Whether some queue of the node has an item.
+    pub fn queued(&self) -> bool
+        ensures { result ≡ ipc.queued self.now.node.queues }
+    {
+        self.node.queued()
+    }
+
+    /// Whether the node is the home of a transaction that it has not decided.
+    pub fn undecided(&self) -> bool
+        ensures { result ≡ tm.has_undecided self.now.node.manager }
+    {
+        self.node.undecided()
+    }
+
+    /// The disk of its log.
+    pub fn disk(&self) -> &D
+        ensures { result.now ≡ self.now.log.disk }
+    {
+        self.log.disk()
+    }
+}
+
+/// What is left of a node that stopped within a step. It takes no memory.
+fn down<D: Disk, F: Server, X: Server>(
+    node: Node<F, X>,
+    log: Log<D>,
+    why: HostFault,
+) -> HostDown<D, X>
+    ensures disk { result.disk ≡ log.disk }
+    ensures kept { result.kept ≡ node.kept.saved }
+    ensures extra { X.state result.extra ≡ cleared node.servers.extra }
+    ensures why { result.why ≡ why }
+{
+    let (kept, extra) = node.into_parts();
+    HostDown {
+        disk: log.into_disk(),
+        kept,
+        extra,
+        why,
+    }
+}

@@ -1,0 +1,9 @@
+//! A node over its log: each step's records are appended, and forced, before anything else of it is carried out.
+#![tactic(auto)]
+
+mod appending;
+mod down;
+mod host;
+
+pub use down::{HostDown, HostFault};
+pub use host::{Host, HostOpen};
