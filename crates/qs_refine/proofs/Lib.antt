@@ -102,3 +102,4 @@ pub mod SoundStep
 pub mod SoundVoted
 pub mod SoundOpened
 pub mod SoundLogs
+pub mod SoundMoves

@@ -15,3 +15,4 @@ pub mod Starts
 pub mod StartLaws
 pub mod SoundLaws
 pub mod SoundSteps
+pub mod SoundMoves
