@@ -107,6 +107,7 @@ pub mod SoundKnown
 pub mod SoundLoans
 pub mod SoundLogs
 pub mod SoundMembers
+pub mod SoundMoves
 pub mod SoundNotices
 pub mod SoundOpened
 pub mod SoundParts

@@ -29,3 +29,4 @@ pub mod Starts
 pub mod StartLaws
 pub mod SoundLaws
 pub mod SoundSteps
+pub mod SoundMoves

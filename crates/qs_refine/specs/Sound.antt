@@ -1,5 +1,5 @@
 -- What holds of each node between its steps, as tests that can be tried on whole runs.
-use Rattle.std.specs.Prelude.{ℕ, ◌==◌, Bool, true, false, not, ◌&&◌, ◌||◌, List, [], ◌∷◌, ◌++◌, length, Option, Some, None, is_some, nat_le, nat_lt, if◌then◌else◌}
+use Rattle.std.specs.Prelude.{ℕ, ◌+◌, ◌==◌, Bool, true, false, not, ◌&&◌, ◌||◌, List, [], ◌∷◌, ◌++◌, length, Option, Some, None, is_some, nat_le, nat_lt, if◌then◌else◌}
 use Rattle.std.specs.List.{list_all, list_any}
 use Rattle.std.specs.declared.cmp.Ordering.TheVariants.{Less}
 use Rattle.std.specs.declared.cmp.Ordering.{Ordering}
@@ -23,6 +23,8 @@ use Rattle.qs_tm.specs.declared.members.MemberPart.{MemberPart}
 use Rattle.qs_tm.specs.declared.participant.Participant.{Participant}
 use Rattle.qs_kept.specs.declared.kept.Lent.{Lent}
 use Rattle.qs_kept.specs.declared.kept.Begun.{Begun}
+use Rattle.qs_kept.specs.declared.kept.Kept.{Kept}
+use Rattle.qs_machine.specs.Nodes.{is_recoverable}
 use Rattle.qs_step.specs.Answering.{kept_outcome, was_committed}
 use Rattle.qs_step.specs.Settling.{is_lent}
 use Rattle.qs_kept.specs.Loans.{is_standing_loan}
@@ -199,3 +201,31 @@ is_owned_label node begun = not (is_some begun.owner) || elim begun.tid [ None �
 
 abbrev pub keeps_owned : NodeValue → Bool
 keeps_owned node = list_all (is_owned_label node) node.kept.now.labels
+
+-- ---- what a restart finds
+
+-- a vote of a recoverable server, and a Commit with a list at its home: what a node can take up
+abbrev pub may_vote : Prepared → Bool
+may_vote vote = is_recoverable vote.server.0
+
+abbrev pub is_list_of : NodeNo → Untold → Bool
+is_list_of node commit = same_node commit.tid.home node
+
+abbrev pub may_take_up : NodeNo → Recovery → Bool
+may_take_up node said = list_all may_vote said.prepared && list_all (is_list_of node) said.untold
+
+-- what a node keeps for its clients is of incarnations before that one
+abbrev pub is_loan_before : ℕ → Lent → Bool
+is_loan_before inc loan = nat_lt loan.inc inc
+
+abbrev pub is_label_before : NodeNo → ℕ → Begun → Bool
+is_label_before node inc begun = elim begun.tid [ None ↦ true | Some tid ↦ not (same_node tid.home node) || nat_lt tid.inc inc ]
+
+abbrev pub kept_before : NodeNo → ℕ → Kept → Bool
+kept_before node inc kept = list_all (is_loan_before inc) kept.loans && list_all (is_label_before node inc) kept.labels
+
+-- a host whose node may restart, with or without the records that wait
+abbrev pub may_restart : Host → Bool
+may_restart host =
+    (may_take_up host.node.setting.node (recovery host.log) && may_take_up host.node.setting.node (recovery (host.log ++ host.waiting)))
+    && (kept_before host.node.setting.node (host.node.setting.inc + 1) host.node.kept.now && kept_before host.node.setting.node (host.node.setting.inc + 1) host.node.kept.saved)

@@ -15,6 +15,7 @@ use Rattle.qs_kept.specs.declared.kept.Lent.{Lent}
 use Rattle.qs_ops.specs.declared.answer.Cause.{Cause}
 use Rattle.qs_ops.specs.declared.operation.Op.{Op}
 use Rattle.qs_ops.specs.declared.reply.Reply.{Reply}
+use Rattle.qs_restart.specs.Recovery.{Recovery}
 use Rattle.qs_tm.specs.Manager as tm
 use Rattle.qs_tm.specs.Outcomes.{is_abort}
 use Rattle.qs_tm.specs.Participant.{is_undecided}
@@ -24,17 +25,18 @@ use Rattle.qs_step.specs.Answering.{inquiry_came}
 use Rattle.qs_step.specs.Asking.{ask_came, closer_came, refusal_came}
 use Rattle.qs_step.specs.Borrowing.{take, yield, borrower_command}
 use Rattle.qs_step.specs.Commands.{begin_as, begin_command, ask, owner_command}
+use Rattle.qs_step.specs.Opening.{opened_node, recovered_as}
 use Rattle.qs_step.specs.Requests.{reply_came, issue_away}
 use Rattle.qs_step.specs.Serving.{request_came, serve_all}
 use Rattle.qs_step.specs.Deciding.{decide}
 use Rattle.qs_step.specs.Restarts.{peer_restarted, begin_incarnation}
 use Rattle.qs_step.specs.Settling.{is_lent, settle, may_answer, pass_rule, answer_superior, refuse_elsewhere, forget_rule}
-use Rattle.qs_step.specs.State.{Work, part_of}
+use Rattle.qs_step.specs.State.{NodeValue, Work, part_of}
 use Rattle.qs_step.specs.Telling.{tell_came, told_came}
 use Rattle.qs_world.specs.Openings.{IsOpening}
 use Rattle.qs_world.specs.World.{Opening, start}
 use Rattle.qs_refine.specs.Links.{names_node, node_no}
-use Rattle.qs_refine.specs.Sound.{is_sound, is_sound_host, is_past, keeps_commits, goes_in_run, is_owned}
+use Rattle.qs_refine.specs.Sound.{is_sound, is_sound_host, is_past, keeps_commits, goes_in_run, is_owned, may_take_up, kept_before}
 
 abbrev pub StaysSound : Work → Work → Type 0
 StaysSound work new = is_sound work.node ≡ true → is_sound new.node ≡ true
@@ -158,3 +160,8 @@ BorrowerCommandSound = (client : ClientNo) (tid : Tid) (command : Command) (work
 abbrev pub OwnerCommandSound : Type 0
 OwnerCommandSound = (client : ClientNo) (tid : Tid) (command : Command) (work : Work) → goes_in_run work.node.setting.nodes command ≡ true → is_owned work.node tid ≡ true
     → StaysSound work (owner_command client (Some tid) command work)
+
+-- a node begins a later incarnation with what its log says and with what it saved for its clients
+abbrev pub RestartSound : Type 0
+RestartSound = (inc : ℕ) (said : Recovery) (node : NodeValue) → nat_lt node.setting.inc inc ≡ true → may_take_up node.setting.node said ≡ true → kept_before node.setting.node inc node.kept.saved ≡ true
+    → is_sound node ≡ true → is_sound (opened_node node.manager.alloc (record node.setting { inc = inc }) (recovered_as said) node.kept.saved) ≡ true

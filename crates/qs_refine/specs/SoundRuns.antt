@@ -6,11 +6,11 @@ use Rattle.qs_world.specs.World.{World, Opening, start}
 use Rattle.qs_world.specs.Driven.{Stage, up_to, make, rounds_of}
 use Rattle.qs_world.specs.DrivenRuns.{late, taken}
 use Rattle.qs_world.specs.Faults.{both, cut_next, places_from}
-use Rattle.qs_refine.specs.Sound.{is_sound_host, keeps_commits, keeps_owned}
+use Rattle.qs_refine.specs.Sound.{is_sound_host, keeps_commits, keeps_owned, may_restart}
 
--- every node that runs is sound, and keeps what it committed and what its clients own
+-- every node that runs is sound, may restart, and keeps what it committed and what its clients own
 abbrev pub is_sound_node : World → ℕ → Bool
-is_sound_node world n = if world.channels.up n then is_sound_host (world.hosts n) && (keeps_commits (world.hosts n).node && keeps_owned (world.hosts n).node) else true
+is_sound_node world n = if world.channels.up n then (is_sound_host (world.hosts n) && may_restart (world.hosts n)) && (keeps_commits (world.hosts n).node && keeps_owned (world.hosts n).node) else true
 
 abbrev pub is_sound_world : World → Bool
 is_sound_world world = list_all (is_sound_node world) (up_to world.size)

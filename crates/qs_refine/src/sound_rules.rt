@@ -1,5 +1,6 @@
 //! Rules of a node's step that leave a sound node sound.
-ghost use Rattle.qs_refine.specs.SoundLaws.{StartSound, OpenedSound, BeginSound, BeginCommandSound, OwnerAsksSound, AskCameSound, RefusalCameSound, ReplyCameSound, IssueAwaySound, CloserCameSound, RequestCameSound, ServeAllSound, TakeSound, YieldSound, PassRuleSound, AnswerSuperiorSound, RefuseElsewhereSound, ForgetRuleSound, DecideAbortSound, DecideCommitSound, SettleSound, TellCameSound, InquiryCameSound, ToldCameSound, PeerRestartedSound, BeginIncarnationSound, BorrowerCommandSound, OwnerCommandSound};
+ghost use Rattle.qs_refine.specs.SoundLaws.{StartSound, OpenedSound, BeginSound, BeginCommandSound, OwnerAsksSound, AskCameSound, RefusalCameSound, ReplyCameSound, IssueAwaySound, CloserCameSound, RequestCameSound, ServeAllSound, TakeSound, YieldSound, PassRuleSound, AnswerSuperiorSound, RefuseElsewhereSound, ForgetRuleSound, DecideAbortSound, DecideCommitSound, SettleSound, TellCameSound, InquiryCameSound, ToldCameSound, PeerRestartedSound, RestartSound, BeginIncarnationSound, BorrowerCommandSound, OwnerCommandSound};
+ghost use Rattle.qs_refine.specs.SoundMoves.{MoveSound};
 ghost use Rattle.qs_refine.specs.SoundSteps.{HappenSound, AnswerWaitingSound, StepSound};
 
 /// Where a world begins every node is sound; with its log where the logs are empty.
@@ -77,6 +78,7 @@ pub fn telling()
 /// Another node restarted, or this one did.
 pub fn restarting()
     ensures peer_restarted { PeerRestartedSound }
+    ensures restart { RestartSound }
     ensures begin_incarnation { BeginIncarnationSound }
 {}
 
@@ -91,4 +93,9 @@ pub fn stepping()
     ensures happens { HappenSound }
     ensures answers { AnswerWaitingSound }
     ensures step { StepSound }
+{}
+
+/// A move of the world: a step, one that is cut off, a crash, a restart, a first meeting.
+pub fn moving()
+    ensures moves { MoveSound }
 {}
