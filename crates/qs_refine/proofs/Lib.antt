@@ -121,3 +121,4 @@ pub mod RequestUnknown
 pub mod SettlesWhole
 pub mod SettlesElsewhere
 pub mod StepEdges
+pub mod LogClosing

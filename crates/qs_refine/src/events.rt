@@ -3,6 +3,7 @@ ghost use Rattle.qs_refine.specs.EventLaws.{CountGoes, IgnoreGoes, IssueGoes, Is
 ghost use Rattle.qs_refine.specs.OutcomeLaws.{CommitAloneGoes, AbortGoes, TellWaitsGoes, TellAbortGoes, TellAbortWaitsGoes, TakeToldGoes, ForgetGoes, AcksStay};
 ghost use Rattle.qs_refine.specs.WaitingLaws.{IssueUnmetGoes};
 ghost use Rattle.qs_refine.specs.InquireLaws.{InquireGoes, InquireWaitsGoes};
+ghost use Rattle.qs_refine.specs.ClosingLaws.{EndLoggedGoes, AbortLoggedGoes};
 ghost use Rattle.qs_refine.specs.InquiryLaws.{AnswerRunningGoes, AnswerCommitGoes, AnswerAbortGoes, TakeNameGoes};
 
 /// Requests that are issued, come, and are covered.
@@ -86,4 +87,10 @@ pub fn inquiries()
     ensures commit { AnswerCommitGoes }
     ensures abort { AnswerAbortGoes }
     ensures take_name { TakeNameGoes }
+{}
+
+/// A record that was not forced reaches the disk.
+pub fn closings()
+    ensures end { EndLoggedGoes }
+    ensures aborted { AbortLoggedGoes }
 {}
