@@ -122,3 +122,5 @@ pub mod SettlesWhole
 pub mod SettlesElsewhere
 pub mod StepEdges
 pub mod LogClosing
+pub mod UnbornRuns
+pub mod RestartGoes

@@ -4,6 +4,7 @@ ghost use Rattle.qs_refine.specs.OutcomeLaws.{CommitAloneGoes, AbortGoes, TellWa
 ghost use Rattle.qs_refine.specs.WaitingLaws.{IssueUnmetGoes};
 ghost use Rattle.qs_refine.specs.InquireLaws.{InquireGoes, InquireWaitsGoes};
 ghost use Rattle.qs_refine.specs.ClosingLaws.{EndLoggedGoes, AbortLoggedGoes};
+ghost use Rattle.qs_refine.specs.RisingLaws.{RestartGoes};
 ghost use Rattle.qs_refine.specs.InquiryLaws.{AnswerRunningGoes, AnswerCommitGoes, AnswerAbortGoes, TakeNameGoes};
 
 /// Requests that are issued, come, and are covered.
@@ -62,10 +63,11 @@ pub fn outcomes()
     ensures name_again { NameAgainGoes }
 {}
 
-/// A node stops, in whatever part of what it would have put, and another one finds that it restarted.
+/// A node stops, in whatever part of what it would have put, and restarts, and another one finds that it did.
 pub fn crashes()
     ensures crash { CrashGoes }
     ensures notice { NoticeGoes }
+    ensures restart { RestartGoes }
 {}
 
 /// An outcome is told, to a place that is known or to one that is to come, and the home takes in that it was told; a node
