@@ -123,4 +123,5 @@ pub mod SettlesElsewhere
 pub mod StepEdges
 pub mod LogClosing
 pub mod UnbornRuns
+pub mod Meeting
 pub mod RestartGoes

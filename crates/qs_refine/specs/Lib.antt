@@ -17,6 +17,7 @@ pub mod RuleLaws
 pub mod WaitingLaws
 pub mod DecisionLaws
 pub mod ClosingLaws
+pub mod MeetingLaws
 pub mod RisingLaws
 pub mod SettleLaws
 pub mod StepLaws

@@ -4,6 +4,7 @@ ghost use Rattle.qs_refine.specs.OutcomeLaws.{CommitAloneGoes, AbortGoes, TellWa
 ghost use Rattle.qs_refine.specs.WaitingLaws.{IssueUnmetGoes};
 ghost use Rattle.qs_refine.specs.InquireLaws.{InquireGoes, InquireWaitsGoes};
 ghost use Rattle.qs_refine.specs.ClosingLaws.{EndLoggedGoes, AbortLoggedGoes};
+ghost use Rattle.qs_refine.specs.MeetingLaws.{MeetGoes};
 ghost use Rattle.qs_refine.specs.RisingLaws.{RestartGoes};
 ghost use Rattle.qs_refine.specs.InquiryLaws.{AnswerRunningGoes, AnswerCommitGoes, AnswerAbortGoes, TakeNameGoes};
 
@@ -68,6 +69,7 @@ pub fn crashes()
     ensures crash { CrashGoes }
     ensures notice { NoticeGoes }
     ensures restart { RestartGoes }
+    ensures meet { MeetGoes }
 {}
 
 /// An outcome is told, to a place that is known or to one that is to come, and the home takes in that it was told; a node
