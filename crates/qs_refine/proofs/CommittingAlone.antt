@@ -24,13 +24,13 @@ use Rattle.qs_refine.proofs.Streams.{Stays, still, stays_on}
 
 -- ---- End
 
-end_face : (h k : ℕ) (w v : World) (f : Face) → ShowsFace f k w → Step (End h) w v → ShowsFace f k v
+pub end_face : (h k : ℕ) (w v : World) (f : Face) → ShowsFace f k w → Step (End h) w v → ShowsFace f k v
 end_face h k w v f i s = grind (arith, i, s.4)
 
-end_links : (h a b : ℕ) (w v : World) → Step (End h) w v → Stays (link w a b) (link v a b)
+pub end_links : (h a b : ℕ) (w v : World) → Step (End h) w v → Stays (link w a b) (link v a b)
 end_links h a b w v s = record { carries = grind (arith, s.4); posted = grind (arith, s.4); closers = grind (arith, s.4); inquiry_put = grind (arith, s.4) }
 
-end_waiting : (h a b : ℕ) (w v : World) → Step (End h) w v → Stays (waiting_link w a b) (waiting_link v a b)
+pub end_waiting : (h a b : ℕ) (w v : World) → Step (End h) w v → Stays (waiting_link w a b) (waiting_link v a b)
 end_waiting h a b w v s = record { carries = grind (arith, s.4); posted = grind (arith, s.4); closers = grind (arith, s.4); inquiry_put = grind (arith, s.4) }
 
 -- ---- both

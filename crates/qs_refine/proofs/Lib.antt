@@ -48,10 +48,12 @@ pub mod Learning
 pub mod LearningAbort
 pub mod Lending
 pub mod Local
+pub mod LogClosing
 pub mod LogEnds
 pub mod LogFrames
 pub mod Logging
 pub mod Maps
+pub mod Meeting
 pub mod MetWork
 pub mod NamesPut
 pub mod NodeReady
@@ -79,6 +81,7 @@ pub mod RequestHome
 pub mod RequestUnknown
 pub mod Requested
 pub mod Requesting
+pub mod RestartGoes
 pub mod Restarting
 pub mod Resuming
 pub mod Returning
@@ -142,6 +145,7 @@ pub mod ToldAgain
 pub mod ToldCame
 pub mod ToldUnknown
 pub mod Unborn
+pub mod UnbornRuns
 pub mod Unlogged
 pub mod Unmet
 pub mod VoteCast

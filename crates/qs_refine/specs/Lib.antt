@@ -16,6 +16,9 @@ pub mod SoundRuns
 pub mod RuleLaws
 pub mod WaitingLaws
 pub mod DecisionLaws
+pub mod ClosingLaws
+pub mod MeetingLaws
+pub mod RisingLaws
 pub mod SettleLaws
 pub mod StepLaws
 pub mod LoanLaws

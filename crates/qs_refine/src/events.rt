@@ -3,6 +3,9 @@ ghost use Rattle.qs_refine.specs.EventLaws.{CountGoes, IgnoreGoes, IssueGoes, Is
 ghost use Rattle.qs_refine.specs.OutcomeLaws.{CommitAloneGoes, AbortGoes, TellWaitsGoes, TellAbortGoes, TellAbortWaitsGoes, TakeToldGoes, ForgetGoes, AcksStay};
 ghost use Rattle.qs_refine.specs.WaitingLaws.{IssueUnmetGoes};
 ghost use Rattle.qs_refine.specs.InquireLaws.{InquireGoes, InquireWaitsGoes};
+ghost use Rattle.qs_refine.specs.ClosingLaws.{EndLoggedGoes, AbortLoggedGoes};
+ghost use Rattle.qs_refine.specs.MeetingLaws.{MeetGoes};
+ghost use Rattle.qs_refine.specs.RisingLaws.{RestartGoes};
 ghost use Rattle.qs_refine.specs.InquiryLaws.{AnswerRunningGoes, AnswerCommitGoes, AnswerAbortGoes, TakeNameGoes};
 
 /// Requests that are issued, come, and are covered.
@@ -61,10 +64,12 @@ pub fn outcomes()
     ensures name_again { NameAgainGoes }
 {}
 
-/// A node stops, in whatever part of what it would have put, and another one finds that it restarted.
+/// A node stops, in whatever part of what it would have put, and restarts, and another one finds that it did.
 pub fn crashes()
     ensures crash { CrashGoes }
     ensures notice { NoticeGoes }
+    ensures restart { RestartGoes }
+    ensures meet { MeetGoes }
 {}
 
 /// An outcome is told, to a place that is known or to one that is to come, and the home takes in that it was told; a node
@@ -86,4 +91,10 @@ pub fn inquiries()
     ensures commit { AnswerCommitGoes }
     ensures abort { AnswerAbortGoes }
     ensures take_name { TakeNameGoes }
+{}
+
+/// A record that was not forced reaches the disk.
+pub fn closings()
+    ensures end { EndLoggedGoes }
+    ensures aborted { AbortLoggedGoes }
 {}
