@@ -28,7 +28,7 @@ use Rattle.qs_lawful.proofs.Keys.{KeyApart, same_key_or, link_exact, link_itself
 
 -- ---- numbers
 
-abbrev numbered_as : NodeNo → NodeNo → ℕ → RequestNo
+abbrev pub numbered_as : NodeNo → NodeNo → ℕ → RequestNo
 numbered_as a b n = record { link = record { from = a; to = b }; number = n }
 
 pub sent_again : (inc : ℕ) (request : Request) (o : Option Sent) → request.inc ≡ inc → sent_in inc (Some (sent_more request o)) ≡ sent_in inc o + 1

@@ -85,3 +85,6 @@ pub mod Forgetting
 pub mod TellingOn
 pub mod NotesIssued
 pub mod PeerRestarts
+pub mod Engaging
+pub mod Enqueued
+pub mod RequestsCame

@@ -41,7 +41,7 @@ use Rattle.qs_lawful.specs.Waits.{HoldsWaitsAt, IsWithin, standing_ops, waiting_
 use Rattle.qs_lawful.proofs.Asking.{by_send}
 use Rattle.qs_lawful.proofs.Bare.{by_bare}
 use Rattle.qs_lawful.proofs.Clauses.{of_tid}
-use Rattle.qs_lawful.proofs.Counting.{index_alike}
+use Rattle.qs_lawful.proofs.Engaging.{by_engaged, last_sent}
 use Rattle.qs_lawful.proofs.Faces.{part_apart, part_changed}
 use Rattle.qs_lawful.proofs.Frames.{at_each, clients_on, held_on, told_of}
 use Rattle.qs_lawful.proofs.Growing.{kept_on}
@@ -139,59 +139,7 @@ module _ (stamp : ℕ) (before : BookValue) (peer : NodeNo) where
         (λ t. at_fewer node.setting.node node.setting.inc t (find_transaction book t) (face_of node t) (face_of new t).waiting (fewer t) (none t) (h.holds.at t))
         (clients_on book book node new (λ t. refl) (λ k. refl) (record { setting = refl; at = refl; in_inc = refl }) (record { commands = refl; labels = refl; outcomes = refl }) h.holds.clients (λ t. refl)) h.holds.servers waits)
 
--- ---- the number of its last request begins anew
-
-last_sent : (peer other : NodeNo) (e : Engage) → (peer_of (with_last peer 0 e) other).sent ≡ (peer_of e other).sent
-last_sent peer other e = index_alike (λ (p : PeerPart). p.sent) e.peers peer.0 other.0 (record (peer_of e peer) { last = 0 }) no_peer refl
-
-last_tid : (here : NodeNo) (inc : ℕ) (tid : Tid) (tx : TransactionValue) (face : Face) (part : Participant) (peer : NodeNo) → HoldsTid here inc tid tx (record face { known = Some part }) → HoldsTid here inc tid tx (record face { known = Some (participant.restarted peer part) })
-last_tid here inc tid tx face part peer h = record {
-  sized = h.sized;
-  members = λ held. h.members refl;
-  asked = h.asked;
-  outcome = h.outcome;
-  silent = h.silent;
-  local = h.local;
-  sent = λ held other far. h.sent refl other far ∙ sym (last_sent peer other part.engage);
-  pending = h.pending;
-  noted = λ held. h.noted refl;
-  queued = h.queued;
-  made = h.made;
-  yielded = h.yielded;
-  home = λ at in_inc. last_home (h.home at in_inc);
-}
-  where
-    of_some : {X : Type 0} {x y : X} → Some x ≡ Some y → x ≡ y
-    of_some e = cc e
-
-    last_home : HoldsHome tx (Some part) → HoldsHome tx (Some (participant.restarted peer part))
-    last_home k = record {
-      runs = λ is. refl;
-      undecided = λ p same unknown. k.undecided part refl (ap (λ q. q.outcome) (of_some same) ∙ unknown);
-      asked = λ p same still. k.asked part refl still ∙ ap (λ q. q.asked) (of_some same);
-    }
-
 module _ (stamp : ℕ) (before : BookValue) (peer : NodeNo) (old new_inc : ℕ) where
-  by_last : (work : Work) → HoldsWork stamp before work → (tid : Tid) (part : Participant) → tm.part_of tid work.node.manager ≡ Some part → HoldsWork stamp before (with_manager (tm.restarted tid peer) work)
-  by_last work h tid part known =
-      let tx = found_of stamp before work h tid part known in
-      kept_on stamp before work (with_manager (tm.restarted tid peer) work) h refl refl
-      (held_on stamp (book_at stamp before work) (book_at stamp before work) work.node after h.holds (record { setting = refl; at = refl; in_inc = refl }) refl h.holds.state (record { up = refl; inc = refl; begun = refl; format = refl })
-      h.holds.order refl h.holds.there (λ t is. is)
-      (at_each work.node.setting.node work.node.setting.inc (book_at stamp before work) (book_at stamp before work) work.node after tid h.holds.at (λ t far. refl)
-      (λ t far. record { known = part_apart tid t (participant.restarted peer) work.node.manager far; local = refl; changes = refl; loans = refl; waiting = λ s. refl }) (own tx.0 tx.1))
-      (clients_on (book_at stamp before work) (book_at stamp before work) work.node after (λ t. refl) (λ k. refl) (record { setting = refl; at = refl; in_inc = refl }) (record { commands = refl; labels = refl; outcomes = refl }) h.holds.clients
-      (λ t. changed_alike (is_at (tid_cmp tid)) told_of (participant.restarted peer) (λ p. refl) (is_at (tid_cmp t)) work.node.manager.known)) h.holds.servers h.holds.waits)
-    where
-      after : NodeValue
-      after = record work.node { manager = tm.restarted tid peer work.node.manager }
-
-      own : (tx : TransactionValue) → find_transaction (book_at stamp before work) tid ≡ Some tx → HoldsAt work.node.setting.node work.node.setting.inc tid (find_transaction (book_at stamp before work) tid) (face_of after tid)
-      own tx found = subst (λ (o : Option TransactionValue). HoldsAt work.node.setting.node work.node.setting.inc tid o (face_of after tid)) (sym found)
-          (subst (λ (o : Option Participant). HoldsTid work.node.setting.node work.node.setting.inc tid tx (record (face_of work.node tid) { known = o })) (sym (part_changed tid (participant.restarted peer) work.node.manager part known))
-          (last_tid work.node.setting.node work.node.setting.inc tid tx (face_of work.node tid) part peer
-          (subst (λ (o : Option Participant). HoldsTid work.node.setting.node work.node.setting.inc tid tx (record (face_of work.node tid) { known = o })) known (of_tid stamp (book_at stamp before work) work.node h.holds tid tx found))))
-
   -- ---- what is looked at
 
   by_block : (work : Work) → HoldsWork stamp before work → (tid : Tid) → HoldsWork stamp before (block tid (causes.Gone peer old) work)
@@ -238,7 +186,7 @@ module _ (stamp : ℕ) (before : BookValue) (peer : NodeNo) (old new_inc : ℕ) 
     where
       by : (o : Option Participant) → tm.part_of tid work.node.manager ≡ o → HoldsWork stamp before (elim o [ None ↦ work | Some part ↦ notice_part peer old new_inc tid part (with_manager (tm.restarted tid peer) work) ])
       by None is = h
-      by (Some part) is = by_part (with_manager (tm.restarted tid peer) work) (by_last work h tid part is) tid part
+      by (Some part) is = by_part (with_manager (tm.restarted tid peer) work) (by_engaged stamp before work h tid (with_last peer 0) (last_sent peer 0)) tid part
 
   by_each : (tids : List Tid) (work : Work) → HoldsWork stamp before work → HoldsWork stamp before (fold (notice_tid peer old new_inc) work tids)
   by_each [] work h = h

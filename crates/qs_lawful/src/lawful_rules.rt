@@ -1,5 +1,5 @@
 //! Rules of a node's step, each as a whole: its entries are lawful, and the machine after them holds what the node has then.
-ghost use Rattle.std.specs.Prelude.{◌≡◌, ◌≢◌, ◌&&◌, ◌==◌, ◌≤◌, ◌<◌, length, not, nat_lt, ℕ, ◌+◌, true, false, None, Some, Option, slice_get, List};
+ghost use Rattle.std.specs.Prelude.{◌≡◌, ◌≢◌, ◌&&◌, ◌==◌, ◌≤◌, ◌<◌, ◌++◌, ◌∷◌, [], length, not, nat_lt, ℕ, ◌+◌, true, false, None, Some, Option, slice_get, List};
 ghost use Rattle.qs_base.specs.declared.identifiers.ClientNo.{ClientNo};
 ghost use Rattle.qs_base.specs.declared.identifiers.NodeNo.{NodeNo};
 ghost use Rattle.qs_base.specs.declared.identifiers.Tid.{Tid};
@@ -28,10 +28,12 @@ ghost use Rattle.qs_tm.specs.Participant.{awaits_note, has_noted};
 ghost use Rattle.qs_step.specs.Bringing.{answer, enter, log, member_here, send};
 ghost use Rattle.qs_step.specs.Commands.{ask};
 ghost use Rattle.qs_step.specs.Requests.{issue_away, issue_here, local_count};
-ghost use Rattle.qs_step.specs.Serving.{put_label};
+ghost use Rattle.qs_step.specs.Serving.{put_label, request_came};
 ghost use Rattle.qs_step.specs.State.{Work, with_manager, client_cmp};
 ghost use Rattle.qs_world.specs.Posting.{entry_of};
-ghost use Rattle.qs_lawful.specs.Face.{face_of, is_loan_here};
+ghost use Rattle.qs_lawful.specs.Face.{face_of, is_loan_here, waiting_at};
+ghost use Rattle.qs_lawful.specs.Waits.{IsWithin, standing_ops, waiting_ops};
+ghost use Rattle.qs_base.specs.declared.identifiers.Member.{Member};
 ghost use Rattle.qs_lawful.specs.Entering.{HoldsWork, book_at};
 ghost use Rattle.qs_lawful.specs.Holds.{IsAsking, IsBehind};
 ghost use Rattle.std.specs.BTreeMap.{is_at};
@@ -80,6 +82,12 @@ pub fn owner_issue_away_is_lawful()
 /// none with that count was served, and files wait for none.
 pub fn note_issue_is_lawful()
     ensures { (stamp : ℕ) (before : BookValue) (work : Work) → HoldsWork stamp before work → (tid : Tid) (part : Participant) (tx : TransactionValue) → tm.part_of tid work.node.manager ≡ Some part → find_transaction (book_at stamp before work) tid ≡ Some tx → part.asked ≡ true → is_commit tx.cell ≡ false → nat_lt 0 (change_count tid work.node) ≡ true → has_noted (change_count tid work.node) part ≡ false → awaits_note part ≡ false → (to : NodeNo) → nat_lt to.0 work.node.setting.nodes ≡ true → to.0 < length part.engage.peers → HoldsWork stamp before (issue_note tid (Some to) work) }
+{}
+
+/// A request comes from another node, of what is not committed: its transaction is met, its label and its sender are noted, and it
+/// waits at its server, where it stands behind what waits there.
+pub fn request_is_taken_in()
+    ensures { (stamp : ℕ) (before : BookValue) (work : Work) (tid : Tid) (tx : TransactionValue) → find_transaction (book_at stamp before work) tid ≡ Some tx → is_commit tx.cell ≡ false → HoldsWork stamp before work → (peer : NodeNo) (label : List ℕ) (member : Member) (number : ℕ) (op : Op) → IsWithin (waiting_ops (record { link = record { from = peer; to = work.node.setting.node }; number = number }) (waiting_at work.node tid member.server) ++ op ∷ []) (standing_ops tx (record { link = record { from = peer; to = work.node.setting.node }; number = number }) work.node.setting.node member.server) → HoldsWork stamp before (request_came peer tid label member number op work) }
 {}
 
 /// A message leaves all that is held.

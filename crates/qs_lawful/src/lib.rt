@@ -30,7 +30,7 @@ pub use lawful_rules::{
     answer_is_lawful, ask_is_lawful, begin_is_lawful, borrower_issue_is_lawful, command_leaves_all,
     counting_is_lawful, issue_away_is_lawful, issue_here_is_lawful, label_leaves_all,
     log_leaves_all, note_issue_is_lawful, owner_issue_away_is_lawful, owner_issue_is_lawful,
-    send_leaves_all,
+    request_is_taken_in, send_leaves_all,
 };
 pub use lawful_servers::{
     decision_is_lawful, ending_is_lawful, give_back_is_lawful, learn_is_lawful, loan_is_lawful,
