@@ -1,5 +1,5 @@
 -- A request waits at its server, behind what waits there: it stands in that order.
-use Rattle.std.proofs.Common.{◌≡◌, ◌≢◌, ◌⊎◌, inl, inr, ℕ, ◌==◌, ◌≤◌, Bool, true, false, List, [], ◌∷◌, ◌++◌, Option, Some, None, refl, sym, ap, subst, ◌∙◌, arith, length}
+use Rattle.std.proofs.Common.{◌≡◌, ◌≢◌, ◌⊎◌, inl, inr, ℕ, ◌==◌, ◌≤◌, Bool, true, false, [], ◌∷◌, ◌++◌, Option, Some, refl, sym, ap, subst, ◌∙◌, arith, length}
 use Rattle.std.proofs.lemmas.Bool.Decides.{nat_tests}
 use Rattle.std.specs.Prelude.{◌&&◌, if◌then◌else◌}
 use Rattle.std.specs.List.{filter}
@@ -18,7 +18,7 @@ use Rattle.qs_machine.specs.declared.transaction.RequestNo.{RequestNo}
 use Rattle.qs_step.specs.Requests.{enqueue}
 use Rattle.qs_step.specs.State.{NodeValue, Work, with_queues}
 use Rattle.qs_lawful.specs.Entering.{HoldsWork, book_at}
-use Rattle.qs_lawful.specs.Face.{Face, at_server, face_of, is_numbered, waiting_at}
+use Rattle.qs_lawful.specs.Face.{at_server, face_of, is_numbered, waiting_at}
 use Rattle.qs_lawful.specs.Holds.{HoldsAt, HoldsTid}
 use Rattle.qs_lawful.specs.Waits.{HoldsWaits, HoldsWaitsAt, IsWithin, op_in, op_of, standing_ops, waiting_ops}
 use Rattle.qs_lawful.proofs.Apart.{Apart, same_or_apart}

@@ -5,20 +5,16 @@ use Rattle.std.specs.Prelude.{not, ◌&&◌, unwrap_or, if◌then◌else◌}
 use Rattle.std.specs.List.{filter}
 use Rattle.std.specs.Map.{lookup}
 use Rattle.std.specs.BTreeMap.{is_at}
-use Rattle.qs_base.specs.Order.{tid_cmp}
 use Rattle.qs_base.specs.declared.identifiers.NodeNo.{NodeNo}
 use Rattle.qs_base.specs.declared.identifiers.Outcome.{Outcome}
 use Rattle.qs_base.specs.declared.identifiers.ServerNo.{ServerNo}
 use Rattle.qs_base.specs.declared.identifiers.Tid.{Tid}
-use Rattle.qs_engage.specs.Engage.{no_peer, peer_of, with_last}
+use Rattle.qs_engage.specs.Engage.{with_last}
 use Rattle.qs_engage.specs.Nodes.{listed, same_node}
-use Rattle.qs_engage.specs.declared.engage.Engage.{Engage}
-use Rattle.qs_engage.specs.declared.engage.PeerPart.{PeerPart}
 use Rattle.qs_ipc.specs.Ipc as ipc
 use Rattle.qs_ipc.specs.Ipc.{IpcValue, mark_queue, queue_at, server_cmp}
 use Rattle.qs_ipc.specs.Queue.{is_of, mark_stale, no_queue}
 use Rattle.qs_ipc.specs.declared.delivery.Delivery.{Delivery}
-use Rattle.qs_laws.proofs.Maps.{changed_alike}
 use Rattle.qs_machine.specs.Book.{BookValue, find_transaction}
 use Rattle.qs_machine.specs.Transaction.{TransactionValue}
 use Rattle.qs_machine.specs.declared.transaction.RequestNo.{RequestNo}
@@ -35,17 +31,13 @@ use Rattle.qs_tm.specs.Participant as participant
 use Rattle.qs_tm.specs.Participant.{is_owed_by}
 use Rattle.qs_tm.specs.declared.participant.Participant.{Participant}
 use Rattle.qs_lawful.specs.Entering.{HoldsWork, book_at}
-use Rattle.qs_lawful.specs.Face.{Face, face_of, is_numbered}
-use Rattle.qs_lawful.specs.Holds.{HoldsAt, HoldsHome, HoldsTid}
+use Rattle.qs_lawful.specs.Face.{face_of, is_numbered}
 use Rattle.qs_lawful.specs.Waits.{HoldsWaitsAt, IsWithin, standing_ops, waiting_ops}
 use Rattle.qs_lawful.proofs.Asking.{by_send}
 use Rattle.qs_lawful.proofs.Bare.{by_bare}
-use Rattle.qs_lawful.proofs.Clauses.{of_tid}
 use Rattle.qs_lawful.proofs.Engaging.{by_engaged, last_sent}
-use Rattle.qs_lawful.proofs.Faces.{part_apart, part_changed}
-use Rattle.qs_lawful.proofs.Frames.{at_each, clients_on, held_on, told_of}
+use Rattle.qs_lawful.proofs.Frames.{clients_on, held_on}
 use Rattle.qs_lawful.proofs.Growing.{kept_on}
-use Rattle.qs_lawful.proofs.ServingNext.{found_of}
 use Rattle.qs_lawful.proofs.Silent.{Fewer, NoneMore, at_fewer}
 
 -- ---- what waits is marked
