@@ -1,11 +1,12 @@
 //! One end of a session, with its link, what it sent to the peer's incarnation, and what it handed up.
 
-use crate::drawn::{Drawn, Fate};
-use qs_base::{Copied, NoMemory, NodeNo, Tid};
+use crate::drawn::Drawn;
+use crate::failed::Failed;
+use crate::link::Link;
+use qs_base::{GrowFault, NodeNo, Tid};
 use qs_packet::{Message, Packet};
 use qs_session::{Session, Taken};
 use std::alloc::Global;
-use std::collections::VecDeque;
 
 #[derive(Drop)]
 pub(crate) struct End {
@@ -19,14 +20,19 @@ pub(crate) struct End {
     pub(crate) sent: Vec<u32>,
     /// Those that came from it and were handed up.
     pub(crate) got: Vec<u32>,
-    /// The packets on the link, in order, and those that it holds.
-    line: VecDeque<Packet>,
-    held: VecDeque<Packet>,
+    /// What goes to the peer.
+    link: Link,
 }
 
 impl End {
-    pub(crate) fn new(alloc: Global, me: NodeNo, peer: NodeNo) -> End {
-        End {
+    pub(crate) fn new(
+        alloc: Global,
+        me: NodeNo,
+        peer: NodeNo,
+        drawn: &mut Drawn,
+    ) -> Result<End, Failed> {
+        let link = Link::new(alloc, drawn)?;
+        Ok(End {
             me,
             peer,
             inc: 1,
@@ -34,9 +40,8 @@ impl End {
             session: Session::new(alloc, me, 1, peer),
             sent: Vec::new(alloc),
             got: Vec::new(alloc),
-            line: VecDeque::new(alloc),
-            held: VecDeque::new(alloc),
-        }
+            link,
+        })
     }
 
     /// The node crashes and restarts; what is on the link stays there.
@@ -48,60 +53,31 @@ impl End {
         self.got.clear();
     }
 
-    pub(crate) fn send(&mut self, message: u32, drawn: &mut Drawn) -> Result<(), NoMemory> {
+    pub(crate) fn send(&mut self, message: u32, drawn: &mut Drawn) -> Result<(), Failed> {
         self.sent.push(message)?;
         match self.session.send(numbered(message), 0) {
-            Ok(Some(packet)) => self.put(packet, drawn),
+            Ok(Some(packet)) => self.link.put(&packet, drawn),
             Ok(None) => Ok(()),
-            Err(_) => Err(NoMemory),
+            Err(GrowFault::NoMemory) => Err(Failed::NoMemory),
+            Err(GrowFault::Last { .. }) => Err(Failed::Last),
         }
     }
 
-    pub(crate) fn tick(&mut self, drawn: &mut Drawn) -> Result<(), NoMemory> {
+    pub(crate) fn tick(&mut self, drawn: &mut Drawn) -> Result<(), Failed> {
         let packets = self.session.tick(0)?;
-        for packet in packets.into_vec() {
-            self.put(packet, drawn)?;
+        for packet in packets.as_slice() {
+            self.link.put(packet, drawn)?;
         }
         Ok(())
     }
 
-    fn put(&mut self, packet: Packet, drawn: &mut Drawn) -> Result<(), NoMemory> {
-        match drawn.fate() {
-            Fate::Comes => self.line.push_back(packet)?,
-            Fate::IsLost => {}
-            Fate::ComesTwice => {
-                self.line.push_back(packet.copy()?)?;
-                self.line.push_back(packet)?;
-            }
-            Fate::IsHeld => self.held.push_back(packet)?,
-        }
-        Ok(())
-    }
-
-    /// The oldest held packet comes behind those on the link.
-    pub(crate) fn release(&mut self) -> Result<(), NoMemory> {
-        if let Some(packet) = self.held.pop_front() {
-            self.line.push_back(packet)?;
-        }
-        Ok(())
-    }
-
-    /// All held packets come behind those on the link.
-    pub(crate) fn release_all(&mut self) -> Result<(), NoMemory> {
-        self.line.append(&mut self.held)?;
-        Ok(())
-    }
-
-    pub(crate) fn coming(&self) -> usize {
-        self.line.len()
-    }
-
-    pub(crate) fn next(&mut self) -> Option<Packet> {
-        self.line.pop_front()
+    /// The next packet that comes to the peer, if one does.
+    pub(crate) fn next(&mut self) -> Result<Option<Packet>, Failed> {
+        self.link.take()
     }
 
     /// A packet comes to this end.
-    pub(crate) fn take(&mut self, packet: Packet) -> Result<(), NoMemory> {
+    pub(crate) fn take(&mut self, packet: Packet) -> Result<(), Failed> {
         match self.session.receive(packet) {
             Taken::NewPeer { old, new } => {
                 self.known = new;

@@ -1,9 +1,10 @@
-//! Drives sessions between nodes that crash and restart, over links that lose, repeat and hold packets, in drawn runs.
+//! Drives sessions between nodes that crash and restart, over links that lose, repeat and hold packets by drawn plans,
+//! in drawn runs.
 //!
-//! Words: RUNS SEED. Each run has two or three nodes and 40 to 119 drawn events, and then no fault more. Within `TICKS`
-//! ticks from there each end is to know its peer's incarnation, and each message that an incarnation has for another,
-//! where both live on, is to be handed up, in order and once. `settled RUNS` is printed where that is so in each run;
-//! what was drawn goes to standard error.
+//! Words: RUNS SEED. Each run has two or three nodes and 40 to 119 drawn events, and then ticks alone. Within `TICKS`
+//! ticks after the last fault each end is to know its peer's incarnation, and each message that an incarnation has for
+//! another, where both live on, is to be handed up, in order and once. `settled RUNS` is printed where that is so in
+//! each run; what was drawn goes to standard error.
 #![tactic(auto)]
 
 use anyhow::{Context, Error, bail};
@@ -13,6 +14,8 @@ use std::rt::Env;
 
 mod drawn;
 mod end;
+mod failed;
+mod link;
 mod run;
 
 use drawn::Drawn;
@@ -46,13 +49,8 @@ fn main(rt: HostRuntime) -> Result<(), Error> {
     let mut drawn = Drawn::new(Lcg64Xsh32::new(plan.seed, 0));
     for number in 0..plan.runs {
         drawn.begin(Lcg64Xsh32::new(plan.seed, number));
-        let Ok(mut run) = Run::new(alloc, &mut drawn) else {
-            bail!("there is no memory");
-        };
-        let Ok(settled) = run.drive(alloc, TICKS, &mut drawn) else {
-            bail!("there is no memory");
-        };
-        if !settled {
+        let mut run = Run::new(alloc, &mut drawn)?;
+        if !run.drive(alloc, TICKS, &mut drawn)? {
             bail!("run {number} did not settle");
         }
     }

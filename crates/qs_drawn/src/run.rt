@@ -2,7 +2,8 @@
 
 use crate::drawn::Drawn;
 use crate::end::End;
-use qs_base::{NoMemory, NodeNo};
+use crate::failed::Failed;
+use qs_base::NodeNo;
 use std::alloc::Global;
 
 #[derive(Drop)]
@@ -14,48 +15,55 @@ pub(crate) struct Run {
 
 impl Run {
     /// Two or three nodes in their first incarnations, which know nobody.
-    pub(crate) fn new(alloc: Global, drawn: &mut Drawn) -> Result<Run, NoMemory> {
+    pub(crate) fn new(alloc: Global, drawn: &mut Drawn) -> Result<Run, Failed> {
         let nodes = if drawn.word() % 2 == 0 { 2 } else { 3 };
         let mut ends = Vec::new(alloc);
         for me in 0..nodes {
             for peer in 0..nodes {
                 if me != peer {
-                    ends.push(End::new(alloc, NodeNo(me), NodeNo(peer)))?;
+                    ends.push(End::new(alloc, NodeNo(me), NodeNo(peer), drawn)?)?;
                 }
             }
         }
         Ok(Run { ends, last: 0 })
     }
 
-    /// Drawn events, and then ticks without faults. Whether all was handed up within so many of them, and in order.
+    /// Drawn events, and then ticks alone. Whether all was handed up, in order, within so many ticks after the last
+    /// fault.
     pub(crate) fn drive(
         &mut self,
         alloc: Global,
         ticks: u32,
         drawn: &mut Drawn,
-    ) -> Result<bool, NoMemory> {
+    ) -> Result<bool, Failed> {
         let events = 40 + drawn.word() % 80;
         for _event in 0..events {
             self.draw(alloc, drawn)?;
         }
-        drawn.is_quiet = true;
-        for end in self.ends.iter_mut() {
-            end.release_all()?;
-        }
-        for tick in 0..ticks {
+        let mut quiet: u32 = 0;
+        for _tick in 0..u32::MAX {
+            drawn.is_quiet = true;
             for end in self.ends.iter_mut() {
                 end.tick(drawn)?;
             }
             self.deliver_all()?;
+            quiet = if drawn.is_quiet {
+                quiet.saturating_add(1)
+            } else {
+                0
+            };
             if self.is_settled() {
-                drawn.ticks = drawn.ticks.max(tick + 1);
+                drawn.ticks = drawn.ticks.max(quiet);
                 return Ok(true);
+            }
+            if quiet >= ticks {
+                return Ok(false);
             }
         }
         Ok(false)
     }
 
-    fn draw(&mut self, alloc: Global, drawn: &mut Drawn) -> Result<(), NoMemory> {
+    fn draw(&mut self, alloc: Global, drawn: &mut Drawn) -> Result<(), Failed> {
         let kind = drawn.word() % 32;
         let at = drawn.word() as usize;
         match kind {
@@ -66,17 +74,14 @@ impl Run {
                     end.tick(drawn)?;
                 }
             }
-            14..=16 => {
-                if let Some(end) = drawn_end(&mut self.ends, at) {
-                    end.release()?;
-                }
+            _ => {
+                deliver(&mut self.ends, at)?;
             }
-            _ => deliver(&mut self.ends, at)?,
         }
         Ok(())
     }
 
-    fn send(&mut self, at: usize, drawn: &mut Drawn) -> Result<(), NoMemory> {
+    fn send(&mut self, at: usize, drawn: &mut Drawn) -> Result<(), Failed> {
         self.last = self.last.saturating_add(1);
         drawn.sent = drawn.sent.saturating_add(1);
         match drawn_end(&mut self.ends, at) {
@@ -99,15 +104,9 @@ impl Run {
         }
     }
 
-    fn deliver_all(&mut self) -> Result<(), NoMemory> {
+    fn deliver_all(&mut self) -> Result<(), Failed> {
         for at in 0..self.ends.len() {
-            let coming = match self.ends.get(at) {
-                Some(end) => end.coming(),
-                None => 0,
-            };
-            for _packet in 0..coming {
-                deliver(&mut self.ends, at)?;
-            }
+            deliver_each(&mut self.ends, at)?;
         }
         Ok(())
     }
@@ -133,18 +132,29 @@ fn drawn_end(ends: &mut Vec<End>, at: usize) -> Option<&mut End> {
     ends.get_mut(at % count)
 }
 
-/// The next packet on the link of an end comes to the end that it is for.
-fn deliver(ends: &mut Vec<End>, at: usize) -> Result<(), NoMemory> {
-    let Some(end) = drawn_end(ends, at) else {
-        return Ok(());
-    };
-    let Some(packet) = end.next() else {
-        return Ok(());
-    };
-    for other in ends.iter_mut() {
-        if other.me == packet.to && other.peer == packet.from {
-            return other.take(packet);
+/// All packets on the link of an end come to the end that they are for.
+fn deliver_each(ends: &mut Vec<End>, at: usize) -> Result<(), Failed> {
+    for _packet in 0..u64::MAX {
+        if !deliver(ends, at)? {
+            return Ok(());
         }
     }
     Ok(())
+}
+
+/// The next packet on the link of an end comes to the end that it is for. Whether there was one.
+fn deliver(ends: &mut Vec<End>, at: usize) -> Result<bool, Failed> {
+    let Some(end) = drawn_end(ends, at) else {
+        return Ok(false);
+    };
+    let Some(packet) = end.next()? else {
+        return Ok(false);
+    };
+    for other in ends.iter_mut() {
+        if other.me == packet.to && other.peer == packet.from {
+            other.take(packet)?;
+            return Ok(true);
+        }
+    }
+    Ok(true)
 }
