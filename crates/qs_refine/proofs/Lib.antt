@@ -103,3 +103,4 @@ pub mod SoundVoted
 pub mod SoundOpened
 pub mod SoundLogs
 pub mod SoundMoves
+pub mod SoundAge
