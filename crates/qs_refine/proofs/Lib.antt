@@ -95,6 +95,7 @@ pub mod ServeNext
 pub mod Settles
 pub mod SettlesElsewhere
 pub mod SettlesWhole
+pub mod SoundAge
 pub mod SoundAnswer
 pub mod SoundBegin
 pub mod SoundCommands

@@ -30,7 +30,7 @@ use Rattle.qs_refine.proofs.SoundViews.{PartSound, is_apart, part_seen, part_as}
 pub less_on : (a b c : Tid) → is_less (tid_cmp a b) ≡ true → is_less (tid_cmp b c) ≡ true → is_less (tid_cmp a c) ≡ true
 less_on a b c first next = grind (arith, nat_tests, first, next)
 
-abbrev is_below : Tid → Tid × Participant → Bool
+abbrev pub is_below : Tid → Tid × Participant → Bool
 is_below k e = is_less (tid_cmp k e.0)
 
 below_all : (k : Tid) (e : Tid × Participant) (es : List (Tid × Participant)) → is_less (tid_cmp k e.0) ≡ true → in_order (e ∷ es) ≡ true → list_all (is_below k) es ≡ true
@@ -40,13 +40,13 @@ below_all k e (next ∷ es) is ordered =
     let this : is_less (tid_cmp k next.0) ≡ true = less_on k e.0 next.0 is both.0 in
     both_and (is_below k next) (list_all (is_below k) es) this (below_all k next es this both.1)
 
-behind : (e : Tid × Participant) (es : List (Tid × Participant)) → in_order (e ∷ es) ≡ true → list_all (is_below e.0) es ≡ true
+pub behind : (e : Tid × Participant) (es : List (Tid × Participant)) → in_order (e ∷ es) ≡ true → list_all (is_below e.0) es ≡ true
 behind e [] ordered = refl
 behind e (next ∷ es) ordered =
     let both : (is_less (tid_cmp e.0 next.0) ≡ true) × (in_order (next ∷ es) ≡ true) = and_both (is_less (tid_cmp e.0 next.0)) (in_order (next ∷ es)) ordered in
     both_and (is_below e.0 next) (list_all (is_below e.0) es) both.0 (below_all e.0 next es both.0 both.1)
 
-order_tail : (e : Tid × Participant) (es : List (Tid × Participant)) → in_order (e ∷ es) ≡ true → in_order es ≡ true
+pub order_tail : (e : Tid × Participant) (es : List (Tid × Participant)) → in_order (e ∷ es) ≡ true → in_order es ≡ true
 order_tail e [] ordered = refl
 order_tail e (next ∷ es) ordered = (and_both (is_less (tid_cmp e.0 next.0)) (in_order (next ∷ es)) ordered).1
 

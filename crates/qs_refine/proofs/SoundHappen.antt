@@ -22,7 +22,7 @@ use Rattle.qs_servers.specs.Servers.{timers_no}
 use Rattle.qs_tm.specs.Manager as tm
 use Rattle.qs_ops.specs.Timers.{ticked}
 use Rattle.qs_step.specs.State.{Work, with_manager, change_server}
-use Rattle.qs_step.specs.Step.{is_owner, labelled, obey, with_command, command_came, message_came, age_rule, tick, happen}
+use Rattle.qs_step.specs.Step.{is_owner, labelled, obey, with_command, command_came, message_came, tick, happen}
 use Rattle.qs_step.specs.declared.event.Event.{Event}
 use Rattle.qs_step.specs.declared.event.Event.TheVariants as events
 use Rattle.qs_refine.specs.Sound.{is_sound, goes_in_run, is_owned, is_owned_label, keeps_owned}
@@ -31,6 +31,7 @@ use Rattle.qs_refine.specs.SoundSteps.{FitsMessage, MayHappen, HappenSound}
 use Rattle.qs_refine.proofs.SoundParts.{and_both}
 use Rattle.qs_refine.proofs.SoundRules.{answer_sound, ask_came_sound, refusal_came_sound, reply_came_sound}
 use Rattle.qs_refine.proofs.SoundBegin.{begin_command_sound}
+use Rattle.qs_refine.proofs.SoundAge.{age_sound}
 use Rattle.qs_refine.proofs.SoundCommands.{borrower_command_sound, owner_command_sound}
 use Rattle.qs_refine.proofs.SoundCount.{few_nodes, closer_came_sound}
 use Rattle.qs_refine.proofs.SoundViews.{seen}
@@ -118,4 +119,4 @@ happen_sound (events.Command client line label command) work may = obey_sound (r
 happen_sound (events.Received peer message) work may = message_sound peer message work may.0 may.1.0 may.1.1
 happen_sound events.ServeAll work may = serve_all_sound work
 happen_sound (events.PeerRestarted peer old new) work may = λ sound. peer_restarted_sound peer old new work (low_peer peer work may sound) sound
-happen_sound events.Tick work may = λ sound. subst (λ (o : Option ℕ). is_sound (age_rule o (with_manager tm.tick (change_server timers_no (λ value. record value { timers = ticked value.timers }) (enter Rattle.qs_journal.specs.declared.entry.Act.TheVariants.Tick work)))).node ≡ true) (sym may) sound
+happen_sound events.Tick work may = age_sound work.node.setting.age (with_manager tm.tick (change_server timers_no (λ value. record value { timers = ticked value.timers }) (enter Rattle.qs_journal.specs.declared.entry.Act.TheVariants.Tick work)))

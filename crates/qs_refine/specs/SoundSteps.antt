@@ -44,14 +44,14 @@ FitsMessage peer (messages.Tell tid outcome) work = outcome ≡ outcomes.Commit 
 FitsMessage peer (messages.Told tid further) work = keeps_commits work.node ≡ true
 FitsMessage peer (messages.Inquire tid) work = ⊤
 
--- what comes: commands of clients that own or borrow, messages of another node of the run, restarts of one; and no age limit
+-- what comes: commands of clients that own or borrow, messages of another node of the run, restarts of one
 abbrev pub MayHappen : Event → Work → Type 0
 MayHappen (events.Command client line label command) work = (goes_in_run work.node.setting.nodes command ≡ true) × (keeps_owned work.node ≡ true)
 MayHappen (events.Received peer message) work =
     (nat_lt peer.0 work.node.setting.nodes ≡ true) × ((same_node peer work.node.setting.node ≡ false) × FitsMessage peer message work)
 MayHappen events.ServeAll work = ⊤
 MayHappen (events.PeerRestarted peer old new) work = nat_lt peer.0 work.node.setting.nodes ≡ true
-MayHappen events.Tick work = work.node.setting.age ≡ None
+MayHappen events.Tick work = ⊤
 
 -- what comes is done
 abbrev pub HappenSound : Type 0
