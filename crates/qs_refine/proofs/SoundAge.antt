@@ -1,5 +1,5 @@
 -- A home that aborts what is older than its age limit stays sound.
-use Rattle.std.proofs.Common.{◌≡◌, ℕ, ◌&&◌, ◌||◌, not, Bool, true, false, List, [], ◌∷◌, ◌++◌, cond, fold, Option, Some, None, refl, sym, ap, subst, ◌∙◌, append_assoc, append-nil, arith, if◌then◌else◌}
+use Rattle.std.proofs.Common.{◌≡◌, ℕ, ◌&&◌, Bool, true, false, List, [], ◌∷◌, ◌++◌, cond, fold, Option, Some, None, refl, sym, ap, subst, ◌∙◌, append_assoc, append-nil, arith, if◌then◌else◌}
 use Rattle.std.specs.List.{list_all}
 use Rattle.std.specs.Map.{lookup}
 use Rattle.std.specs.BTreeMap.{is_at}
@@ -24,7 +24,7 @@ use Rattle.qs_tm.specs.declared.manager.Which.{Which}
 use Rattle.qs_tm.specs.declared.manager.Which.TheVariants as whiches
 use Rattle.qs_tm.specs.declared.participant.Participant.{Participant}
 use Rattle.qs_step.specs.Bringing.{send_each, log_if}
-use Rattle.qs_step.specs.Deciding.{decide, decide_as, keep_outcome, give_notices, end_member, end_members, due_endings, learn_member, learn_members, learners_at}
+use Rattle.qs_step.specs.Deciding.{decide, decide_as, keep_outcome, give_notices, end_member, end_members, due_endings, learn_member, learners_at}
 use Rattle.qs_step.specs.State.{Work, part_of, with_manager}
 use Rattle.qs_step.specs.Step.{abort_old, age_rule}
 use Rattle.qs_refine.specs.Sound.{is_sound, in_order, where_so}

@@ -12,14 +12,14 @@ use Rattle.qs_tm.specs.Participant as participant
 use Rattle.qs_tm.specs.Participant.{awaits_note, needs_pass, is_ready, is_undecided, is_forgotten, only_read, all_agree}
 use Rattle.qs_tm.specs.declared.participant.Participant.{Participant}
 use Rattle.qs_step.specs.Answering.{was_committed}
-use Rattle.qs_step.specs.Settling.{is_lent, is_busy, may_answer, say_yes, answer_superior, send_refusal, refusal_goes_to, refuse_elsewhere, forget_rule}
+use Rattle.qs_step.specs.Settling.{is_lent, is_busy, may_answer, say_yes, send_refusal, refusal_goes_to}
 use Rattle.qs_step.specs.Telling.{forget}
-use Rattle.qs_step.specs.State.{Work, here, part_of, with_manager, doings_of}
+use Rattle.qs_step.specs.State.{Work, here, with_manager, doings_of}
 use Rattle.qs_tm.specs.Manager as tm
 use Rattle.qs_refine.specs.NodeFaces.{began_here}
-use Rattle.qs_refine.specs.Sound.{is_sound, where_so, same_flag, is_engaged}
+use Rattle.qs_refine.specs.Sound.{is_sound, where_so, same_flag}
 use Rattle.qs_refine.specs.SoundLaws.{StaysSound, AnswerSuperiorSound, RefuseElsewhereSound, ForgetRuleSound}
-use Rattle.qs_refine.proofs.SoundParts.{and_both, both_and, part_sound}
+use Rattle.qs_refine.proofs.SoundParts.{and_both, part_sound}
 use Rattle.qs_refine.proofs.SoundRules.{send_node}
 use Rattle.qs_refine.proofs.SoundEnds.{forget_sound}
 use Rattle.qs_refine.proofs.SoundHolds.{known_sound, part_step}

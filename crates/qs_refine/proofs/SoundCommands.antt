@@ -1,19 +1,15 @@
 -- A node stays sound where a client commands.
 use Rattle.std.proofs.Common.{◌≡◌, ℕ, ◌==◌, ◌&&◌, ◌||◌, not, nat_lt, Bool, true, false, List, [], ◌∷◌, Option, Some, None, is_some, refl, sym, ap, subst, ◌∙◌, arith, if◌then◌else◌}
-use Rattle.std.specs.List.{list_all, list_any, find}
+use Rattle.std.specs.List.{list_any}
 use Rattle.std.proofs.lemmas.Bool.Decides.{nat_tests}
 use Rattle.qs_base.specs.Order.{same_tid}
 use Rattle.qs_base.specs.declared.identifiers.ClientNo.{ClientNo}
 use Rattle.qs_base.specs.declared.identifiers.Member.{Member}
 use Rattle.qs_base.specs.declared.identifiers.Outcome.TheVariants as outcomes
 use Rattle.qs_base.specs.declared.identifiers.Tid.{Tid}
-use Rattle.qs_engage.specs.Nodes.{same_node}
 use Rattle.qs_journal.specs.declared.script_line.Command.{Command}
 use Rattle.qs_journal.specs.declared.script_line.Command.TheVariants as commands
-use Rattle.qs_journal.specs.declared.script_line.ScriptLine.{ScriptLine}
-use Rattle.qs_kept.specs.Keeping.{has_label}
 use Rattle.qs_kept.specs.Loans.{first_untaken, last_taken, is_taken, is_standing_loan}
-use Rattle.qs_kept.specs.declared.kept.Begun.{Begun}
 use Rattle.qs_kept.specs.declared.kept.Decided.{Decided}
 use Rattle.qs_kept.specs.declared.kept.Lent.{Lent}
 use Rattle.qs_ops.specs.declared.answer.Answer.TheVariants as answers
@@ -25,26 +21,26 @@ use Rattle.qs_tm.specs.Outcomes.{is_abort}
 use Rattle.qs_tm.specs.Participant.{is_undecided}
 use Rattle.qs_tm.specs.declared.participant.Participant.{Participant}
 use Rattle.qs_step.specs.Answering.{kept_outcome}
-use Rattle.qs_step.specs.Borrowing.{is_aborted, is_void, take, take_command, yield, lent_command, with_loan, loan_command, borrower_command}
+use Rattle.qs_step.specs.Borrowing.{is_aborted, is_void, take, lent_command, with_loan, loan_command}
 use Rattle.qs_step.specs.Bringing.{answer}
-use Rattle.qs_step.specs.Commands.{ask, request_as, request_command, with_issued, open_command, decided_answer, owner_command}
+use Rattle.qs_step.specs.Commands.{ask, request_as, request_command, with_issued, open_command, decided_answer}
 use Rattle.qs_step.specs.Deciding.{decide}
 use Rattle.qs_step.specs.Requests.{next_number}
 use Rattle.qs_step.specs.Settling.{is_lent}
 use Rattle.qs_step.specs.State.{Work, part_of}
-use Rattle.qs_refine.specs.Sound.{is_sound, may_be_served, is_engaged, goes_in_run, is_owned}
+use Rattle.qs_refine.specs.Sound.{is_sound, may_be_served, goes_in_run}
 use Rattle.qs_refine.specs.SoundLaws.{StaysSound, BorrowerCommandSound, OwnerCommandSound}
 use Rattle.qs_refine.proofs.SoundParts.{and_both, both_and}
 use Rattle.qs_refine.proofs.SoundRules.{answer_sound, owner_asks_sound}
 use Rattle.qs_refine.proofs.SoundDecide.{decide_abort_sound}
-use Rattle.qs_refine.proofs.SoundHolds.{Holds, told_part, told_as, known_sound, is_held, held_as, is_open}
+use Rattle.qs_refine.proofs.SoundHolds.{told_part, told_as, known_sound, is_held, held_as, is_open}
 use Rattle.qs_refine.proofs.SoundIssue.{issue_as_holds}
-use Rattle.qs_refine.proofs.SoundKnown.{lent_served, same_is}
+use Rattle.qs_refine.proofs.SoundKnown.{lent_served}
 use Rattle.qs_refine.proofs.SoundLoans.{take_sound, yield_sound}
 use Rattle.qs_refine.proofs.SoundQueued.{either_first, either_last}
 use Rattle.qs_refine.proofs.SoundServe.{lent_busy}
 use Rattle.qs_refine.proofs.SoundSettle.{undecided_known}
-use Rattle.qs_refine.proofs.SoundViews.{PartSound, is_apart, seen}
+use Rattle.qs_refine.proofs.SoundViews.{seen}
 
 -- ---- a request is issued, of a transaction that is open here
 

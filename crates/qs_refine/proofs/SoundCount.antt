@@ -9,12 +9,11 @@ use Rattle.qs_base.specs.declared.identifiers.Tid.{Tid}
 use Rattle.qs_engage.specs.Engage.{peer_of}
 use Rattle.qs_engage.specs.Nodes.{all_nodes, same_node, has_node, is_no_node, joined}
 use Rattle.qs_engage.specs.declared.engage.PeerPart.{PeerPart}
-use Rattle.qs_tm.specs.Manager as tm
 use Rattle.qs_tm.specs.Participant as participant
 use Rattle.qs_tm.specs.Participant.{is_undecided}
 use Rattle.qs_tm.specs.declared.participant.Participant.{Participant}
-use Rattle.qs_step.specs.Asking.{closer_came, count}
-use Rattle.qs_step.specs.State.{NodeValue, Work, part_of}
+use Rattle.qs_step.specs.Asking.{count}
+use Rattle.qs_step.specs.State.{NodeValue, part_of}
 use Rattle.qs_world.specs.Openings.{is_audit}
 use Rattle.qs_refine.specs.Links.{names_node, node_no}
 use Rattle.qs_refine.specs.Sound.{is_sound, fits_setting, is_sound_part, where_so, is_whole, is_sound_peer}

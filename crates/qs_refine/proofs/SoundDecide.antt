@@ -1,9 +1,8 @@
 -- A home stays sound where it decides, and records and tells what it decided.
-use Rattle.std.proofs.Common.{◌≡◌, ◌==◌, ◌&&◌, ◌||◌, not, Bool, true, false, List, [], ◌∷◌, length, Option, Some, None, is_some, refl, sym, ap, subst, ◌∙◌, arith, fold, if◌then◌else◌}
+use Rattle.std.proofs.Common.{◌≡◌, ◌==◌, ◌&&◌, ◌||◌, not, Bool, true, false, List, [], ◌∷◌, length, Option, Some, None, is_some, refl, sym, ap, subst, ◌∙◌, fold, if◌then◌else◌}
 use Rattle.std.specs.Map.{lookup, set_value}
 use Rattle.std.specs.BTreeMap.{is_at}
 use Rattle.std.proofs.lemmas.Bool.{eqb-true}
-use Rattle.std.proofs.lemmas.Bool.Decides.{nat_tests}
 use Rattle.std.proofs.lemmas.List.{length-set}
 use Rattle.qs_base.specs.Order.{tid_cmp}
 use Rattle.qs_base.specs.declared.identifiers.NodeNo.{NodeNo}
@@ -16,7 +15,6 @@ use Rattle.qs_engage.specs.declared.nodes.Nodes.{Nodes}
 use Rattle.qs_ipc.specs.Ipc as ipc
 use Rattle.qs_ops.specs.declared.answer.Cause.{Cause}
 use Rattle.qs_packet.specs.declared.message.Message.TheVariants as messages
-use Rattle.qs_record.specs.declared.record.Record.{Record}
 use Rattle.qs_record.specs.declared.record.Record.TheVariants as records
 use Rattle.qs_tm.specs.Manager as tm
 use Rattle.qs_tm.specs.Manager.{changed_value, no_decision}
@@ -32,13 +30,13 @@ use Rattle.qs_step.specs.Settling.{is_lent}
 use Rattle.qs_step.specs.State.{NodeValue, Work, part_of, with_manager}
 use Rattle.qs_refine.specs.Sound.{is_sound, where_so, is_whole}
 use Rattle.qs_refine.specs.SoundLaws.{DecideAbortSound, DecideCommitSound}
-use Rattle.qs_refine.proofs.Maps.{lookup_set, lookup_changed}
+use Rattle.qs_refine.proofs.Maps.{lookup_changed}
 use Rattle.qs_refine.proofs.SoundParts.{and_both, both_and}
 use Rattle.qs_refine.proofs.SoundRules.{sends_node}
 use Rattle.qs_refine.proofs.SoundEnds.{part_turned, part_ended, keep_sound}
-use Rattle.qs_refine.proofs.SoundHolds.{Holds, known_sound, told_as, is_held, held_is, held_as}
+use Rattle.qs_refine.proofs.SoundHolds.{Holds, known_sound, told_as, is_held, held_is}
 use Rattle.qs_refine.proofs.SoundNotices.{give_notices_hold}
-use Rattle.qs_refine.proofs.SoundViews.{PartSound, is_apart}
+use Rattle.qs_refine.proofs.SoundViews.{PartSound}
 
 -- ---- sets have a place for each node
 

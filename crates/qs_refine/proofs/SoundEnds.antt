@@ -1,7 +1,7 @@
 -- A node stays sound where the outcome of a transaction gets known, and where the transaction is forgotten.
-use Rattle.std.proofs.Common.{◌≡◌, ◌==◌, ◌&&◌, ◌||◌, not, Bool, true, false, List, [], ◌∷◌, ◌++◌, cond, Option, Some, None, is_some, refl, sym, ap, subst, ◌∙◌, arith, if◌then◌else◌}
+use Rattle.std.proofs.Common.{◌≡◌, ◌&&◌, ◌||◌, not, Bool, true, false, List, [], ◌∷◌, ◌++◌, Option, Some, None, is_some, refl, sym, ap, subst, ◌∙◌, arith, if◌then◌else◌}
 use Rattle.std.specs.List.{list_all, list_any, find}
-use Rattle.std.specs.Map.{lookup, set_value, remove_entry}
+use Rattle.std.specs.Map.{set_value, remove_entry}
 use Rattle.std.specs.BTreeMap.{is_at}
 use Rattle.std.proofs.lemmas.Bool.Decides.{nat_tests}
 use Rattle.qs_base.specs.Order.{tid_cmp, same_tid}
@@ -10,7 +10,7 @@ use Rattle.qs_base.specs.declared.identifiers.ServerNo.{ServerNo}
 use Rattle.qs_base.specs.declared.identifiers.Tid.{Tid}
 use Rattle.qs_ipc.specs.Ipc as ipc
 use Rattle.qs_ipc.specs.Ipc.{IpcValue, waits_in}
-use Rattle.qs_ipc.specs.Queue.{QueueValue, is_of, is_for}
+use Rattle.qs_ipc.specs.Queue.{is_of, is_for}
 use Rattle.qs_ipc.specs.declared.delivery.Delivery.{Delivery}
 use Rattle.qs_kept.specs.Keeping.{is_outcome_of}
 use Rattle.qs_kept.specs.Loans.{is_standing_loan}
@@ -28,12 +28,12 @@ use Rattle.qs_step.specs.Settling.{is_lent}
 use Rattle.qs_step.specs.Telling.{forget}
 use Rattle.qs_step.specs.State.{NodeValue, Work}
 use Rattle.qs_refine.specs.NodeFaces.{began_here}
-use Rattle.qs_refine.specs.Sound.{is_sound, in_order, is_less, is_sound_part, is_sound_queue, is_sound_delivery, is_sound_loan, is_sound_label, may_be_served, is_past, where_so}
+use Rattle.qs_refine.specs.Sound.{is_sound, in_order, is_less, is_sound_part, is_sound_queue, is_sound_delivery, is_sound_loan, may_be_served, is_past, where_so}
 use Rattle.qs_refine.proofs.Frames.{part_apart}
 use Rattle.qs_refine.proofs.Maps.{lookup_changed}
 use Rattle.qs_refine.proofs.Others.{forget_apart}
 use Rattle.qs_refine.proofs.SoundParts.{and_both, both_and, all_set, order_set}
-use Rattle.qs_refine.proofs.SoundViews.{NodeSound, PartSound, is_apart, seen, sound_as, part_as}
+use Rattle.qs_refine.proofs.SoundViews.{NodeSound, PartSound, seen, sound_as, part_as}
 use Rattle.qs_refine.proofs.SoundFrames.{moved, queues_moved, loans_moved, labels_moved, less_on}
 use Rattle.qs_refine.proofs.SoundKnown.{same_is}
 use Rattle.qs_refine.proofs.SoundQueued.{forgotten_sound}

@@ -1,5 +1,5 @@
 -- A node stays sound where what comes to it is done.
-use Rattle.std.proofs.Common.{◌≡◌, ℕ, ◌<◌, ◌||◌, not, nat_lt, nat_le, Bool, true, false, List, [], ◌∷◌, Option, Some, None, is_some, refl, sym, ap, subst, ◌∙◌, arith, if◌then◌else◌}
+use Rattle.std.proofs.Common.{◌≡◌, ◌<◌, ◌||◌, not, nat_lt, nat_le, Bool, true, false, List, [], ◌∷◌, Option, Some, None, is_some, refl, subst, arith, if◌then◌else◌}
 use Rattle.std.specs.List.{list_all, find}
 use Rattle.std.proofs.lemmas.Bool.Decides.{nat_tests}
 use Rattle.qs_base.specs.declared.identifiers.ClientNo.{ClientNo}
@@ -14,20 +14,19 @@ use Rattle.qs_kept.specs.declared.kept.Begun.{Begun}
 use Rattle.qs_ops.specs.declared.answer.Answer.TheVariants as answers
 use Rattle.qs_packet.specs.declared.message.Message.{Message}
 use Rattle.qs_packet.specs.declared.message.Message.TheVariants as messages
-use Rattle.qs_step.specs.Bringing.{enter, answer}
+use Rattle.qs_step.specs.Bringing.{enter}
 use Rattle.qs_step.specs.Borrowing.{borrower_command}
-use Rattle.qs_step.specs.Commands.{begin_command, owner_command}
+use Rattle.qs_step.specs.Commands.{owner_command}
 use Rattle.qs_step.specs.Serving.{label_at}
 use Rattle.qs_servers.specs.Servers.{timers_no}
 use Rattle.qs_tm.specs.Manager as tm
 use Rattle.qs_ops.specs.Timers.{ticked}
 use Rattle.qs_step.specs.State.{Work, with_manager, change_server}
-use Rattle.qs_step.specs.Step.{is_owner, labelled, obey, with_command, command_came, message_came, tick, happen}
-use Rattle.qs_step.specs.declared.event.Event.{Event}
+use Rattle.qs_step.specs.Step.{is_owner, labelled, obey, with_command, message_came}
 use Rattle.qs_step.specs.declared.event.Event.TheVariants as events
 use Rattle.qs_refine.specs.Sound.{is_sound, goes_in_run, is_owned, is_owned_label, keeps_owned}
 use Rattle.qs_refine.specs.SoundLaws.{StaysSound}
-use Rattle.qs_refine.specs.SoundSteps.{FitsMessage, MayHappen, HappenSound}
+use Rattle.qs_refine.specs.SoundSteps.{FitsMessage, HappenSound}
 use Rattle.qs_refine.proofs.SoundParts.{and_both}
 use Rattle.qs_refine.proofs.SoundRules.{answer_sound, ask_came_sound, refusal_came_sound, reply_came_sound}
 use Rattle.qs_refine.proofs.SoundBegin.{begin_command_sound}

@@ -1,6 +1,6 @@
 -- A home stays sound where it is asked for an outcome, and where it is told who took one in.
 use Rattle.std.proofs.Common.{◌≡◌, ℕ, ◌==◌, ◌&&◌, ◌||◌, not, nat_lt, nat_le, Bool, true, false, List, [], ◌∷◌, length, Option, Some, None, is_some, refl, sym, ap, subst, ◌∙◌, arith, if◌then◌else◌}
-use Rattle.std.specs.List.{list_all, list_any}
+use Rattle.std.specs.List.{list_any}
 use Rattle.std.specs.BTreeMap.{is_at}
 use Rattle.std.proofs.lemmas.Bool.{eqb-true}
 use Rattle.std.proofs.lemmas.Bool.Decides.{nat_tests}
@@ -10,10 +10,9 @@ use Rattle.qs_base.specs.declared.identifiers.NodeNo.{NodeNo}
 use Rattle.qs_base.specs.declared.identifiers.Outcome.{Outcome}
 use Rattle.qs_base.specs.declared.identifiers.Outcome.TheVariants as outcomes
 use Rattle.qs_base.specs.declared.identifiers.Tid.{Tid}
-use Rattle.qs_engage.specs.Engage.{peer_of, sent_to}
+use Rattle.qs_engage.specs.Engage.{peer_of}
 use Rattle.qs_engage.specs.Nodes.{all_nodes, same_node, has_node, put_node, listed}
 use Rattle.qs_engage.specs.declared.nodes.Nodes.{Nodes}
-use Rattle.qs_ipc.specs.Ipc as ipc
 use Rattle.qs_packet.specs.declared.message.Message.TheVariants as messages
 use Rattle.qs_record.specs.declared.record.Record.TheVariants as records
 use Rattle.qs_tm.specs.Manager as tm
@@ -21,10 +20,9 @@ use Rattle.qs_tm.specs.Outcomes as outcome_rules
 use Rattle.qs_tm.specs.Outcomes.{is_abort, new_names}
 use Rattle.qs_tm.specs.Participant as participant
 use Rattle.qs_tm.specs.Participant.{is_undecided}
-use Rattle.qs_tm.specs.declared.participant.InLog.{InLog}
 use Rattle.qs_tm.specs.declared.participant.Participant.{Participant}
 use Rattle.qs_step.specs.Answering.{was_committed, answer_unknown, answer_known, inquiry_came}
-use Rattle.qs_step.specs.Bringing.{send, send_each, log}
+use Rattle.qs_step.specs.Bringing.{send, log}
 use Rattle.qs_step.specs.State.{NodeValue, Work, here, part_of, with_manager}
 use Rattle.qs_step.specs.Telling.{keep_abort_told, is_other_node, told_unknown, told_known, told_came, take_told, take_names, end_told, forget}
 use Rattle.qs_refine.specs.Links.{node_no}
@@ -32,17 +30,17 @@ use Rattle.qs_refine.specs.NodeFaces.{began_here}
 use Rattle.qs_refine.specs.Sound.{is_sound, where_so, same_flag, is_whole, is_sound_peer, may_be_served, is_kept_part, keeps_commits}
 use Rattle.qs_refine.specs.SoundLaws.{StaysSound, InquiryCameSound, ToldCameSound}
 use Rattle.qs_refine.proofs.Arrays.{node_put}
-use Rattle.qs_refine.proofs.Maps.{lookup_changed, changed_none}
+use Rattle.qs_refine.proofs.Maps.{lookup_changed}
 use Rattle.qs_refine.proofs.SoundParts.{and_both, both_and, all_found}
 use Rattle.qs_refine.proofs.SoundBegin.{all_implied}
 use Rattle.qs_refine.proofs.SoundRules.{send_node, sends_node}
 use Rattle.qs_refine.proofs.SoundCount.{few_nodes, told_length}
 use Rattle.qs_refine.proofs.SoundDecide.{tell_whole, nodes_length}
 use Rattle.qs_refine.proofs.SoundEnds.{forget_sound}
-use Rattle.qs_refine.proofs.SoundHolds.{part_step, known_sound}
+use Rattle.qs_refine.proofs.SoundHolds.{part_step}
 use Rattle.qs_refine.proofs.SoundKnown.{nothing_waits, nothing_lent}
 use Rattle.qs_refine.proofs.SoundTell.{keep_abort_sound}
-use Rattle.qs_refine.proofs.SoundViews.{PartSound, is_apart, seen}
+use Rattle.qs_refine.proofs.SoundViews.{PartSound, seen}
 
 home_is : (h n : Bool) → n ≡ true → same_flag h n ≡ true → h ≡ true
 home_is true n is so = refl

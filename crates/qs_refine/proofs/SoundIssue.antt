@@ -1,7 +1,6 @@
 -- A node stays sound where a client, or files that owe a note, issue a request.
 use Rattle.std.proofs.Common.{◌≡◌, ℕ, ◌+◌, ◌==◌, ◌&&◌, ◌||◌, not, nat_lt, Bool, true, false, Option, Some, None, refl, sym, ap, subst, ◌∙◌, if◌then◌else◌}
 use Rattle.qs_base.specs.declared.identifiers.Member.{Member}
-use Rattle.qs_base.specs.declared.identifiers.NodeNo.{NodeNo}
 use Rattle.qs_base.specs.declared.identifiers.ServerNo.{ServerNo}
 use Rattle.qs_base.specs.declared.identifiers.Tid.{Tid}
 use Rattle.qs_engage.specs.Engage.{peer_of, with_peer, last_number}
@@ -18,7 +17,7 @@ use Rattle.qs_tm.specs.Participant.{is_undecided}
 use Rattle.qs_tm.specs.declared.participant.Outstanding.{Outstanding}
 use Rattle.qs_tm.specs.declared.participant.Participant.{Participant}
 use Rattle.qs_step.specs.Bringing.{send}
-use Rattle.qs_step.specs.Requests.{enqueue, next_number, enter_issue, with_local, issue_here, issue_away, issue_as, issue, ask_on, is_asked, label_of}
+use Rattle.qs_step.specs.Requests.{next_number, enter_issue, with_local, issue_here, issue_away, issue_as, issue, ask_on, is_asked, label_of}
 use Rattle.qs_step.specs.State.{NodeValue, Work, here, part_of, with_manager, with_queues}
 use Rattle.qs_refine.specs.Sound.{is_sound, may_be_served}
 use Rattle.qs_refine.proofs.SoundParts.{and_both, both_and}

@@ -1,8 +1,7 @@
 -- What waits or is lent is of a transaction that a sound node knows; so one that it gets to know is idle.
-use Rattle.std.proofs.Common.{◌≡◌, ◌==◌, ◌&&◌, ◌||◌, not, Bool, true, false, List, [], ◌∷◌, ◌++◌, Option, Some, None, is_some, refl, sym, ap, subst, ◌∙◌, arith}
+use Rattle.std.proofs.Common.{◌≡◌, ◌==◌, ◌&&◌, ◌||◌, not, Bool, true, false, List, [], ◌∷◌, Option, Some, None, is_some, refl, sym, ap, subst, ◌∙◌, arith}
 use Rattle.std.specs.List.{list_all, list_any}
-use Rattle.std.specs.Map.{lookup}
-use Rattle.std.specs.BTreeMap.{insert_entry, is_at}
+use Rattle.std.specs.BTreeMap.{insert_entry}
 use Rattle.std.proofs.lemmas.Bool.Decides.{nat_tests}
 use Rattle.qs_base.proofs.TidOrder.{tid_exact}
 use Rattle.qs_base.specs.Order.{tid_cmp, same_tid}
@@ -26,10 +25,10 @@ use Rattle.qs_refine.specs.NodeFaces.{began_here}
 use Rattle.qs_refine.specs.Sound.{is_sound, is_sound_part, is_sound_queue, is_sound_delivery, is_sound_loan, is_sound_label, may_be_served, is_past, where_so}
 use Rattle.qs_refine.proofs.Maps.{lookup_put}
 use Rattle.qs_refine.proofs.Others.{put_apart}
-use Rattle.qs_refine.proofs.SoundParts.{and_both, both_and}
+use Rattle.qs_refine.proofs.SoundParts.{and_both}
 use Rattle.qs_refine.proofs.SoundBegin.{all_last, all_put, order_put}
 use Rattle.qs_refine.proofs.SoundViews.{PartSound, seen, sound_as, part_as}
-use Rattle.qs_refine.proofs.SoundFrames.{moved, parts_moved, queues_moved, loans_moved, labels_moved}
+use Rattle.qs_refine.proofs.SoundFrames.{moved, queues_moved, loans_moved, labels_moved}
 use Rattle.qs_refine.proofs.SoundQueued.{either}
 
 pub same_is : (t u : Tid) → same_tid t u ≡ true → t ≡ u

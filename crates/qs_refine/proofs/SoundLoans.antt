@@ -13,7 +13,7 @@ use Rattle.qs_kept.specs.declared.kept.Lent.{Lent}
 use Rattle.qs_ops.specs.declared.answer.Answer.TheVariants as answers
 use Rattle.qs_tm.specs.Manager as tm
 use Rattle.qs_tm.specs.declared.participant.Participant.{Participant}
-use Rattle.qs_step.specs.Borrowing.{is_void, take, yield}
+use Rattle.qs_step.specs.Borrowing.{is_void}
 use Rattle.qs_step.specs.State.{NodeValue, Work}
 use Rattle.qs_refine.specs.Sound.{is_sound, is_sound_part, is_sound_loan, may_be_served, where_so}
 use Rattle.qs_refine.specs.SoundLaws.{TakeSound, YieldSound}

@@ -1,5 +1,5 @@
 -- What a log says is what a node can take up, so that each node of an opening, and each that restarts, is sound.
-use Rattle.std.proofs.Common.{◌≡◌, ℕ, ◌<◌, ◌≤◌, ◌==◌, ◌&&◌, ◌||◌, not, nat_lt, nat_le, Bool, true, false, List, [], ◌∷◌, ◌++◌, length, map, fold, Option, Some, None, refl, sym, ap, subst, ◌∙◌, arith, if◌then◌else◌}
+use Rattle.std.proofs.Common.{◌≡◌, ℕ, ◌≤◌, ◌==◌, ◌&&◌, ◌||◌, not, nat_lt, nat_le, Bool, true, false, List, [], ◌∷◌, ◌++◌, length, map, fold, Option, Some, None, refl, sym, ap, subst, ◌∙◌, arith, if◌then◌else◌}
 use Rattle.std.specs.Global.{Global}
 use Rattle.std.specs.List.{list_all, list_any, filter}
 use Rattle.std.proofs.lemmas.Bool.{eqb-true}
@@ -10,7 +10,6 @@ use Rattle.qs_base.specs.declared.identifiers.Tid.{Tid}
 use Rattle.qs_engage.specs.Nodes.{same_node}
 use Rattle.qs_kept.specs.Keeping.{no_kept}
 use Rattle.qs_kept.specs.Loans.{is_standing_loan}
-use Rattle.qs_kept.specs.declared.kept.Begun.{Begun}
 use Rattle.qs_kept.specs.declared.kept.Kept.{Kept}
 use Rattle.qs_kept.specs.declared.kept.Lent.{Lent}
 use Rattle.qs_machine.specs.Nodes.{is_recoverable}
@@ -19,14 +18,13 @@ use Rattle.qs_record.specs.declared.record.Record.TheVariants as records
 use Rattle.qs_restart.specs.Recovery as restart
 use Rattle.qs_restart.specs.Recovery.{Prepared, Untold, Recovery, recovery, found_record, nothing_said, names_transaction, is_vote_of, is_of, is_untold_of, mark_committed, ended, with_list, prepare_of, commit_of, in_doubt, untold}
 use Rattle.qs_tm.specs.declared.manager.Manager.{Manager}
-use Rattle.qs_tm.specs.declared.participant.Participant.{Participant}
 use Rattle.qs_step.specs.Opening.{take_up, new_manager, opened_node, recovered_as, recovered_of}
 use Rattle.qs_step.specs.State.{NodeValue}
 use Rattle.qs_step.specs.declared.setting.Setting.{Setting}
 use Rattle.qs_world.specs.Openings.{is_record, is_list, is_setting, has_node}
-use Rattle.qs_world.specs.World.{Opening, start}
+use Rattle.qs_world.specs.World.{Opening}
 use Rattle.qs_world.proofs.Below.{each_is}
-use Rattle.qs_refine.specs.Sound.{is_sound, in_order, is_sound_part, is_sound_loan, is_sound_label, is_past, where_so, may_vote, is_list_of, may_take_up, is_loan_before, is_label_before, kept_before, fits_setting}
+use Rattle.qs_refine.specs.Sound.{is_sound, is_sound_part, is_sound_loan, is_sound_label, is_past, where_so, may_vote, is_list_of, is_loan_before, is_label_before, kept_before, fits_setting}
 use Rattle.qs_refine.specs.SoundLaws.{OpenedSound, RestartSound}
 use Rattle.qs_refine.proofs.SoundParts.{and_both, both_and}
 use Rattle.qs_refine.proofs.SoundBegin.{all_last, all_implied}

@@ -1,5 +1,5 @@
 -- A node stays sound where its servers are told how a transaction ends.
-use Rattle.std.proofs.Common.{◌≡◌, ◌&&◌, not, nat_le, Bool, true, false, List, [], ◌∷◌, Option, Some, None, refl, fold}
+use Rattle.std.proofs.Common.{◌≡◌, Bool, true, false, List, [], ◌∷◌, refl, fold}
 use Rattle.qs_base.specs.declared.identifiers.Outcome.{Outcome}
 use Rattle.qs_base.specs.declared.identifiers.Outcome.TheVariants as outcomes
 use Rattle.qs_base.specs.declared.identifiers.ServerNo.{ServerNo}
@@ -10,10 +10,10 @@ use Rattle.qs_tm.specs.Outcomes.{settled}
 use Rattle.qs_tm.specs.Participant.{member_of}
 use Rattle.qs_tm.specs.declared.participant.Participant.{Participant}
 use Rattle.qs_step.specs.Deciding.{notify, notice_of, end_member, end_members, due_endings, learn_member, learn_members, learners_at, give_notices}
-use Rattle.qs_step.specs.State.{NodeValue, Work}
+use Rattle.qs_step.specs.State.{Work}
 use Rattle.qs_refine.proofs.SoundHolds.{Holds, holds_step}
 use Rattle.qs_refine.proofs.SoundMembers.{member_sound, vote_covers}
-use Rattle.qs_refine.proofs.SoundViews.{PartSound, is_apart}
+use Rattle.qs_refine.proofs.SoundViews.{is_apart}
 
 -- of a participant that is at its home, decided, or engaged, and stays such
 module _ (g : Participant → Bool) (tid : Tid) (busy : (part : Participant) → g part ≡ true → is_apart part ≡ false) (stays : (server : ServerNo) (part : Participant) → g part ≡ true → g (settled server part) ≡ true) where

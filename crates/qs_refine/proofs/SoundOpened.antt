@@ -1,12 +1,11 @@
 -- A node that opens over an old log is sound.
-use Rattle.std.proofs.Common.{◌≡◌, ℕ, ◌<◌, ◌≤◌, ◌==◌, ◌&&◌, ◌||◌, not, nat_lt, nat_le, Bool, true, false, List, [], ◌∷◌, ◌++◌, length, map, fold, Option, Some, None, is_some, is_none, refl, sym, ap, subst, ◌∙◌, arith, if◌then◌else◌}
+use Rattle.std.proofs.Common.{◌≡◌, ℕ, ◌==◌, ◌&&◌, ◌||◌, not, Bool, true, false, List, [], ◌∷◌, ◌++◌, length, fold, Option, Some, None, is_some, refl, sym, ap, subst, ◌∙◌, arith, if◌then◌else◌}
 use Rattle.std.specs.Global.{Global}
-use Rattle.std.specs.List.{list_all, list_any, filter}
+use Rattle.std.specs.List.{list_all}
 use Rattle.std.specs.Map.{lookup, set_value}
 use Rattle.std.specs.BTreeMap.{insert_entry, is_at}
 use Rattle.std.specs.declared.cmp.Ordering.{Ordering}
 use Rattle.std.specs.declared.cmp.Ordering.TheVariants.{Less, Equal, Greater}
-use Rattle.std.proofs.lemmas.Bool.{eqb-true}
 use Rattle.std.proofs.lemmas.Bool.Decides.{nat_tests}
 use Rattle.qs_base.specs.Order.{tid_cmp}
 use Rattle.qs_base.specs.declared.identifiers.NodeNo.{NodeNo}
@@ -22,21 +21,21 @@ use Rattle.qs_tm.specs.Manager as tm
 use Rattle.qs_tm.specs.Manager.{changed_value}
 use Rattle.qs_tm.specs.Members.{all_servers}
 use Rattle.qs_tm.specs.Outcomes.{is_abort, voted_before, committed_before, aborted_participant}
-use Rattle.qs_tm.specs.Participant.{new_participant, needs_pass, is_undecided}
+use Rattle.qs_tm.specs.Participant.{new_participant, needs_pass}
 use Rattle.qs_tm.specs.declared.manager.Manager.{Manager}
 use Rattle.qs_tm.specs.declared.participant.Participant.{Participant}
 use Rattle.qs_step.specs.Opening.{take_up, new_manager, opened_node, recovered_of}
 use Rattle.qs_step.specs.State.{NodeValue}
 use Rattle.qs_step.specs.declared.setting.Setting.{Setting}
 use Rattle.qs_refine.specs.Sound.{in_order, is_sound_part, is_sound_peer, is_sound_member, same_flag, where_so}
-use Rattle.qs_refine.proofs.Maps.{lookup_put, lookup_changed}
+use Rattle.qs_refine.proofs.Maps.{lookup_put}
 use Rattle.qs_refine.proofs.NodeSets.{joined_length}
 use Rattle.qs_refine.proofs.StartWorlds.{nobody}
 use Rattle.qs_refine.proofs.SoundParts.{and_both, both_and, all_found, all_set, order_set}
 use Rattle.qs_refine.proofs.SoundBegin.{all_put, order_put, all_implied}
 use Rattle.qs_refine.proofs.SoundRequest.{no_pass}
 use Rattle.qs_refine.proofs.SoundTell.{aborted_sound}
-use Rattle.qs_refine.proofs.SoundViews.{PartSound, is_apart, part_seen, part_as}
+use Rattle.qs_refine.proofs.SoundViews.{PartSound, part_seen, part_as}
 use Rattle.qs_refine.proofs.SoundVoted.{voted_part, voted_sound, voted_passes}
 
 -- an entry that is put and then set is put so

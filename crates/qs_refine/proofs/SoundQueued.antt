@@ -19,11 +19,11 @@ use Rattle.qs_ipc.specs.declared.delivery.Delivery.{Delivery}
 use Rattle.qs_tm.specs.Manager as tm
 use Rattle.qs_tm.specs.declared.participant.Participant.{Participant}
 use Rattle.qs_step.specs.State.{NodeValue}
-use Rattle.qs_refine.specs.Sound.{is_sound, is_sound_part, is_sound_queue, is_sound_delivery, may_be_served}
+use Rattle.qs_refine.specs.Sound.{is_sound, is_sound_part, is_sound_queue, is_sound_delivery}
 use Rattle.qs_refine.proofs.SoundParts.{and_both, both_and, all_found}
-use Rattle.qs_refine.proofs.SoundBegin.{all_implied, all_last}
+use Rattle.qs_refine.proofs.SoundBegin.{all_last}
 use Rattle.qs_refine.proofs.SoundViews.{seen, sound_as, is_apart}
-use Rattle.qs_refine.proofs.SoundFrames.{moved, parts_moved, parts_beside}
+use Rattle.qs_refine.proofs.SoundFrames.{parts_moved, parts_beside}
 
 -- ---- truth values and lists
 

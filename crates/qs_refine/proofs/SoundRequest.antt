@@ -1,5 +1,5 @@
 -- A node stays sound where a request comes: its sender becomes the superior where there is none, and it waits at its server.
-use Rattle.std.proofs.Common.{◌≡◌, ℕ, ◌<◌, ◌==◌, ◌&&◌, ◌||◌, not, Bool, true, false, List, [], ◌∷◌, length, Option, Some, None, is_none, is_some, nat_le, nat_lt, refl, sym, ap, subst, ◌∙◌, arith, if◌then◌else◌}
+use Rattle.std.proofs.Common.{◌≡◌, ℕ, ◌==◌, ◌&&◌, ◌||◌, not, Bool, true, false, Option, Some, None, is_none, is_some, nat_le, nat_lt, refl, sym, ap, subst, ◌∙◌, arith, if◌then◌else◌}
 use Rattle.std.specs.List.{list_all}
 use Rattle.std.specs.BTreeMap.{is_at}
 use Rattle.std.proofs.lemmas.Bool.{eqb-true}
@@ -9,7 +9,7 @@ use Rattle.qs_base.specs.Order.{tid_cmp}
 use Rattle.qs_base.specs.declared.identifiers.Member.{Member}
 use Rattle.qs_base.specs.declared.identifiers.NodeNo.{NodeNo}
 use Rattle.qs_base.specs.declared.identifiers.Tid.{Tid}
-use Rattle.qs_engage.specs.Engage.{peer_of, with_last, with_superior}
+use Rattle.qs_engage.specs.Engage.{peer_of, with_last}
 use Rattle.qs_engage.specs.Nodes.{all_nodes, same_node, has_node}
 use Rattle.qs_engage.specs.declared.engage.Engage.{Engage}
 use Rattle.qs_engage.specs.declared.engage.Engaged.{Engaged}
@@ -18,7 +18,6 @@ use Rattle.qs_engage.specs.declared.engage.PeerPart.{PeerPart}
 use Rattle.qs_ipc.specs.Ipc as ipc
 use Rattle.qs_ipc.specs.Queue.{is_for}
 use Rattle.qs_ipc.specs.declared.delivery.Delivery.{Delivery}
-use Rattle.qs_kept.specs.declared.kept.Begun.{Begun}
 use Rattle.qs_ops.specs.declared.operation.Op.{Op}
 use Rattle.qs_packet.specs.declared.message.Message.TheVariants as messages
 use Rattle.qs_tm.specs.Manager as tm
@@ -28,10 +27,9 @@ use Rattle.qs_tm.specs.Participant as participant
 use Rattle.qs_tm.specs.Participant.{is_undecided, new_participant}
 use Rattle.qs_tm.specs.declared.participant.Participant.{Participant}
 use Rattle.qs_step.specs.Serving.{label_at, put_label, cover_from, engage, is_dropped, take_in}
-use Rattle.qs_step.specs.Settling.{is_lent}
 use Rattle.qs_step.specs.State.{NodeValue, Work, here, part_of, with_manager, with_queues}
 use Rattle.qs_refine.specs.Links.{node_no}
-use Rattle.qs_refine.specs.Sound.{is_sound, fits_setting, is_sound_part, is_sound_peer, is_sound_member, is_sound_superior, is_superior, is_whole, may_be_served, where_so}
+use Rattle.qs_refine.specs.Sound.{is_sound, fits_setting, is_sound_part, is_sound_peer, is_sound_member, is_sound_superior, is_whole, may_be_served, where_so}
 use Rattle.qs_refine.specs.SoundLaws.{RequestCameSound}
 use Rattle.qs_refine.proofs.Arrays.{peer_put}
 use Rattle.qs_refine.proofs.Maps.{lookup_changed, lookup_put, changed_none}

@@ -1,5 +1,5 @@
 -- A node stays sound where another one restarted, and in its own first step.
-use Rattle.std.proofs.Common.{◌≡◌, ℕ, ◌<◌, ◌==◌, ◌&&◌, ◌||◌, not, nat_lt, nat_le, Bool, true, false, List, [], ◌∷◌, length, Option, Some, None, is_some, refl, sym, ap, subst, ◌∙◌, arith, fold, if◌then◌else◌}
+use Rattle.std.proofs.Common.{◌≡◌, ℕ, ◌<◌, ◌==◌, ◌&&◌, not, nat_lt, nat_le, Bool, true, false, List, [], ◌∷◌, Option, Some, None, is_some, refl, sym, subst, ◌∙◌, fold, if◌then◌else◌}
 use Rattle.std.specs.List.{list_all}
 use Rattle.std.proofs.lemmas.Bool.{eqb-true}
 use Rattle.std.proofs.lemmas.List.{length-set}
@@ -21,12 +21,12 @@ use Rattle.qs_tm.specs.Participant as participant
 use Rattle.qs_tm.specs.Participant.{is_owed_by, is_undecided}
 use Rattle.qs_tm.specs.declared.participant.Participant.{Participant}
 use Rattle.qs_step.specs.Asking.{block}
-use Rattle.qs_step.specs.Bringing.{send, send_each, log_if}
+use Rattle.qs_step.specs.Bringing.{send, log_if}
 use Rattle.qs_step.specs.Deciding.{give_notices}
-use Rattle.qs_step.specs.Restarts.{find_gone, is_orphaned_by, inquire, tell_again, name_again, notice_decided, notice_part, notice_tid, peer_restarted, resume_home, resume_part, resume_tid, known_tids, begin_incarnation}
+use Rattle.qs_step.specs.Restarts.{find_gone, is_orphaned_by, inquire, tell_again, name_again, notice_decided, notice_part, notice_tid, resume_home, resume_part, resume_tid, known_tids}
 use Rattle.qs_step.specs.State.{NodeValue, Work, part_of, with_node, with_manager, with_queues}
 use Rattle.qs_refine.specs.Links.{node_no}
-use Rattle.qs_refine.specs.Sound.{is_sound, where_so, is_whole, is_sound_peer}
+use Rattle.qs_refine.specs.Sound.{is_sound, where_so, is_sound_peer}
 use Rattle.qs_refine.specs.SoundLaws.{StaysSound, PeerRestartedSound, BeginIncarnationSound}
 use Rattle.qs_refine.proofs.Arrays.{peer_put}
 use Rattle.qs_refine.proofs.SoundBegin.{all_implied}

@@ -1,5 +1,5 @@
 -- A node stays sound where it serves what waits.
-use Rattle.std.proofs.Common.{◌≡◌, ◌==◌, ◌&&◌, ◌||◌, not, Bool, true, false, List, [], ◌∷◌, Option, Some, None, is_none, unwrap_or, refl, sym, ap, subst, ◌∙◌, arith, fold, if◌then◌else◌}
+use Rattle.std.proofs.Common.{◌≡◌, ◌==◌, ◌&&◌, ◌||◌, not, Bool, true, false, List, [], ◌∷◌, Option, Some, None, unwrap_or, refl, sym, ap, subst, ◌∙◌, arith, fold, if◌then◌else◌}
 use Rattle.std.specs.List.{list_any}
 use Rattle.std.specs.Map.{lookup}
 use Rattle.std.specs.BTreeMap.{is_at}
@@ -14,7 +14,6 @@ use Rattle.qs_ipc.specs.Ipc as ipc
 use Rattle.qs_ipc.specs.Ipc.{IpcValue, server_cmp, waits_in}
 use Rattle.qs_ipc.specs.Queue.{QueueValue, no_queue, first, first_of, is_of}
 use Rattle.qs_ipc.specs.declared.delivery.Delivery.{Delivery}
-use Rattle.qs_kept.specs.declared.kept.Lent.{Lent}
 use Rattle.qs_ops.specs.Server.{after_serving}
 use Rattle.qs_ops.specs.declared.reply.Reply.{Reply}
 use Rattle.qs_packet.specs.declared.message.Message.TheVariants as messages
@@ -28,9 +27,9 @@ use Rattle.qs_tm.specs.declared.participant.Participant.{Participant}
 use Rattle.qs_engage.specs.Engage.{last_number}
 use Rattle.qs_step.specs.Bringing.{member_here}
 use Rattle.qs_step.specs.Requests.{reply_came}
-use Rattle.qs_step.specs.Serving.{reply_here, change_served, enter_serve, lent_to, make_loan, give_reply, serve, may_serve, serve_or_drop, serve_next}
+use Rattle.qs_step.specs.Serving.{reply_here, enter_serve, lent_to, make_loan, give_reply, serve, may_serve, serve_or_drop, serve_next}
 use Rattle.qs_step.specs.Settling.{is_lent}
-use Rattle.qs_step.specs.State.{NodeValue, Work, here, part_of, with_manager, with_queues, with_doings, change_server}
+use Rattle.qs_step.specs.State.{NodeValue, Work, here, part_of, with_manager, with_queues, change_server}
 use Rattle.qs_refine.specs.Sound.{is_sound, is_sound_part, may_be_served, where_so}
 use Rattle.qs_refine.specs.SoundLaws.{StaysSound, ServeAllSound}
 use Rattle.qs_refine.proofs.Maps.{lookup_changed}

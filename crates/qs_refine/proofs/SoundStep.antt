@@ -1,5 +1,5 @@
 -- A node stays sound where commands that stayed open are answered, and so over a whole step.
-use Rattle.std.proofs.Common.{◌≡◌, ℕ, ◌&&◌, ◌||◌, not, nat_lt, Bool, true, false, List, [], ◌∷◌, ◌++◌, Option, Some, None, is_some, refl, sym, ap, subst, ◌∙◌, fold, if◌then◌else◌}
+use Rattle.std.proofs.Common.{◌≡◌, ℕ, Bool, true, false, List, [], ◌∷◌, ◌++◌, Option, Some, None, refl, sym, subst, ◌∙◌, fold, if◌then◌else◌}
 use Rattle.std.specs.List.{list_all}
 use Rattle.std.specs.Map.{lookup, set_value, remove_entry}
 use Rattle.std.specs.BTreeMap.{is_at}
@@ -29,7 +29,7 @@ use Rattle.qs_step.specs.Commands.{request_as, request_command, with_issued, dec
 use Rattle.qs_step.specs.Requests.{next_number, enter_issue, with_local, issue_here, issue_away, issue_as, ask_on, is_asked, label_of}
 use Rattle.qs_step.specs.Serving.{label_at}
 use Rattle.qs_step.specs.State.{NodeValue, Work, here, with_manager, with_queues, with_kept, with_doings, client_cmp, work_on}
-use Rattle.qs_step.specs.Step.{is_owner, request_waits, owner_waits, borrower_waits, waits_at, wait_command, wait_on, waiting_clients, happen}
+use Rattle.qs_step.specs.Step.{is_owner, owner_waits, borrower_waits, waits_at, wait_command, wait_on, waiting_clients, happen}
 use Rattle.qs_step.specs.declared.state.Issued.{Issued}
 use Rattle.qs_step.specs.declared.state.OpenCommand.{OpenCommand}
 use Rattle.qs_refine.specs.Sound.{is_sound, goes_in_run}

@@ -1,12 +1,9 @@
 -- A node stays sound where it is told an outcome, and where its home is told who took it in.
 use Rattle.std.proofs.Common.{◌≡◌, ◌<◌, ◌==◌, ◌&&◌, ◌||◌, not, nat_lt, nat_le, Bool, true, false, List, [], ◌∷◌, length, Option, Some, None, is_some, is_none, refl, sym, ap, subst, ◌∙◌, arith, if◌then◌else◌}
 use Rattle.std.specs.List.{list_all}
-use Rattle.std.specs.Map.{lookup}
 use Rattle.std.specs.BTreeMap.{is_at}
 use Rattle.std.proofs.lemmas.Bool.{eqb-true}
-use Rattle.std.proofs.lemmas.Bool.Decides.{nat_tests}
 use Rattle.qs_base.specs.Order.{tid_cmp}
-use Rattle.qs_base.specs.declared.identifiers.NodeNo.{NodeNo}
 use Rattle.qs_base.specs.declared.identifiers.Outcome.{Outcome}
 use Rattle.qs_base.specs.declared.identifiers.Outcome.TheVariants as outcomes
 use Rattle.qs_base.specs.declared.identifiers.Tid.{Tid}
@@ -26,15 +23,15 @@ use Rattle.qs_step.specs.Bringing.{log_if}
 use Rattle.qs_step.specs.Deciding.{give_notices}
 use Rattle.qs_step.specs.Settling.{is_lent}
 use Rattle.qs_step.specs.State.{NodeValue, Work, here, part_of, with_manager}
-use Rattle.qs_step.specs.Telling.{names_at, end_record, record_learnt, learn, learn_unknown, take_outcome, tell_came}
+use Rattle.qs_step.specs.Telling.{names_at, end_record, learn, learn_unknown, take_outcome}
 use Rattle.qs_refine.specs.Sound.{is_sound, fits_setting, where_so, is_sound_peer, is_sound_member, same_flag}
 use Rattle.qs_refine.specs.SoundLaws.{StaysSound, TellCameSound}
 use Rattle.qs_refine.proofs.Maps.{lookup_changed}
 use Rattle.qs_refine.proofs.StartWorlds.{nobody}
-use Rattle.qs_refine.proofs.SoundParts.{and_both, both_and}
+use Rattle.qs_refine.proofs.SoundParts.{and_both}
 use Rattle.qs_refine.proofs.SoundRules.{send_node}
 use Rattle.qs_refine.proofs.SoundEnds.{part_turned, part_ended}
-use Rattle.qs_refine.proofs.SoundHolds.{Holds, holds_step, known_sound, told_as, is_held, held_is}
+use Rattle.qs_refine.proofs.SoundHolds.{Holds, holds_step, known_sound, told_as}
 use Rattle.qs_refine.proofs.SoundKnown.{put_sound}
 use Rattle.qs_refine.proofs.SoundNotices.{give_notices_hold}
 use Rattle.qs_refine.proofs.SoundViews.{PartSound, is_apart, seen}

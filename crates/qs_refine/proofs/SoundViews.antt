@@ -1,5 +1,5 @@
 -- What is said of a sound node, part by part, so that a rule proves only the part that it changes.
-use Rattle.std.proofs.Common.{◌≡◌, ◌&&◌, not, Bool, true, false, refl}
+use Rattle.std.proofs.Common.{◌≡◌, ◌&&◌, not, Bool, true, refl}
 use Rattle.std.specs.List.{list_all}
 use Rattle.qs_base.specs.declared.identifiers.Tid.{Tid}
 use Rattle.qs_engage.specs.Nodes.{all_nodes, same_node, has_node, is_no_node}

@@ -1,16 +1,15 @@
 -- What a vote of the log that is taken up makes of a participant.
 use Rattle.std.proofs.Common.{◌≡◌, ℕ, ◌<◌, ◌==◌, ◌&&◌, ◌||◌, not, Bool, true, false, List, [], ◌∷◌, Option, Some, None, is_some, is_none, refl, sym, ap, subst, ◌∙◌, arith, if◌then◌else◌}
-use Rattle.std.specs.List.{list_all, list_any}
+use Rattle.std.specs.List.{list_any}
 use Rattle.std.proofs.lemmas.Bool.{eqb-true}
 use Rattle.std.proofs.lemmas.Bool.Decides.{nat_tests}
-use Rattle.qs_base.specs.declared.identifiers.Outcome.{Outcome}
 use Rattle.qs_base.specs.declared.identifiers.ServerNo.{ServerNo}
 use Rattle.qs_base.specs.declared.identifiers.Tid.{Tid}
 use Rattle.qs_ipc.specs.Ipc as ipc
 use Rattle.qs_machine.specs.Nodes.{is_recoverable}
 use Rattle.qs_tm.specs.Members.{all_servers, class_here, is_immediate, votes_here, is_vote_due, is_ending_due}
 use Rattle.qs_tm.specs.Outcomes.{is_abort}
-use Rattle.qs_tm.specs.Participant.{member_of, with_member, is_undecided, needs_pass, is_due_at, has_due}
+use Rattle.qs_tm.specs.Participant.{member_of, with_member, needs_pass, is_due_at, has_due}
 use Rattle.qs_tm.specs.declared.members.MemberPart.{MemberPart}
 use Rattle.qs_tm.specs.declared.members.Ballot.TheVariants as ballots
 use Rattle.qs_tm.specs.declared.participant.Due.TheVariants as dues
@@ -20,7 +19,6 @@ use Rattle.qs_step.specs.State.{NodeValue}
 use Rattle.qs_refine.specs.Sights.{server_no}
 use Rattle.qs_refine.specs.Sound.{where_so, is_whole}
 use Rattle.qs_refine.proofs.Arrays.{member_put}
-use Rattle.qs_refine.proofs.SoundParts.{and_both, both_and}
 use Rattle.qs_refine.proofs.SoundMembers.{members_length, member_sound, involve_sound}
 use Rattle.qs_refine.proofs.SoundViews.{PartSound, is_apart}
 

@@ -1,12 +1,12 @@
 -- A node stays sound where its servers vote, with their notes and Prepares.
-use Rattle.std.proofs.Common.{◌≡◌, ℕ, ◌==◌, ◌&&◌, ◌||◌, not, nat_le, nat_lt, Bool, true, false, List, [], ◌∷◌, Option, Some, None, is_some, refl, sym, ap, subst, ◌∙◌, arith, fold, if◌then◌else◌}
+use Rattle.std.proofs.Common.{◌≡◌, ℕ, ◌==◌, ◌&&◌, ◌||◌, not, nat_lt, Bool, true, false, List, [], ◌∷◌, Option, Some, None, is_some, refl, sym, ap, subst, arith, fold, if◌then◌else◌}
 use Rattle.std.proofs.lemmas.Bool.{eqb-true}
 use Rattle.std.proofs.lemmas.Bool.Decides.{nat_tests}
 use Rattle.qs_base.specs.declared.identifiers.Member.{Member}
 use Rattle.qs_base.specs.declared.identifiers.NodeNo.{NodeNo}
 use Rattle.qs_base.specs.declared.identifiers.ServerNo.{ServerNo}
 use Rattle.qs_base.specs.declared.identifiers.Tid.{Tid}
-use Rattle.qs_ops.specs.Server.{vote_of, after_vote, changes_in}
+use Rattle.qs_ops.specs.Server.{vote_of, changes_in}
 use Rattle.qs_ipc.specs.Ipc as ipc
 use Rattle.qs_ops.specs.declared.operation.Op.TheVariants.{Note}
 use Rattle.qs_ops.specs.declared.vote.Vote.{Vote}
@@ -24,7 +24,7 @@ use Rattle.qs_step.specs.Bringing.{member_here}
 use Rattle.qs_step.specs.Deciding.{end_members}
 use Rattle.qs_step.specs.Settling.{is_lent, is_busy, is_pass_due}
 use Rattle.qs_step.specs.State.{NodeValue, Work, here, part_of}
-use Rattle.qs_step.specs.Voting.{owes_note, issue_note, served_count, enter_vote, log_vote, vote_with, vote_frame, vote_next, due_votes, vote_pass, note_text, change_count}
+use Rattle.qs_step.specs.Voting.{owes_note, issue_note, served_count, enter_vote, vote_with, vote_frame, vote_next, due_votes, vote_pass, note_text, change_count}
 use Rattle.qs_world.specs.Openings.{is_audit}
 use Rattle.qs_refine.specs.Sound.{is_sound, where_so}
 use Rattle.qs_refine.specs.SoundLaws.{PassRuleSound}

@@ -1,5 +1,5 @@
 -- A whole step that leaves a sound node sound, and what that asks of what comes to it.
-use Rattle.std.specs.Prelude.{◌≡◌, ℕ, ◌<◌, ◌≤◌, ◌||◌, ⊤, Bool, true, false, Option, Some, None, nat_lt}
+use Rattle.std.specs.Prelude.{◌≡◌, ℕ, ◌<◌, ◌≤◌, ◌||◌, ⊤, Bool, true, false, Some, nat_lt}
 use Rattle.std.specs.List.{list_all}
 use Rattle.qs_base.specs.declared.identifiers.ClientNo.{ClientNo}
 use Rattle.qs_base.specs.declared.identifiers.NodeNo.{NodeNo}
