@@ -4,6 +4,8 @@
 mod appending;
 mod down;
 mod host;
+mod in_world;
 
 pub use down::{HostDown, HostFault};
 pub use host::{Host, HostOpen};
+pub use in_world::hosts_of_the_world;
