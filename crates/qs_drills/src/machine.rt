@@ -9,6 +9,9 @@ use std::alloc::Global;
 /// The bytes of a Prepare record before its changes, and of a length before a name or a text.
 const PREPARE_HEAD: u64 = 23;
 
+/// The bytes of a change's tag.
+const TAG: u64 = 1;
+
 const LENGTH: u64 = 4;
 
 #[derive(Drop)]
