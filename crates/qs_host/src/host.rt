@@ -109,7 +109,7 @@ impl<D: Disk, F: Server, X: Server> Host<D, F, X> {
     /// stand the records of before, or, of a step that forces them, those of after it.
     ///
     /// `Disk` comes only where the disk's count of faults rose. `NoMemory` comes for want of memory, and where a record has
-    /// no spelling or no room, which no step makes.
+    /// no spelling or no room. That no step makes such a record is not proved yet.
     #[tactic(auto, using(crate::proofs::Carrying::unended_after))]
     pub fn carry_out(self, out: &Effects) -> Result<Host<D, F, X>, HostDown<D, X>>
         requires stands { D.told → Stands self.log (D.state self.log.disk) }
