@@ -2,7 +2,6 @@
 #![tactic(auto)]
 
 mod cell;
-mod copies;
 mod laws;
 mod progress;
 #[cfg(test)]

@@ -3,8 +3,7 @@ ghost use Rattle.std.specs.Prelude.{◌≡◌, ◌≢◌, ◌+◌, ◌^◌, ◌<
 ghost use Rattle.std.specs.Option.{option_copied};
 ghost use Rattle.qs_client.specs.Progress.{begun, line_at, number_at, to_send, sent, is_number, awaits, answered, heard};
 
-use crate::copies::copy_line;
-use qs_base::{List, NoMemory};
+use qs_base::{Copied, List, NoMemory};
 use qs_journal::{LineAnswer, ScriptLine};
 
 /// A client's lines, the place of the line that it stands at, from 0, and whether that line is out:
@@ -51,7 +50,7 @@ impl Progress {
             return Ok(None);
         }
         match self.line() {
-            Some(line) => Ok(Some(copy_line(line)?)),
+            Some(line) => Ok(Some(line.copy()?)),
             None => Ok(None),
         }
     }

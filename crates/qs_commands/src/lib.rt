@@ -3,11 +3,9 @@
 
 mod beginning;
 mod borrowing;
-mod copies;
 mod owning;
 mod requesting;
 
 pub use beginning::begin_command;
 pub use borrowing::{borrower_command, is_aborted};
-pub use copies::copy_command;
 pub use owning::{decided_answer, owner_command};

@@ -1,6 +1,6 @@
 //! Commands of clients, as scripts, clients and nodes share them.
 
-use qs_base::{Bytes, ClientNo, Member};
+use qs_base::{Bytes, ClientNo, Copied, Member, NoMemory};
 use qs_ops::{Answer, Op};
 
 /// A client's command, with the line of the script at which it stands, from 1.
@@ -22,6 +22,33 @@ pub enum Command {
     Yield,
     /// An operation at a server of a node.
     Request { member: Member, op: Op },
+}
+
+impl Copied for ScriptLine {
+    fn copy(&self) -> Result<Self, NoMemory> {
+        Ok(ScriptLine {
+            client: self.client,
+            line: self.line,
+            label: self.label.copy()?,
+            command: self.command.copy()?,
+        })
+    }
+}
+
+impl Copied for Command {
+    fn copy(&self) -> Result<Self, NoMemory> {
+        Ok(match self {
+            Command::Begin => Command::Begin,
+            Command::Commit => Command::Commit,
+            Command::Abort => Command::Abort,
+            Command::Take => Command::Take,
+            Command::Yield => Command::Yield,
+            Command::Request { member, op } => Command::Request {
+                member: *member,
+                op: op.copy()?,
+            },
+        })
+    }
 }
 
 /// The answer to the command at a line.

@@ -5,7 +5,7 @@ ghost use Rattle.qs_node.specs.Labelled.{obeyed, on_label, waited};
 
 use qs_base::{ClientNo, Copied, List, NoMemory, Tid};
 use qs_commands::{
-    begin_command, borrower_command, copy_command, decided_answer, is_aborted, owner_command,
+    begin_command, borrower_command, decided_answer, is_aborted, owner_command,
 };
 use qs_journal::{Command, ScriptLine};
 use qs_ops::{Answer, Server};
@@ -77,17 +77,6 @@ fn obey<F: Server, X: Server>(
     }
 }
 
-fn copy_line(line: &ScriptLine) -> Result<ScriptLine, NoMemory>
-    ensures { IfOk result (λ copy. copy ≡ line.now) }
-{
-    Ok(ScriptLine {
-        client: line.client,
-        line: line.line,
-        label: line.label.copy()?,
-        command: copy_command(&line.command)?,
-    })
-}
-
 /// The command is open until it is answered.
 fn with_command<F: Server, X: Server>(
     work: &mut Work<Servers<F, X>>,
@@ -110,8 +99,8 @@ pub fn command_came<F: Server, X: Server>(
     ensures ok { OnOk result (work.new ≡ command_came line work.old) }
     ensures saved { work.new.node.kept.saved ≡ work.old.node.kept.saved }
 {
-    with_command(work, copy_line(&line)?)?;
-    let command = copy_command(&line.command)?;
+    with_command(work, line.copy()?)?;
+    let command = line.command.copy()?;
     obey(work, &line, command)
 }
 
@@ -211,7 +200,7 @@ fn copy_open(command: &OpenCommand) -> Result<OpenCommand, NoMemory>
     ensures { IfOk result (λ copy. copy ≡ command.now) }
 {
     Ok(OpenCommand {
-        line: copy_line(&command.line)?,
+        line: command.line.copy()?,
         issued: command.issued,
     })
 }

@@ -10,7 +10,7 @@ use qs_script::{FaultLine, Planned, Script};
 const MOST: usize = 40;
 
 /// Prints its clients, quotas, audit, faults and commands, and the count of its lines.
-pub fn print_script<R: AllocGlobal + Print>(rt: &R, script: &Script) -> Result<(), Error> {
+pub(crate) fn print_script<R: AllocGlobal + Print>(rt: &R, script: &Script) -> Result<(), Error> {
     for seat in script.seats.as_slice() {
         println!(rt; "  client {} at {}", seat.client.0, seat.node.0)?;
     }

@@ -16,7 +16,7 @@ use Rattle.qs_record.specs.declared.record.Record.{Record}
 use Rattle.qs_record.specs.declared.record.Record.TheVariants as records
 use Rattle.qs_machine.specs.Nodes.{is_recoverable}
 use Rattle.qs_step.specs.declared.setting.Setting.{Setting}
-use Rattle.qs_restart.specs.Recovery.{Prepared, Untold, recovery}
+use Rattle.qs_restart.specs.Recovery.{Prepared, Untold, Recovery, recovery, names_transaction, is_untold_of}
 use Rattle.qs_world.specs.World.{Opening}
 use Rattle.qs_world.specs.Moves.{client_count}
 
@@ -152,6 +152,18 @@ is_still_told o n tid =
 abbrev pub is_open_vote : Opening → ℕ → Prepared → Bool
 is_open_vote o n vote = (vote.tid.home.0 == n) || (not (is_in_run o.size vote.tid.home) || is_still_told o n vote.tid)
 
+-- a Prepare in doubt is of a transaction, and no Commit of it waits for its End
+abbrev pub is_doubt : Recovery → Prepared → Bool
+is_doubt said vote = vote.committed || (names_transaction vote.tid && not (list_any (is_untold_of vote.tid) said.untold))
+
+-- a Commit that waits for its End is of a transaction
+abbrev pub is_untold : Untold → Bool
+is_untold commit = names_transaction commit.tid
+
+-- what a log says of the transactions that are not ended
+abbrev pub are_unended : Recovery → Bool
+are_unended said = list_all (is_doubt said) said.prepared && list_all is_untold said.untold
+
 -- ---- all of it
 
 pub record IsOpening (o : Opening) : Type 0 where
@@ -161,3 +173,4 @@ pub record IsOpening (o : Opening) : Type 0 where
   pub labels : are_apart (all_labels o) ≡ true
   pub logs : each_below o.size (λ n. list_all (is_record o n) (o.logs n)) ≡ true
   pub votes : each_below o.size (λ n. list_all (is_open_vote o n) (recovery (o.logs n)).prepared) ≡ true
+  pub unended : each_below o.size (λ n. are_unended (recovery (o.logs n))) ≡ true
