@@ -1,0 +1,215 @@
+//! What a cell tells: its journal, its trace, and its counts.
+ghost use Rattle.std.specs.Prelude.{◌≡◌, ◌≤◌, ◌<◌, ◌+◌, ◌++◌, ◌∷◌, map, length, Some, None, [], IfOk, OnOk};
+ghost use Rattle.qs_chronicle.specs.Chronicle.{HasRoom, new_told, is_last, stamped, numbered, in_round, entry_of, step_of, noted, crashed};
+
+use qs_base::{Copied, List, NoMemory, NodeNo, Stamp};
+use qs_journal::{Act, CrashCause, Entry};
+use qs_points::Tape;
+use qs_step::{Did, Step};
+use std::alloc::Global;
+use std::marker::Model;
+
+/// No stamp is greater.
+pub const LAST_STAMP: Stamp = (1 << 62) - 1;
+
+/// The journal and the trace of a node, and what it counts. A crash ends none of it.
+#[derive(Drop)]
+pub struct Chronicle {
+    alloc: Global,
+    node: NodeNo,
+    stamp: Stamp,
+    acts: u64,
+    rounds: u64,
+    events: u64,
+    journal: Tape<Entry>,
+    trace: Tape<Step>,
+}
+
+impl Model for Chronicle {
+    ghost use Rattle.qs_chronicle.specs.Chronicle.{ChronicleValue};
+
+    ghost Value = { ChronicleValue };
+
+    ghost view = { λ c. record {
+      told = record { node = c.node; stamp = c.stamp; acts = c.acts; rounds = c.rounds; events = c.events; journal = c.journal.items; trace = c.trace.items };
+      entries = c.journal.spare;
+      steps = c.trace.spare;
+    } };
+}
+
+impl Chronicle {
+    /// Nothing has happened. It takes no memory.
+    pub fn new(alloc: Global, node: NodeNo) -> Chronicle
+        ensures { result.told ≡ new_told node }
+    {
+        Chronicle {
+            alloc,
+            node,
+            stamp: 0,
+            acts: 0,
+            rounds: 0,
+            events: 0,
+            journal: Tape::new(alloc),
+            trace: Tape::new(alloc),
+        }
+    }
+
+    /// Room for so many more entries and steps. Room that was made before stays.
+    pub fn make_room(&mut self, entries: usize, steps: usize) -> Result<(), NoMemory>
+        ensures told { self.new.told ≡ self.old.told }
+        ensures ok { OnOk result (HasRoom entries steps self.new) }
+        ensures kept { HasRoom self.old.entries self.old.steps self.new }
+    {
+        self.journal.make_room(entries)?;
+        self.trace.make_room(steps)
+    }
+
+    /// Whether the stamp stands at its last value.
+    pub fn is_last(&self) -> bool
+        ensures { result ≡ is_last self.now.told }
+    {
+        self.stamp >= LAST_STAMP
+    }
+
+    /// The next step's stamp: one more, unless it stands at its last value.
+    pub fn next_stamp(&mut self)
+        ensures told { self.new.told ≡ stamped self.old.told }
+        ensures room { HasRoom self.old.entries self.old.steps self.new }
+    {
+        if self.stamp < LAST_STAMP {
+            self.stamp += 1;
+        }
+    }
+
+    /// An event takes its number, which is answered.
+    pub fn number(&mut self) -> u64
+        ensures told { self.new.told ≡ numbered self.old.told }
+        ensures number { result ≡ self.new.told.events }
+        ensures room { HasRoom self.old.entries self.old.steps self.new }
+    {
+        self.events = self.events.saturating_add(1);
+        self.events
+    }
+
+    /// One more visit or restart.
+    pub fn begin_round(&mut self)
+        ensures told { self.new.told ≡ in_round self.old.told }
+        ensures room { HasRoom self.old.entries self.old.steps self.new }
+    {
+        self.rounds = self.rounds.saturating_add(1);
+    }
+
+    /// Entries of these acts, with the node and the stamp that stands.
+    pub fn entries_of(&self, acts: &[Act]) -> Result<List<Entry>, NoMemory>
+        ensures { IfOk result (λ entries. entries ≡ map (entry_of self.now.told.node self.now.told.stamp) acts.now) }
+    {
+        entries_of(self.alloc, self.node, self.stamp, acts)
+    }
+
+    /// A step with these entries, for which there is room. It takes no memory.
+    pub fn note(&mut self, did: Did, entries: List<Entry>)
+        requires room { HasRoom (length entries) 1 self.old }
+        ensures told { (acts : _) → entries ≡ map (entry_of self.old.told.node self.old.told.stamp) acts → self.new.told ≡ noted did acts None self.old.told }
+        ensures entries { self.old.entries ≤ self.new.entries + length entries }
+        ensures steps { self.old.steps ≤ self.new.steps + 1 }
+    {
+        self.journal.append(entries);
+        self.add_step(did, None);
+    }
+
+    /// A step in which the node stops, for which there is room. It takes no memory.
+    pub fn note_crash(&mut self, did: Did, cause: CrashCause)
+        requires room { HasRoom 1 1 self.old }
+        ensures told { self.new.told ≡ crashed did cause self.old.told }
+    {
+        self.add_entry(Act::Crash { cause });
+        self.add_step(did, Some(cause));
+    }
+
+    /// A step with one entry, for which there is room. It takes no memory.
+    pub fn note_one(&mut self, did: Did, act: Act)
+        requires room { HasRoom 1 1 self.old }
+        ensures told { self.new.told ≡ noted did (act ∷ []) None self.old.told }
+    {
+        self.add_entry(act);
+        self.add_step(did, None);
+    }
+
+    /// An entry with the node and the stamp that stands.
+    fn add_entry(&mut self, act: Act)
+        requires room { 0 < self.old.entries }
+        ensures told { self.new.told ≡ record self.old.told { journal = self.old.told.journal ++ entry_of self.old.told.node self.old.told.stamp act ∷ [] } }
+        ensures steps { self.new.steps ≡ self.old.steps }
+    {
+        self.journal.push(Entry {
+            stamp: self.stamp,
+            node: self.node,
+            act,
+        });
+    }
+
+    /// A step, without its entries.
+    fn add_step(&mut self, did: Did, crash: Option<CrashCause>)
+        requires room { 0 < self.old.steps }
+        ensures told { self.new.told ≡ record self.old.told { trace = self.old.told.trace ++ step_of self.old.told did crash ∷ [] } }
+        ensures entries { self.new.entries ≡ self.old.entries }
+        ensures steps { self.old.steps ≤ self.new.steps + 1 }
+    {
+        self.trace.push(Step {
+            stamp: self.stamp,
+            node: self.node,
+            acts: self.acts,
+            rounds: self.rounds,
+            did,
+            put: List::new(self.alloc),
+            crash,
+        });
+    }
+
+    /// The entries so far, in order.
+    pub fn journal(&self) -> &[Entry]
+        ensures { result.now ≡ self.now.told.journal }
+    {
+        self.journal.items()
+    }
+
+    /// The steps so far, in order.
+    pub fn trace(&self) -> &[Step]
+        ensures { result.now ≡ self.now.told.trace }
+    {
+        self.trace.items()
+    }
+
+    /// How many acts it made in bursts.
+    pub fn acts(&self) -> u64
+        ensures { result ≡ self.now.told.acts }
+    {
+        self.acts
+    }
+
+    /// How often it was visited or restarted.
+    pub fn rounds(&self) -> u64
+        ensures { result ≡ self.now.told.rounds }
+    {
+        self.rounds
+    }
+}
+
+fn entries_of(
+    alloc: Global,
+    node: NodeNo,
+    stamp: Stamp,
+    acts: &[Act],
+) -> Result<List<Entry>, NoMemory>
+    ensures { IfOk result (λ entries. entries ≡ map (entry_of node stamp) acts.now) }
+{
+    let mut entries = List::new(alloc);
+    for act in acts {
+        entries.push(Entry {
+            stamp,
+            node,
+            act: act.copy()?,
+        })?;
+    }
+    Ok(entries)
+}
