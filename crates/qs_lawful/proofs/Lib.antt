@@ -29,10 +29,16 @@ pub mod LentTid
 pub mod Loans
 pub mod Lending
 pub mod MemberTid
+pub mod NamesVote
+pub mod Taken
 pub mod MemberRule
 pub mod Voting
 pub mod Learning
 pub mod Told
+pub mod OtherShares
+pub mod Doubted
+pub mod Doubting
+pub mod IssuedStands
 pub mod DecidingOne
 pub mod Silent
 pub mod Pending
@@ -88,3 +94,9 @@ pub mod PeerRestarts
 pub mod Engaging
 pub mod Enqueued
 pub mod RequestsCame
+pub mod Endings
+pub mod Passing
+pub mod PassingAll
+pub mod ReadAlone
+pub mod Settled
+pub mod Stages

@@ -10,3 +10,5 @@ pub mod Filed
 pub mod Tables
 pub mod Waits
 pub mod TableTests
+pub mod Doubts
+pub mod Given
