@@ -100,3 +100,8 @@ pub mod PassingAll
 pub mod ReadAlone
 pub mod Settled
 pub mod Stages
+pub mod Replied
+pub mod AskCame
+pub mod RequestingAny
+pub mod CommandCame
+pub mod WholeStep

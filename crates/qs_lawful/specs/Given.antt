@@ -1,9 +1,9 @@
 -- What a rule of a node is given beside what is held, at the stage at which it is used: facts of the agreement protocol, of room
 -- for numbers, and of what clients and other nodes send.
-use Rattle.std.specs.Prelude.{◌≡◌, ◌≢◌, ◌⊎◌, ℕ, ◌==◌, ◌≤◌, ◌<◌, true, false, ◌&&◌, List, [], ◌∷◌, length, Some, None, is_some, nat_lt, slice_get, ⊤}
-use Rattle.std.specs.List.{list_any}
+use Rattle.std.specs.Prelude.{◌≡◌, ◌≢◌, ◌⊎◌, ℕ, ◌==◌, ◌≤◌, ◌<◌, true, false, List, [], ◌∷◌, length, Some, None, is_some, nat_lt, slice_get, if◌then◌else◌, ⊤}
 use Rattle.qs_base.specs.Order.{tid_cmp}
 use Rattle.qs_base.specs.declared.identifiers.ClientNo.{ClientNo}
+use Rattle.qs_base.specs.declared.identifiers.Member.{Member}
 use Rattle.qs_base.specs.declared.identifiers.NodeNo.{NodeNo}
 use Rattle.qs_base.specs.declared.identifiers.ServerNo.{ServerNo}
 use Rattle.qs_base.specs.declared.identifiers.Tid.{Tid}
@@ -22,13 +22,13 @@ use Rattle.qs_ops.specs.declared.answer.Cause.TheVariants as causes
 use Rattle.qs_ops.specs.declared.reply.Reply.{Reply}
 use Rattle.qs_tm.specs.Manager as tm
 use Rattle.qs_tm.specs.Members as rules
-use Rattle.qs_tm.specs.Participant.{awaits_note, has_noted, is_answered_by, is_by_files, is_forgotten, member_of}
+use Rattle.qs_tm.specs.Participant.{awaits_note, drop_waiting, has_noted, is_by_files, is_forgotten, member_of, note_served, waiting_for}
 use Rattle.qs_tm.specs.declared.participant.Outstanding.{Outstanding}
 use Rattle.qs_tm.specs.declared.participant.Participant.{Participant}
 use Rattle.qs_step.specs.Deciding.{end_members}
-use Rattle.qs_step.specs.Serving.{reply_here}
+use Rattle.qs_step.specs.Serving.{enter_serve, lent_to, make_loan, reply_here}
 use Rattle.qs_step.specs.Settling.{is_pass_due, may_answer, pass_rule, ready_rule, refuse_rule, try}
-use Rattle.qs_step.specs.State.{Work}
+use Rattle.qs_step.specs.State.{Work, with_queues}
 use Rattle.qs_step.specs.Voting.{due_votes, vote_next}
 use Rattle.qs_lawful.specs.Entering.{book_at}
 use Rattle.qs_lawful.specs.Face.{at_server}
@@ -51,18 +51,33 @@ abbrev pub HasCause : ℕ → BookValue → Work → Tid → Cause → Type 0
 HasCause stamp before work tid cause = (state : machine.NodeValue) (tx : TransactionValue) → slice_get (book_at stamp before work).nodes work.node.setting.node.0 ≡ Some state → find_transaction (book_at stamp before work) tid ≡ Some tx
     → is_cause state (book_at stamp before work).nodes tid tx stamp cause ≡ true
 
+-- ---- replies
+
+-- each note of the transaction that was served is noted, or waited for
+abbrev pub AreNoted : NodeNo → ℕ → Tid → TransactionValue → Participant → Type 0
+AreNoted here inc tid tx part = (count : ℕ) → 1 ≤ count → has_note tx (record { node = here; inc = inc; text = note_text tid here.0 count }) ≡ true → (has_noted count part ≡ true) ⊎ (awaits_note part ≡ true)
+
+-- the request waits no more; a note of files is noted
+abbrev pub replied : Member → ℕ → Outstanding → Participant → Participant
+replied member number request part = if is_by_files request then note_served request.count (drop_waiting member number part) else drop_waiting member number part
+
+-- a reply with that member and number may come
+abbrev pub MayReply : ℕ → BookValue → Work → Tid → Member → ℕ → Type 0
+MayReply stamp before work tid member number = (part : Participant) (tx : TransactionValue) (request : Outstanding) → tm.part_of tid work.node.manager ≡ Some part → find_transaction (book_at stamp before work) tid ≡ Some tx
+    → waiting_for member number part ≡ Some request → AreNoted work.node.setting.node work.node.setting.inc tid tx (replied member number request part)
+
 -- ---- serving
 
--- what waits first at a server may be served: its count has room, a note that is served is one that files wait for, and no
--- note of files waits for its reply here
+-- what waits first at a server may be served: its count has room, a note that is served is one that files wait for, and its reply
+-- may come where it was issued here
 pub record MayServe (stamp : ℕ) (before : BookValue) (work : Work) (server : ServerNo) : Type 0 where
   pub room : (delivery : Delivery) (part : Participant) → ipc.next server work.node.queues ≡ Some delivery → tm.part_of delivery.tid work.node.manager ≡ Some part → is_kept server ≡ true → ((member_of part server).served == last_number) ≡ false
   pub noted : (delivery : Delivery) (reply : Reply) (part : Participant) (tx : TransactionValue) → ipc.next server work.node.queues ≡ Some delivery → tm.part_of delivery.tid work.node.manager ≡ Some part → find_transaction (book_at stamp before work) delivery.tid ≡ Some tx
       → reply_here server delivery.tid delivery.op work.node ≡ Some reply → (count : ℕ) → 1 ≤ count
       → has_note (served_in (record { link = record { from = delivery.from; to = work.node.setting.node }; number = delivery.number }) (at_server work.node.setting.node server) work.node.setting.inc stamp (is_done reply) tx)
       (record { node = work.node.setting.node; inc = work.node.setting.inc; text = note_text delivery.tid work.node.setting.node.0 count }) ≡ true → (has_noted count part ≡ true) ⊎ (awaits_note part ≡ true)
-  pub own : (delivery : Delivery) (part : Participant) → ipc.next server work.node.queues ≡ Some delivery → tm.part_of delivery.tid work.node.manager ≡ Some part → same_node delivery.from work.node.setting.node ≡ true
-      → list_any (λ (r : Outstanding). is_answered_by (at_server work.node.setting.node server) delivery.number r && is_by_files r) part.waiting ≡ false
+  pub reply : (delivery : Delivery) (said : Reply) → ipc.next server work.node.queues ≡ Some delivery → reply_here server delivery.tid delivery.op work.node ≡ Some said → same_node delivery.from work.node.setting.node ≡ true
+      → MayReply stamp before (make_loan delivery.tid (lent_to delivery.op) (enter_serve server delivery said (with_queues (ipc.after_next server) work))) delivery.tid (at_server work.node.setting.node server) delivery.number
 
 -- ---- the vote pass
 

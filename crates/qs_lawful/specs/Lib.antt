@@ -12,3 +12,4 @@ pub mod Waits
 pub mod TableTests
 pub mod Doubts
 pub mod Given
+pub mod GivenStep

@@ -40,6 +40,8 @@ pub use lawful_servers::{
     voting_by_rules_is_lawful, voting_is_lawful,
 };
 pub use lawful_steps::{
-    forgetting_is_lawful, settle_is_lawful, settling_is_lawful, vote_pass_is_lawful,
+    answering_is_lawful, any_command_is_lawful, any_reply_is_lawful, asking_on_is_lawful,
+    event_is_lawful, forgetting_is_lawful, serving_all_is_lawful, settle_is_lawful,
+    settling_is_lawful, step_is_lawful, vote_pass_is_lawful,
 };
 pub use tried::held_in_runs;
