@@ -40,21 +40,21 @@ module _ (stamp : ℕ) (before : BookValue) (work : Work) (h : HoldsWork stamp b
 
   owned_came : (begun : Begun) → label_at line.label work.node ≡ Some begun → (tid : Tid) → begun.tid ≡ Some tid → begun.owner ≡ Some line.client → (c : Command) → line.command ≡ c → (line.command ≡ commands.Begin → ⊥) → HoldsWork stamp before (command_came line work)
   owned_came begun known tid of owned commands.Begin is other = absurd (other is)
-  owned_came begun known tid of owned commands.Commit is other = let now = may.of_now begun tid known of owned in by_commit_came stamp before work h line may.free may.behind begun known tid of owned now.0 now.1 is
-  owned_came begun known tid of owned commands.Abort is other = let now = may.of_now begun tid known of owned in by_abort_came stamp before work h line may.free may.behind begun known tid of owned now.0 now.1 is (files_held stamp before work h)
-  owned_came begun known tid of owned commands.Take is other = let now = may.of_now begun tid known of owned in by_take_came stamp before work h line may.free may.behind begun known tid of owned now.0 now.1 is
-  owned_came begun known tid of owned commands.Yield is other = let now = may.of_now begun tid known of owned in by_yield_came stamp before work h line may.free may.behind begun known tid of owned now.0 now.1 is
+  owned_came begun known tid of owned commands.Commit is other = by_commit_came stamp before work h line may.free may.behind begun known tid of owned (may.of_now begun tid known of owned) (may.undecided begun tid known of owned) is
+  owned_came begun known tid of owned commands.Abort is other = by_abort_came stamp before work h line may.free may.behind begun known tid of owned (may.of_now begun tid known of owned) (may.undecided begun tid known of owned) is (files_held stamp before work h)
+  owned_came begun known tid of owned commands.Take is other = by_take_came stamp before work h line may.free may.behind begun known tid of owned (may.of_now begun tid known of owned) (may.undecided begun tid known of owned) is
+  owned_came begun known tid of owned commands.Yield is other = by_yield_came stamp before work h line may.free may.behind begun known tid of owned (may.of_now begun tid known of owned) (may.undecided begun tid known of owned) is
   owned_came begun known tid of owned (commands.Request member op) is other =
-      let now = may.of_now begun tid known of owned in
-      by_any_request_came stamp before work h line may.free may.behind begun known tid of owned now.0 now.1 member op is
+      by_any_request_came stamp before work h line may.free may.behind begun known tid of owned (may.of_now begun tid known of owned) (may.undecided begun tid known of owned) member op is
       (λ kept. let its = may.runs begun tid known of owned kept in
+      let now = may.of_now begun tid known of owned kept in
       by_owners_any stamp before (with_command line work) (came stamp before work h line may.free may.behind) line.client (record { line = line; issued = None }) (waits stamp before work h line may.free may.behind) (λ e. no_commit member op (sym is ∙ e))
       tid member op (request_then tid member op (may.requests begun tid member op known of is)) its.0 its.1 begun known of owned now.0 now.1 its.2)
 
   lent_came : (begun : Begun) → label_at line.label work.node ≡ Some begun → (tid : Tid) → begun.tid ≡ Some tid → is_owner line.client begun.owner ≡ false → (line.command ≡ commands.Begin → ⊥) → HoldsWork stamp before (command_came line work)
   lent_came begun known tid of other no_begin =
       by_borrower_came stamp before work h line may.free may.behind begun known tid of other may.small
-      (λ member op last is taken stood valid. let lent = may.lent begun tid member op known of other is in
+      (λ member op last is taken stood valid. let lent = may.lent begun tid member op known of other is (record { loan = last; taken = taken; stands = stood; valid = valid }) in
       by_borrowers_any stamp before (with_command line work) (came stamp before work h line may.free may.behind) line.client (record { line = line; issued = None }) (waits stamp before work h line may.free may.behind) (λ e. no_commit member op (sym is ∙ e))
       tid member op (request_then tid member op (may.requests begun tid member op known of is)) lent.part lent.known may.small lent.open_still last taken stood valid)
       no_begin
@@ -89,7 +89,7 @@ module _ (stamp : ℕ) (before : BookValue) (work : Work) (h : HoldsWork stamp b
 
 by_waits : (stamp : ℕ) (before : BookValue) (work : Work) → HoldsWork stamp before work → (client : ClientNo) → MayWait stamp before work client → HoldsWork stamp before (wait_on work client)
 by_waits stamp before work h client may = by_wait_on stamp before work h client may.small may.of_now
-    (λ command begun tid member op last waiting labelled of unissued is taken stood valid. let its = may.requests command tid member op waiting is in
+    (λ command begun tid member op last waiting labelled of unissued is taken stood valid. let its = may.requests command tid member op waiting is (record { loan = last; taken = taken; stands = stood; valid = valid }) in
     by_borrowers_any stamp before work h client command waiting (λ e. no_commit member op (sym is ∙ e)) tid member op its.0 its.1.part its.1.known may.small its.1.open_still last taken stood valid)
 
 pub by_answer_waiting : (stamp : ℕ) (before : BookValue) (work : Work) → HoldsWork stamp before work → AtEach (MayWait stamp before) wait_on work (waiting_clients work) → HoldsWork stamp before (answer_waiting work)

@@ -105,3 +105,4 @@ pub mod AskCame
 pub mod RequestingAny
 pub mod CommandCame
 pub mod WholeStep
+pub mod Uncommitted

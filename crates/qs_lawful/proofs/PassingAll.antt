@@ -7,11 +7,16 @@ use Rattle.qs_base.specs.declared.identifiers.NodeNo.{NodeNo}
 use Rattle.qs_base.specs.declared.identifiers.ServerNo.{ServerNo}
 use Rattle.qs_base.specs.declared.identifiers.Tid.{Tid}
 use Rattle.qs_machine.specs.Book.{BookValue, find_transaction}
+use Rattle.qs_journal.specs.declared.entry.Act.TheVariants as acts
+use Rattle.qs_machine.specs.Book.{inc_at}
+use Rattle.qs_step.specs.Bringing.{member_here}
 use Rattle.qs_machine.specs.Transaction.{TransactionValue, is_abort}
+use Rattle.qs_machine.specs.Transaction as machine
+use Rattle.qs_lawful.proofs.Uncommitted.{uncommitted_on}
 use Rattle.qs_ipc.specs.Ipc as ipc
 use Rattle.qs_step.specs.Deciding.{end_member}
 use Rattle.qs_step.specs.Settling.{is_lent, is_pass_due, is_put_off, pass_rule}
-use Rattle.qs_step.specs.State.{Work, doings_of}
+use Rattle.qs_step.specs.State.{Work, doings_of, here}
 use Rattle.qs_step.specs.Voting.{due_votes, vote_next, vote_pass}
 use Rattle.qs_tm.specs.Manager as tm
 use Rattle.qs_tm.specs.Members as rules
@@ -22,7 +27,7 @@ use Rattle.qs_tm.specs.declared.participant.Due.TheVariants as dues
 use Rattle.qs_tm.specs.declared.participant.Participant.{Participant}
 use Rattle.qs_lawful.specs.Entering.{HoldsWork, book_at}
 use Rattle.qs_lawful.specs.Face.{face_of}
-use Rattle.qs_lawful.specs.Given.{AtEach, IsUncommitted, MayPass}
+use Rattle.qs_lawful.specs.Given.{MayPass}
 use Rattle.qs_lawful.specs.Holds.{HoldsTid, is_kept}
 use Rattle.qs_lawful.proofs.Casting.{told_all}
 use Rattle.qs_lawful.proofs.Clauses.{of_tid}
@@ -59,19 +64,16 @@ module _ (stamp : ℕ) (before : BookValue) (tid : Tid) (start : Participant) wh
   due_on s work new m after others [] far same = tt
   due_on s work new m after others (x ∷ xs) far same = (others x (apart s.0 x.0 far.0) ∙ same.0, due_on s work new m after others xs far.1 same.1)
 
-  abbrev Given : Work → List ServerNo → Type 0
-  Given work ss = AtEach (λ (w : Work) (server : ServerNo). IsUncommitted stamp before w tid) (vote_next tid) work ss
-
-  others_pass : (ss : List ServerNo) → AreOthers ss → (work : Work) (m : Passing stamp before tid work) → AreDue m ss → Given work (filter due ss) → HoldsWork stamp before (fold (vote_next tid) work (filter due ss))
-  others_pass [] ok work m same given = m.held
-  others_pass (s ∷ ss) ok work m same given = by (due s) refl (λ w k alike more. others_pass ss ok.3 w k alike more) given
+  others_pass : (ss : List ServerNo) → AreOthers ss → (work : Work) (m : Passing stamp before tid work) → AreDue m ss → HoldsWork stamp before (fold (vote_next tid) work (filter due ss))
+  others_pass [] ok work m same = m.held
+  others_pass (s ∷ ss) ok work m same = by (due s) refl (λ w k alike. others_pass ss ok.3 w k alike)
     where
-      by : (b : Bool) → due s ≡ b → ((w : Work) (k : Passing stamp before tid w) → AreDue k ss → Given w (filter due ss) → HoldsWork stamp before (fold (vote_next tid) w (filter due ss)))
-          → Given work (if b then s ∷ filter due ss else filter due ss) → HoldsWork stamp before (fold (vote_next tid) work (if b then s ∷ filter due ss else filter due ss))
-      by false is more rest = more work m same.1 rest
-      by true is more rest =
-          let n = others_next stamp before tid work m s ok.0 rest.0 (same.0 ∙ is) ok.1 in
-          more (vote_next tid work s) n.after (due_on s work (vote_next tid work s) m n.after n.others ss ok.2 same.1) rest.1
+      by : (b : Bool) → due s ≡ b → ((w : Work) (k : Passing stamp before tid w) → AreDue k ss → HoldsWork stamp before (fold (vote_next tid) w (filter due ss)))
+          → HoldsWork stamp before (fold (vote_next tid) work (if b then s ∷ filter due ss else filter due ss))
+      by false is more = more work m same.1
+      by true is more =
+          let n = others_next stamp before tid work m s ok.0 (same.0 ∙ is) ok.1 in
+          more (vote_next tid work s) n.after (due_on s work (vote_next tid work s) m n.after n.others ss ok.2 same.1)
 
   -- files first
   abbrev others : List ServerNo
@@ -81,18 +83,18 @@ module _ (stamp : ℕ) (before : BookValue) (tid : Tid) (start : Participant) wh
   they_are = (refl, refl, (refl, (refl, (refl, (refl, (refl, tt))))), (refl, refl, (refl, (refl, (refl, (refl, tt)))), (refl, refl, (refl, (refl, (refl, tt))), (refl, refl, (refl, (refl, tt)), (refl, refl, (refl, tt), (refl, refl, tt, tt))))))
 
   all_pass : (work : Work) (m : Passing stamp before tid work) → AreDue m (no 0 ∷ others) → awaits_note m.part ≡ false
-      → ((to : NodeNo) → work.node.setting.audit ≡ Some to → (nat_lt to.0 work.node.setting.nodes ≡ true) × (to.0 < length m.part.engage.peers)) → Given work (servers_due dues.Vote start) → HoldsWork stamp before (fold (vote_next tid) work (servers_due dues.Vote start))
+      → ((to : NodeNo) → work.node.setting.audit ≡ Some to → (nat_lt to.0 work.node.setting.nodes ≡ true) × (to.0 < length m.part.engage.peers)) → HoldsWork stamp before (fold (vote_next tid) work (servers_due dues.Vote start))
   unfolding all_servers
-  all_pass work m same idle audit given = by (due (no 0)) refl given
+  all_pass work m same idle audit = by (due (no 0)) refl
     where
       far : IsApartFrom (no 0) others
       far = (refl, (refl, (refl, (refl, (refl, (refl, tt))))))
 
-      by : (b : Bool) → due (no 0) ≡ b → Given work (if b then no 0 ∷ filter due others else filter due others) → HoldsWork stamp before (fold (vote_next tid) work (if b then no 0 ∷ filter due others else filter due others))
-      by false is rest = others_pass others they_are work m same.1 rest
-      by true is rest =
-          let n = files_next stamp before tid work m (no 0) refl rest.0 (same.0 ∙ is) idle audit in
-          others_pass others they_are (vote_next tid work (no 0)) n.after (due_on (no 0) work (vote_next tid work (no 0)) m n.after n.others others far same.1) rest.1
+      by : (b : Bool) → due (no 0) ≡ b → HoldsWork stamp before (fold (vote_next tid) work (if b then no 0 ∷ filter due others else filter due others))
+      by false is = others_pass others they_are work m same.1
+      by true is =
+          let n = files_next stamp before tid work m (no 0) refl (same.0 ∙ is) idle audit in
+          others_pass others they_are (vote_next tid work (no 0)) n.after (due_on (no 0) work (vote_next tid work (no 0)) m n.after n.others others far same.1)
 
 -- ---- the endings, and then the pass
 
@@ -119,13 +121,12 @@ module _ (stamp : ℕ) (before : BookValue) (tid : Tid) (work : Work) (h : Holds
   votes_is : due_votes tid work ≡ servers_due dues.Vote part
   votes_is = ap (λ (o : Option Participant). elim o [ None ↦ [] | Some p ↦ servers_due dues.Vote p ]) known
 
-  ended : (b : Bool) → (member_of part (no 3)).fresh ≡ b → AtEach (λ (w : Work) (server : ServerNo). IsUncommitted stamp before w tid) (vote_next tid) (end_if b tid work) (servers_due dues.Vote part)
-      → HoldsWork stamp before (fold (vote_next tid) (end_if b tid work) (servers_due dues.Vote part))
-  ended false fresh at = all_pass stamp before tid part work m (refl, (refl, (refl, (refl, (refl, (refl, (refl, tt))))))) idle given.audit at
+  ended : (b : Bool) → (member_of part (no 3)).fresh ≡ b → HoldsWork stamp before (fold (vote_next tid) (end_if b tid work) (servers_due dues.Vote part))
+  ended false fresh = all_pass stamp before tid part work m (refl, (refl, (refl, (refl, (refl, (refl, (refl, tt))))))) idle given.audit
     where
       m : Passing stamp before tid work
-      m = record { held = h; part = part; known = known; asked = asked }
-  ended true fresh at = all_pass stamp before tid part (end_member tid work (no 3)) m same idle given.audit at
+      m = record { held = h; part = part; known = known; asked = asked; open_still = given.open_still }
+  ended true fresh = all_pass stamp before tid part (end_member tid work (no 3)) m same idle given.audit
     where
       m : Passing stamp before tid (end_member tid work (no 3))
       m = record {
@@ -133,6 +134,7 @@ module _ (stamp : ℕ) (before : BookValue) (tid : Tid) (work : Work) (h : Holds
         part = ended_part;
         known = part_changed tid (outcome_rules.settled (no 3)) work.node.manager part known;
         asked = asked;
+        open_still = uncommitted_on stamp before tid work (end_member tid work (no 3)) (acts.Ending tid (member_here work (no 3))) (machine.ended (member_here work (no 3)) (inc_at (book_at stamp before work) (record { 0 = (here work).0 }))) in_machine.0 (λ x. refl) refl in_machine.1 refl refl given.open_still;
       }
 
       other : (x : ServerNo) → 3 ≢ x.0 → rules.is_vote_due x (member_of ended_part x) ≡ rules.is_vote_due x (member_of part x)
@@ -144,9 +146,7 @@ module _ (stamp : ℕ) (before : BookValue) (tid : Tid) (work : Work) (h : Holds
   pub by_pass : HoldsWork stamp before (vote_pass tid work)
   by_pass = subst (λ (w : Work). HoldsWork stamp before (fold (vote_next tid) w (due_votes tid work))) (sym (endings_are tid part work known))
       (subst (λ (ss : List ServerNo). HoldsWork stamp before (fold (vote_next tid) (end_if (member_of part (no 3)).fresh tid work) ss)) (sym votes_is)
-      (ended (member_of part (no 3)).fresh refl
-      (subst (λ (ss : List ServerNo). AtEach (λ (w : Work) (server : ServerNo). IsUncommitted stamp before w tid) (vote_next tid) (end_if (member_of part (no 3)).fresh tid work) ss) votes_is
-      (subst (λ (w : Work). AtEach (λ (v : Work) (server : ServerNo). IsUncommitted stamp before v tid) (vote_next tid) w (due_votes tid work)) (endings_are tid part work known) given.votes))))
+      (ended (member_of part (no 3)).fresh refl))
 
 -- where a pass is due
 pub by_pass_rule : (stamp : ℕ) (before : BookValue) (tid : Tid) (work : Work) → HoldsWork stamp before work → (part : Participant) → tm.part_of tid work.node.manager ≡ Some part → (is_pass_due tid part work ≡ true → MayPass stamp before work tid part)

@@ -25,11 +25,9 @@ use Rattle.qs_tm.specs.Members as rules
 use Rattle.qs_tm.specs.Participant.{awaits_note, drop_waiting, has_noted, is_by_files, is_forgotten, member_of, note_served, waiting_for}
 use Rattle.qs_tm.specs.declared.participant.Outstanding.{Outstanding}
 use Rattle.qs_tm.specs.declared.participant.Participant.{Participant}
-use Rattle.qs_step.specs.Deciding.{end_members}
 use Rattle.qs_step.specs.Serving.{enter_serve, lent_to, make_loan, reply_here}
 use Rattle.qs_step.specs.Settling.{is_pass_due, may_answer, pass_rule, ready_rule, refuse_rule, try}
 use Rattle.qs_step.specs.State.{Work, with_queues}
-use Rattle.qs_step.specs.Voting.{due_votes, vote_next}
 use Rattle.qs_lawful.specs.Entering.{book_at}
 use Rattle.qs_lawful.specs.Face.{at_server}
 use Rattle.qs_lawful.specs.Holds.{is_kept}
@@ -81,9 +79,9 @@ pub record MayServe (stamp : ℕ) (before : BookValue) (work : Work) (server : S
 
 -- ---- the vote pass
 
--- nothing is committed while a vote is due, and audit is of the run
+-- what has a vote due is not committed, and audit is of the run
 pub record MayPass (stamp : ℕ) (before : BookValue) (work : Work) (tid : Tid) (part : Participant) : Type 0 where
-  pub votes : AtEach (λ (w : Work) (server : ServerNo). IsUncommitted stamp before w tid) (vote_next tid) (end_members tid work) (due_votes tid work)
+  pub open_still : IsUncommitted stamp before work tid
   pub audit : (to : NodeNo) → work.node.setting.audit ≡ Some to → (nat_lt to.0 work.node.setting.nodes ≡ true) × (to.0 < length part.engage.peers)
 
 -- ---- decisions

@@ -1,5 +1,6 @@
 -- What a step of a node is given beside what is held: of what comes to it, and at each stage of what it does then.
-use Rattle.std.specs.Prelude.{◌≡◌, ◌≢◌, ℕ, ◌==◌, ◌≤◌, ◌<◌, true, false, ◌++◌, [], ◌∷◌, length, Some, None, Option, is_some, nat_lt, ⊤}
+use Rattle.std.specs.Prelude.{◌≡◌, ◌≢◌, ℕ, ◌==◌, ◌≤◌, ◌<◌, true, false, ◌++◌, [], ◌∷◌, List, length, Some, None, Option, is_some, nat_lt, ⊤}
+use Rattle.std.specs.List.{list_any}
 use Rattle.std.specs.Map.{lookup}
 use Rattle.std.specs.BTreeMap.{is_at}
 use Rattle.qs_base.specs.Order.{tid_cmp}
@@ -13,7 +14,9 @@ use Rattle.qs_ipc.specs.Ipc as ipc
 use Rattle.qs_ipc.specs.Queue.{is_for}
 use Rattle.qs_journal.specs.declared.script_line.Command.TheVariants as commands
 use Rattle.qs_journal.specs.declared.script_line.ScriptLine.{ScriptLine}
+use Rattle.qs_kept.specs.Loans.{last_taken}
 use Rattle.qs_kept.specs.declared.kept.Begun.{Begun}
+use Rattle.qs_kept.specs.declared.kept.Lent.{Lent}
 use Rattle.qs_laws.proofs.Rising.{IsRising}
 use Rattle.qs_machine.specs.Book.{BookValue, find_transaction}
 use Rattle.qs_machine.specs.Clauses.{is_fresh}
@@ -25,8 +28,10 @@ use Rattle.qs_packet.specs.declared.message.Message.TheVariants as messages
 use Rattle.qs_journal.specs.declared.entry.Act.TheVariants as acts
 use Rattle.qs_ops.specs.Timers.{ticked}
 use Rattle.qs_servers.specs.Servers.{timers_no}
+use Rattle.qs_step.specs.Borrowing.{is_void}
 use Rattle.qs_step.specs.Bringing.{enter}
 use Rattle.qs_step.specs.Answering.{kept_outcome, was_committed}
+use Rattle.qs_step.specs.Telling.{is_other_node}
 use Rattle.qs_step.specs.Restarts.{begin_incarnation}
 use Rattle.qs_step.specs.Serving.{label_at, serve_next}
 use Rattle.qs_step.specs.Settling.{due_tids, settle, settle_tid}
@@ -57,9 +62,20 @@ pub record IsLentHere (stamp : ℕ) (before : BookValue) (work : Work) (tid : Ti
   pub known : tm.part_of tid work.node.manager ≡ Some part
   pub open_still : IsUncommitted stamp before work tid
 
--- what began here of a client here began since the node started
+-- the client's present loan stands, and is worth something
+pub record IsLentTo (client : ClientNo) (work : Work) (tid : Tid) : Type 0 where
+  pub loan : Lent
+  pub taken : last_taken client tid work.node.kept.now.loans ≡ Some loan
+  pub stands : loan.yielded ≡ false
+  pub valid : is_void tid loan work.node ≡ false
+
+-- it began here since the node started
 abbrev pub IsOfNow : Work → Tid → Type 0
 IsOfNow work tid = (tid.home ≡ work.node.setting.node) × (tid.inc ≡ work.node.setting.inc)
+
+-- it did where it is undecided
+abbrev pub IsUndecidedOfNow : Work → Tid → Type 0
+IsUndecidedOfNow work tid = (part : Participant) → tm.part_of tid work.node.manager ≡ Some part → part.outcome ≡ None → tid.inc ≡ work.node.setting.inc
 
 -- a line of a well-formed script comes: of a client that has no open command, in order, with a fresh label where it begins
 pub record MayCommand (stamp : ℕ) (before : BookValue) (work : Work) (line : ScriptLine) : Type 0 where
@@ -67,17 +83,18 @@ pub record MayCommand (stamp : ℕ) (before : BookValue) (work : Work) (line : S
   pub behind : IsBehind (book_at stamp before work) line.client line.line
   pub small : nat_lt line.client.0 224 ≡ true
   pub fresh : line.command ≡ commands.Begin → is_fresh (book_at stamp before work).labels line.label ≡ true
-  pub of_now : (begun : Begun) (tid : Tid) → label_at line.label work.node ≡ Some begun → begun.tid ≡ Some tid → begun.owner ≡ Some line.client → IsOfNow work tid
+  pub of_now : (begun : Begun) (tid : Tid) → label_at line.label work.node ≡ Some begun → begun.tid ≡ Some tid → begun.owner ≡ Some line.client → kept_outcome tid work.node ≡ None → IsOfNow work tid
+  pub undecided : (begun : Begun) (tid : Tid) → label_at line.label work.node ≡ Some begun → begun.tid ≡ Some tid → begun.owner ≡ Some line.client → IsUndecidedOfNow work tid
   pub runs : (begun : Begun) (tid : Tid) → label_at line.label work.node ≡ Some begun → begun.tid ≡ Some tid → begun.owner ≡ Some line.client → kept_outcome tid work.node ≡ None
       → (part : Participant) × (tm.part_of tid work.node.manager ≡ Some part) × (part.outcome ≡ None)
   pub requests : (begun : Begun) (tid : Tid) (member : Member) (op : Op) → label_at line.label work.node ≡ Some begun → begun.tid ≡ Some tid → line.command ≡ commands.Request member op → MayRequest work tid member op
-  pub lent : (begun : Begun) (tid : Tid) (member : Member) (op : Op) → label_at line.label work.node ≡ Some begun → begun.tid ≡ Some tid → is_owner line.client begun.owner ≡ false → line.command ≡ commands.Request member op → IsLentHere stamp before work tid
+  pub lent : (begun : Begun) (tid : Tid) (member : Member) (op : Op) → label_at line.label work.node ≡ Some begun → begun.tid ≡ Some tid → is_owner line.client begun.owner ≡ false → line.command ≡ commands.Request member op → IsLentTo line.client work tid → IsLentHere stamp before work tid
 
 -- a command that stayed open is looked at again
 pub record MayWait (stamp : ℕ) (before : BookValue) (work : Work) (client : ClientNo) : Type 0 where
   pub small : nat_lt client.0 224 ≡ true
-  pub of_now : (command : OpenCommand) (begun : Begun) (tid : Tid) → lookup (is_at (client_cmp client)) work.node.commands ≡ Some command → label_at command.line.label work.node ≡ Some begun → begun.tid ≡ Some tid → begun.owner ≡ Some client → tid.inc ≡ work.node.setting.inc
-  pub requests : (command : OpenCommand) (tid : Tid) (member : Member) (op : Op) → lookup (is_at (client_cmp client)) work.node.commands ≡ Some command → command.line.command ≡ commands.Request member op → MayRequest work tid member op × IsLentHere stamp before work tid
+  pub of_now : (command : OpenCommand) (begun : Begun) (tid : Tid) → lookup (is_at (client_cmp client)) work.node.commands ≡ Some command → label_at command.line.label work.node ≡ Some begun → begun.tid ≡ Some tid → begun.owner ≡ Some client → IsUndecidedOfNow work tid
+  pub requests : (command : OpenCommand) (tid : Tid) (member : Member) (op : Op) → lookup (is_at (client_cmp client)) work.node.commands ≡ Some command → command.line.command ≡ commands.Request member op → IsLentTo client work tid → MayRequest work tid member op × IsLentHere stamp before work tid
 
 -- ---- messages
 
@@ -106,9 +123,9 @@ pub record IsCell (stamp : ℕ) (before : BookValue) (work : Work) (tid : Tid) (
   pub found : find_transaction (book_at stamp before work) tid ≡ Some tx
   pub is_so : is_outcome outcome tx.cell ≡ true
 
--- what is unknown at its home is aborted
-pub record IsGoneAborted (stamp : ℕ) (before : BookValue) (work : Work) (tid : Tid) : Type 0 where
-  pub unknown : tm.part_of tid work.node.manager ≡ None → IsAborted stamp before work tid
+-- what is unknown at its home, and of which nodes are named that are to be told, is aborted
+pub record IsGoneAborted (stamp : ℕ) (before : BookValue) (work : Work) (tid : Tid) (further : List NodeNo) : Type 0 where
+  pub unknown : tm.part_of tid work.node.manager ≡ None → list_any (is_other_node tid) further ≡ true → IsAborted stamp before work tid
   pub once : IsRising tid_cmp work.node.manager.known
 
 abbrev pub MayCome : ℕ → BookValue → Work → NodeNo → Message → Type 0
@@ -120,7 +137,7 @@ MayCome stamp before work peer (messages.Covered tid up_to) = MayCount work peer
 MayCome stamp before work peer (messages.VotedYes tid up_to told) = MayCount work peer tid up_to
 MayCome stamp before work peer (messages.VotedAbort tid cause) = ⊤
 MayCome stamp before work peer (messages.Tell tid outcome) = IsCell stamp before work tid outcome
-MayCome stamp before work peer (messages.Told tid further) = IsGoneAborted stamp before work tid
+MayCome stamp before work peer (messages.Told tid further) = IsGoneAborted stamp before work tid further
 MayCome stamp before work peer (messages.Inquire tid) = tm.part_of tid work.node.manager ≡ None → was_committed tid work.node ≡ false → IsAborted stamp before work tid
 
 -- ---- time
