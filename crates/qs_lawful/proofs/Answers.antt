@@ -30,6 +30,7 @@ use Rattle.qs_lawful.specs.Holds.{Holds, HoldsClients, IsBehind, HasEnded, MayBe
 use Rattle.qs_tm.specs.Manager as tm
 use Rattle.qs_tm.specs.declared.participant.Participant.{Participant}
 use Rattle.qs_lawful.specs.Entering.{HoldsWork, book_at}
+use Rattle.qs_lawful.proofs.OtherShares.{removed_apart}
 use Rattle.qs_lawful.proofs.Frames.{seen, KeepsSeen, found_alike, owner_on, owner_back, held_on, known_on}
 use Rattle.qs_lawful.proofs.Growing.{entered, book_with}
 use Rattle.qs_lawful.proofs.Clauses.{may_answer}
@@ -66,16 +67,6 @@ same_client_or c d = by (is_at (client_cmp c) d) refl
     by : (b : Bool) → is_at (client_cmp c) d ≡ b → (c ≡ d) ⊎ ((c ≢ d) × AreApart c d)
     by true is = inl (client_exact c d is)
     by false is = inr (λ same. clash (sym (subst (λ (x : ClientNo). is_at (client_cmp c) x ≡ true) same (client_itself c)) ∙ is), λ k at. turned is k at _ refl)
-
-pub removed_apart : {K X : Type 0} (p q : K → Bool) → ((k : K) → q k ≡ true → p k ≡ false) → (es : List (K × X)) → lookup q (remove_entry p es) ≡ lookup q es
-removed_apart p q apart [] = refl
-removed_apart p q apart (e ∷ es) = by (p e.0) (q e.0) refl refl (removed_apart p q apart es)
-  where
-    by : (b c : Bool) → p e.0 ≡ b → q e.0 ≡ c → lookup q (remove_entry p es) ≡ lookup q es → lookup q (remove_entry p (e ∷ es)) ≡ lookup q (e ∷ es)
-    by true true is has more = absurd (cc (is, apart e.0 has))
-    by true false is has more = rw (is, has) refl
-    by false true is has more = rw (is, has) refl
-    by false false is has more = rw (is, has) more
 
 -- what a client may be told does not hang on its line
 told_by : Owner → Owner

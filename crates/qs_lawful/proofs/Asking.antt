@@ -151,7 +151,7 @@ module _ (stamp : ℕ) (before : BookValue) (work : Work) (tid : Tid) (part : Pa
             h.holds.state (record { up = refl; inc = refl; begun = refl; format = refl }) h.holds.there refl refl refl
             (record { setting = refl; at = refl; in_inc = refl }) refl faces own clients
             (servers_still tid (asked_at book.place) (λ x. refl) book new_book refl work.node.setting.node h.holds.state work.node.servers h.holds.servers) (λ t far. refl)
-            (let k = waits_of stamp book work.node h.holds tid tx found in record { whole = k.whole; due = k.due; within = k.within; once = k.once }))
+            (let k = waits_of stamp book work.node h.holds tid tx found in record { whole = k.whole; due = k.due; within = k.within; once = k.once; fits = k.fits }))
 
         by : (b : Bool) → b ≡ false → HoldsWork stamp before (if b then work else become_asked tid part (enter_ask tid work))
         by true is = absurd (cc is)

@@ -27,6 +27,7 @@ use Rattle.qs_step.specs.State.{Work, NodeValue, with_manager}
 use Rattle.qs_lawful.specs.Face.{face_of, IsEmpty}
 use Rattle.qs_lawful.specs.Holds.{Holds, HoldsTid, HoldsAt, HoldsClients, HasBegun, IsOwner, IsAsking, HasEnded}
 use Rattle.qs_lawful.specs.Entering.{HoldsWork, book_at}
+use Rattle.qs_lawful.specs.Tables.{HoldsServers}
 use Rattle.qs_lawful.proofs.Apart.{Apart, same_or_apart}
 use Rattle.qs_lawful.proofs.Clauses.{may_begin}
 use Rattle.qs_lawful.proofs.Faces.{put_apart}
@@ -217,12 +218,16 @@ module _ (stamp : ℕ) (before : BookValue) (work : Work) (label : List ℕ) (cl
         due = λ busy. absurd (clash (sym idle ∙ busy));
         within = λ server at near. subst (λ (ds : List Delivery). IsWithin (waiting_ops at ds) []) (sym (none.waiting server)) tt;
         once = λ server at is. nothing;
+        fits = λ server at near. tt;
       }
 
       by : (tid ≡ t) ⊎ Apart tid t → HoldsWaitsAt here node.setting.inc t (find_transaction new_book t) (face_of new t).waiting new.servers
       by (inl same) = subst (λ (u : Tid). HoldsWaitsAt here node.setting.inc u (find_transaction new_book u) (face_of new u).waiting new.servers) same
           (subst (λ (o : Option TransactionValue). HoldsWaitsAt here node.setting.inc tid o (face_of node tid).waiting node.servers) (sym found_here) own_waits)
       by (inr far) = subst (λ (o : Option TransactionValue). HoldsWaitsAt here node.setting.inc t o (face_of node t).waiting node.servers) (sym (found_apart t far)) (h.holds.waits t)
+
+  still : HoldsServers (is_seen new_book here) h.holds.state node.servers
+  still = servers_alike (is_seen book here) (is_seen new_book here) h.holds.state node.servers seen_on h.holds.servers
 
   held : Holds stamp new_book new
   held = record {
@@ -234,7 +239,7 @@ module _ (stamp : ℕ) (before : BookValue) (work : Work) (label : List ℕ) (cl
     at = at_each here node.setting.inc book new_book node new tid h.holds.at found_apart faces own;
     begun = begun_on;
     clients = clients;
-    servers = other_state (is_seen new_book here) h.holds.state (record h.holds.state { begun = tid.seq }) node.servers refl refl refl refl refl refl (servers_alike (is_seen book here) (is_seen new_book here) h.holds.state node.servers seen_on h.holds.servers);
+    servers = other_state (is_seen new_book here) h.holds.state (record h.holds.state { begun = tid.seq }) node.servers refl refl refl refl refl refl still.doubts still;
     waits = waits_on;
   }
 

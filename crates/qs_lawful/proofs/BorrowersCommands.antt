@@ -43,10 +43,10 @@ use Rattle.qs_lawful.proofs.Waiting.{by_borrower_command}
 -- ---- a present loan that stands is one of the transaction's that stand
 
 module _ (client : ClientNo) (tid : Tid) (inc : ℕ) where
-  abbrev stands : Lent → Bool
+  abbrev pub stands : Lent → Bool
   stands loan = is_loan_here client inc loan && not loan.yielded
 
-  present_stands : (loans : List Lent) (last : Lent) → last_taken client tid loans ≡ Some last → last.yielded ≡ false → (last.inc == inc) ≡ true
+  pub present_stands : (loans : List Lent) (last : Lent) → last_taken client tid loans ≡ Some last → last.yielded ≡ false → (last.inc == inc) ≡ true
       → list_any (λ (loan : Lent). is_loan_here client inc loan && not loan.yielded) (filter (is_loan_in tid) loans) ≡ true
   present_stands [] last is free in_inc = absurd (cc is)
   present_stands (loan ∷ loans) last is free in_inc = by (is_taken client tid loan && not (is_some (last_taken client tid loans))) refl (present_stands loans last)

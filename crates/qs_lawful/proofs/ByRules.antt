@@ -20,6 +20,8 @@ use Rattle.qs_machine.specs.declared.transaction.Request.{Request}
 use Rattle.qs_ops.specs.Members.{class_of, is_two_phase}
 use Rattle.qs_ops.specs.Server.{reply_of, vote_of}
 use Rattle.qs_servers.specs.Servers.{server_at}
+use Rattle.qs_lawful.proofs.Alike.{same}
+use Rattle.qs_lawful.proofs.NamesVote.{names_right}
 use Rattle.qs_lawful.proofs.VoteRules.{vote_is_right}
 use Rattle.qs_ops.specs.declared.reply.Reply.{Reply}
 use Rattle.qs_ops.specs.declared.vote.Vote.{Vote}
@@ -29,7 +31,7 @@ use Rattle.qs_step.specs.Voting.{served_count, vote_frame, vote_with}
 use Rattle.qs_tm.specs.Participant.{awaits_note, has_noted, member_of}
 use Rattle.qs_tm.specs.declared.participant.Participant.{Participant}
 use Rattle.qs_world.specs.Posting.{entry_of}
-use Rattle.std.proofs.Common.{◌∷◌, None, Option, Some, ap, false, refl, sym, true, ℕ, ◌==◌, ◌∙◌, ◌≡◌, ◌≤◌, ◌⊎◌}
+use Rattle.std.proofs.Common.{Bool, ◌∷◌, None, Option, Some, ap, false, refl, subst, sym, true, ℕ, ◌==◌, ◌∙◌, ◌≡◌, ◌≤◌, ◌⊎◌}
 use Rattle.qs_journal.specs.declared.entry.Act.TheVariants as acts
 use Rattle.qs_ops.specs.Servers as numbers
 use Rattle.qs_tm.specs.Manager as tm
@@ -52,11 +54,16 @@ module _ (stamp : ℕ) (before : BookValue) (work : Work) (tid : Tid) (part : Pa
       count : served_count tid server work ≡ (member_of (part_in (face_of work.node tid)) server).served
       count = ap (λ (o : Option Participant). elim o [ None ↦ 0 | Some p ↦ (member_of p server).served ]) known ∙ sym (ap (λ (p : Participant). (member_of p server).served) part_here)
 
-  -- and any but names votes by them
-  pub by_own_vote : (server : ServerNo) → is_kept server ≡ true → is_two_phase (class_of server.0) ≡ true → (server.0 == numbers.names_no) ≡ false → part.asked ≡ true → is_commit tx.cell ≡ false → rules.is_covering (member_of part server) ≡ false
+  -- and each votes by them
+  pub by_own_vote : (server : ServerNo) → is_kept server ≡ true → is_two_phase (class_of server.0) ≡ true → part.asked ≡ true → is_commit tx.cell ≡ false → rules.is_covering (member_of part server) ≡ false
       → HoldsWork stamp before (vote_with tid server (vote_of (server_at work.node.servers server) tid work.room (vote_frame work)) work)
-  by_own_vote server kept two other asked still due =
-      by_voting_rules server (vote_of (server_at work.node.servers server) tid work.room (vote_frame work)) kept two asked still due (vote_is_right stamp (book_at stamp before work) work.node h.holds tid tx found server kept two other work.room)
+  by_own_vote server kept two asked still due =
+      by_voting_rules server (vote_of (server_at work.node.servers server) tid work.room (vote_frame work)) kept two asked still due (of (server.0 == numbers.names_no) refl)
+    where
+      of : (b : Bool) → (server.0 == numbers.names_no) ≡ b → is_vote h.holds.state tid tx (at_server work.node.setting.node server) (vote_of (server_at work.node.servers server) tid work.room (vote_frame work)) ≡ true
+      of false is = vote_is_right stamp (book_at stamp before work) work.node h.holds tid tx found server kept two is work.room
+      of true is = subst (λ (n : ℕ). is_vote h.holds.state tid tx (at_server work.node.setting.node (record { 0 = n })) (vote_of (server_at work.node.servers (record { 0 = n })) tid work.room (vote_frame work)) ≡ true)
+          (sym (same server.0 numbers.names_no is)) (names_right stamp (book_at stamp before work) work.node h.holds tid tx found work.room)
 
 -- a member serves by the rules what stands there, where no outcome is known
 pub by_serving_rules : (stamp : ℕ) (before : BookValue) (work : Work) (server : ServerNo) (delivery : Delivery) (reply : Reply) (part : Participant) (tx : TransactionValue) → (h : HoldsWork stamp before work) → HoldsFiles work.node.servers

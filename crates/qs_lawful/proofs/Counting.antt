@@ -148,7 +148,7 @@ module _ (stamp : ℕ) (before : BookValue) (work : Work) (tid : Tid) (peer : No
       (clients_on book new_book node new (tx_seen tid f (λ x. refl) book new_book refl) (same_owners book new_book refl) (record { setting = refl; at = refl; in_inc = refl }) (record { commands = refl; labels = refl; outcomes = refl }) h.holds.clients
       (λ t. changed_alike (is_at (tid_cmp tid)) told_of g (λ p. refl) (is_at (tid_cmp t)) node.manager.known))
       (servers_still tid f (λ x. refl) book new_book refl here h.holds.state node.servers h.holds.servers) (λ t far. refl)
-      (let k = waits_of stamp book node h.holds tid tx found in record { whole = k.whole; due = k.due; within = k.within; once = k.once }))
+      (let k = waits_of stamp book node h.holds tid tx found in record { whole = k.whole; due = k.due; within = k.within; once = k.once; fits = k.fits }))
 
 -- of what is unknown here, or decided, nothing is counted
 pub by_closer : (stamp : ℕ) (before : BookValue) (work : Work) → HoldsWork stamp before work → (peer : NodeNo) (tid : Tid) (up_to : ℕ) (told : List NodeNo) → (peer.0 == work.node.setting.node.0) ≡ false → nat_lt peer.0 work.node.setting.nodes ≡ true

@@ -278,7 +278,7 @@ module _ (stamp : ℕ) (before : BookValue) (work : Work) (tid : Tid) (outcome :
       (record { setting = refl; at = refl; in_inc = refl }) refl
       (λ t far. record { known = part_apart tid t (outcome_rules.decided outcome) node.manager far; local = refl; changes = refl; loans = refl; waiting = λ s. refl }) own clients
       (servers_still tid f (λ x. refl) book new_book refl here h.holds.state node.servers h.holds.servers) (λ t far. refl)
-      (let k = waits_of stamp book node h.holds tid tx found in record { whole = λ is. committed_whole stamp book node h.holds tid tx found outcome cause is lawful; due = k.due; within = k.within; once = k.once })
+      (let k = waits_of stamp book node h.holds tid tx found in record { whole = λ is. committed_whole stamp book node h.holds tid tx found outcome cause is lawful; due = k.due; within = k.within; once = k.once; fits = k.fits })
 
   abbrev pub decided_work : Work
   decided_work = enter (acts.Decide tid outcome cause) (keep_outcome tid outcome cause (log_if rec (with_manager (tm.decide tid outcome) work)))

@@ -130,7 +130,7 @@ module _ (stamp : ℕ) (before : BookValue) (work : Work) (h : HoldsWork stamp b
     waits t = by (same_or_apart tid t)
       where
         own_waits : HoldsWaits here node.setting.inc tid tx (face_of new tid).waiting node.servers
-        own_waits = record { whole = its_waits.whole; due = its_waits.due; within = within_on; once = its_waits.once }
+        own_waits = record { whole = its_waits.whole; due = its_waits.due; within = within_on; once = its_waits.once; fits = its_waits.fits }
 
         by : (tid ≡ t) ⊎ Apart tid t → HoldsWaitsAt here node.setting.inc t (find_transaction book t) (face_of new t).waiting node.servers
         by (inl same) = subst (λ (u : Tid). HoldsWaitsAt here node.setting.inc u (find_transaction book u) (face_of new u).waiting node.servers) same

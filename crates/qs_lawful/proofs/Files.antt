@@ -1,47 +1,22 @@
 -- What a server does for one transaction leaves how many changes files have pending for every other, and what another server does leaves all.
 use Rattle.qs_lawful.specs.Waits.{is_idle}
-use Rattle.std.proofs.Common.{◌≡◌, ℕ, ◌==◌, Bool, true, false, Option, refl, ap, length}
-use Rattle.std.specs.Prelude.{unwrap_or, if◌then◌else◌}
-use Rattle.std.specs.BTreeMap.{is_at}
-use Rattle.qs_base.specs.Order.{tid_cmp}
+use Rattle.std.proofs.Common.{◌≡◌, ℕ, ◌==◌, Bool, true, false, refl, ap, length}
+use Rattle.std.specs.Prelude.{if◌then◌else◌}
 use Rattle.qs_base.specs.declared.identifiers.ServerNo.{ServerNo}
 use Rattle.qs_base.specs.declared.identifiers.Tid.{Tid}
-use Rattle.qs_base.proofs.TidOrder.{tid_exact}
-use Rattle.qs_laws.proofs.Maps.{lookup_put_apart}
-use Rattle.qs_ops.specs.Server.{ServerValue, changes_in, after_serving, served_by, after_vote, voted_by, voted_in, after_notice, noted_by, noted_in}
+use Rattle.qs_ops.specs.Server.{ServerValue, changes_in, after_serving, served_by, after_vote, voted_by, after_notice, noted_by}
 use Rattle.qs_ops.specs.Servers as numbers
-use Rattle.qs_ops.specs.Table.{TableValue, share_of, nothing_held, released, with_share, applied}
+use Rattle.qs_ops.specs.Table.{share_of}
 use Rattle.qs_ops.specs.declared.operation.Op.{Op}
 use Rattle.qs_ops.specs.declared.reply.Reply.{Reply}
 use Rattle.qs_ops.specs.declared.server.Kind.{Kind}
 use Rattle.qs_ops.specs.declared.server.Kind.TheVariants.{Files, Audit, Names, Timers, Windows, Scratch, Nothing}
 use Rattle.qs_ops.specs.declared.share.Share.{Share}
 use Rattle.qs_ops.specs.declared.vote.Notice.{Notice}
-use Rattle.qs_ops.specs.declared.vote.Notice.TheVariants as notices
 use Rattle.qs_ops.specs.declared.vote.Vote.{Vote}
-use Rattle.qs_ops.specs.declared.vote.Vote.TheVariants as votes
 use Rattle.qs_servers.specs.Servers.{ServersValue, with_server}
 use Rattle.qs_lawful.proofs.Apart.{Apart}
-use Rattle.qs_lawful.proofs.Answers.{removed_apart}
-
--- ---- tables
-
-share_put : (tid t : Tid) (share : Share) (table : TableValue) → Apart tid t → share_of (with_share table tid share) t ≡ share_of table t
-share_put tid t share table far = ap (λ (o : Option Share). unwrap_or o nothing_held) (lookup_put_apart tid_cmp tid share (tid_exact tid) (is_at (tid_cmp t)) far.at table.shares)
-
-share_removed : (tid t : Tid) (table : TableValue) → Apart tid t → share_of (released table tid) t ≡ share_of table t
-share_removed tid t table far = ap (λ (o : Option Share). unwrap_or o nothing_held) (removed_apart (is_at (tid_cmp tid)) (is_at (tid_cmp t)) far.keys table.shares)
-
-share_voted : (tid t : Tid) (ballot : Vote) (table : TableValue) → Apart tid t → share_of (voted_in table tid ballot) t ≡ share_of table t
-share_voted tid t votes.ReadOnly table far = share_removed tid t table far
-share_voted tid t votes.Volatile table far = share_put tid t _ table far
-share_voted tid t votes.Recoverable table far = refl
-share_voted tid t (votes.Abort reason) table far = share_put tid t _ table far
-
-share_noted : (tid t : Tid) (notice : Notice) (table : TableValue) → Apart tid t → share_of (noted_in notice tid table) t ≡ share_of table t
-share_noted tid t notices.Commit table far = share_removed tid t (applied table (share_of table tid).changes) far
-share_noted tid t notices.Abort table far = share_removed tid t table far
-share_noted tid t notices.Ending table far = refl
+use Rattle.qs_lawful.proofs.OtherShares.{share_noted, share_put, share_voted}
 
 -- ---- servers
 

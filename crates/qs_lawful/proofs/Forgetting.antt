@@ -27,7 +27,7 @@ use Rattle.qs_tm.specs.declared.participant.Participant.{Participant}
 use Rattle.qs_lawful.specs.Entering.{HoldsWork, book_at}
 use Rattle.qs_lawful.specs.Face.{Face, face_of}
 use Rattle.qs_lawful.specs.Holds.{HoldsAt, HoldsTid, IsAsking, IsOwner}
-use Rattle.qs_lawful.proofs.Answers.{removed_apart}
+use Rattle.qs_lawful.proofs.OtherShares.{removed_apart}
 use Rattle.qs_lawful.proofs.Apart.{Apart, same_or_apart}
 use Rattle.qs_lawful.proofs.Clauses.{of_tid}
 use Rattle.qs_lawful.proofs.Frames.{asking_on, at_each, clients_with, held_on, tid_alike}
@@ -103,8 +103,9 @@ forgotten_tid here inc tid tx face part committed h = record {
 
 -- ---- the rule
 
-module _ (stamp : ℕ) (before : BookValue) (work : Work) (h : HoldsWork stamp before work) (tid : Tid) (part : Participant) (known : tm.part_of tid work.node.manager ≡ Some part) (committed : part.outcome ≡ Some outcomes.Commit)
-    (rising : IsRising tid_cmp work.node.manager.known) (tx : TransactionValue) (found : find_transaction (book_at stamp before work) tid ≡ Some tx) where
+-- where what is held of it is held of a node that knows nothing of it
+module _ (stamp : ℕ) (before : BookValue) (work : Work) (h : HoldsWork stamp before work) (tid : Tid) (rising : IsRising tid_cmp work.node.manager.known) (tx : TransactionValue) (found : find_transaction (book_at stamp before work) tid ≡ Some tx)
+    (unheard : HoldsTid work.node.setting.node work.node.setting.inc tid tx (record (face_of work.node tid) { known = None })) where
   abbrev node : NodeValue
   node = work.node
 
@@ -130,8 +131,7 @@ module _ (stamp : ℕ) (before : BookValue) (work : Work) (h : HoldsWork stamp b
   own = subst (λ (o : Option TransactionValue). HoldsAt node.setting.node node.setting.inc tid o (face_of new tid)) (sym found)
       (subst (λ (o : Option Participant). HoldsTid node.setting.node node.setting.inc tid tx (record (face_of new tid) { known = o })) (sym nothing)
       (with_waiting (record (face_of node tid) { known = None }) (face_of new tid).waiting (waits_same tid)
-      (forgotten_tid node.setting.node node.setting.inc tid tx (face_of node tid) part committed
-      (subst (λ (o : Option Participant). HoldsTid node.setting.node node.setting.inc tid tx (record (face_of node tid) { known = o })) known (of_tid stamp book node h.holds tid tx found)))))
+      unheard))
 
   asking : (t : Tid) (c : ClientNo) (p : Participant) → t.home ≡ node.setting.node → tm.part_of t new.manager ≡ Some p → p.outcome ≡ None → p.asked ≡ true → IsOwner book t c → IsAsking new t c
   asking t c p at is none asked owns = by (same_or_apart tid t)
@@ -143,10 +143,18 @@ module _ (stamp : ℕ) (before : BookValue) (work : Work) (h : HoldsWork stamp b
       by (inl same) = absurd (clash (sym nothing ∙ subst (λ (u : Tid). tm.part_of u new.manager ≡ Some p) (sym same) is))
       by (inr far) = asking_on node new (record { commands = refl; labels = refl; outcomes = refl }) t c (h.holds.clients.asking t c p at (sym (apart_known t far) ∙ is) none asked owns)
 
-  pub by_forget : HoldsWork stamp before (forget tid work)
-  by_forget = kept_on stamp before work (forget tid work) h refl refl
+  pub by_unheard : HoldsWork stamp before (forget tid work)
+  by_unheard = kept_on stamp before work (forget tid work) h refl refl
       (held_on stamp book book node new h.holds (record { setting = refl; at = refl; in_inc = refl }) refl h.holds.state (record { up = refl; inc = refl; begun = refl; format = refl })
       h.holds.order refl h.holds.there (λ t is. is)
       (at_each node.setting.node node.setting.inc book book node new tid h.holds.at (λ t far. refl) (λ t far. record { known = apart_known t far; local = refl; changes = refl; loans = refl; waiting = waits_same t }) own)
       (clients_with book book node new (λ t. refl) (λ k. refl) (record { setting = refl; at = refl; in_inc = refl }) (record { commands = refl; labels = refl; outcomes = refl }) h.holds.clients asking)
       h.holds.servers (λ t. waits_alike node.setting.node node.setting.inc t (find_transaction book t) (face_of node t).waiting (face_of new t).waiting node.servers node.servers (waits_same t) refl (h.holds.waits t)))
+
+-- what is committed is forgotten
+pub by_forget : (stamp : ℕ) (before : BookValue) (work : Work) → HoldsWork stamp before work → (tid : Tid) (part : Participant) → tm.part_of tid work.node.manager ≡ Some part → part.outcome ≡ Some outcomes.Commit → IsRising tid_cmp work.node.manager.known
+    → (tx : TransactionValue) → find_transaction (book_at stamp before work) tid ≡ Some tx → HoldsWork stamp before (forget tid work)
+by_forget stamp before work h tid part known committed rising tx found =
+    by_unheard stamp before work h tid rising tx found
+    (forgotten_tid work.node.setting.node work.node.setting.inc tid tx (face_of work.node tid) part committed
+    (subst (λ (o : Option Participant). HoldsTid work.node.setting.node work.node.setting.inc tid tx (record (face_of work.node tid) { known = o })) known (of_tid stamp (book_at stamp before work) work.node h.holds tid tx found)))

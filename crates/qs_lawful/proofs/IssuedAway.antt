@@ -29,12 +29,12 @@ use Rattle.qs_tm.specs.declared.participant.Outstanding.{Outstanding}
 use Rattle.qs_tm.specs.declared.participant.Participant.{Participant}
 use Rattle.qs_lawful.specs.Face.{Face, at_server}
 use Rattle.qs_lawful.specs.Holds.{HoldsHome, HoldsMember, HoldsTid}
-use Rattle.qs_lawful.specs.Waits.{HoldsWaits, IsWithin, op_in, waiting_ops}
+use Rattle.qs_lawful.specs.Waits.{AreFor, HoldsWaits, IsWithin, op_in, waiting_ops}
 use Rattle.qs_lawful.proofs.Faces.{filter_more}
 use Rattle.qs_lawful.proofs.Issued.{any_more, sent_again}
 use Rattle.qs_lawful.proofs.Parts.{index_apart, index_set}
 use Rattle.qs_lawful.proofs.Keys.{KeyApart, link_exact, link_itself, member_found, request_exact, request_itself, same_key_or}
-use Rattle.qs_lawful.proofs.Stands.{crossed_elsewhere}
+use Rattle.qs_lawful.proofs.IssuedStands.{crossed_elsewhere}
 
 -- ---- the node's count of what went to that node
 
@@ -174,6 +174,7 @@ module _ (here : NodeNo) (inc number peer_inc place : ℕ) (request : Request) (
     due = k.due;
     within = λ server at near. subst (λ (rs : List Request). IsWithin (waiting_ops at (waiting server)) (map op_in (filter (is_standing (at_server here server)) rs))) (sym (requests_near at near)) (k.within server at near);
     once = λ server at whole. subst (λ (rs : List Request). length rs ≤ 1) (sym (standing_near server at)) (k.once server at (sym (crossed_near server.0) ∙ whole));
+    fits = λ server at near. subst (λ (rs : List Request). AreFor server (map op_in (filter (is_standing (at_server here server)) rs))) (sym (requests_near at near)) (k.fits server at near);
   }
     where
       clash : true ≡ false → ⊥

@@ -169,7 +169,7 @@ module _ (stamp : ℕ) (before : BookValue) (work : Work) (tid : Tid) (outstandi
 
 -- ---- of an owner
 
-next_away : (node : NodeValue) (tid : Tid) (to : NodeNo) → to.0 ≢ node.setting.node.0 → next_to node tid to ≡ (peer_of (part_in (face_of node tid)).engage to).sent + 1
+pub next_away : (node : NodeValue) (tid : Tid) (to : NodeNo) → to.0 ≢ node.setting.node.0 → next_to node tid to ≡ (peer_of (part_in (face_of node tid)).engage to).sent + 1
 next_away node tid to far = by (to.0 == node.setting.node.0) (is_far to.0 node.setting.node.0 far)
   where
     is_far : (a b : ℕ) → a ≢ b → (a == b) ≡ false

@@ -48,7 +48,7 @@ use Rattle.qs_lawful.proofs.Faces.{part_apart, part_changed, queued_here, queued
 use Rattle.qs_lawful.proofs.Frames.{SameFace, KeepsSeen, KeepsOwners, said_to, clients_on, told_of}
 use Rattle.qs_lawful.proofs.Growing.{entered, book_with}
 use Rattle.qs_lawful.proofs.Issued.{issued_tid}
-use Rattle.qs_lawful.proofs.Stands.{crossed_none, crossed_some, crossed_other, issued_waits}
+use Rattle.qs_lawful.proofs.IssuedStands.{crossed_none, crossed_some, crossed_other, issued_waits}
 use Rattle.qs_lawful.proofs.Steps.{one_changed, tx_apart, tx_changed, tx_seen, waits_of}
 use Rattle.qs_lawful.proofs.CrossedTables.{crossed_up, servers_alike}
 use Rattle.qs_lawful.proofs.Keys.{member_found}
@@ -161,8 +161,8 @@ module _ (stamp : ℕ) (before : BookValue) (work : Work) (tid : Tid) (outstandi
   its_waits : HoldsWaits home node.setting.inc tid tx (face_of node tid).waiting node.servers
   its_waits = waits_of stamp book node h.holds tid tx found
 
-  own_waits : is_commit tx.cell ≡ false → HoldsWaits home node.setting.inc tid (f tx) (face_of new tid).waiting node.servers
-  own_waits open_still = issued_waits home node.setting.inc outstanding.number (inc_at book outstanding.member.node) book.place request tx near inc_is refl delivery refl refl refl tid (waiting_at node tid) (waiting_at new tid) waits_here waits_elsewhere node.servers its_waits open_still
+  own_waits : queues.is_for outstanding.member.server op ≡ true → is_commit tx.cell ≡ false → HoldsWaits home node.setting.inc tid (f tx) (face_of new tid).waiting node.servers
+  own_waits fits still = issued_waits home node.setting.inc outstanding.number (inc_at book outstanding.member.node) book.place request tx near inc_is refl delivery refl refl refl tid (waiting_at node tid) (waiting_at new tid) waits_here waits_elsewhere node.servers its_waits fits still
 
   member_here_is : outstanding.member ≡ record { node = home; server = record { 0 = outstanding.member.server.0 } }
   member_here_is = ap (λ (n : NodeNo). record { node = n; server = outstanding.member.server }) near
@@ -227,16 +227,16 @@ module _ (stamp : ℕ) (before : BookValue) (work : Work) (tid : Tid) (outstandi
       by (Some earlier) is = subst (λ (b : Bool). HoldsServers (is_seen new_book home) (crossed_if b tid outstanding.member h.holds.state) node.servers) (sym (crosses_is (Some earlier) is))
           (crossed_up (is_seen book home) (is_seen new_book home) h.holds.state node.servers h.holds.servers tid outstanding.member.server.0 (hides earlier is) others h.holds.same.up)
 
-  pub by_issued : broken book (entry_of home.0 stamp (acts.Issue tid issuer outstanding.member outstanding.number op)) ≡ None → HoldsWork stamp before issued_work
-  by_issued lawful = entered stamp before work issued_work (acts.Issue tid issuer outstanding.member outstanding.number op) h refl refl lawful
+  by_issued : queues.is_for outstanding.member.server op ≡ true → broken book (entry_of home.0 stamp (acts.Issue tid issuer outstanding.member outstanding.number op)) ≡ None → HoldsWork stamp before issued_work
+  by_issued fits lawful = entered stamp before work issued_work (acts.Issue tid issuer outstanding.member outstanding.number op) h refl refl lawful
       (one_changed stamp book new_book node new h.holds tid f tx found txs
       (crossed_if crossing tid outstanding.member h.holds.state) (crossing_state crossing tid outstanding.member h.holds.state) there run refl refl
-      (record { setting = refl; at = refl; in_inc = refl }) refl faces own clients servers_on (λ t far. refl) (own_waits (open_still stamp book node h.holds tid tx found issuer outstanding.member outstanding.number op lawful)))
+      (record { setting = refl; at = refl; in_inc = refl }) refl faces own clients servers_on (λ t far. refl) (own_waits fits (open_still stamp book node h.holds tid tx found issuer outstanding.member outstanding.number op lawful)))
 
   -- where the operation is one of its server's
   pub by_issue_here : queues.is_for outstanding.member.server op ≡ true → broken book (entry_of home.0 stamp (acts.Issue tid issuer outstanding.member outstanding.number op)) ≡ None → HoldsWork stamp before (issue_here tid outstanding op work)
   by_issue_here fits lawful = by (queues.is_for outstanding.member.server op) fits
     where
       by : (b : Bool) → b ≡ true → HoldsWork stamp before (if b then issued_work else with_local tid outstanding.number (enter_issue tid outstanding op work))
-      by true is = by_issued lawful
+      by true is = by_issued fits lawful
       by false is = absurd (cc is)

@@ -120,6 +120,7 @@ module _ (stamp : ℕ) (before : BookValue) (work : Work) (tid : Tid) (client : 
               due = λ busy. ap (λ (p : Part). p.due) (changed_part_apart (life its inc) g tx.parts (at_server here rules.files_no) inc (borrower_apart client here inc rules.files_no refl)) ∙ k.due busy;
               within = k.within;
               once = k.once;
+              fits = k.fits;
             }
 
   -- ---- a loan is made, where the client was asked to take it in this step

@@ -22,7 +22,7 @@ use Rattle.qs_kept.specs.declared.kept.Begun.{Begun}
 use Rattle.qs_step.specs.Answering.{kept_outcome}
 use Rattle.qs_step.specs.Borrowing.{borrower_command}
 use Rattle.qs_step.specs.Bringing.{answer}
-use Rattle.qs_step.specs.Commands.{owner_command}
+use Rattle.qs_step.specs.Commands.{owner_command, request_command}
 use Rattle.qs_step.specs.Serving.{label_at}
 use Rattle.qs_step.specs.State.{Work, client_cmp}
 use Rattle.qs_step.specs.Step.{is_owner, labelled, obey, with_command, command_came}
@@ -44,10 +44,10 @@ module _ (stamp : ℕ) (before : BookValue) (work : Work) (h : HoldsWork stamp b
   abbrev command : OpenCommand
   command = record { line = line; issued = None }
 
-  came : HoldsWork stamp before (with_command line work)
+  pub came : HoldsWork stamp before (with_command line work)
   came = by_command stamp before work h line free behind
 
-  waits : lookup (is_at (client_cmp line.client)) (with_command line work).node.commands ≡ Some (record { line = line; issued = None })
+  pub waits : lookup (is_at (client_cmp line.client)) (with_command line work).node.commands ≡ Some (record { line = line; issued = None })
   waits = lookup_put client_cmp line.client (record { line = line; issued = None }) (tied_itself nat_cmp_total line.client.0) work.node.commands
 
   -- the client begins a transaction under a fresh label
@@ -91,9 +91,10 @@ module _ (stamp : ℕ) (before : BookValue) (work : Work) (h : HoldsWork stamp b
       by true = by_answer stamp before open_work line.client answers.NotBegun came (λ owner there. refl) idle
       by false = came
 
-  -- ---- the owner of what began here since the node started
+  -- ---- the owner: what runs still began here since the node started
 
-  module _ (begun : Begun) (known : label_at line.label work.node ≡ Some begun) (tid : Tid) (of : begun.tid ≡ Some tid) (owned : begun.owner ≡ Some line.client) (home : tid.home ≡ work.node.setting.node) (inc : tid.inc ≡ work.node.setting.inc) where
+  module _ (begun : Begun) (known : label_at line.label work.node ≡ Some begun) (tid : Tid) (of : begun.tid ≡ Some tid) (owned : begun.owner ≡ Some line.client)
+      (now : kept_outcome tid work.node ≡ None → (tid.home ≡ work.node.setting.node) × (tid.inc ≡ work.node.setting.inc)) (inc : (part : Participant) → tm.part_of tid work.node.manager ≡ Some part → part.outcome ≡ None → tid.inc ≡ work.node.setting.inc) where
     owns : is_owner line.client begun.owner ≡ true
     owns = ap (is_owner line.client) owned ∙ itself line.client.0
       where
@@ -113,19 +114,33 @@ module _ (stamp : ℕ) (before : BookValue) (work : Work) (h : HoldsWork stamp b
     pub by_commit_came : line.command ≡ commands.Commit → HoldsWork stamp before (command_came line work)
     by_commit_came commits = subst (λ (c : Command). HoldsWork stamp before (obey line c open_work)) (sym commits)
         (by_label_at commands.Commit (by_owner_command stamp before open_work came line.client command waits begun known tid of owned inc commands.Commit
-        (λ kept. by_commit_command stamp before open_work came line.client command waits begun known tid of owned home inc commits refl)))
+        (λ kept. by_commit_command stamp before open_work came line.client command waits begun known tid of owned (now kept).0 (now kept).1 commits refl)))
 
     pub by_abort_came : line.command ≡ commands.Abort → HoldsFiles work.node.servers → HoldsWork stamp before (command_came line work)
     by_abort_came aborts files = subst (λ (c : Command). HoldsWork stamp before (obey line c open_work)) (sym aborts)
         (by_label_at commands.Abort (by_owner_command stamp before open_work came line.client command waits begun known tid of owned inc commands.Abort
-        (λ kept. by_abort_command stamp before open_work came line.client command waits begun known tid of owned home inc aborts files)))
+        (λ kept. by_abort_command stamp before open_work came line.client command waits begun known tid of owned (now kept).0 (now kept).1 aborts files)))
+
+    -- a request is issued where no outcome is kept
+    pub by_any_request_came : (member : Member) (op : Op) → line.command ≡ commands.Request member op → (kept_outcome tid work.node ≡ None → HoldsWork stamp before (request_command line.client tid member op open_work)) → HoldsWork stamp before (command_came line work)
+    by_any_request_came member op requests issues = subst (λ (c : Command). HoldsWork stamp before (obey line c open_work)) (sym requests)
+        (by_label_at (commands.Request member op) (by_owner_command stamp before open_work came line.client command waits begun known tid of owned inc (commands.Request member op) issues))
+
+    -- what is a borrower's to command leaves all
+    pub by_take_came : line.command ≡ commands.Take → HoldsWork stamp before (command_came line work)
+    by_take_came takes = subst (λ (c : Command). HoldsWork stamp before (obey line c open_work)) (sym takes)
+        (by_label_at commands.Take (by_owner_command stamp before open_work came line.client command waits begun known tid of owned inc commands.Take (λ kept. came)))
+
+    pub by_yield_came : line.command ≡ commands.Yield → HoldsWork stamp before (command_came line work)
+    by_yield_came yields = subst (λ (c : Command). HoldsWork stamp before (obey line c open_work)) (sym yields)
+        (by_label_at commands.Yield (by_owner_command stamp before open_work came line.client command waits begun known tid of owned inc commands.Yield (λ kept. came)))
 
     -- where no outcome is kept, the transaction runs here
     pub by_request_came : (member : Member) (op : Op) → line.command ≡ commands.Request member op → member.node ≡ work.node.setting.node → queues.is_for member.server op ≡ true
         → (kept_outcome tid work.node ≡ None → (part : Participant) × (tm.part_of tid work.node.manager ≡ Some part) × (part.outcome ≡ None)) → HoldsWork stamp before (command_came line work)
     by_request_came member op requests near fits runs = subst (λ (c : Command). HoldsWork stamp before (obey line c open_work)) (sym requests)
         (by_label_at (commands.Request member op) (by_owner_command stamp before open_work came line.client command waits begun known tid of owned inc (commands.Request member op)
-        (λ kept. let its = runs kept in by_owners_request stamp before open_work came line.client command waits (λ is. differ (sym requests ∙ is)) tid member op near fits its.0 its.1 begun known of owned home inc its.2)))
+        (λ kept. let its = runs kept in by_owners_request stamp before open_work came line.client command waits (λ is. differ (sym requests ∙ is)) tid member op near fits its.0 its.1 begun known of owned (now kept).0 (now kept).1 its.2)))
       where
         differ : commands.Request member op ≡ commands.Commit → ⊥
         differ e = cc e

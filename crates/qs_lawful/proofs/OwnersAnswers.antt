@@ -32,7 +32,7 @@ pub some_same : {X : Type 0} {x y : X} → Some x ≡ Some y → x ≡ y
 some_same {x = x} e = ap (λ o. elim o [ None ↦ x | Some z ↦ z ]) e
 
 module _ (stamp : ℕ) (before : BookValue) (work : Work) (h : HoldsWork stamp before work) (client : ClientNo) (command : OpenCommand) (waits : lookup (is_at (client_cmp client)) work.node.commands ≡ Some command)
-    (begun : Begun) (labelled : label_at command.line.label work.node ≡ Some begun) (tid : Tid) (of : begun.tid ≡ Some tid) (owned : begun.owner ≡ Some client) (inc : tid.inc ≡ work.node.setting.inc) where
+    (begun : Begun) (labelled : label_at command.line.label work.node ≡ Some begun) (tid : Tid) (of : begun.tid ≡ Some tid) (owned : begun.owner ≡ Some client) (inc : (part : Participant) → tm.part_of tid work.node.manager ≡ Some part → part.outcome ≡ None → tid.inc ≡ work.node.setting.inc) where
   -- what the client waits for is its own
   asks_for : (t : Tid) → IsAsking work.node t client → tid ≡ t
   asks_for t a =
@@ -75,7 +75,7 @@ module _ (stamp : ℕ) (before : BookValue) (work : Work) (h : HoldsWork stamp b
           let same : tid ≡ t = asks_for t a in
           let here : tm.part_of tid work.node.manager ≡ Some part = subst (λ (u : Tid). tm.part_of u work.node.manager ≡ Some part) (sym same) is in
           let held = of_tid stamp (book_at stamp before work) work.node h.holds tid ended.tx ended.found in
-          none_open decided.outcome ended.tx.cell ended.as_kept ((held.home (ap (λ (u : Tid). u.home) same ∙ near) inc).undecided part here unknown)
+          none_open decided.outcome ended.tx.cell ended.as_kept ((held.home (ap (λ (u : Tid). u.home) same ∙ near) (inc part here unknown)).undecided part here unknown)
 
   -- a command that waits is answered once the transaction is decided
   pub by_owner_waits : (said : Command) → HoldsWork stamp before (owner_waits client (Some tid) said work)

@@ -122,7 +122,7 @@ module _ (stamp : ℕ) (before : BookValue) (peer : NodeNo) where
       where
         by : (o : Option TransactionValue) → HoldsWaitsAt node.setting.node node.setting.inc t o (face_of node t).waiting node.servers → HoldsWaitsAt node.setting.node node.setting.inc t o (face_of new t).waiting node.servers
         by None k = k
-        by (Some tx) k = record { whole = k.whole; due = k.due; within = λ server at near. subst (λ (ops : List Op). IsWithin ops (standing_ops tx at node.setting.node server)) (sym (ops_same t server at)) (k.within server at near); once = k.once }
+        by (Some tx) k = record { whole = k.whole; due = k.due; within = λ server at near. subst (λ (ops : List Op). IsWithin ops (standing_ops tx at node.setting.node server)) (sym (ops_same t server at)) (k.within server at near); once = k.once; fits = k.fits }
 
     by_marks : HoldsWork stamp before (with_queues (ipc.mark_queues peer) work)
     by_marks = kept_on stamp before work (with_queues (ipc.mark_queues peer) work) h refl refl

@@ -91,10 +91,10 @@ waits_quiet here inc tid (Some x) (Some y) waiting servers same h =
     same_some a b e = cc e
 
     quiet_waits : (tx : TransactionValue) → HoldsWaits here inc tid tx waiting servers → HoldsWaits here inc tid (quiet tx) waiting servers
-    quiet_waits tx k = record { whole = k.whole; due = k.due; within = k.within; once = k.once }
+    quiet_waits tx k = record { whole = k.whole; due = k.due; within = k.within; once = k.once; fits = k.fits }
 
     heard_waits : (tx : TransactionValue) → HoldsWaits here inc tid (quiet tx) waiting servers → HoldsWaits here inc tid tx waiting servers
-    heard_waits tx k = record { whole = k.whole; due = k.due; within = k.within; once = k.once }
+    heard_waits tx k = record { whole = k.whole; due = k.due; within = k.within; once = k.once; fits = k.fits }
 
 -- ---- the answers that end the wait for requests
 

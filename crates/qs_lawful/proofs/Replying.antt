@@ -1,5 +1,5 @@
 -- A reply comes to the node that issued the request: the rule as a whole.
-use Rattle.std.proofs.Common.{◌≡◌, ◌⊎◌, inl, inr, ℕ, ◌≤◌, Bool, true, false, List, [], ◌∷◌, Option, Some, None, refl, sym, ap, subst, ◌∙◌, length}
+use Rattle.std.proofs.Common.{◌≡◌, ◌⊎◌, inl, inr, ℕ, Bool, true, false, List, [], ◌∷◌, Option, Some, None, refl, sym, ap, subst, ◌∙◌, length}
 use Rattle.std.specs.Prelude.{not, ◌&&◌, ◌||◌, if◌then◌else◌}
 use Rattle.std.specs.List.{filter, find, list_any}
 use Rattle.std.specs.Map.{lookup}
@@ -13,9 +13,9 @@ use Rattle.qs_ops.specs.Operations.{answer_of}
 use Rattle.qs_ops.specs.declared.reply.Reply.{Reply}
 use Rattle.qs_ops.specs.declared.reply.Reply.TheVariants as replies
 use Rattle.qs_laws.proofs.Maps.{changed_alike}
-use Rattle.qs_machine.specs.Transaction.{TransactionValue, has_note}
+use Rattle.qs_machine.specs.Transaction.{TransactionValue}
 use Rattle.qs_machine.specs.Book.{BookValue, find_transaction}
-use Rattle.qs_machine.specs.Clauses.{is_known, note_text}
+use Rattle.qs_machine.specs.Clauses.{is_known}
 use Rattle.qs_machine.specs.declared.state.Owner.{Owner}
 use Rattle.qs_tm.specs.Manager as tm
 use Rattle.qs_tm.specs.Participant as participant
@@ -29,6 +29,7 @@ use Rattle.qs_step.specs.declared.state.Issued.{Issued}
 use Rattle.qs_step.specs.State.{Work, NodeValue, with_manager, client_cmp}
 use Rattle.qs_engage.specs.Engage.{peer_of}
 use Rattle.qs_lawful.specs.Face.{Face, face_of, part_in, part_or_new, is_held, at_server}
+use Rattle.qs_lawful.specs.Given.{AreNoted}
 use Rattle.qs_lawful.specs.Holds.{HoldsHome, HoldsMember, HoldsTid, HoldsAt, IsAsking}
 use Rattle.qs_lawful.specs.Entering.{HoldsWork, book_at}
 use Rattle.qs_lawful.proofs.Answers.{by_answer}
@@ -37,15 +38,11 @@ use Rattle.qs_lawful.proofs.Faces.{part_apart, part_changed}
 use Rattle.qs_lawful.proofs.Frames.{held_on, at_each, clients_on, told_of}
 use Rattle.qs_lawful.proofs.Growing.{kept_on}
 
--- the notes of a transaction that were served are known, or waited for
-abbrev pub Notes : NodeNo → ℕ → Tid → TransactionValue → Participant → Type 0
-Notes here inc tid tx part = (count : ℕ) → 1 ≤ count → has_note tx (record { node = here; inc = inc; text = note_text tid here.0 count }) ≡ true → (has_noted count part ≡ true) ⊎ (awaits_note part ≡ true)
-
 -- the participant but for its notes
 abbrev unnoted : Participant → Participant
 unnoted part = record part { waiting = []; noted = [] }
 
-noted_tid : (here : NodeNo) (inc : ℕ) (tid : Tid) (tx : TransactionValue) (face : Face) (part after : Participant) → unnoted after ≡ unnoted part → Notes here inc tid tx after → HoldsTid here inc tid tx (record face { known = Some part })
+noted_tid : (here : NodeNo) (inc : ℕ) (tid : Tid) (tx : TransactionValue) (face : Face) (part after : Participant) → unnoted after ≡ unnoted part → AreNoted here inc tid tx after → HoldsTid here inc tid tx (record face { known = Some part })
     → HoldsTid here inc tid tx (record face { known = Some after })
 noted_tid here inc tid tx face part after same notes h = record {
   sized = ap (λ (q : Participant). length q.members) same ∙ h.sized;
@@ -75,7 +72,7 @@ noted_tid here inc tid tx face part after same notes h = record {
 
 -- where what the node waits for of a transaction changes, or what it noted
 pub by_notes : (stamp : ℕ) (before : BookValue) (work : Work) (tid : Tid) (g : Participant → Participant) (part : Participant) (tx : TransactionValue) → HoldsWork stamp before work → tm.part_of tid work.node.manager ≡ Some part
-    → find_transaction (book_at stamp before work) tid ≡ Some tx → ((p : Participant) → told_of (g p) ≡ told_of p) → unnoted (g part) ≡ unnoted part → Notes work.node.setting.node work.node.setting.inc tid tx (g part)
+    → find_transaction (book_at stamp before work) tid ≡ Some tx → ((p : Participant) → told_of (g p) ≡ told_of p) → unnoted (g part) ≡ unnoted part → AreNoted work.node.setting.node work.node.setting.inc tid tx (g part)
     → HoldsWork stamp before (with_manager (tm.with_part tid g) work)
 by_notes stamp before work tid g part tx h known found told same notes = kept_on stamp before work (with_manager (tm.with_part tid g) work) h refl refl
     (held_on stamp book book node new h.holds (record { setting = refl; at = refl; in_inc = refl }) refl h.holds.state (record { up = refl; inc = refl; begun = refl; format = refl })

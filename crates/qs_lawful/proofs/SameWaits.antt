@@ -21,7 +21,7 @@ use Rattle.qs_servers.specs.Servers.{ServersValue}
 use Rattle.qs_tm.specs.Members as rules
 use Rattle.qs_lawful.specs.Face.{at_server}
 use Rattle.qs_lawful.specs.Tables.{is_seen, seen_in}
-use Rattle.qs_lawful.specs.Waits.{HoldsWaits, HoldsWaitsAt, IsWithin, op_in, waiting_ops, standing_ops, is_idle}
+use Rattle.qs_lawful.specs.Waits.{AreFor, HoldsWaits, HoldsWaitsAt, IsWithin, op_in, waiting_ops, standing_ops, is_idle}
 
 -- what else is changed of a transaction, of what waits and of what servers hold
 pub waits_on : (here : NodeNo) (inc : ℕ) (tid : Tid) (tx now : TransactionValue) (waiting : ServerNo → List Delivery) (servers after : ServersValue) → now.crossed ≡ tx.crossed → now.cell ≡ tx.cell → now.requests ≡ tx.requests
@@ -33,6 +33,7 @@ waits_on here inc tid tx now waiting servers after c e r due h = record {
   within = λ server at near. subst (λ (rs : List (RequestNo × List Request)). IsWithin (waiting_ops at (waiting server)) (map op_in (filter (is_standing (at_server here server)) (requests_in rs at)))) (sym r) (h.within server at near);
   once = λ server at is. subst (λ (rs : List (RequestNo × List Request)). length (filter (is_standing (at_server here server)) (requests_in rs at)) ≤ 1) (sym r)
       (h.once server at (ap (λ (xs : List (Member × ℕ)). is_some (lookup (is_at (member_cmp (at_server here server))) xs)) (sym c) ∙ is));
+  fits = λ server at near. subst (λ (rs : List (RequestNo × List Request)). AreFor server (map op_in (filter (is_standing (at_server here server)) (requests_in rs at)))) (sym r) (h.fits server at near);
 }
 
 -- the same waits, and the same is held at files
@@ -44,6 +45,7 @@ waits_alike here inc tid (Some tx) waiting now servers after same idle h = recor
   due = λ busy. h.due (sym idle ∙ busy);
   within = λ server at near. subst (λ (ds : List Delivery). IsWithin (waiting_ops at ds) (standing_ops tx at here server)) (sym (same server)) (h.within server at near);
   once = h.once;
+  fits = h.fits;
 }
 
 -- ---- what is crossed

@@ -1,12 +1,13 @@
 -- What a served request, an ending and a tick do at the servers, they do alike at the machine's tables.
-use Rattle.std.proofs.Common.{◌≡◌, ℕ, ◌+◌, ◌==◌, Bool, true, false, List, refl, sym, ap, subst, ◌∙◌, arith, map}
+use Rattle.std.proofs.Common.{◌≡◌, ℕ, ◌+◌, ◌==◌, Bool, true, false, List, ◌∷◌, refl, sym, ap, subst, ◌∙◌, arith, map}
 use Rattle.std.proofs.lemmas.Bool.Decides.{nat_tests}
 use Rattle.std.specs.Prelude.{◌&&◌, if◌then◌else◌}
+use Rattle.std.specs.List.{filter}
 use Rattle.qs_base.specs.declared.identifiers.ServerNo.{ServerNo}
 use Rattle.qs_base.specs.declared.identifiers.Tid.{Tid}
 use Rattle.qs_machine.specs.Book.{server_serve, crossed_serve, end_node, tick_node, is_done}
 use Rattle.qs_machine.specs.Nodes as machine
-use Rattle.qs_machine.specs.Nodes.{with_table, with_doubts, bound_names}
+use Rattle.qs_machine.specs.Nodes.{with_table, with_doubts, with_names, bound_names}
 use Rattle.qs_machine.specs.declared.transaction.Request.{Request}
 use Rattle.qs_ops.specs.Server.{ServerValue, after_serving, served_by, after_notice, noted_by}
 use Rattle.qs_ops.specs.Servers.{files_no, audit_no, names_no, timers_no, windows_no, scratch_no, is_client_no}
@@ -19,7 +20,11 @@ use Rattle.qs_ops.specs.declared.server.Kind.TheVariants as kinds
 use Rattle.qs_ops.specs.declared.vote.Notice.TheVariants as notices
 use Rattle.qs_servers.specs.Servers as numbers
 use Rattle.qs_servers.specs.Servers.{ServersValue, with_server}
+use Rattle.qs_ipc.specs.Queue.{is_for}
+use Rattle.qs_lawful.specs.Doubts.{HoldsDoubts}
 use Rattle.qs_lawful.specs.Tables.{HoldsTable, HoldsTimers, HoldsServers}
+use Rattle.qs_lawful.specs.Waits.{IsWithin, op_in}
+use Rattle.qs_lawful.proofs.Doubting.{hidden_doubts, more_in_doubt, served_doubts}
 use Rattle.qs_lawful.proofs.Alike.{is_tabled, changed_servers, other_state, table_itself, same}
 use Rattle.qs_lawful.proofs.Tables.{hide_table, serve_table, end_timers, serve_timers, hide_timers}
 
@@ -36,6 +41,7 @@ module _ (seen : ℕ → Tid → Bool) (state : machine.NodeValue) (servers : Se
     timers = timed;
     windows = h.windows;
     scratch = h.scratch;
+    doubts = h.doubts;
   })
 
 -- ---- an ending, and a tick
@@ -47,7 +53,7 @@ module _ (seen : ℕ → Tid → Bool) (state : machine.NodeValue) (servers : Se
       (subst (λ (k : Kind). HoldsTimers (seen timers_no) (timers_ended state.timers tid) (noted_by k notices.Ending tid servers.timers).timers) (sym h.kinds.timers) (end_timers (seen timers_no) state.timers servers.timers.timers h.timers tid))
 
   pub ticked_servers : (stamp : ℕ) → HoldsServers seen (tick_node stamp state) (with_server numbers.timers_no (λ value. record value { timers = ticked value.timers }) servers)
-  ticked_servers stamp = other_state seen (record state { timers = ticked state.timers }) (tick_node stamp state) (with_server numbers.timers_no (λ value. record value { timers = ticked value.timers }) servers) refl refl refl refl refl refl
+  ticked_servers stamp = other_state seen (record state { timers = ticked state.timers }) (tick_node stamp state) (with_server numbers.timers_no (λ value. record value { timers = ticked value.timers }) servers) refl refl refl refl refl refl h.doubts
       (changed_timers seen state servers h numbers.timers_no refl (λ value. record value { timers = ticked value.timers }) (ticked state.timers) refl (record { ticks = ap (λ n. n + 1) h.timers.ticks; shares = h.timers.shares; rising = h.timers.rising }))
 
   -- ---- a served request
@@ -77,36 +83,62 @@ module _ (seen : ℕ → Tid → Bool) (state : machine.NodeValue) (servers : Se
     differ : (a b : ℕ) → (a == b) ≡ false → a ≡ b → ⊥
     differ a b e is = grind (arith, nat_tests, e, is)
 
-    at_tables : (g : TableValue → TableValue) → (server.0 == timers_no) ≡ false → ((a b : TableValue) → HoldsTable (seen server.0) a b → HoldsTable (seen server.0) (g a) (served b tid op reply)) → HoldsServers seen (with_table server.0 g state) (with_server server serving servers)
-    at_tables g far both =
-        changed_servers seen state servers h server g (λ table. served table tid op reply) serving (λ value is. tabled value value.kind is) (λ value. kind_on value value.kind) (λ at value is. absurd (differ server.0 timers_no far at)) both
+    apart_from : (n a b : ℕ) → (n == a) ≡ true → (n == b) ≡ true → (a == b) ≡ false → ⊥
+    apart_from n a b p q r = grind (arith, nat_tests, p, q, r)
+
+    at_tables : (s : machine.NodeValue) → HoldsServers seen s servers → (g : TableValue → TableValue) → (server.0 == timers_no) ≡ false → ((a b : TableValue) → HoldsTable (seen server.0) a b → HoldsTable (seen server.0) (g a) (served b tid op reply))
+        → (server.0 ≡ names_no → HoldsDoubts (seen names_no) s.doubts (served servers.names.table tid op reply)) → HoldsServers seen (with_table server.0 g s) (with_server server serving servers)
+    at_tables s k g far both doubted =
+        changed_servers seen s servers k server g (λ table. served table tid op reply) serving (λ value is. tabled value value.kind is) (λ value. kind_on value value.kind) (λ at value is. absurd (differ server.0 timers_no far at)) both doubted
 
     at_timers : (kept : TimersValue) → server.0 ≡ timers_no → HoldsTimers (seen timers_no) kept (timer_served servers.timers.timers tid op reply) → HoldsServers seen (record state { timers = kept }) (with_server server serving servers)
     at_timers kept at timed =
         changed_timers seen state servers h server at serving kept (kind_on servers.timers servers.timers.kind) (subst (λ (k : Kind). HoldsTimers (seen timers_no) kept (served_by k tid op reply servers.timers).timers) (sym h.kinds.timers) timed)
 
-    pub served_seen : seen server.0 tid ≡ true → HoldsServers seen (server_serve server.0 tid op reply state) (with_server server serving servers)
-    served_seen mine = by (server.0 == timers_no) refl
+    -- an operation of names where names serve
+    at_names : is_for server op ≡ true → server.0 ≡ names_no → is_for (record { 0 = names_no }) op ≡ true
+    at_names fits at = subst (λ (n : ℕ). is_for (record { 0 = n }) op ≡ true) at fits
+
+    pub served_seen : is_for server op ≡ true → seen server.0 tid ≡ true → HoldsServers seen (server_serve server.0 tid op reply state) (with_server server serving servers)
+    served_seen fits mine = by (server.0 == timers_no) refl
       where
         by : (b : Bool) → (server.0 == timers_no) ≡ b → HoldsServers seen (if b then record state { timers = timer_served state.timers tid op reply } else with_table server.0 (λ table. served table tid op reply) state) (with_server server serving servers)
         by true is =
             let at : server.0 ≡ timers_no = same server.0 timers_no is in
             at_timers (timer_served state.timers tid op reply) at (serve_timers (seen timers_no) state.timers servers.timers.timers h.timers tid (subst (λ (n : ℕ). seen n tid ≡ true) at mine) op reply)
-        by false is = at_tables (λ table. served table tid op reply) is (λ a b t. serve_table (seen server.0) a b t tid mine op reply)
+        by false is = at_tables state h (λ table. served table tid op reply) is (λ a b t. serve_table (seen server.0) a b t tid mine op reply)
+            (λ at. served_doubts (seen names_no) state.doubts servers.names.table h.doubts tid op reply (at_names fits at) (subst (λ (n : ℕ). seen n tid ≡ true) at mine))
 
-    pub served_hidden : seen server.0 tid ≡ false → (requests : List Request) → HoldsServers seen (crossed_serve server.0 tid requests reply state) (with_server server serving servers)
-    served_hidden other requests = doubts ((server.0 == names_no) && is_done reply) (by (server.0 == timers_no) refl)
+    pub served_hidden : is_for server op ≡ true → seen server.0 tid ≡ false → (ops : List Op) (p : Request → Bool) (requests : List Request) → IsWithin (op ∷ ops) (map op_in (filter p requests)) → HoldsServers seen (crossed_serve server.0 tid requests reply state) (with_server server serving servers)
+    served_hidden fits other ops p requests first = by (server.0 == timers_no) refl (server.0 == names_no) refl (is_done reply) refl
       where
-        doubts : (b : Bool) → HoldsServers seen state (with_server server serving servers) → HoldsServers seen (if b then with_doubts tid (bound_names (map (λ (request : Request). request.op) requests)) state else state) (with_server server serving servers)
-        doubts true k = other_state seen state (with_doubts tid (bound_names (map (λ (request : Request). request.op) requests)) state) (with_server server serving servers) refl refl refl refl refl refl k
-        doubts false k = k
+        names : List (List ℕ)
+        names = bound_names (map op_in requests)
 
-        by : (b : Bool) → (server.0 == timers_no) ≡ b → HoldsServers seen state (with_server server serving servers)
-        by true is =
+        at_crossed : (s : machine.NodeValue) → HoldsServers seen s servers → (server.0 == timers_no) ≡ false → (server.0 ≡ names_no → HoldsDoubts (seen names_no) s.doubts (served servers.names.table tid op reply)) → HoldsServers seen s (with_server server serving servers)
+        at_crossed s k is doubted = subst (λ (n : machine.NodeValue). HoldsServers seen n (with_server server serving servers)) (table_itself server.0 s)
+            (at_tables s k (λ table. table) is (λ a b t. hide_table (seen server.0) a b t tid other (after_serve (share_of b tid) op reply)) doubted)
+
+        -- what may be bound is in doubt first
+        doubting : (b : Bool) → HoldsServers seen (if b then with_doubts tid names state else state) servers
+        doubting true = other_state seen state (with_doubts tid names state) servers refl refl refl refl refl refl (more_in_doubt (seen names_no) state.doubts servers.names.table h.doubts tid names) h
+        doubting false = h
+
+        of_names : (b : Bool) → is_done reply ≡ b → server.0 ≡ names_no → HoldsDoubts (seen names_no) (if b then with_doubts tid names state else state).doubts (served servers.names.table tid op reply)
+        of_names b done at = subst (λ (ds : List (Tid × List (List ℕ))). HoldsDoubts (seen names_no) ds (served servers.names.table tid op reply)) (of b done)
+            (hidden_doubts (seen names_no) state.doubts servers.names.table h.doubts tid op reply (at_names fits at) ops p requests first)
+          where
+            of : (c : Bool) → is_done reply ≡ c → (if is_done reply then with_names tid names state.doubts else state.doubts) ≡ (if c then with_doubts tid names state else state).doubts
+            of true e = rw e refl
+            of false e = rw e refl
+
+        by : (a : Bool) → (server.0 == timers_no) ≡ a → (b : Bool) → (server.0 == names_no) ≡ b → (c : Bool) → is_done reply ≡ c → HoldsServers seen (if b && c then with_doubts tid names state else state) (with_server server serving servers)
+        by true is true at c done = absurd (apart_from server.0 timers_no names_no is at refl)
+        by true is false far c done =
             let at : server.0 ≡ timers_no = same server.0 timers_no is in
             at_timers state.timers at (hide_timers (seen timers_no) state.timers servers.timers.timers h.timers tid (subst (λ (n : ℕ). seen n tid ≡ false) at other) op reply)
-        by false is = subst (λ (s : machine.NodeValue). HoldsServers seen s (with_server server serving servers)) (table_itself server.0 state)
-            (at_tables (λ table. table) is (λ a b t. hide_table (seen server.0) a b t tid other (after_serve (share_of b tid) op reply)))
+        by false is true at c done = at_crossed (if c then with_doubts tid names state else state) (doubting c) is (of_names c done)
+        by false is false far c done = at_crossed state h is (λ at. absurd (differ server.0 names_no far at))
 
     -- a client has nothing
     pub served_client : is_client_no server.0 ≡ true → (HoldsServers seen (server_serve server.0 tid op reply state) servers) × ((requests : List Request) → HoldsServers seen (crossed_serve server.0 tid requests reply state) servers)

@@ -82,12 +82,11 @@ by_reply_came stamp before work tid member number reply h none = by (tm.part_of 
 
 -- the reply goes where its request came from
 by_give_reply : (stamp : ℕ) (before : BookValue) (work : Work) (member : Member) (delivery : Delivery) (reply : Reply) → HoldsWork stamp before work
-    → (same_node delivery.from (here work) ≡ true → (part : Participant) → tm.part_of delivery.tid work.node.manager ≡ Some part → list_any (λ (r : Outstanding). is_answered_by member delivery.number r && is_by_files r) part.waiting ≡ false)
-    → HoldsWork stamp before (give_reply member delivery reply work)
-by_give_reply stamp before work member delivery reply h none = by (same_node delivery.from (here work)) refl delivery.stale
+    → (same_node delivery.from (here work) ≡ true → HoldsWork stamp before (reply_came delivery.tid member delivery.number reply work)) → HoldsWork stamp before (give_reply member delivery reply work)
+by_give_reply stamp before work member delivery reply h comes = by (same_node delivery.from (here work)) refl delivery.stale
   where
     by : (b : Bool) → same_node delivery.from (here work) ≡ b → (s : Bool) → HoldsWork stamp before (if b then reply_came delivery.tid member delivery.number reply work else if s then work else send delivery.from (messages.Answered delivery.tid member delivery.number reply) work)
-    by true near s = by_reply_came stamp before work delivery.tid member delivery.number reply h (none near)
+    by true near s = comes near
     by false far true = h
     by false far false = by_send stamp before work delivery.from (messages.Answered delivery.tid member delivery.number reply) h
 
@@ -111,15 +110,29 @@ module _ (server : ServerNo) (delivery : Delivery) (reply : Reply) (work : Work)
   loan_alike None = ((changed_alike (is_client server)).0, ap (tm.served delivery.tid server) (changed_alike (is_client server)).1)
   loan_alike (Some client) = ((changed_alike (is_client server)).0, ap (tm.served delivery.tid server) (changed_alike (is_client server)).1)
 
--- once it is served, its reply is given
-by_serve : (stamp : ℕ) (before : BookValue) (work : Work) (server : ServerNo) (delivery : Delivery) (reply : Reply) (part : Participant) → tm.part_of delivery.tid work.node.manager ≡ Some part
+-- once it is served
+abbrev pub after_serve : ServerNo → Delivery → Reply → Work → Work
+after_serve server delivery reply work = make_loan delivery.tid (lent_to delivery.op) (enter_serve server delivery reply work)
+
+-- its reply is given, and comes where the request was issued here
+abbrev pub Comes : ℕ → BookValue → Work → ServerNo → Delivery → Reply → Type 0
+Comes stamp before work server delivery reply = same_node delivery.from work.node.setting.node ≡ true → HoldsWork stamp before (after_serve server delivery reply work)
+    → HoldsWork stamp before (reply_came delivery.tid (at_server work.node.setting.node server) delivery.number reply (after_serve server delivery reply work))
+
+by_serve : (stamp : ℕ) (before : BookValue) (work : Work) (server : ServerNo) (delivery : Delivery) (reply : Reply) → Comes stamp before work server delivery reply → HoldsWork stamp before (after_serve server delivery reply work) → HoldsWork stamp before (serve server delivery reply work)
+by_serve stamp before work server delivery reply comes served =
+    by_give_reply stamp before (after_serve server delivery reply work) (member_here work server) delivery reply served
+    (λ near. comes (sym (ap (λ v. same_node delivery.from v.node) (loan_alike server delivery reply work (lent_to delivery.op)).0) ∙ near) served)
+
+-- where no note of files waits for it
+client_comes : (stamp : ℕ) (before : BookValue) (work : Work) (server : ServerNo) (delivery : Delivery) (reply : Reply) (part : Participant) → tm.part_of delivery.tid work.node.manager ≡ Some part
     → (same_node delivery.from work.node.setting.node ≡ true → list_any (λ (r : Outstanding). is_answered_by (at_server work.node.setting.node server) delivery.number r && is_by_files r) part.waiting ≡ false)
-    → HoldsWork stamp before (make_loan delivery.tid (lent_to delivery.op) (enter_serve server delivery reply work)) → HoldsWork stamp before (serve server delivery reply work)
-by_serve stamp before work server delivery reply part known none served =
-    by_give_reply stamp before (make_loan delivery.tid (lent_to delivery.op) (enter_serve server delivery reply work)) (member_here work server) delivery reply served
-    (λ near p is. subst (λ (w : List Outstanding). list_any (λ (r : Outstanding). is_answered_by (at_server work.node.setting.node server) delivery.number r && is_by_files r) w ≡ false) (sym (waiting_is p is)) (none (sym (ap (λ v. same_node delivery.from v.node) (loan_alike server delivery reply work (lent_to delivery.op)).0) ∙ near)))
+    → Comes stamp before work server delivery reply
+client_comes stamp before work server delivery reply part known none near served =
+    by_reply_came stamp before (after_serve server delivery reply work) delivery.tid (at_server work.node.setting.node server) delivery.number reply served
+    (λ p is. subst (λ (w : List Outstanding). list_any (λ (r : Outstanding). is_answered_by (at_server work.node.setting.node server) delivery.number r && is_by_files r) w ≡ false) (sym (waiting_is p is)) (none near))
   where
-    waiting_is : (p : Participant) → tm.part_of delivery.tid (make_loan delivery.tid (lent_to delivery.op) (enter_serve server delivery reply work)).node.manager ≡ Some p → p.waiting ≡ part.waiting
+    waiting_is : (p : Participant) → tm.part_of delivery.tid (after_serve server delivery reply work).node.manager ≡ Some p → p.waiting ≡ part.waiting
     waiting_is p is =
         let it : Some (participant.served server part) ≡ Some p =
         sym (part_changed delivery.tid (participant.served server) work.node.manager part known) ∙ (sym (ap (tm.part_of delivery.tid) (loan_alike server delivery reply work (lent_to delivery.op)).1) ∙ is) in
@@ -176,20 +189,19 @@ module _ (stamp : ℕ) (before : BookValue) (work : Work) (h : HoldsWork stamp b
       → reply_here server delivery.tid delivery.op work.node ≡ Some reply → (count : ℕ) → 1 ≤ count
       → has_note (served_in (record { link = record { from = delivery.from; to = work.node.setting.node }; number = delivery.number }) (at_server work.node.setting.node server) work.node.setting.inc stamp (is_done reply) tx)
       (record { node = work.node.setting.node; inc = work.node.setting.inc; text = note_text delivery.tid work.node.setting.node.0 count }) ≡ true → (has_noted count part ≡ true) ⊎ (awaits_note part ≡ true))
-      (clients : (delivery : Delivery) (part : Participant) → ipc.next server work.node.queues ≡ Some delivery → tm.part_of delivery.tid work.node.manager ≡ Some part
-      → same_node delivery.from work.node.setting.node ≡ true → list_any (λ (r : Outstanding). is_answered_by (at_server work.node.setting.node server) delivery.number r && is_by_files r) part.waiting ≡ false) where
+      (comes : (delivery : Delivery) (reply : Reply) (part : Participant) → ipc.next server work.node.queues ≡ Some delivery → tm.part_of delivery.tid work.node.manager ≡ Some part → reply_here server delivery.tid delivery.op work.node ≡ Some reply → Comes stamp before left_work server delivery reply) where
     served_next : (delivery : Delivery) → ipc.next server work.node.queues ≡ Some delivery → (part : Participant) → tm.part_of delivery.tid work.node.manager ≡ Some part → part.outcome ≡ None
         → (reply : Reply) → reply_here server delivery.tid delivery.op work.node ≡ Some reply → HoldsWork stamp before (serve server delivery reply left_work)
     served_next delivery next part known unknown reply says =
         let tx = found_of stamp before work h delivery.tid part known in
         let own = replies_by delivery reply says in
-        by_serve stamp before left_work server delivery reply part known (clients delivery part next known)
+        by_serve stamp before left_work server delivery reply (comes delivery reply part next known says)
         (by_serving_filed stamp before left_work server delivery reply part tx.0 left files known tx.1 (room delivery part next known) (one_more delivery next tx.0 tx.1) (noted delivery reply part tx.0 next known tx.1 says) own.0 own.1
         (may_serve_first stamp (book_at stamp before work) work.node h.holds server delivery (waiting_ops (its_at delivery) (waiting_at left_work.node delivery.tid server)) reply part tx.0 tx.1 known unknown says (one_more delivery next tx.0 tx.1)))
 
     -- what waits first is served, or dropped where it is not undecided here
-    pub by_serve_next : HoldsWork stamp before (serve_next work server)
-    by_serve_next = by (ipc.next server work.node.queues) refl
+    pub by_next_served : HoldsWork stamp before (serve_next work server)
+    by_next_served = by (ipc.next server work.node.queues) refl
       where
         none : (o : Option Outcome) → is_none o ≡ true → o ≡ None
         none None e = refl
@@ -213,3 +225,16 @@ module _ (stamp : ℕ) (before : BookValue) (work : Work) (h : HoldsWork stamp b
         by : (o : Option Delivery) → ipc.next server work.node.queues ≡ o → HoldsWork stamp before (elim o [ None ↦ work | Some delivery ↦ serve_or_drop server delivery left_work ])
         by None is = h
         by (Some delivery) is = of_part delivery is (tm.part_of delivery.tid work.node.manager) refl
+
+-- where no note of files waits for a reply here
+pub by_serve_next : (stamp : ℕ) (before : BookValue) (work : Work) (h : HoldsWork stamp before work) (files : HoldsFiles work.node.servers) (server : ServerNo)
+    → ((delivery : Delivery) (part : Participant) → ipc.next server work.node.queues ≡ Some delivery → tm.part_of delivery.tid work.node.manager ≡ Some part → is_kept server ≡ true → ((member_of part server).served == last_number) ≡ false)
+    → ((delivery : Delivery) (reply : Reply) (part : Participant) (tx : TransactionValue) → ipc.next server work.node.queues ≡ Some delivery → tm.part_of delivery.tid work.node.manager ≡ Some part → find_transaction (book_at stamp before work) delivery.tid ≡ Some tx
+    → reply_here server delivery.tid delivery.op work.node ≡ Some reply → (count : ℕ) → 1 ≤ count
+    → has_note (served_in (record { link = record { from = delivery.from; to = work.node.setting.node }; number = delivery.number }) (at_server work.node.setting.node server) work.node.setting.inc stamp (is_done reply) tx)
+    (record { node = work.node.setting.node; inc = work.node.setting.inc; text = note_text delivery.tid work.node.setting.node.0 count }) ≡ true → (has_noted count part ≡ true) ⊎ (awaits_note part ≡ true))
+    → ((delivery : Delivery) (part : Participant) → ipc.next server work.node.queues ≡ Some delivery → tm.part_of delivery.tid work.node.manager ≡ Some part
+    → same_node delivery.from work.node.setting.node ≡ true → list_any (λ (r : Outstanding). is_answered_by (at_server work.node.setting.node server) delivery.number r && is_by_files r) part.waiting ≡ false)
+    → HoldsWork stamp before (serve_next work server)
+by_serve_next stamp before work h files server room noted clients =
+    by_next_served stamp before work h files server room noted (λ delivery reply part next known says. client_comes stamp before (with_queues (ipc.after_next server) work) server delivery reply part known (clients delivery part next known))

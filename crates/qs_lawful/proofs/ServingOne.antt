@@ -50,6 +50,8 @@ use Rattle.qs_lawful.specs.Holds.{Holds, HoldsTid, HoldsClients, is_kept}
 use Rattle.qs_lawful.specs.Entering.{HoldsWork, book_at}
 use Rattle.qs_lawful.proofs.Apart.{Apart}
 use Rattle.qs_lawful.proofs.Clauses.{of_tid}
+use Rattle.qs_ipc.specs.Queue.{is_for}
+use Rattle.qs_lawful.proofs.Doubted.{within_for}
 use Rattle.qs_lawful.proofs.Faces.{part_apart, part_changed}
 use Rattle.qs_lawful.proofs.Files.{served_apart, served_share, files_apart, files_keep, idle_in}
 use Rattle.qs_lawful.proofs.Frames.{SameFace, KeepsSeen, clients_on, told_of}
@@ -160,6 +162,10 @@ module _ (stamp : ℕ) (before : BookValue) (work : Work) (server : ServerNo) (d
     its_waits : HoldsWaits here node.setting.inc tid tx (face_of node tid).waiting node.servers
     its_waits = waits_of stamp book node h.holds tid tx found
 
+    -- it is for its server
+    its_own : is_for server delivery.op ≡ true
+    its_own = within_for server delivery.op (waiting_ops at (waiting_at node tid server)) (standing_ops tx at here server) first (its_waits.fits server at refl)
+
     servers_on : HoldsServers (is_seen book here) state servers_after
     servers_on = subst (λ (o : Option TransactionValue). HoldsServers (is_seen book here) (serve_node o at tid (at_server here server) reply old_state) servers_after) (sym found) (by (is_crossed tx (at_server here server)) refl)
       where
@@ -168,11 +174,11 @@ module _ (stamp : ℕ) (before : BookValue) (work : Work) (server : ServerNo) (d
 
         hidden : (c : Bool) → is_client server ≡ c → is_seen book here server.0 tid ≡ false → HoldsServers (is_seen book here) (crossed_serve server.0 tid (requests_at tx at) reply old_state) (if c then node.servers else with_server server (λ value. after_serving value tid delivery.op reply) node.servers)
         hidden true client other = (served_client (is_seen book here) old_state node.servers h.holds.servers server tid delivery.op reply client).1 (requests_at tx at)
-        hidden false client other = served_hidden (is_seen book here) old_state node.servers h.holds.servers server tid delivery.op reply other (requests_at tx at)
+        hidden false client other = served_hidden (is_seen book here) old_state node.servers h.holds.servers server tid delivery.op reply its_own other (waiting_ops at (waiting_at node tid server)) (is_standing (at_server here server)) (requests_at tx at) first
 
         plain : (c : Bool) → is_client server ≡ c → is_seen book here server.0 tid ≡ true → HoldsServers (is_seen book here) (server_serve server.0 tid delivery.op reply old_state) (if c then node.servers else with_server server (λ value. after_serving value tid delivery.op reply) node.servers)
         plain true client own_it = (served_client (is_seen book here) old_state node.servers h.holds.servers server tid delivery.op reply client).0
-        plain false client own_it = served_seen (is_seen book here) old_state node.servers h.holds.servers server tid delivery.op reply own_it
+        plain false client own_it = served_seen (is_seen book here) old_state node.servers h.holds.servers server tid delivery.op reply its_own own_it
 
         by : (b : Bool) → is_crossed tx (at_server here server) ≡ b → HoldsServers (is_seen book here) (if b then crossed_serve server.0 tid (requests_at tx at) reply old_state else elim (standing_request tx at (at_server here server)) [ None ↦ old_state | Some request ↦ server_serve server.0 tid request.op reply old_state ])
             (if is_client server then node.servers else with_server server (λ value. after_serving value tid delivery.op reply) node.servers)

@@ -173,7 +173,7 @@ module _ (stamp : ℕ) (before : BookValue) (work : Work) (h : HoldsWork stamp b
         where
           by : (o : Option TransactionValue) → HoldsWaitsAt here node.setting.inc t o (face_of node t).waiting node.servers → HoldsWaitsAt here node.setting.inc t o (face_of new t).waiting new.servers
           by None k = k
-          by (Some tx) k = record { whole = k.whole; due = k.due; within = λ s at near. within_on t s at _ (k.within s at near); once = k.once }
+          by (Some tx) k = record { whole = k.whole; due = k.due; within = λ s at near. within_on t s at _ (k.within s at near); once = k.once; fits = k.fits }
 
   -- ---- a label is kept: of a begin that was refused, or of a transaction of another node's client
 

@@ -81,12 +81,12 @@ module _ (stamp : ℕ) (before : BookValue) (tid : Tid) (peer : NodeNo) (further
             (changed_rises tid_cmp (is_at (tid_cmp tid)) (outcome_rules.logged (records.End tid)) (tm.acknowledged tid peer work.node.manager).known (changed_rises tid_cmp (is_at (tid_cmp tid)) (outcome_rules.acknowledged peer) work.node.manager.known rising))
             tx.0 tx.1
 
-    pub by_told_came : (tm.part_of tid work.node.manager ≡ None → IsAborted stamp before work tid) → IsRising tid_cmp work.node.manager.known → HoldsWork stamp before (told_came peer tid further work)
+    pub by_told_came : (tm.part_of tid work.node.manager ≡ None → list_any (is_other_node tid) further ≡ true → IsAborted stamp before work tid) → IsRising tid_cmp work.node.manager.known → HoldsWork stamp before (told_came peer tid further work)
     by_told_came aborted rising = at_home (same_node tid.home (here work))
       where
-        unknown : tm.part_of tid work.node.manager ≡ None → (b : Bool) → HoldsWork stamp before (if b then take_names tid further (keep_abort_told tid peer work) else work)
-        unknown none true = named (keep_abort_told tid peer work) (by_keep_told stamp before work h tid peer aborted)
-        unknown none false = h
+        unknown : tm.part_of tid work.node.manager ≡ None → (b : Bool) → list_any (is_other_node tid) further ≡ b → HoldsWork stamp before (if b then take_names tid further (keep_abort_told tid peer work) else work)
+        unknown none true names = named (keep_abort_told tid peer work) (by_keep_told stamp before work h tid peer (λ is. aborted is names))
+        unknown none false names = h
 
         known : (part : Participant) → tm.part_of tid work.node.manager ≡ Some part → (o : Option Outcome) → part.outcome ≡ o → HoldsWork stamp before (told_known peer tid further o work)
         known part is None so = h
@@ -94,7 +94,7 @@ module _ (stamp : ℕ) (before : BookValue) (tid : Tid) (peer : NodeNo) (further
         known part is (Some outcomes.Abort) so = named work h
 
         by : (o : Option Participant) → tm.part_of tid work.node.manager ≡ o → HoldsWork stamp before (elim o [ None ↦ told_unknown peer tid further work | Some part ↦ told_known peer tid further part.outcome work ])
-        by None is = unknown is (list_any (is_other_node tid) further)
+        by None is = unknown is (list_any (is_other_node tid) further) refl
         by (Some part) is = known part is part.outcome refl
 
         at_home : (b : Bool) → HoldsWork stamp before (if b then told_at_home peer tid further work else work)

@@ -36,11 +36,11 @@ module _ (stamp : ℕ) (book : BookValue) (node : NodeValue) (h : Holds stamp bo
   abbrev at_number : ℕ → Member
   at_number n = record { node = here; server = record { 0 = n } }
 
-  abbrev frame : ℕ
+  abbrev pub frame : ℕ
   frame = batch_frame + node.setting.extra + node.setting.keep
 
   -- any that the server has where it is crossed, else that of its rules
-  right : (n : ℕ) (ballot : Vote) → has_vote n ballot ≡ true → (is_seen book here n tid ≡ true → is_server_vote h.state n tid ballot ≡ true) → is_vote h.state tid tx (at_number n) ballot ≡ true
+  pub right : (n : ℕ) (ballot : Vote) → has_vote n ballot ≡ true → (is_seen book here n tid ≡ true → is_server_vote h.state n tid ballot ≡ true) → is_vote h.state tid tx (at_number n) ballot ≡ true
   right n ballot has rule = by (is_crossed tx (at_number n)) refl
     where
       seen : is_crossed tx (at_number n) ≡ false → is_seen book here n tid ≡ true
@@ -52,7 +52,7 @@ module _ (stamp : ℕ) (book : BookValue) (node : NodeValue) (h : Holds stamp bo
 
   -- the machine's table has the same pending, and the same view
   module _ (n : ℕ) (kept held : TableValue) (t : HoldsTable (is_seen book here n) kept held) (mine : is_seen book here n tid ≡ true) where
-    same_changes : has_changes kept tid ≡ has_changes held tid
+    pub same_changes : has_changes kept tid ≡ has_changes held tid
     same_changes = ap (λ (s : Share). not (length s.changes == 0)) (own_share (is_seen book here n) kept held t tid mine)
 
     same_bytes_seen : view_bytes kept tid ≡ view_bytes held tid
@@ -73,7 +73,7 @@ module _ (stamp : ℕ) (book : BookValue) (node : NodeValue) (h : Holds stamp bo
   all_three : (a b c : Bool) → a ≡ true → b ≡ true → c ≡ true → (a && (b && c)) ≡ true
   all_three a b c p q r = rw (p, q, r) refl
 
-  abbrev IsRight : ℕ → Vote → Type 0
+  abbrev pub IsRight : ℕ → Vote → Type 0
   IsRight n ballot = is_vote h.state tid tx (at_number n) ballot ≡ true
 
   in_room : (held : TableValue) (free : ℕ) (P : Vote → Type 0) → (nat_lt free (vote_need held tid frame) ≡ true → P (votes.Abort (reasons.LogRoom (vote_need held tid frame) free))) → P votes.Recoverable → P (vote_in_room held tid free frame)

@@ -28,9 +28,11 @@ use Rattle.qs_lawful.specs.Entering.{HoldsWork}
 use Rattle.qs_lawful.proofs.Answers.{by_answer}
 use Rattle.qs_lawful.proofs.Borrowing.{by_take_command, by_loan_command, by_yield, not_void}
 use Rattle.qs_lawful.proofs.OwnersAnswers.{by_owner_waits, some_same}
+use Rattle.qs_tm.specs.Manager as tm
+use Rattle.qs_tm.specs.declared.participant.Participant.{Participant}
 
 module _ (stamp : ℕ) (before : BookValue) (work : Work) (h : HoldsWork stamp before work) (client : ClientNo) (small : nat_lt client.0 224 ≡ true)
-    (inc : (command : OpenCommand) (begun : Begun) (tid : Tid) → lookup (is_at (client_cmp client)) work.node.commands ≡ Some command → label_at command.line.label work.node ≡ Some begun → begun.tid ≡ Some tid → begun.owner ≡ Some client → tid.inc ≡ work.node.setting.inc)
+    (inc : (command : OpenCommand) (begun : Begun) (tid : Tid) → lookup (is_at (client_cmp client)) work.node.commands ≡ Some command → label_at command.line.label work.node ≡ Some begun → begun.tid ≡ Some tid → begun.owner ≡ Some client → (part : Participant) → tm.part_of tid work.node.manager ≡ Some part → part.outcome ≡ None → tid.inc ≡ work.node.setting.inc)
     (requests : (command : OpenCommand) (begun : Begun) (tid : Tid) (member : Member) (op : Op) (last : Lent) → lookup (is_at (client_cmp client)) work.node.commands ≡ Some command → label_at command.line.label work.node ≡ Some begun → begun.tid ≡ Some tid
     → command.issued ≡ None → command.line.command ≡ commands.Request member op → last_taken client tid work.node.kept.now.loans ≡ Some last → last.yielded ≡ false → is_void tid last work.node ≡ false → HoldsWork stamp before (request_command client tid member op work)) where
   same_client : (c : ClientNo) → (c.0 == client.0) ≡ true → c ≡ client

@@ -10,3 +10,6 @@ pub mod Filed
 pub mod Tables
 pub mod Waits
 pub mod TableTests
+pub mod Doubts
+pub mod Given
+pub mod GivenStep

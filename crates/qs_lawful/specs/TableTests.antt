@@ -7,7 +7,7 @@ use Rattle.qs_base.specs.Order.{tid_cmp, same_bytes, same_tid}
 use Rattle.qs_base.specs.declared.identifiers.NodeNo.{NodeNo}
 use Rattle.qs_base.specs.declared.identifiers.ServerNo.{ServerNo}
 use Rattle.qs_base.specs.declared.identifiers.Tid.{Tid}
-use Rattle.qs_ipc.specs.Queue.{QueueValue}
+use Rattle.qs_ipc.specs.Queue.{QueueValue, is_for}
 use Rattle.qs_ipc.specs.declared.delivery.Delivery.{Delivery}
 use Rattle.qs_machine.specs.Book.{BookValue, find_transaction}
 use Rattle.qs_machine.specs.Nodes as machine
@@ -25,6 +25,8 @@ use Rattle.qs_ops.specs.declared.share.Share.{Share}
 use Rattle.qs_servers.specs.Servers.{ServersValue}
 use Rattle.qs_step.specs.State.{NodeValue}
 use Rattle.qs_tm.specs.Members as rules
+use Rattle.qs_machine.specs.Nodes.{bound_names}
+use Rattle.qs_lawful.specs.Doubts.{doubted, has_name, is_bind}
 use Rattle.qs_lawful.specs.Face.{at_server, waiting_at}
 use Rattle.qs_lawful.specs.Tables.{is_seen, of_seen}
 use Rattle.qs_lawful.specs.Waits.{waiting_ops, standing_ops, is_idle}
@@ -80,12 +82,18 @@ kinds_ok servers =
     (kind_ok files_no servers.files && (kind_ok audit_no servers.audit && kind_ok names_no servers.names))
     && ((kind_ok timers_no servers.timers && kind_ok windows_no servers.windows) && (kind_ok scratch_no servers.scratch && kind_ok extra_no servers.extra))
 
+-- names hold binds alone, and what is hidden of them is in doubt
+abbrev doubt_ok : BookValue → NodeNo → List (Tid × List (List ℕ)) → Tid × Share → Bool
+doubt_ok book here doubts entry =
+    list_all is_bind entry.1.changes
+    && (is_seen book here names_no entry.0 || list_all (λ (name : List ℕ). has_name name (doubted doubts entry.0)) (bound_names entry.1.changes))
+
 abbrev pub servers_ok : BookValue → NodeNo → machine.NodeValue → ServersValue → Bool
 servers_ok book here state servers =
     (kinds_ok servers && table_ok (is_seen book here files_no) state.files servers.files.table)
     && ((table_ok (is_seen book here audit_no) state.audit servers.audit.table && table_ok (is_seen book here names_no) state.names servers.names.table)
     && ((timers_ok (is_seen book here timers_no) state.timers servers.timers.timers && table_ok (is_seen book here windows_no) state.windows servers.windows.table)
-    && table_ok (is_seen book here scratch_no) state.scratch servers.scratch.table))
+    && (table_ok (is_seen book here scratch_no) state.scratch servers.scratch.table && list_all (doubt_ok book here state.doubts) servers.names.table.shares)))
 
 -- ---- what waits
 
@@ -112,11 +120,18 @@ once_at node tx at server = is_crossed tx (at_server node.setting.node server) |
 abbrev once_ok : NodeValue → TransactionValue → RequestNo × List Request → Bool
 once_ok node tx entry = list_all (once_at node tx entry.0) members
 
+-- each that stands is for its member
+abbrev fits_at : NodeValue → TransactionValue → RequestNo → ServerNo → Bool
+fits_at node tx at server = list_all (is_for server) (standing_ops tx at node.setting.node server)
+
+abbrev fits_ok : NodeValue → TransactionValue → RequestNo × List Request → Bool
+fits_ok node tx entry = list_all (fits_at node tx entry.0) members
+
 abbrev pub waits_ok : NodeValue → Tid × TransactionValue → Bool
 waits_ok node entry =
     ((not (is_commit entry.1.cell) || is_empty entry.1.crossed)
     && (is_idle (share_of node.servers.files.table entry.0) || (part_of entry.1 (at_server node.setting.node rules.files_no) node.setting.inc).due))
-    && (list_all (queue_ok node entry.0 entry.1) node.queues && list_all (once_ok node entry.1) entry.1.requests)
+    && (list_all (queue_ok node entry.0 entry.1) node.queues && (list_all (once_ok node entry.1) entry.1.requests && list_all (fits_ok node entry.1) entry.1.requests))
 
 abbrev pub idle_ok : BookValue → Tid × Share → Bool
 idle_ok book entry = elim (find_transaction book entry.0) [ None ↦ is_idle entry.1 | Some tx ↦ true ]

@@ -13,6 +13,7 @@ use Rattle.qs_ops.specs.Table.{TableValue}
 use Rattle.qs_ops.specs.Timers.{TimersValue}
 use Rattle.qs_ops.specs.declared.server.Kind.TheVariants as kinds
 use Rattle.qs_servers.specs.Servers.{ServersValue}
+use Rattle.qs_lawful.specs.Doubts.{HoldsDoubts}
 
 -- the transaction is not crossed at that server of the node
 abbrev pub seen_in : NodeNo → ℕ → Option TransactionValue → Bool
@@ -56,3 +57,4 @@ pub record HoldsServers (seen : ℕ → Tid → Bool) (state : machine.NodeValue
   pub timers : HoldsTimers (seen timers_no) state.timers servers.timers.timers
   pub windows : HoldsTable (seen windows_no) state.windows servers.windows.table
   pub scratch : HoldsTable (seen scratch_no) state.scratch servers.scratch.table
+  pub doubts : HoldsDoubts (seen names_no) state.doubts servers.names.table  -- clause 42

@@ -5,6 +5,7 @@ use Rattle.std.specs.List.{filter}
 use Rattle.qs_base.specs.declared.identifiers.NodeNo.{NodeNo}
 use Rattle.qs_base.specs.declared.identifiers.ServerNo.{ServerNo}
 use Rattle.qs_base.specs.declared.identifiers.Tid.{Tid}
+use Rattle.qs_ipc.specs.Queue.{is_for}
 use Rattle.qs_ipc.specs.declared.delivery.Delivery.{Delivery}
 use Rattle.qs_machine.specs.Transaction.{TransactionValue, is_commit, is_crossed, is_empty, is_standing, part_of, requests_at}
 use Rattle.qs_machine.specs.declared.transaction.Request.{Request}
@@ -35,6 +36,11 @@ waiting_ops at waiting = map op_of (filter (is_numbered at) waiting)
 abbrev pub standing_ops : TransactionValue → RequestNo → NodeNo → ServerNo → List Op
 standing_ops tx at here server = map op_in (filter (is_standing (at_server here server)) (requests_at tx at))
 
+-- each is an operation of that server's
+abbrev pub AreFor : ServerNo → List Op → Type 0
+AreFor server [] = ⊤
+AreFor server (op ∷ ops) = (is_for server op ≡ true) × AreFor server ops
+
 -- it keeps no name back
 abbrev pub is_idle : Share → Bool
 is_idle share = is_empty share.changes && is_empty share.reads
@@ -44,6 +50,7 @@ pub record HoldsWaits (here : NodeNo) (inc : ℕ) (tid : Tid) (tx : TransactionV
   pub due : is_idle (share_of servers.files.table tid) ≡ false → (part_of tx (at_server here rules.files_no) inc).due ≡ true  -- clause 31
   pub within : (server : ServerNo) (at : RequestNo) → at.link.to ≡ here → IsWithin (waiting_ops at (waiting server)) (standing_ops tx at here server)  -- clauses 30, 31
   pub once : (server : ServerNo) (at : RequestNo) → is_crossed tx (at_server here server) ≡ false → length (filter (is_standing (at_server here server)) (requests_at tx at)) ≤ 1
+  pub fits : (server : ServerNo) (at : RequestNo) → at.link.to ≡ here → AreFor server (standing_ops tx at here server)  -- clause 20
 
 -- of a transaction that the machine does not know nothing is kept back
 abbrev pub HoldsWaitsAt : NodeNo → ℕ → Tid → Option TransactionValue → (ServerNo → List Delivery) → ServersValue → Type 0

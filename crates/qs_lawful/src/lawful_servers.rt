@@ -38,7 +38,7 @@ ghost use Rattle.qs_step.specs.Voting.{enter_vote, served_count, vote_frame, vot
 ghost use Rattle.qs_kept.specs.declared.kept.Lent.{Lent};
 ghost use Rattle.qs_world.specs.Posting.{entry_of};
 ghost use Rattle.qs_ipc.specs.Queue.{is_for};
-ghost use Rattle.qs_ops.specs.Servers.{files_no, names_no};
+ghost use Rattle.qs_ops.specs.Servers.{files_no};
 ghost use Rattle.qs_lawful.specs.Entering.{HoldsWork, book_at};
 ghost use Rattle.qs_lawful.specs.Face.{waiting_at, at_server, is_numbered};
 ghost use Rattle.qs_lawful.specs.Holds.{is_kept};
@@ -108,9 +108,10 @@ pub fn voting_by_rules_is_lawful()
     ensures { (stamp : ℕ) (before : BookValue) (work : Work) (tid : Tid) (part : Participant) (tx : TransactionValue) (h : HoldsWork stamp before work) → tm.part_of tid work.node.manager ≡ Some part → find_transaction (book_at stamp before work) tid ≡ Some tx → (server : ServerNo) (ballot : Vote) → is_kept server ≡ true → is_two_phase (class_of server.0) ≡ true → part.asked ≡ true → is_commit tx.cell ≡ false → rules.is_covering (member_of part server) ≡ false → is_vote h.holds.state tid tx (at_server work.node.setting.node server) ballot ≡ true → HoldsWork stamp before (vote_with tid server ballot work) }
 {}
 
-/// A server other than names votes as what it holds says, once commit is asked for: its vote is right by what both hold of it.
+/// A server votes as what it holds says, once commit is asked for: its vote is right by what both hold of it. Names vote against
+/// the least name that is taken; where a hidden transaction has it, the machine has it in doubt.
 pub fn own_vote_is_lawful()
-    ensures { (stamp : ℕ) (before : BookValue) (work : Work) (tid : Tid) (part : Participant) (tx : TransactionValue) → HoldsWork stamp before work → tm.part_of tid work.node.manager ≡ Some part → find_transaction (book_at stamp before work) tid ≡ Some tx → (server : ServerNo) → is_kept server ≡ true → is_two_phase (class_of server.0) ≡ true → (server.0 == names_no) ≡ false → part.asked ≡ true → is_commit tx.cell ≡ false → rules.is_covering (member_of part server) ≡ false → HoldsWork stamp before (vote_with tid server (vote_of (server_at work.node.servers server) tid work.room (vote_frame work)) work) }
+    ensures { (stamp : ℕ) (before : BookValue) (work : Work) (tid : Tid) (part : Participant) (tx : TransactionValue) → HoldsWork stamp before work → tm.part_of tid work.node.manager ≡ Some part → find_transaction (book_at stamp before work) tid ≡ Some tx → (server : ServerNo) → is_kept server ≡ true → is_two_phase (class_of server.0) ≡ true → part.asked ≡ true → is_commit tx.cell ≡ false → rules.is_covering (member_of part server) ≡ false → HoldsWork stamp before (vote_with tid server (vote_of (server_at work.node.servers server) tid work.room (vote_frame work)) work) }
 {}
 
 /// A member serves a request that stands there by the rules of its kind, where its node knows no outcome.

@@ -7,6 +7,7 @@ mod lawful_outcomes;
 mod lawful_restarts;
 mod lawful_rules;
 mod lawful_servers;
+mod lawful_steps;
 mod tried;
 
 pub use lawful_commands::{
@@ -37,5 +38,10 @@ pub use lawful_servers::{
     next_leaves_all, own_vote_is_lawful, serve_is_lawful, serve_next_is_lawful,
     serving_by_rules_is_lawful, serving_is_lawful, tick_is_lawful, vote_is_lawful,
     voting_by_rules_is_lawful, voting_is_lawful,
+};
+pub use lawful_steps::{
+    answering_is_lawful, any_command_is_lawful, any_reply_is_lawful, asking_on_is_lawful,
+    event_is_lawful, forgetting_is_lawful, serving_all_is_lawful, settle_is_lawful,
+    settling_is_lawful, step_is_lawful, vote_pass_is_lawful,
 };
 pub use tried::held_in_runs;
