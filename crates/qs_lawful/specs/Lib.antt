@@ -10,3 +10,4 @@ pub mod Filed
 pub mod Tables
 pub mod Waits
 pub mod TableTests
+pub mod Logged
