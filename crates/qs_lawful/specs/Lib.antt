@@ -13,3 +13,4 @@ pub mod TableTests
 pub mod Doubts
 pub mod Given
 pub mod GivenStep
+pub mod Logged

@@ -3,6 +3,7 @@
 
 mod lawful_commands;
 mod lawful_entries;
+mod lawful_logs;
 mod lawful_outcomes;
 mod lawful_restarts;
 mod lawful_rules;
@@ -18,6 +19,7 @@ pub use lawful_commands::{
     yield_command_is_lawful,
 };
 pub use lawful_entries::{entries_are_lawful, requests_are_lawful, settled_is_unanimous};
+pub use lawful_logs::{requests_keep_the_log, vote_keeps_the_log};
 pub use lawful_outcomes::{
     abort_command_is_lawful, abort_is_lawful, asked_abort_is_lawful, begin_command_is_lawful,
     commit_command_is_lawful, commit_is_lawful, deciding_is_lawful, inquiry_is_lawful,

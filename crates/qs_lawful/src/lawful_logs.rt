@@ -1,0 +1,43 @@
+//! What the log of a node says of the machine, and what the node knows of its log, through the rules of a step.
+ghost use Rattle.std.specs.Prelude.{◌≡◌, ℕ, None, Some, List};
+ghost use Rattle.qs_base.specs.declared.identifiers.ClientNo.{ClientNo};
+ghost use Rattle.qs_base.specs.declared.identifiers.Member.{Member};
+ghost use Rattle.qs_base.specs.declared.identifiers.NodeNo.{NodeNo};
+ghost use Rattle.qs_base.specs.declared.identifiers.ServerNo.{ServerNo};
+ghost use Rattle.qs_base.specs.declared.identifiers.Tid.{Tid};
+ghost use Rattle.qs_journal.specs.declared.entry.Entry.{Entry};
+ghost use Rattle.qs_journal.specs.declared.script_line.Command.{Command};
+ghost use Rattle.qs_laws.specs.Laws.{IsCoherent};
+ghost use Rattle.qs_machine.specs.Lawful.{IsLawful, book_after};
+ghost use Rattle.qs_machine.specs.Opening.{opening};
+ghost use Rattle.qs_machine.specs.declared.opened.Opened.{Opened};
+ghost use Rattle.qs_ops.specs.declared.operation.Op.{Op};
+ghost use Rattle.qs_ops.specs.declared.reply.Reply.{Reply};
+ghost use Rattle.qs_ops.specs.declared.vote.Vote.{Vote};
+ghost use Rattle.qs_record.specs.declared.record.Record.{Record};
+ghost use Rattle.qs_step.specs.Answering.{inquiry_came};
+ghost use Rattle.qs_step.specs.Asking.{ask_came, closer_came};
+ghost use Rattle.qs_step.specs.Borrowing.{borrower_command};
+ghost use Rattle.qs_step.specs.Requests.{reply_came};
+ghost use Rattle.qs_step.specs.Serving.{request_came, serve_all};
+ghost use Rattle.qs_step.specs.State.{Work, part_of};
+ghost use Rattle.qs_step.specs.Voting.{vote_with};
+ghost use Rattle.qs_tm.specs.declared.participant.Participant.{Participant};
+ghost use Rattle.qs_lawful.specs.Logged.{KeepsLogs};
+
+/// A server votes: a vote that it can commit stands in the log with its Prepare, of every other vote the log says nothing.
+pub fn vote_keeps_the_log()
+    ensures { (opened : List Opened) (history : List Entry) → IsCoherent opened → IsLawful (opening opened) history → (stamp : ℕ) (disk waiting : List Record) (tid : Tid) (server : ServerNo) (work : Work) (part : Participant) → part_of tid work ≡ Some part → part.outcome ≡ None → (ballot : Vote) → KeepsLogs stamp (book_after (opening opened) history) disk waiting work (vote_with tid server ballot work) }
+{}
+
+/// Requests that come, those that are served, replies, questions and their answers, and what borrowers command make no record,
+/// and leave what is held of the log.
+pub fn requests_keep_the_log()
+    ensures comes { (opened : List Opened) (history : List Entry) → IsCoherent opened → IsLawful (opening opened) history → (stamp : ℕ) (disk waiting : List Record) (work : Work) (peer : NodeNo) (tid : Tid) (label : List ℕ) (member : Member) (number : ℕ) (op : Op) → KeepsLogs stamp (book_after (opening opened) history) disk waiting work (request_came peer tid label member number op work) }
+    ensures served { (opened : List Opened) (history : List Entry) → IsCoherent opened → IsLawful (opening opened) history → (stamp : ℕ) (disk waiting : List Record) (work : Work) → KeepsLogs stamp (book_after (opening opened) history) disk waiting work (serve_all work) }
+    ensures replied { (opened : List Opened) (history : List Entry) → IsCoherent opened → IsLawful (opening opened) history → (stamp : ℕ) (disk waiting : List Record) (work : Work) (tid : Tid) (member : Member) (number : ℕ) (reply : Reply) → KeepsLogs stamp (book_after (opening opened) history) disk waiting work (reply_came tid member number reply work) }
+    ensures asked { (opened : List Opened) (history : List Entry) → IsCoherent opened → IsLawful (opening opened) history → (stamp : ℕ) (disk waiting : List Record) (work : Work) (peer : NodeNo) (tid : Tid) → KeepsLogs stamp (book_after (opening opened) history) disk waiting work (ask_came peer tid work) }
+    ensures counted { (opened : List Opened) (history : List Entry) → IsCoherent opened → IsLawful (opening opened) history → (stamp : ℕ) (disk waiting : List Record) (work : Work) (peer : NodeNo) (tid : Tid) (up_to : ℕ) (told : List NodeNo) → KeepsLogs stamp (book_after (opening opened) history) disk waiting work (closer_came peer tid up_to told work) }
+    ensures inquired { (opened : List Opened) (history : List Entry) → IsCoherent opened → IsLawful (opening opened) history → (stamp : ℕ) (disk waiting : List Record) (work : Work) (peer : NodeNo) (tid : Tid) → KeepsLogs stamp (book_after (opening opened) history) disk waiting work (inquiry_came peer tid work) }
+    ensures borrowed { (opened : List Opened) (history : List Entry) → IsCoherent opened → IsLawful (opening opened) history → (stamp : ℕ) (disk waiting : List Record) (work : Work) (client : ClientNo) (tid : Tid) (command : Command) → KeepsLogs stamp (book_after (opening opened) history) disk waiting work (borrower_command client tid command work) }
+{}
