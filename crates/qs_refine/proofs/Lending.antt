@@ -31,7 +31,7 @@ use Rattle.qs_refine.proofs.Reading.{part_known}
 
 -- ---- a loan that is taken stands as before
 
-taken_stands : (client : ClientNo) (tid t : Tid) (inc : ℕ) (loans : List Lent) → length (filter (is_standing_loan t inc) (take_first client tid loans)) ≡ length (filter (is_standing_loan t inc) loans)
+pub taken_stands : (client : ClientNo) (tid t : Tid) (inc : ℕ) (loans : List Lent) → length (filter (is_standing_loan t inc) (take_first client tid loans)) ≡ length (filter (is_standing_loan t inc) loans)
 taken_stands client tid t inc [] = refl
 taken_stands client tid t inc (loan ∷ loans) = by (is_untaken client tid loan) (is_standing_loan t inc loan) refl (taken_stands client tid t inc loans)
   where

@@ -53,7 +53,7 @@ use Rattle.qs_refine.proofs.Requested.{label_leaves}
 module _ (t tid : Tid) (apart : Apart t tid) where
   -- ---- a request
 
-  enqueue_leaves : (server : ServerNo) (d : Delivery) (work : Work) → d.tid ≡ tid → Leaves t work (enqueue server d work)
+  pub enqueue_leaves : (server : ServerNo) (d : Delivery) (work : Work) → d.tid ≡ tid → Leaves t work (enqueue server d work)
   enqueue_leaves server d work its = by (is_for server d.op)
     where
       by : (b : Bool) → Leaves t work (if b then with_queues (ipc.enqueue server d) work else work)
@@ -102,7 +102,7 @@ module _ (t tid : Tid) (apart : Apart t tid) where
       by true = part_leaves t tid (participant.note_served request.count) work apart
       by false = answered (waits_as tid request.member request.number (lookup (is_at (client_cmp (client_of request.issuer))) work.node.commands))
 
-  reply_leaves : (member : Member) (number : ℕ) (reply : Reply) (work : Work) → Leaves t work (reply_came tid member number reply work)
+  pub reply_leaves : (member : Member) (number : ℕ) (reply : Reply) (work : Work) → Leaves t work (reply_came tid member number reply work)
   reply_leaves member number reply work = by (waiting_at tid member number work)
     where
       by : (o : Option Outstanding) → Leaves t work (elim o [ None ↦ work | Some request ↦ take_reply tid reply request (with_manager (tm.drop_waiting tid member number) work) ])
@@ -201,7 +201,7 @@ module _ (t tid : Tid) (apart : Apart t tid) where
       by true = out_leaves t work (with_queues (λ queues. queues) work) (record { around = record { setting = refl; waits = λ s. refl; loans = refl; past = refl }; part = refl }) refl refl
       by false = forget_queues_leave t tid work
 
-  forget_leaves : (work : Work) → Leaves t work (forget tid work)
+  pub forget_leaves : (work : Work) → Leaves t work (forget tid work)
   forget_leaves work =
       leaves_on t work (with_manager (tm.forget tid) work) (forget tid work) (manager_leaves t (tm.forget tid) work (forget_apart t tid work.node.manager apart)) (drop_leaves (with_manager (tm.forget tid) work))
 

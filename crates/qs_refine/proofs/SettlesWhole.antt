@@ -45,10 +45,10 @@ use Rattle.qs_refine.proofs.Settles.{ready_home, refuse_home}
 
 -- ---- a transaction that a node has decided, of which nothing more is due
 
-record IsDecided (tid : Tid) (work : Work) : Type 0 where
-  part : Participant
-  known : part_of tid work ≡ Some part
-  decided : is_undecided part ≡ false
+pub record IsDecided (tid : Tid) (work : Work) : Type 0 where
+  pub part : Participant
+  pub known : part_of tid work ≡ Some part
+  pub decided : is_undecided part ≡ false
 
 decided_still : (tid : Tid) (rule : Participant → Work → Work) (work : Work) → IsDecided tid work → where_undecided tid rule work ≡ work
 decided_still tid rule work is =
@@ -86,7 +86,7 @@ module _ (tid : Tid) (scene : Scene) (work : Work) (part : Participant) (is_home
   }
 
   -- once it is decided it stays so
-  decided_now : (outcome : Outcome) (cause : Option Cause) → IsDecided tid (decide tid outcome cause work)
+  pub decided_now : (outcome : Outcome) (cause : Option Cause) → IsDecided tid (decide tid outcome cause work)
   decided_now outcome cause = subst (λ (k : Work). IsDecided tid k) (sym (deciding.decide_is tid scene outcome cause work part is_home (outcome_rules.record_of tid outcome part) refl))
       (decided_sent tid (messages.Tell tid outcome) (listed (outcome_rules.tell_of outcome part)) (deciding.noticed tid scene outcome cause work part is_home (outcome_rules.record_of tid outcome part))
       (decided_notices tid outcome (deciding.entered tid scene outcome cause work part is_home (outcome_rules.record_of tid outcome part)) (decided_entered outcome cause (outcome_rules.record_of tid outcome part) (own outcome))))

@@ -42,7 +42,7 @@ use Rattle.qs_refine.proofs.SoundTell.{tell_came_sound}
 
 -- ---- commands
 
-find_all : (p q : Begun → Bool) (xs : List Begun) (x : Begun) → find p xs ≡ Some x → list_all q xs ≡ true → q x ≡ true
+pub find_all : (p q : Begun → Bool) (xs : List Begun) (x : Begun) → find p xs ≡ Some x → list_all q xs ≡ true → q x ≡ true
 find_all p q [] x found all = absurd (cc (found))
 find_all p q (y ∷ ys) x found all = by (p y) refl (find_all p q ys x)
   where

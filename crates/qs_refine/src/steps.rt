@@ -1,0 +1,34 @@
+//! Pieces of a node's step as wholes, each as its events of the agreement machine.
+ghost use Rattle.qs_refine.specs.PassLaws.{PassRuleGoes};
+ghost use Rattle.qs_refine.specs.SettleWhole.{SettleTidGoes, SettleGoes};
+ghost use Rattle.qs_refine.specs.TickLaws.{TickGoes};
+ghost use Rattle.qs_refine.specs.RestartWhole.{BeginIncarnationGoes};
+ghost use Rattle.qs_refine.specs.CommandLaws.{BorrowerGoes, AnswerWaitingGoes, CommandGoes};
+
+/// Every server whose vote is due votes, and files that owe a note issue it.
+pub fn passes()
+    ensures pass { PassRuleGoes }
+{}
+
+/// A node settles at the end of a step: one transaction, and all to which something may be due.
+pub fn settles()
+    ensures one { SettleTidGoes }
+    ensures all { SettleGoes }
+{}
+
+/// Time goes on.
+pub fn ticks()
+    ensures tick { TickGoes }
+{}
+
+/// Clients command, and commands that stayed open are answered.
+pub fn answers()
+    ensures borrower { BorrowerGoes }
+    ensures command { CommandGoes }
+    ensures waiting { AnswerWaitingGoes }
+{}
+
+/// A node makes the first step of an incarnation.
+pub fn beginnings()
+    ensures begin { BeginIncarnationGoes }
+{}
