@@ -177,3 +177,8 @@ pub mod Turns
 pub mod DecidedStands
 pub mod BeginStands
 pub mod CommandStands
+pub mod OwnReplies
+pub mod ServeCounts
+pub mod ServeFrames
+pub mod ServeStands
+pub mod StepGoes

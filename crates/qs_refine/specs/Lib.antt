@@ -39,3 +39,5 @@ pub mod SettleWhole
 pub mod TickLaws
 pub mod CommandLaws
 pub mod RestartWhole
+pub mod ServeWhole
+pub mod StepWhole

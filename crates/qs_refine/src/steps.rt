@@ -2,6 +2,8 @@
 ghost use Rattle.qs_refine.specs.PassLaws.{PassRuleGoes};
 ghost use Rattle.qs_refine.specs.SettleWhole.{SettleTidGoes, SettleGoes};
 ghost use Rattle.qs_refine.specs.TickLaws.{TickGoes};
+ghost use Rattle.qs_refine.specs.StepWhole.{StepGoes};
+ghost use Rattle.qs_refine.specs.ServeWhole.{ServeAllGoes};
 ghost use Rattle.qs_refine.specs.RestartWhole.{BeginIncarnationGoes};
 ghost use Rattle.qs_refine.specs.CommandLaws.{BorrowerGoes, AnswerWaitingGoes, CommandGoes};
 
@@ -31,4 +33,14 @@ pub fn answers()
 /// A node makes the first step of an incarnation.
 pub fn beginnings()
     ensures begin { BeginIncarnationGoes }
+{}
+
+/// All that waits is served.
+pub fn serves()
+    ensures all { ServeAllGoes }
+{}
+
+/// A whole step, from what shows the world to what shows it after, over what its event makes of a transaction.
+pub fn whole()
+    ensures step { StepGoes }
 {}
