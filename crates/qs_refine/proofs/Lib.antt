@@ -179,6 +179,9 @@ pub mod BeginStands
 pub mod CommandStands
 pub mod OwnReplies
 pub mod ServeCounts
+pub mod ServeFirst
 pub mod ServeFrames
 pub mod ServeStands
 pub mod StepGoes
+pub mod MessageKinds
+pub mod MessageStands

@@ -113,7 +113,7 @@ module _ (t tid : Tid) (apart : Apart t tid) where
 
   -- ---- an AskVote, and a refusal
 
-  ask_leaves : (peer : NodeNo) (work : Work) → Leaves t work (ask_came peer tid work)
+  pub ask_leaves : (peer : NodeNo) (work : Work) → Leaves t work (ask_came peer tid work)
   ask_leaves peer work = by (part_of tid work)
     where
       asked : (b : Bool) (part : Participant) → Leaves t work (if b then become_asked tid part work else work)
@@ -130,7 +130,7 @@ module _ (t tid : Tid) (apart : Apart t tid) where
       by None = leaves_itself t work
       by (Some part) = undecided (is_undecided part) part
 
-  refusal_leaves : (cause : Cause) (work : Work) → Leaves t work (refusal_came tid cause work)
+  pub refusal_leaves : (cause : Cause) (work : Work) → Leaves t work (refusal_came tid cause work)
   refusal_leaves cause work = by (part_of tid work)
     where
       passed : (b : Bool) → Leaves t work (if b then work else send tid.home (messages.VotedAbort tid cause) work)

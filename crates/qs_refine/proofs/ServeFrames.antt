@@ -119,7 +119,7 @@ module _ (t : Tid) (server : ServerNo) (d : Delivery) (apart : Apart t d.tid) wh
 
 -- ---- kinds
 
-reply_kinds : (tid : Tid) (member : Member) (number : ℕ) (reply : Reply) (work : Work) → KeepsKinds work (reply_came tid member number reply work)
+pub reply_kinds : (tid : Tid) (member : Member) (number : ℕ) (reply : Reply) (work : Work) → KeepsKinds work (reply_came tid member number reply work)
 reply_kinds tid member number reply work = by (waiting_at tid member number work)
   where
     dropped : Work

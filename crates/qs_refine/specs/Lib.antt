@@ -41,3 +41,4 @@ pub mod CommandLaws
 pub mod RestartWhole
 pub mod ServeWhole
 pub mod StepWhole
+pub mod MessageWhole

@@ -2,6 +2,7 @@
 ghost use Rattle.qs_refine.specs.PassLaws.{PassRuleGoes};
 ghost use Rattle.qs_refine.specs.SettleWhole.{SettleTidGoes, SettleGoes};
 ghost use Rattle.qs_refine.specs.TickLaws.{TickGoes};
+ghost use Rattle.qs_refine.specs.MessageWhole.{ForeignStands, AnsweredStands, AskVoteStands, RefusalStands};
 ghost use Rattle.qs_refine.specs.StepWhole.{StepGoes};
 ghost use Rattle.qs_refine.specs.ServeWhole.{ServeAllGoes};
 ghost use Rattle.qs_refine.specs.RestartWhole.{BeginIncarnationGoes};
@@ -43,4 +44,12 @@ pub fn serves()
 /// A whole step, from what shows the world to what shows it after, over what its event makes of a transaction.
 pub fn whole()
     ensures step { StepGoes }
+{}
+
+/// Messages come: about another transaction, and such as say nothing of this one to the machine.
+pub fn messages()
+    ensures foreign { ForeignStands }
+    ensures answered { AnsweredStands }
+    ensures ask_vote { AskVoteStands }
+    ensures refusal { RefusalStands }
 {}
