@@ -92,14 +92,14 @@ module _ (tid : Tid) (scene : Scene) (n : ℕ) (work new : Work) (w : World) (is
   now : KeepsOutcome tid new part
   now = keeps part known
 
-  decided_clear : IsClear tid scene n new
+  pub decided_clear : IsClear tid scene n new
   decided_clear none s = absurd (off (is_some now.next.outcome) now.next.log.prepared (ap is_some (now.outcome ∙ decided)) (sym (ap (may_doubt (tid.home.0 == n)) now.known) ∙ none))
     where
       off : (a b : Bool) → a ≡ true → (a || b) ≡ false → ⊥
       off true b is so = cc so
       off false b is so = cc is
 
-  decided_answers : Answers tid scene n new
+  pub decided_answers : Answers tid scene n new
   decided_answers later m its has = is.superior part m known (now.superior (node_no m) (ap (λ (p : Participant). p.engage.superior) (some_same now.next later (sym now.known ∙ its)) ∙ has))
     where
       some_same : (a b : Participant) → Some a ≡ Some b → a ≡ b

@@ -185,3 +185,6 @@ pub mod ServeStands
 pub mod StepGoes
 pub mod MessageKinds
 pub mod MessageStands
+pub mod RestartFrames
+pub mod RestartOwn
+pub mod RestartStands

@@ -42,3 +42,4 @@ pub mod RestartWhole
 pub mod ServeWhole
 pub mod StepWhole
 pub mod MessageWhole
+pub mod RestartFound

@@ -2,6 +2,7 @@
 ghost use Rattle.qs_refine.specs.PassLaws.{PassRuleGoes};
 ghost use Rattle.qs_refine.specs.SettleWhole.{SettleTidGoes, SettleGoes};
 ghost use Rattle.qs_refine.specs.TickLaws.{TickGoes};
+ghost use Rattle.qs_refine.specs.RestartFound.{PeerRestartedGoes};
 ghost use Rattle.qs_refine.specs.MessageWhole.{ForeignStands, AnsweredStands, AskVoteStands, RefusalStands};
 ghost use Rattle.qs_refine.specs.StepWhole.{StepGoes};
 ghost use Rattle.qs_refine.specs.ServeWhole.{ServeAllGoes};
@@ -52,4 +53,9 @@ pub fn messages()
     ensures answered { AnsweredStands }
     ensures ask_vote { AskVoteStands }
     ensures refusal { RefusalStands }
+{}
+
+/// Another node restarted.
+pub fn restarts()
+    ensures found { PeerRestartedGoes }
 {}
