@@ -188,3 +188,6 @@ pub mod MessageStands
 pub mod RestartFrames
 pub mod RestartOwn
 pub mod RestartStands
+pub mod OutcomeAfter
+pub mod TellStands
+pub mod InquireStands

@@ -30,8 +30,9 @@ use Rattle.qs_refine.specs.MessageWhole.{ForeignStands, AnsweredStands, AskVoteS
 use Rattle.qs_refine.specs.Messages.{said}
 use Rattle.qs_refine.specs.Shows.{Scene, handed, ShowsWork}
 use Rattle.qs_refine.specs.SoundLaws.{StaysSound}
+use Rattle.qs_refine.specs.SoundSteps.{FitsMessage}
 use Rattle.qs_refine.specs.Stands.{Stands, GoesOn}
-use Rattle.qs_refine.specs.Steps.{IsNext, Goes}
+use Rattle.qs_refine.specs.Steps.{IsAt, IsNext, Goes}
 use Rattle.qs_refine.proofs.DecidedStands.{KeepOutcomes, outcome_itself, decided_stands}
 use Rattle.qs_refine.proofs.During.{Leaves, leaves_itself, send_leaves}
 use Rattle.qs_refine.proofs.Handing.{handed_quiet}
@@ -46,7 +47,7 @@ use Rattle.qs_refine.proofs.QuietCame.{reply_keeps, refusal_shown, ask_came_goes
 use Rattle.qs_refine.proofs.RuleGoes.{says_nothing}
 use Rattle.qs_refine.proofs.ServeCounts.{KeepsCounts, reply_counts}
 use Rattle.qs_refine.proofs.SettleRules.{beside, beside_apart, stands_on, clear_carried, answers_carried}
-use Rattle.qs_refine.proofs.SettleStands.{stands_itself, stands_left}
+use Rattle.qs_refine.proofs.SettleStands.{stands_left, at_same}
 use Rattle.qs_refine.proofs.SoundHappen.{message_sound}
 use Rattle.qs_refine.proofs.SoundRules.{ask_came_sound, refusal_came_sound, reply_came_sound}
 
@@ -64,16 +65,16 @@ handed_stands t scene n m i message rest work w next nothing is = record {
   superior = is.superior;
 }
 
--- ---- about another transaction
+-- ---- it comes from another node of the run
 
-pub foreign_stands : ForeignStands
-foreign_stands t scene n m i message rest work w next fits apart is = record {
-  next = w;
-  leads = record { events = []; run = refl };
-  stands = stands_left t (handed scene m i n rest) n work (message_came (node_no m) message work) w (message_leaves t (node_no m) message work apart)
-      (message_sound (node_no m) message work in_run other fits is.sound) (message_kinds (node_no m) message work is.kinds)
-      (handed_stands t scene n m i message rest work w next (says_nothing t message apart) is);
-}
+pub handed_at : (t : Tid) (scene : Scene) (n m i : ℕ) (rest : List Message) (work new : Work) → Leaves (beside t) work new → IsAt scene n work → IsAt (handed scene m i n rest) n new
+handed_at t scene n m i rest work new left at =
+    let now : IsAt scene n new = at_same t scene n work new left.node.around.setting at in
+    record { in_run = now.in_run; up = now.up; node = now.node; nodes = now.nodes; inc = now.inc }
+
+pub fits_sound : (t : Tid) (scene : Scene) (n m i : ℕ) (message : Message) (rest : List Message) (work : Work) (w : World) → IsNext scene n m i message rest → Stands t scene n work w → FitsMessage (node_no m) message work
+    → StaysSound work (message_came (node_no m) message work)
+fits_sound t scene n m i message rest work w next is fits = message_sound (node_no m) message work in_run other fits
   where
     in_run : nat_lt m work.node.setting.nodes ≡ true
     in_run = rw is.at.nodes (below m scene.size next.from.in_run)
@@ -86,6 +87,17 @@ foreign_stands t scene n m i message rest work w next fits apart is = record {
       where
         differs : (a b : ℕ) → (a ≡ b → ⊥) → (a == b) ≡ false
         differs a b off = grind (arith, nat_tests, off)
+
+-- ---- about another transaction
+
+pub foreign_stands : ForeignStands
+foreign_stands t scene n m i message rest work w next fits apart is = record {
+  next = w;
+  leads = record { events = []; run = refl };
+  stands = stands_left t (handed scene m i n rest) n work (message_came (node_no m) message work) w (message_leaves t (node_no m) message work apart)
+      (fits_sound t scene n m i message rest work w next is fits is.sound) (message_kinds (node_no m) message work is.kinds)
+      (handed_stands t scene n m i message rest work w next (says_nothing t message apart) is);
+}
 
 -- ---- about this one: what is undecided, decided or unknown
 

@@ -82,7 +82,7 @@ module _ (t tid : Tid) (apart : Apart t tid) where
       (part_leaves t tid (participant.requested peer number) (met tid work) apart)
       (cover_leaves (tm.engaged_at tid peer (met tid work).node.manager) peer number (with_manager (tm.requested tid peer number) (met tid work))))
 
-  request_leaves : (peer : NodeNo) (label : List ℕ) (member : Member) (number : ℕ) (op : Op) (work : Work) → Leaves t work (request_came peer tid label member number op work)
+  pub request_leaves : (peer : NodeNo) (label : List ℕ) (member : Member) (number : ℕ) (op : Op) (work : Work) → Leaves t work (request_came peer tid label member number op work)
   request_leaves peer label member number op work =
       leaves_on t work (learn_label label tid work) (request_came peer tid label member number op work) (label_leaves t tid label work)
       (leaves_on t (learn_label label tid work) (engage tid peer number (learn_label label tid work)) (request_came peer tid label member number op work)
@@ -183,7 +183,7 @@ module _ (t tid : Tid) (apart : Apart t tid) where
       by None = learn_unknown_leaves outcome work
       by (Some part) = undecided (is_undecided part) part
 
-  tell_leaves : (peer : NodeNo) (outcome : Outcome) (work : Work) → Leaves t work (tell_came peer tid outcome work)
+  pub tell_leaves : (peer : NodeNo) (outcome : Outcome) (work : Work) → Leaves t work (tell_came peer tid outcome work)
   tell_leaves peer outcome work = by (same_node tid.home (here work))
     where
       by : (b : Bool) → Leaves t work (if b then work else send peer (messages.Told tid (names_at tid outcome work)) (take_outcome tid outcome work))
@@ -223,7 +223,7 @@ module _ (t tid : Tid) (apart : Apart t tid) where
   keep_told_leaves peer work = manager_leaves t (λ manager. tm.add_tell tid peer (tm.keep_abort tid manager)) work
       (part_apart t tid (outcome_rules.add_tell peer) (tm.keep_abort tid work.node.manager) apart ∙ keep_abort_apart t tid work.node.manager apart)
 
-  told_leaves : (peer : NodeNo) (further : List NodeNo) (work : Work) → Leaves t work (told_came peer tid further work)
+  pub told_leaves : (peer : NodeNo) (further : List NodeNo) (work : Work) → Leaves t work (told_came peer tid further work)
   told_leaves peer further work = by (same_node tid.home (here work))
     where
       unknown : (b : Bool) → Leaves t work (if b then take_names tid further (keep_abort_told tid peer work) else work)
@@ -245,7 +245,7 @@ module _ (t tid : Tid) (apart : Apart t tid) where
 
   -- ---- an Inquire
 
-  inquiry_leaves : (peer : NodeNo) (work : Work) → Leaves t work (inquiry_came peer tid work)
+  pub inquiry_leaves : (peer : NodeNo) (work : Work) → Leaves t work (inquiry_came peer tid work)
   inquiry_leaves peer work = by (same_node tid.home (here work))
     where
       unknown : (b : Bool) → Leaves t work (if b then send peer (messages.Tell tid outcomes.Commit) work else send peer (messages.Tell tid outcomes.Abort) (keep_abort_told tid peer work))

@@ -68,6 +68,14 @@ stands_left t scene n work new w left sound kinds is = record {
 
 -- ---- what is kept of it, as its sound node says
 
+pub manager_fits : (tid : Tid) (scene : Scene) (n : ℕ) (work : Work) (w : World) → Stands tid scene n work w → work.node.manager.node ≡ work.node.setting.node
+manager_fits tid scene n work w is = ap (λ (k : ℕ). node_no k) (eqb-true work.node.manager.node.0 work.node.setting.node.0 (middle _ (work.node.manager.node.0 == work.node.setting.node.0) _ (seen work.node is.sound).fits))
+  where
+    middle : (a d r : Bool) → (a && (d && r)) ≡ true → d ≡ true
+    middle true true r so = refl
+    middle true false r so = absurd (cc so)
+    middle false d r so = absurd (cc so)
+
 pub whole_known : (tid : Tid) (scene : Scene) (n : ℕ) (work : Work) (w : World) → Stands tid scene n work w → (part : Participant) → part_of tid work ≡ Some part → Knows tid work part
 whole_known tid scene n work w is part known = record { known = known; whole = whole_of part (known_sound tid work.node part known is.sound).whole }
 

@@ -43,3 +43,4 @@ pub mod ServeWhole
 pub mod StepWhole
 pub mod MessageWhole
 pub mod RestartFound
+pub mod OutcomeWhole

@@ -2,6 +2,7 @@
 ghost use Rattle.qs_refine.specs.PassLaws.{PassRuleGoes};
 ghost use Rattle.qs_refine.specs.SettleWhole.{SettleTidGoes, SettleGoes};
 ghost use Rattle.qs_refine.specs.TickLaws.{TickGoes};
+ghost use Rattle.qs_refine.specs.OutcomeWhole.{TellStands, InquireStands};
 ghost use Rattle.qs_refine.specs.RestartFound.{PeerRestartedGoes};
 ghost use Rattle.qs_refine.specs.MessageWhole.{ForeignStands, AnsweredStands, AskVoteStands, RefusalStands};
 ghost use Rattle.qs_refine.specs.StepWhole.{StepGoes};
@@ -58,4 +59,10 @@ pub fn messages()
 /// Another node restarted.
 pub fn restarts()
     ensures found { PeerRestartedGoes }
+{}
+
+/// A Tell comes to another node than the home, and an Inquire to the home's.
+pub fn outcomes()
+    ensures tell { TellStands }
+    ensures inquire { InquireStands }
 {}
