@@ -191,3 +191,5 @@ pub mod RestartStands
 pub mod OutcomeAfter
 pub mod TellStands
 pub mod InquireStands
+pub mod RequestKept
+pub mod RequestStands

@@ -44,3 +44,4 @@ pub mod StepWhole
 pub mod MessageWhole
 pub mod RestartFound
 pub mod OutcomeWhole
+pub mod RequestWhole

@@ -2,6 +2,7 @@
 ghost use Rattle.qs_refine.specs.PassLaws.{PassRuleGoes};
 ghost use Rattle.qs_refine.specs.SettleWhole.{SettleTidGoes, SettleGoes};
 ghost use Rattle.qs_refine.specs.TickLaws.{TickGoes};
+ghost use Rattle.qs_refine.specs.RequestWhole.{RequestStands};
 ghost use Rattle.qs_refine.specs.OutcomeWhole.{TellStands, InquireStands};
 ghost use Rattle.qs_refine.specs.RestartFound.{PeerRestartedGoes};
 ghost use Rattle.qs_refine.specs.MessageWhole.{ForeignStands, AnsweredStands, AskVoteStands, RefusalStands};
@@ -65,4 +66,9 @@ pub fn restarts()
 pub fn outcomes()
     ensures tell { TellStands }
     ensures inquire { InquireStands }
+{}
+
+/// A request comes.
+pub fn requests()
+    ensures request { RequestStands }
 {}
