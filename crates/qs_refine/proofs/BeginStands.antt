@@ -1,8 +1,7 @@
 -- In the first step of an incarnation a node looks at what its log left open, and what stood of a transaction stands.
-use Rattle.std.proofs.Common.{◌≡◌, ◌≢◌, ◌⊎◌, inl, inr, ℕ, ◌==◌, ◌&&◌, not, nat_lt, Bool, true, false, List, [], ◌∷◌, ◌++◌, Option, Some, None, fold, map, refl, sym, subst, ap, ◌∙◌, arith, if◌then◌else◌}
+use Rattle.std.proofs.Common.{◌≡◌, ◌⊎◌, inl, inr, ℕ, ◌==◌, ◌&&◌, not, nat_lt, Bool, true, false, List, [], ◌∷◌, ◌++◌, Option, Some, None, fold, map, refl, sym, subst, ap, ◌∙◌, arith, if◌then◌else◌}
 use Rattle.std.proofs.lemmas.Bool.{eqb-true}
 use Rattle.std.proofs.lemmas.Bool.Decides.{nat_tests}
-use Rattle.qs_base.specs.Order.{same_tid}
 use Rattle.qs_base.specs.declared.identifiers.NodeNo.{NodeNo}
 use Rattle.qs_base.specs.declared.identifiers.Outcome.{Outcome}
 use Rattle.qs_base.specs.declared.identifiers.Outcome.TheVariants as outcomes
@@ -11,16 +10,14 @@ use Rattle.qs_engage.specs.Nodes.{same_node, listed}
 use Rattle.qs_packet.specs.declared.message.Message.TheVariants as messages
 use Rattle.qs_record.specs.declared.record.Record.{Record}
 use Rattle.qs_record.specs.declared.record.Record.TheVariants as records
-use Rattle.qs_tm.specs.Manager as tm
 use Rattle.qs_tm.specs.declared.participant.Participant.{Participant}
-use Rattle.qs_step.specs.Bringing.{is_other, send, send_each, log_if, tid_of}
+use Rattle.qs_step.specs.Bringing.{is_other, send, log_if, tid_of}
 use Rattle.qs_step.specs.Deciding.{give_notices}
-use Rattle.qs_step.specs.Restarts.{resume_home, resume_part, resume_tid, known_tids, begin_incarnation}
+use Rattle.qs_step.specs.Restarts.{resume_home, resume_part, resume_tid, known_tids}
 use Rattle.qs_step.specs.State.{Work, part_of, with_node}
 use Rattle.qs_step.specs.Telling.{record_learnt, end_record}
 use Rattle.qs_agree.specs.World.{World}
-use Rattle.qs_refine.specs.Links.{node_no}
-use Rattle.qs_refine.specs.RestartWhole.{IsTakenUp, BeginIncarnationGoes}
+use Rattle.qs_refine.specs.RestartWhole.{BeginIncarnationGoes}
 use Rattle.qs_refine.specs.SettleLaws.{IsElsewhere}
 use Rattle.qs_refine.specs.Shows.{Scene}
 use Rattle.qs_refine.specs.Sound.{same_flag}
@@ -38,7 +35,6 @@ use Rattle.qs_refine.proofs.Resuming.{resume_commit, resume_abort}
 use Rattle.qs_refine.proofs.SettleRules.{beside, beside_apart, stands_on, clear_carried, answers_carried}
 use Rattle.qs_refine.proofs.SettleStands.{stands_itself, stands_left, goes_further, is_elsewhere, whole_known}
 use Rattle.qs_refine.proofs.SoundHolds.{known_sound}
-use Rattle.qs_refine.proofs.SoundKnown.{same_is}
 use Rattle.qs_refine.proofs.SoundRestart.{resume_tid_sound}
 use Rattle.qs_refine.proofs.SoundViews.{seen}
 use Rattle.qs_refine.proofs.Turns.{Entry, turns, AllApart, turns_leave, turns_sound, fold_split, Never, Once, turn_of}

@@ -1,5 +1,5 @@
 -- What a borrower commands leaves standing what stood of a transaction.
-use Rattle.std.proofs.Common.{◌≡◌, ℕ, ◌+◌, ◌==◌, ◌&&◌, ◌||◌, not, nat_lt, Bool, true, false, List, [], ◌∷◌, ◌++◌, length, Option, Some, None, is_some, refl, sym, subst, ap, ◌∙◌, arith, if◌then◌else◌}
+use Rattle.std.proofs.Common.{◌≡◌, ℕ, ◌==◌, ◌&&◌, ◌||◌, not, Bool, true, false, List, [], ◌∷◌, ◌++◌, length, Option, Some, None, is_some, refl, sym, subst, ap, ◌∙◌, arith, if◌then◌else◌}
 use Rattle.std.specs.Prelude.{suc}
 use Rattle.std.specs.BTreeMap.{is_at}
 use Rattle.std.specs.List.{filter}
@@ -19,13 +19,12 @@ use Rattle.qs_ops.specs.declared.answer.Answer.TheVariants as answers
 use Rattle.qs_tm.specs.Manager as tm
 use Rattle.qs_tm.specs.Participant.{is_undecided}
 use Rattle.qs_tm.specs.declared.participant.Participant.{Participant}
-use Rattle.qs_step.specs.Borrowing.{is_void, is_aborted, take, yield, lent_command, with_loan, loan_command, borrower_command}
+use Rattle.qs_step.specs.Borrowing.{is_void, is_aborted, take, yield, lent_command, with_loan, loan_command}
 use Rattle.qs_step.specs.Bringing.{enter, answer}
 use Rattle.qs_step.specs.State.{Work, part_of, with_kept, with_doings, client_cmp}
 use Rattle.qs_step.specs.declared.state.OpenCommand.{OpenCommand}
 use Rattle.qs_agree.specs.World.{World}
 use Rattle.qs_refine.specs.CommandLaws.{BorrowerGoes}
-use Rattle.qs_refine.specs.NodeFaces.{loans_at}
 use Rattle.qs_refine.specs.Shows.{Scene, sight_during, ShowsWork}
 use Rattle.qs_refine.specs.Sights.{is_in_doubt}
 use Rattle.qs_refine.specs.Sound.{goes_in_run}

@@ -1,10 +1,8 @@
 -- A command that comes leaves standing what stood of a transaction.
-use Rattle.std.proofs.Common.{◌≡◌, ℕ, ◌&&◌, ◌||◌, not, nat_lt, Bool, true, false, List, [], ◌∷◌, Option, Some, None, is_some, refl, sym, subst, ap, ◌∙◌, if◌then◌else◌}
+use Rattle.std.proofs.Common.{◌≡◌, ℕ, ◌&&◌, ◌||◌, not, Bool, true, false, [], Option, Some, None, is_some, refl, sym, subst, if◌then◌else◌}
 use Rattle.std.specs.BTreeMap.{is_at}
-use Rattle.std.specs.List.{find, list_all}
 use Rattle.qs_base.specs.Order.{tid_cmp, same_tid}
 use Rattle.qs_base.specs.declared.identifiers.ClientNo.{ClientNo}
-use Rattle.qs_base.specs.declared.identifiers.Outcome.{Outcome}
 use Rattle.qs_base.specs.declared.identifiers.Outcome.TheVariants as outcomes
 use Rattle.qs_base.specs.declared.identifiers.Tid.{Tid}
 use Rattle.qs_engage.specs.Engage.{uncovered}
@@ -29,11 +27,11 @@ use Rattle.qs_step.specs.Answering.{kept_outcome}
 use Rattle.qs_step.specs.Asking.{where_undecided, become_asked}
 use Rattle.qs_step.specs.Borrowing.{borrower_command}
 use Rattle.qs_step.specs.Bringing.{enter, answer, send_each}
-use Rattle.qs_step.specs.Commands.{begin_as, refuse_begin, begin_or_refuse, begin_command, enter_ask, ask, open_command, owner_command, decided_answer}
+use Rattle.qs_step.specs.Commands.{refuse_begin, begin_or_refuse, begin_command, enter_ask, ask, open_command, owner_command, decided_answer}
 use Rattle.qs_step.specs.Deciding.{decide}
 use Rattle.qs_step.specs.Serving.{label_at, put_label}
-use Rattle.qs_step.specs.State.{Work, part_of, with_manager, with_doings}
-use Rattle.qs_step.specs.Step.{is_owner, labelled, obey, with_command, command_came}
+use Rattle.qs_step.specs.State.{Work, part_of, with_manager}
+use Rattle.qs_step.specs.Step.{is_owner, labelled, obey, with_command}
 use Rattle.qs_agree.specs.World.{World}
 use Rattle.qs_refine.specs.CommandLaws.{CommandGoes}
 use Rattle.qs_refine.specs.Shows.{Scene}
@@ -52,11 +50,10 @@ use Rattle.qs_refine.proofs.Maps.{lookup_changed}
 use Rattle.qs_refine.proofs.PassCarried.{Carries, carries_itself, carries_on, carries_each, carries_send}
 use Rattle.qs_refine.proofs.RuleGoes.{owner_asks}
 use Rattle.qs_refine.proofs.SettleRules.{beside, beside_apart, stands_on, clear_carried, answers_carried}
-use Rattle.qs_refine.proofs.SettleStands.{stands_itself, stands_left, goes_further, whole_known}
+use Rattle.qs_refine.proofs.SettleStands.{stands_itself, stands_left, whole_known}
 use Rattle.qs_refine.proofs.SoundBegin.{begin_command_sound}
 use Rattle.qs_refine.proofs.SoundCommands.{owner_open, home_is}
 use Rattle.qs_refine.proofs.SoundHappen.{find_all}
-use Rattle.qs_refine.proofs.SoundHolds.{told_part}
 use Rattle.qs_refine.proofs.SoundKnown.{same_is}
 use Rattle.qs_refine.proofs.SoundRules.{owner_asks_sound}
 

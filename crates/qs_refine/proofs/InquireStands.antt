@@ -1,7 +1,6 @@
 -- An Inquire comes to the home's node, and what stood of its transaction stands.
-use Rattle.std.proofs.Common.{◌≡◌, ◌≢◌, ℕ, ◌≤◌, ◌==◌, ◌&&◌, ◌||◌, not, Bool, true, false, List, [], ◌∷◌, Option, Some, None, is_some, refl, sym, subst, ap, ◌∙◌, arith, if◌then◌else◌}
+use Rattle.std.proofs.Common.{◌≡◌, ◌≢◌, ℕ, ◌==◌, ◌&&◌, not, Bool, true, false, List, Option, Some, None, is_some, refl, sym, subst, ap, ◌∙◌, arith, if◌then◌else◌}
 use Rattle.std.specs.BTreeMap.{is_at}
-use Rattle.std.proofs.lemmas.Bool.{eqb-true}
 use Rattle.std.proofs.lemmas.Bool.Decides.{nat_tests}
 use Rattle.qs_base.specs.Order.{tid_cmp}
 use Rattle.qs_base.specs.declared.identifiers.NodeNo.{NodeNo}
@@ -16,14 +15,14 @@ use Rattle.qs_tm.specs.Outcomes as outcome_rules
 use Rattle.qs_tm.specs.Outcomes.{aborted_participant}
 use Rattle.qs_tm.specs.Participant as participant
 use Rattle.qs_tm.specs.declared.participant.Participant.{Participant}
-use Rattle.qs_step.specs.Answering.{was_committed, inquiry_came, answer_unknown, answer_known}
+use Rattle.qs_step.specs.Answering.{was_committed, answer_unknown, answer_known}
 use Rattle.qs_step.specs.Bringing.{send}
 use Rattle.qs_step.specs.State.{NodeValue, Work, part_of, with_manager}
 use Rattle.qs_step.specs.Step.{message_came}
 use Rattle.qs_step.specs.Telling.{keep_abort_told}
 use Rattle.qs_agree.specs.World.{World}
 use Rattle.qs_refine.specs.Links.{node_no}
-use Rattle.qs_refine.specs.NodeFaces.{began_here, is_past_commit}
+use Rattle.qs_refine.specs.NodeFaces.{began_here}
 use Rattle.qs_refine.specs.OutcomeWhole.{KeepsPast, InquireStands}
 use Rattle.qs_refine.specs.Shows.{Scene, handed}
 use Rattle.qs_refine.specs.Sound.{same_flag, where_so}

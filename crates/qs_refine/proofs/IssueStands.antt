@@ -1,7 +1,6 @@
 -- A request of a transaction that a node runs leaves standing what stood, of this one and of every other.
-use Rattle.std.proofs.Common.{◌≡◌, ◌⊎◌, inl, ℕ, ◌&&◌, not, nat_lt, Bool, true, false, [], Option, Some, None, refl, sym, subst, ap, ◌∙◌, if◌then◌else◌}
-use Rattle.std.specs.BTreeMap.{is_at}
-use Rattle.qs_base.specs.Order.{tid_cmp, same_tid}
+use Rattle.std.proofs.Common.{◌≡◌, inl, ℕ, nat_lt, Bool, true, false, [], Option, Some, None, refl, sym, subst, ap, ◌∙◌, if◌then◌else◌}
+use Rattle.qs_base.specs.Order.{same_tid}
 use Rattle.qs_base.specs.declared.identifiers.ClientNo.{ClientNo}
 use Rattle.qs_base.specs.declared.identifiers.Member.{Member}
 use Rattle.qs_base.specs.declared.identifiers.Tid.{Tid}
@@ -19,7 +18,6 @@ use Rattle.qs_tm.specs.declared.participant.Participant.{Participant}
 use Rattle.qs_step.specs.Commands.{with_issued, request_as, request_command}
 use Rattle.qs_step.specs.Requests.{enter_issue, with_local, issue_as, issue_here, issue_away, next_number, next_local}
 use Rattle.qs_step.specs.State.{Work, here, part_of, with_queues}
-use Rattle.qs_step.specs.declared.state.Issued.{Issued}
 use Rattle.qs_agree.specs.World.{World}
 use Rattle.qs_refine.specs.NodeFaces.{face}
 use Rattle.qs_refine.specs.Shows.{Scene}
@@ -27,7 +25,6 @@ use Rattle.qs_refine.specs.SoundLaws.{StaysSound}
 use Rattle.qs_refine.specs.Stands.{Stands, GoesOn}
 use Rattle.qs_refine.specs.Steps.{Knows, Goes}
 use Rattle.qs_refine.proofs.Alike.{SameFace}
-use Rattle.qs_refine.proofs.During.{Leaves}
 use Rattle.qs_refine.proofs.Frames.{out_leaves}
 use Rattle.qs_refine.proofs.HomeAborts.{none_is}
 use Rattle.qs_refine.proofs.IssueOut.{away_goes}
@@ -40,7 +37,7 @@ use Rattle.qs_refine.proofs.RuleGoes.{issue_here as issue_here_goes}
 use Rattle.qs_refine.proofs.SettleFrames.{issue_as_leaves}
 use Rattle.qs_refine.proofs.SettleRules.{beside, beside_apart, stands_on, clear_carried, answers_carried}
 use Rattle.qs_refine.proofs.SettleStands.{stands_itself, stands_left, whole_known}
-use Rattle.qs_refine.proofs.SoundHolds.{Holds, is_open, is_held, held_is, told_part}
+use Rattle.qs_refine.proofs.SoundHolds.{is_open, is_held, held_is, told_part}
 use Rattle.qs_refine.proofs.SoundIssue.{issue_as_holds}
 use Rattle.qs_refine.proofs.SoundKnown.{same_is}
 use Rattle.qs_refine.proofs.SoundParts.{and_both}

@@ -1,6 +1,5 @@
 -- What a node does of itself leaves each server of its kind.
-use Rattle.std.proofs.Common.{◌≡◌, ℕ, ◌<◌, Bool, true, false, List, [], ◌∷◌, Option, Some, None, fold, refl, ap, ◌∙◌, if◌then◌else◌}
-use Rattle.qs_base.specs.declared.identifiers.Member.{Member}
+use Rattle.std.proofs.Common.{◌≡◌, ℕ, Bool, true, false, List, [], ◌∷◌, Option, Some, None, fold, ap, ◌∙◌, if◌then◌else◌}
 use Rattle.qs_base.specs.declared.identifiers.NodeNo.{NodeNo}
 use Rattle.qs_base.specs.declared.identifiers.Outcome.{Outcome}
 use Rattle.qs_base.specs.declared.identifiers.Outcome.TheVariants as outcomes
@@ -31,14 +30,13 @@ use Rattle.qs_tm.specs.declared.participant.Outstanding.{Outstanding}
 use Rattle.qs_tm.specs.declared.participant.Participant.{Participant}
 use Rattle.qs_journal.specs.declared.entry.Act.TheVariants as acts
 use Rattle.qs_step.specs.Bringing.{enter, send, send_each, log_if}
-use Rattle.qs_step.specs.Deciding.{notify, notice_of, end_member, end_members, due_endings, learn_member, learners_at, give_notices, keep_outcome, decide, decide_as, decide_commit}
-use Rattle.qs_step.specs.Requests.{enter_issue, with_local, enqueue, issue, issue_as, issue_here, issue_away, next_number, is_asked, ask_on, label_of}
-use Rattle.qs_step.specs.Settling.{may_answer, is_quiet, is_pass_due, pass_rule, ready_rule, answer_superior, say_yes, refusal_goes_to, send_refusal, refuse_elsewhere, refuse_rule, forget_rule, try, settle_tid}
-use Rattle.qs_step.specs.State.{NodeValue, Work, here, part_of, doings_of, with_manager, with_queues, change_server}
+use Rattle.qs_step.specs.Deciding.{notify, notice_of, end_member, end_members, due_endings, learn_member, learners_at, give_notices, keep_outcome, decide, decide_as}
+use Rattle.qs_step.specs.Requests.{enter_issue, with_local, issue_as, issue_here, issue_away, next_number, is_asked, ask_on, label_of}
+use Rattle.qs_step.specs.Settling.{may_answer, is_quiet, is_pass_due, pass_rule, ready_rule, say_yes, refusal_goes_to, send_refusal, refuse_elsewhere, refuse_rule, forget_rule, try, settle_tid}
+use Rattle.qs_step.specs.State.{Work, here, part_of, doings_of, with_manager, with_queues, change_server}
 use Rattle.qs_step.specs.Telling.{forget}
-use Rattle.qs_step.specs.Voting.{owes_note, issue_note, note_text, change_count, enter_vote, vote_with, vote_next, vote_frame, due_votes, vote_pass}
+use Rattle.qs_step.specs.Voting.{owes_note, issue_note, note_text, change_count, vote_with, vote_next, vote_frame, due_votes, vote_pass}
 use Rattle.qs_refine.specs.PassLaws.{HasKinds}
-use Rattle.qs_refine.specs.Sights.{server_no}
 use Rattle.qs_refine.proofs.SendGoes.{send_node}
 use Rattle.qs_refine.proofs.ServerKinds.{kind_kept, vote_kind, notice_kind}
 

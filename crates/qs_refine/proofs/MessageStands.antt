@@ -1,5 +1,5 @@
 -- A message that comes leaves standing what stood of a transaction, where it is about another one, or says nothing to the machine.
-use Rattle.std.proofs.Common.{◌≡◌, ℕ, ◌<◌, ◌==◌, ◌&&◌, not, nat_lt, Bool, true, false, List, [], ◌∷◌, Option, Some, None, refl, sym, subst, ap, ◌∙◌, arith, if◌then◌else◌}
+use Rattle.std.proofs.Common.{◌≡◌, ℕ, ◌<◌, ◌==◌, ◌&&◌, not, nat_lt, Bool, true, false, List, [], Option, Some, None, refl, sym, subst, ap, ◌∙◌, arith, if◌then◌else◌}
 use Rattle.std.specs.Prelude.{is_none}
 use Rattle.std.specs.BTreeMap.{is_at}
 use Rattle.std.proofs.lemmas.Bool.Decides.{nat_tests}
@@ -28,7 +28,7 @@ use Rattle.qs_agree.specs.World.{World}
 use Rattle.qs_refine.specs.Links.{node_no}
 use Rattle.qs_refine.specs.MessageWhole.{ForeignStands, AnsweredStands, AskVoteStands, RefusalStands}
 use Rattle.qs_refine.specs.Messages.{said}
-use Rattle.qs_refine.specs.Shows.{Scene, handed, ShowsWork}
+use Rattle.qs_refine.specs.Shows.{Scene, handed}
 use Rattle.qs_refine.specs.SoundLaws.{StaysSound}
 use Rattle.qs_refine.specs.SoundSteps.{FitsMessage}
 use Rattle.qs_refine.specs.Stands.{Stands, GoesOn}

@@ -1,12 +1,10 @@
 -- A server replies to each operation of its own, and a client to a loan.
-use Rattle.std.proofs.Common.{◌≡◌, ◌≢◌, ◌⊎◌, inl, inr, ℕ, ◌+◌, ◌<◌, ◌≤◌, ◌==◌, Bool, true, false, Option, Some, None, is_some, refl, sym, subst, ap, ◌∙◌, arith, if◌then◌else◌}
+use Rattle.std.proofs.Common.{◌≡◌, ◌≢◌, ◌⊎◌, inl, inr, ℕ, ◌<◌, ◌≤◌, ◌==◌, true, false, Some, None, is_some, refl, sym, subst, ap, ◌∙◌, arith}
 use Rattle.std.proofs.lemmas.Bool.{eqb-true}
 use Rattle.std.proofs.lemmas.Bool.Decides.{nat_tests}
 use Rattle.qs_base.specs.declared.identifiers.ClientNo.{ClientNo}
-use Rattle.qs_base.specs.declared.identifiers.ServerNo.{ServerNo}
 use Rattle.qs_base.specs.declared.identifiers.Tid.{Tid}
 use Rattle.qs_ipc.specs.Queue.{is_for}
-use Rattle.qs_ops.specs.Operations.{server_of}
 use Rattle.qs_ops.specs.Server.{ServerValue, number_of, reply_in, reply_of}
 use Rattle.qs_ops.specs.Table.{reply_to}
 use Rattle.qs_ops.specs.declared.operation.Op.{Op}

@@ -1,7 +1,6 @@
 -- A node whose files issued a note to a server of its own goes on to vote as it would have without the note.
-use Rattle.std.proofs.Common.{◌≡◌, ◌⊎◌, inl, inr, ℕ, ◌+◌, ◌-◌, ◌<◌, ◌==◌, ◌&&◌, ◌||◌, Bool, true, false, List, [], ◌∷◌, ◌++◌, Option, Some, None, refl, sym, subst, ap, ◌∙◌, arith, if◌then◌else◌}
+use Rattle.std.proofs.Common.{◌≡◌, inl, ℕ, ◌+◌, ◌-◌, Bool, true, false, List, [], ◌∷◌, ◌++◌, Option, Some, None, refl, sym, subst, ap, ◌∙◌, if◌then◌else◌}
 use Rattle.std.specs.BTreeMap.{is_at}
-use Rattle.std.proofs.lemmas.Bool.Decides.{nat_tests}
 use Rattle.qs_base.specs.Order.{tid_cmp, same_tid}
 use Rattle.qs_base.specs.declared.identifiers.Tid.{Tid}
 use Rattle.qs_ipc.specs.Ipc as ipc
@@ -23,15 +22,14 @@ use Rattle.qs_step.specs.Bringing.{member_here, record_need, kept_for}
 use Rattle.qs_step.specs.Requests.{issue_here, enter_issue, with_local}
 use Rattle.qs_step.specs.State.{Work, here, part_of, with_queues}
 use Rattle.qs_step.specs.Voting.{vote_with, enter_vote, log_prepare, served_count, vote_frame}
-use Rattle.qs_step.specs.declared.event.Sending.{Sending}
 use Rattle.qs_step.specs.declared.setting.Setting.{Setting}
 use Rattle.qs_agree.specs.World.{World, with_at}
-use Rattle.qs_refine.specs.NodeFaces.{face, face_at}
+use Rattle.qs_refine.specs.NodeFaces.{face}
 use Rattle.qs_refine.specs.Seen.{SightGoes, sight_faced}
 use Rattle.qs_refine.specs.Shows.{Scene, sight_during, ShowsWork}
 use Rattle.qs_refine.specs.Sights.{Sight, server_no}
 use Rattle.qs_refine.specs.Steps.{IsAt, Goes}
-use Rattle.qs_refine.proofs.Alike.{SameFace, SameFound, found_itself}
+use Rattle.qs_refine.proofs.Alike.{SameFace, found_itself}
 use Rattle.qs_refine.proofs.Asking as event
 use Rattle.qs_refine.proofs.During.{Quiet, forced_log, local_shown, face_here, runs}
 use Rattle.qs_refine.proofs.Known.{told_is}
@@ -39,7 +37,6 @@ use Rattle.qs_refine.proofs.Maps.{lookup_changed}
 use Rattle.qs_refine.proofs.PassVotes.{part_after}
 use Rattle.qs_refine.proofs.Queues.{waits_put}
 use Rattle.qs_refine.proofs.Reading.{part_known}
-use Rattle.qs_refine.proofs.Same.{tid_same}
 
 -- the first is the second with the request issued, and it waits
 pub record Beside (tid : Tid) (request : Outstanding) (d : Delivery) (work bare : Work) (part : Participant) : Type 0 where

@@ -1,8 +1,7 @@
 -- A vote pass changes neither what is decided nor whom the node answers to, and logs nothing but the transaction's own Prepares; nor do an answer to the superior and refusals.
-use Rattle.std.proofs.Common.{◌≡◌, ℕ, ◌+◌, ◌==◌, Bool, true, false, List, [], ◌∷◌, ◌++◌, Option, Some, None, fold, refl, sym, subst, ap, ◌∙◌, if◌then◌else◌}
+use Rattle.std.proofs.Common.{◌≡◌, ℕ, ◌+◌, ◌==◌, Bool, true, false, List, [], ◌∷◌, ◌++◌, Option, Some, None, fold, refl, sym, ◌∙◌, if◌then◌else◌}
 use Rattle.std.specs.BTreeMap.{is_at}
 use Rattle.qs_base.specs.Order.{tid_cmp}
-use Rattle.qs_base.specs.declared.identifiers.Member.{Member}
 use Rattle.qs_base.specs.declared.identifiers.NodeNo.{NodeNo}
 use Rattle.qs_base.specs.declared.identifiers.ServerNo.{ServerNo}
 use Rattle.qs_base.specs.declared.identifiers.Tid.{Tid}
@@ -30,7 +29,7 @@ use Rattle.qs_tm.specs.declared.participant.Outstanding.{Outstanding}
 use Rattle.qs_tm.specs.declared.participant.Participant.{Participant}
 use Rattle.qs_step.specs.Bringing.{is_other, send, member_here}
 use Rattle.qs_step.specs.Deciding.{end_member, end_members, due_endings}
-use Rattle.qs_step.specs.Requests.{enter_issue, with_local, issue, issue_as, issue_here, issue_away, next_number, is_asked, ask_on, label_of}
+use Rattle.qs_step.specs.Requests.{enter_issue, with_local, issue_as, issue_here, issue_away, next_number, is_asked, ask_on, label_of}
 use Rattle.qs_step.specs.Settling.{is_pass_due, pass_rule}
 use Rattle.qs_step.specs.State.{Work, here, part_of, with_manager, with_queues}
 use Rattle.qs_step.specs.Voting.{owes_note, issue_note, note_text, change_count, served_count, enter_vote, vote_with, vote_next, vote_frame, due_votes, vote_pass}

@@ -1,5 +1,5 @@
 -- A vote pass as a whole.
-use Rattle.std.proofs.Common.{◌≡◌, ℕ, ◌==◌, ◌&&◌, ◌||◌, not, nat_le, Bool, true, false, List, [], ◌∷◌, length, Option, Some, None, is_some, fold, refl, sym, subst, ap, ◌∙◌, if◌then◌else◌}
+use Rattle.std.proofs.Common.{◌≡◌, ℕ, ◌==◌, ◌&&◌, ◌||◌, not, nat_le, Bool, true, false, List, [], ◌∷◌, length, Some, None, is_some, fold, refl, sym, subst, ap, ◌∙◌, if◌then◌else◌}
 use Rattle.std.specs.BTreeMap.{is_at}
 use Rattle.std.proofs.lemmas.Bool.{eqb-true}
 use Rattle.std.proofs.lemmas.List.{length-set}
@@ -11,13 +11,12 @@ use Rattle.qs_ipc.specs.Ipc as ipc
 use Rattle.qs_kept.specs.Loans.{is_standing_loan}
 use Rattle.qs_ops.specs.Server.{number_of, after_notice}
 use Rattle.qs_ops.specs.declared.vote.Notice.TheVariants as notices
-use Rattle.qs_tm.specs.Manager as tm
 use Rattle.qs_tm.specs.Outcomes as outcome_rules
 use Rattle.qs_tm.specs.Participant.{member_of, awaits_note, needs_pass, is_undecided, servers_due}
 use Rattle.qs_tm.specs.declared.participant.Due.TheVariants as dues
 use Rattle.qs_tm.specs.declared.participant.Participant.{Participant}
 use Rattle.qs_step.specs.Deciding.{end_member, end_members, due_endings}
-use Rattle.qs_step.specs.Settling.{is_lent, is_busy, is_put_off, is_pass_due, pass_rule}
+use Rattle.qs_step.specs.Settling.{is_lent, is_busy, is_put_off, is_pass_due}
 use Rattle.qs_step.specs.State.{Work, doings_of, part_of}
 use Rattle.qs_step.specs.Voting.{vote_next, due_votes, vote_pass}
 use Rattle.qs_agree.specs.World.{World}
@@ -26,14 +25,14 @@ use Rattle.qs_refine.specs.NodeFaces.{face, uncast_of, began_here}
 use Rattle.qs_refine.specs.PassLaws.{HasKinds, PassRuleGoes}
 use Rattle.qs_refine.specs.Shows.{Scene, ShowsWork}
 use Rattle.qs_refine.specs.Sights.{server_no}
-use Rattle.qs_refine.specs.Sound.{is_sound, is_whole, is_engaged, is_idle, is_sound_home, same_flag, where_so}
+use Rattle.qs_refine.specs.Sound.{is_sound, is_whole, same_flag, where_so}
 use Rattle.qs_refine.specs.Steps.{IsAt, IsWhole, Goes}
 use Rattle.qs_refine.proofs.Keeping.{keeps_shown, nothing_goes}
 use Rattle.qs_refine.proofs.Known.{is_open, told_is}
 use Rattle.qs_refine.proofs.Maps.{lookup_changed}
 use Rattle.qs_refine.proofs.NodeReady.{none_waits, none_lent}
 use Rattle.qs_refine.proofs.Notices.{end_learns, all_learn, uncast_settled}
-use Rattle.qs_refine.proofs.PassDue.{AreDue, due_still, dues_found}
+use Rattle.qs_refine.proofs.PassDue.{due_still, dues_found}
 use Rattle.qs_refine.proofs.PassFold.{pass_goes}
 use Rattle.qs_refine.proofs.PassVotes.{Passing}
 use Rattle.qs_refine.proofs.ServerKinds.{kind_kept, notice_kind}

@@ -1,17 +1,11 @@
 -- What a request that comes makes of what is kept of its transaction.
-use Rattle.std.proofs.Common.{◌≡◌, ◌≢◌, ◌⊎◌, inl, inr, ℕ, ◌≤◌, ◌==◌, ◌&&◌, ◌||◌, not, Bool, true, false, List, [], ◌∷◌, ◌++◌, Option, Some, None, is_some, length, refl, sym, subst, ap, ◌∙◌, arith, if◌then◌else◌}
-use Rattle.std.specs.Prelude.{is_none, unwrap_or}
+use Rattle.std.proofs.Common.{◌≡◌, ◌⊎◌, inl, inr, ℕ, Bool, true, false, List, Option, Some, None, refl, sym, ap, ◌∙◌, if◌then◌else◌}
+use Rattle.std.specs.Prelude.{is_none}
 use Rattle.std.specs.BTreeMap.{is_at}
-use Rattle.std.specs.List.{filter, list_any}
 use Rattle.std.specs.Map.{lookup}
-use Rattle.std.proofs.lemmas.Bool.{eqb-true}
-use Rattle.std.proofs.lemmas.Bool.Decides.{nat_tests}
-use Rattle.qs_base.specs.Order.{tid_cmp, same_tid}
+use Rattle.qs_base.specs.Order.{tid_cmp}
 use Rattle.qs_base.specs.declared.identifiers.Member.{Member}
 use Rattle.qs_base.specs.declared.identifiers.NodeNo.{NodeNo}
-use Rattle.qs_base.specs.declared.identifiers.Outcome.{Outcome}
-use Rattle.qs_base.specs.declared.identifiers.Outcome.TheVariants as outcomes
-use Rattle.qs_base.specs.declared.identifiers.ServerNo.{ServerNo}
 use Rattle.qs_base.specs.declared.identifiers.Tid.{Tid}
 use Rattle.qs_engage.specs.Engage.{with_last}
 use Rattle.qs_engage.specs.Nodes.{same_node}
@@ -21,48 +15,18 @@ use Rattle.qs_ipc.specs.Ipc as ipc
 use Rattle.qs_ipc.specs.Queue.{is_for}
 use Rattle.qs_ipc.specs.declared.delivery.Delivery.{Delivery}
 use Rattle.qs_ops.specs.declared.operation.Op.{Op}
-use Rattle.qs_packet.specs.declared.message.Message.{Message}
 use Rattle.qs_packet.specs.declared.message.Message.TheVariants as messages
-use Rattle.qs_record.specs.declared.record.Record.{Record}
-use Rattle.qs_restart.specs.Recovery.{recovery}
 use Rattle.qs_tm.specs.Manager as tm
-use Rattle.qs_tm.specs.Outcomes.{is_abort}
 use Rattle.qs_tm.specs.Participant as participant
 use Rattle.qs_tm.specs.Participant.{new_participant, is_undecided}
 use Rattle.qs_tm.specs.declared.participant.Participant.{Participant}
-use Rattle.qs_step.specs.Bringing.{is_forced}
 use Rattle.qs_step.specs.Serving.{label_at, put_label, learn_label, met, cover_from, is_dropped, take_in, request_came}
 use Rattle.qs_step.specs.State.{NodeValue, Work, here, part_of, with_manager, with_queues}
-use Rattle.qs_step.specs.Step.{message_came}
-use Rattle.qs_step.specs.Answering.{was_committed}
-use Rattle.qs_agree.specs.World.{World}
 use Rattle.qs_refine.specs.Links.{node_no}
-use Rattle.qs_refine.specs.NodeFaces.{face_at, part_at, unknown, began_here, is_past_commit}
-use Rattle.qs_refine.specs.RequestWhole.{RequestStands}
-use Rattle.qs_refine.specs.Shows.{Scene, handed}
-use Rattle.qs_refine.specs.Sights.{is_in_doubt}
-use Rattle.qs_refine.specs.Sound.{same_flag, where_so}
-use Rattle.qs_refine.specs.SoundLaws.{StaysSound}
-use Rattle.qs_refine.specs.SoundSteps.{FitsMessage}
-use Rattle.qs_refine.specs.Stands.{may_doubt, Stands, GoesOn}
-use Rattle.qs_refine.specs.Steps.{IsNext, IsWhole, Goes}
-use Rattle.qs_refine.proofs.During.{Leaves}
-use Rattle.qs_refine.proofs.KindsKept.{KeepsKinds}
-use Rattle.qs_refine.proofs.Maps.{lookup_changed, lookup_put, changed_none}
-use Rattle.qs_refine.proofs.MessageKinds.{message_kinds}
-use Rattle.qs_refine.proofs.MessageStands.{fits_sound}
-use Rattle.qs_refine.proofs.MetWork.{tid_itself}
-use Rattle.qs_refine.proofs.OthersCame.{request_leaves}
-use Rattle.qs_refine.proofs.OutcomeAfter.{stands_after, unknown_after, send_records}
+use Rattle.qs_refine.proofs.Maps.{changed_none}
+use Rattle.qs_refine.proofs.OutcomeAfter.{send_records}
 use Rattle.qs_refine.proofs.SendGoes.{send_node}
-use Rattle.qs_refine.proofs.PassCarried.{Carried, Carries, carries_itself, carries_on, carries_send}
-use Rattle.qs_refine.proofs.PassGoes.{whole_of}
-use Rattle.qs_refine.proofs.Reading.{part_known}
-use Rattle.qs_refine.proofs.RequestUnknown.{request_unknown}
-use Rattle.qs_refine.proofs.RuleGoes.{request, request_home}
-use Rattle.qs_refine.proofs.SettleRules.{beside, beside_apart, IsClear, Answers}
-use Rattle.qs_refine.proofs.SettleStands.{is_at_home, whole_known, manager_fits, home_free}
-use Rattle.qs_refine.proofs.SoundHolds.{known_sound}
+use Rattle.qs_refine.proofs.PassCarried.{Carries, carries_itself, carries_on, carries_send}
 
 module _ (t : Tid) (m number : ℕ) (label : List ℕ) (member : Member) (op : Op) (work : Work) where
   abbrev peer : NodeNo

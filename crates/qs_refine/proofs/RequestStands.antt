@@ -1,9 +1,8 @@
 -- A request comes, and what stood of its transaction stands.
-use Rattle.std.proofs.Common.{◌≡◌, ◌≢◌, ◌⊎◌, inl, inr, ℕ, ◌≤◌, ◌==◌, ◌&&◌, ◌||◌, not, Bool, true, false, List, [], ◌∷◌, ◌++◌, Option, Some, None, is_some, length, refl, sym, subst, ap, ◌∙◌, arith, if◌then◌else◌}
+use Rattle.std.proofs.Common.{◌≡◌, ◌≢◌, ◌⊎◌, inl, inr, ℕ, ◌≤◌, ◌==◌, ◌&&◌, ◌||◌, not, Bool, true, false, List, ◌++◌, Option, Some, None, is_some, refl, sym, subst, ap, ◌∙◌, arith, if◌then◌else◌}
 use Rattle.std.specs.Prelude.{is_none, unwrap_or}
 use Rattle.std.specs.BTreeMap.{is_at}
 use Rattle.std.specs.List.{filter, list_any}
-use Rattle.std.specs.Map.{lookup}
 use Rattle.std.proofs.lemmas.Bool.{eqb-true}
 use Rattle.std.proofs.lemmas.Bool.Decides.{nat_tests}
 use Rattle.qs_base.specs.Order.{tid_cmp, same_tid}
@@ -13,13 +12,8 @@ use Rattle.qs_base.specs.declared.identifiers.Outcome.{Outcome}
 use Rattle.qs_base.specs.declared.identifiers.Outcome.TheVariants as outcomes
 use Rattle.qs_base.specs.declared.identifiers.ServerNo.{ServerNo}
 use Rattle.qs_base.specs.declared.identifiers.Tid.{Tid}
-use Rattle.qs_engage.specs.Engage.{with_last}
 use Rattle.qs_engage.specs.Nodes.{same_node}
-use Rattle.qs_engage.specs.declared.engage.Engaged.{Engaged}
-use Rattle.qs_engage.specs.declared.engage.Engaged.TheVariants as engagements
-use Rattle.qs_ipc.specs.Ipc as ipc
 use Rattle.qs_ipc.specs.Queue.{is_for}
-use Rattle.qs_ipc.specs.declared.delivery.Delivery.{Delivery}
 use Rattle.qs_ops.specs.declared.operation.Op.{Op}
 use Rattle.qs_packet.specs.declared.message.Message.{Message}
 use Rattle.qs_packet.specs.declared.message.Message.TheVariants as messages
@@ -31,9 +25,8 @@ use Rattle.qs_tm.specs.Participant as participant
 use Rattle.qs_tm.specs.Participant.{new_participant, is_undecided}
 use Rattle.qs_tm.specs.declared.participant.Participant.{Participant}
 use Rattle.qs_step.specs.Bringing.{is_forced}
-use Rattle.qs_step.specs.Serving.{label_at, put_label, learn_label, met, cover_from, is_dropped, take_in, request_came}
-use Rattle.qs_step.specs.State.{NodeValue, Work, here, part_of, with_manager, with_queues}
-use Rattle.qs_step.specs.Step.{message_came}
+use Rattle.qs_step.specs.Serving.{label_at, put_label, learn_label, met, request_came}
+use Rattle.qs_step.specs.State.{Work, here, part_of, with_manager}
 use Rattle.qs_step.specs.Answering.{was_committed}
 use Rattle.qs_agree.specs.World.{World}
 use Rattle.qs_refine.specs.Links.{node_no}
@@ -48,15 +41,13 @@ use Rattle.qs_refine.specs.Stands.{may_doubt, Stands, GoesOn}
 use Rattle.qs_refine.specs.Steps.{IsNext, IsWhole, Goes}
 use Rattle.qs_refine.proofs.During.{Leaves}
 use Rattle.qs_refine.proofs.KindsKept.{KeepsKinds}
-use Rattle.qs_refine.proofs.Maps.{lookup_changed, lookup_put, changed_none}
+use Rattle.qs_refine.proofs.Maps.{lookup_changed, lookup_put}
 use Rattle.qs_refine.proofs.MessageKinds.{message_kinds}
 use Rattle.qs_refine.proofs.MessageStands.{fits_sound}
 use Rattle.qs_refine.proofs.MetWork.{tid_itself}
 use Rattle.qs_refine.proofs.OthersCame.{request_leaves}
-use Rattle.qs_refine.proofs.OutcomeAfter.{stands_after, unknown_after, send_records}
-use Rattle.qs_refine.proofs.SendGoes.{send_node}
-use Rattle.qs_refine.proofs.PassCarried.{Carried, Carries, carries_itself, carries_on, carries_send}
-use Rattle.qs_refine.proofs.PassGoes.{whole_of}
+use Rattle.qs_refine.proofs.OutcomeAfter.{stands_after, unknown_after}
+use Rattle.qs_refine.proofs.PassCarried.{Carried}
 use Rattle.qs_refine.proofs.Reading.{part_known}
 use Rattle.qs_refine.proofs.RequestUnknown.{request_unknown}
 use Rattle.qs_refine.proofs.RuleGoes.{request, request_home}

@@ -1,54 +1,46 @@
 -- A node finds that another one restarted: the turn of one transaction, in which its machine comes to know it.
-use Rattle.std.proofs.Common.{◌≡◌, ◌≢◌, ◌⊎◌, inl, inr, ℕ, ◌+◌, ◌<◌, ◌≤◌, ◌==◌, ◌&&◌, ◌||◌, not, nat_lt, nat_le, Bool, true, false, List, [], ◌∷◌, Option, Some, None, fold, refl, sym, subst, ap, ◌∙◌, arith, if◌then◌else◌}
+use Rattle.std.proofs.Common.{◌≡◌, ◌≢◌, ℕ, ◌<◌, ◌≤◌, ◌==◌, ◌&&◌, not, nat_lt, Bool, true, false, List, [], ◌∷◌, Option, Some, None, fold, refl, sym, subst, ap, ◌∙◌, arith, if◌then◌else◌}
 use Rattle.std.specs.BTreeMap.{is_at}
-use Rattle.std.specs.Map.{lookup}
 use Rattle.std.proofs.lemmas.Bool.{eqb-true}
 use Rattle.std.proofs.lemmas.Bool.Decides.{nat_tests}
-use Rattle.qs_base.specs.Order.{tid_cmp, same_tid}
+use Rattle.qs_base.specs.Order.{tid_cmp}
 use Rattle.qs_base.specs.declared.identifiers.NodeNo.{NodeNo}
 use Rattle.qs_base.specs.declared.identifiers.Outcome.{Outcome}
 use Rattle.qs_base.specs.declared.identifiers.Outcome.TheVariants as outcomes
 use Rattle.qs_base.specs.declared.identifiers.Tid.{Tid}
-use Rattle.qs_engage.specs.Engage.{peer_of, is_idle_with}
+use Rattle.qs_engage.specs.Engage.{peer_of}
 use Rattle.qs_engage.specs.Nodes.{same_node}
-use Rattle.qs_ipc.specs.Ipc as ipc
 use Rattle.qs_tm.specs.Manager as tm
 use Rattle.qs_tm.specs.Manager.{is_one}
 use Rattle.qs_tm.specs.Participant as participant
-use Rattle.qs_tm.specs.declared.manager.Which.TheVariants as whiches
 use Rattle.qs_tm.specs.declared.participant.Participant.{Participant}
-use Rattle.qs_step.specs.Restarts.{find_gone, is_orphaned_by, inquire, notice_decided, notice_part, notice_tid, peer_restarted}
-use Rattle.qs_step.specs.State.{Work, part_of, with_manager, with_queues}
-use Rattle.qs_agree.specs.World.{World, Open}
+use Rattle.qs_step.specs.Restarts.{find_gone, is_orphaned_by, inquire, notice_decided, notice_part, notice_tid}
+use Rattle.qs_step.specs.State.{Work, part_of, with_manager}
+use Rattle.qs_agree.specs.World.{World}
 use Rattle.qs_agree.specs.Carry.{IsLawful, Leads}
-use Rattle.qs_agree.proofs.Carries.{leads_on}
 use Rattle.qs_refine.specs.Links.{node_no}
-use Rattle.qs_refine.specs.NodeFaces.{face, face_at, part_at}
-use Rattle.qs_refine.specs.RestartFound.{OrphansMayInquire, PeerRestartedGoes}
+use Rattle.qs_refine.specs.RestartFound.{OrphansMayInquire}
 use Rattle.qs_refine.specs.RestartLaws.{noticed, IsNoticed}
-use Rattle.qs_refine.specs.Shows.{Scene, sight_during, ShowsWork}
+use Rattle.qs_refine.specs.Shows.{Scene, ShowsWork}
 use Rattle.qs_refine.specs.Sound.{same_flag}
 use Rattle.qs_refine.specs.SoundLaws.{StaysSound}
 use Rattle.qs_refine.specs.Stands.{Stands, GoesOn}
 use Rattle.qs_refine.specs.Steps.{IsAt, Knows, Goes}
-use Rattle.qs_refine.proofs.DecidedStands.{KeepOutcomes, decided_stands}
-use Rattle.qs_refine.proofs.During.{Leaves, leaves_on}
+use Rattle.qs_refine.proofs.DecidedStands.{KeepOutcomes}
+use Rattle.qs_refine.proofs.During.{Leaves}
 use Rattle.qs_refine.proofs.Facts.{lawful_on}
 use Rattle.qs_refine.proofs.InquireSent.{inquire_goes}
 use Rattle.qs_refine.proofs.Keeping.{nothing_goes}
-use Rattle.qs_refine.proofs.KindsKept.{KeepsKinds, fold_kinds}
+use Rattle.qs_refine.proofs.KindsKept.{KeepsKinds}
 use Rattle.qs_refine.proofs.PassCarried.{Carries}
-use Rattle.qs_refine.proofs.PeerNoticed.{noticed_goes, find_gone_goes, notice_decided as notice_decided_goes}
-use Rattle.qs_refine.proofs.RestartFrames.{marked_leaves, notice_leaves, notice_kinds, undecided_carries, decided_outcomes}
+use Rattle.qs_refine.proofs.PeerNoticed.{find_gone_goes, notice_decided as notice_decided_goes}
+use Rattle.qs_refine.proofs.RestartFrames.{notice_leaves, notice_kinds, undecided_carries, decided_outcomes}
 use Rattle.qs_refine.proofs.Resuming.{tell_again_goes, name_home, name_other}
 use Rattle.qs_refine.proofs.SendGoes.{goes_on}
 use Rattle.qs_refine.proofs.SettleRules.{beside, beside_apart, IsClear, Answers, clear_carried, answers_carried}
-use Rattle.qs_refine.proofs.SettleStands.{at_same, stands_left, goes_further, whole_known, is_elsewhere, stands_itself}
+use Rattle.qs_refine.proofs.SettleStands.{at_same, whole_known}
 use Rattle.qs_refine.proofs.SoundHolds.{known_sound}
 use Rattle.qs_refine.proofs.SoundRestart.{notice_sound}
-use Rattle.qs_refine.proofs.SoundViews.{seen}
-use Rattle.qs_refine.proofs.Turns.{Entry, turns, AllApart, turns_leave, turns_sound, fold_split, Never, Once, turn_of}
-use Rattle.std.specs.Prelude.{is_some}
 use Rattle.std.proofs.lemmas.List.{length-set}
 use Rattle.qs_engage.specs.Engage.{has_sent}
 use Rattle.qs_engage.specs.Nodes.{listed, all_nodes, no_nodes, put_node, put_where, drop_node, union}

@@ -1,5 +1,5 @@
 -- What a served request changes of its own transaction: one count, and no outcome.
-use Rattle.std.proofs.Common.{◌≡◌, ◌≢◌, ℕ, ◌+◌, ◌<◌, ◌==◌, ◌||◌, Bool, true, false, List, [], ◌∷◌, ◌++◌, length, Option, Some, None, refl, sym, ap, ◌∙◌, if◌then◌else◌}
+use Rattle.std.proofs.Common.{◌≡◌, ◌≢◌, ℕ, ◌+◌, ◌<◌, ◌==◌, ◌||◌, Bool, true, false, [], ◌∷◌, ◌++◌, length, Option, Some, None, refl, ap, ◌∙◌, if◌then◌else◌}
 use Rattle.std.specs.Map.{lookup, remove_entry}
 use Rattle.std.specs.BTreeMap.{is_at}
 use Rattle.std.proofs.lemmas.List.{get_or-set_other, get_or-set_same}
@@ -26,7 +26,7 @@ use Rattle.qs_tm.specs.Participant.{member_of, with_member, is_by_files}
 use Rattle.qs_tm.specs.declared.members.MemberPart.{MemberPart}
 use Rattle.qs_tm.specs.declared.participant.Outstanding.{Outstanding}
 use Rattle.qs_tm.specs.declared.participant.Participant.{Participant}
-use Rattle.qs_step.specs.Bringing.{is_other, send, member_here, enter, answer}
+use Rattle.qs_step.specs.Bringing.{is_other, send, member_here, answer}
 use Rattle.qs_step.specs.Requests.{reply_came, take_reply, answer_issuer, waiting_at, waits_as}
 use Rattle.qs_step.specs.Serving.{enter_serve, lent_to, make_loan, give_reply, serve}
 use Rattle.qs_step.specs.State.{Work, here, part_of, with_manager, with_doings, change_server, client_cmp}

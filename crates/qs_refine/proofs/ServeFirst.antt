@@ -1,76 +1,33 @@
 -- What waits first at a server: an operation of its own; and another transaction's request, which is served, leaves this one standing.
-use Rattle.std.proofs.Common.{◌≡◌, ◌≢◌, ◌⊎◌, inl, inr, ℕ, ◌+◌, ◌<◌, ◌≤◌, ◌==◌, ◌&&◌, ◌||◌, not, nat_le, nat_lt, Bool, true, false, List, [], ◌∷◌, drop, length, Option, Some, None, is_some, fold, refl, sym, subst, ap, ◌∙◌, arith, if◌then◌else◌}
-use Rattle.std.specs.Prelude.{is_none, unwrap_or}
+use Rattle.std.proofs.Common.{◌≡◌, ℕ, ◌+◌, ◌<◌, Bool, true, false, List, [], ◌∷◌, drop, Option, Some, None, refl, sym, subst, ap, ◌∙◌, arith}
 use Rattle.std.specs.BTreeMap.{is_at}
 use Rattle.std.specs.List.{list_all}
-use Rattle.std.specs.Map.{lookup}
-use Rattle.std.proofs.lemmas.Bool.{eqb-true}
 use Rattle.std.proofs.lemmas.Bool.Decides.{nat_tests}
-use Rattle.qs_base.specs.Order.{tid_cmp, same_tid}
-use Rattle.qs_base.specs.declared.identifiers.Class.TheVariants as classes
-use Rattle.qs_base.specs.declared.identifiers.ClientNo.{ClientNo}
-use Rattle.qs_base.specs.declared.identifiers.Member.{Member}
-use Rattle.qs_base.specs.declared.identifiers.Outcome.{Outcome}
-use Rattle.qs_base.specs.declared.identifiers.Outcome.TheVariants as outcomes
+use Rattle.qs_base.specs.Order.{same_tid}
 use Rattle.qs_base.specs.declared.identifiers.ServerNo.{ServerNo}
 use Rattle.qs_base.specs.declared.identifiers.Tid.{Tid}
 use Rattle.qs_engage.specs.Engage.{last_number}
 use Rattle.qs_ipc.specs.Ipc as ipc
 use Rattle.qs_ipc.specs.Ipc.{IpcValue, queue_at, server_cmp}
-use Rattle.qs_ipc.specs.Queue.{QueueValue, no_queue, count_of, first_of, is_for}
+use Rattle.qs_ipc.specs.Queue.{first_of}
 use Rattle.qs_ipc.specs.declared.delivery.Delivery.{Delivery}
-use Rattle.qs_ops.specs.Members.{class_of}
-use Rattle.qs_ops.specs.declared.reply.Reply.{Reply}
-use Rattle.qs_servers.specs.Servers.{server_at, is_client}
-use Rattle.qs_tm.specs.Manager as tm
-use Rattle.qs_tm.specs.Outcomes.{is_abort}
-use Rattle.qs_tm.specs.Participant.{member_of, is_undecided}
-use Rattle.qs_tm.specs.declared.participant.Participant.{Participant}
-use Rattle.qs_step.specs.Serving.{reply_here, may_serve, serve_or_drop, serve_next, serve_all}
-use Rattle.qs_step.specs.State.{NodeValue, Work, part_of, with_queues}
+use Rattle.qs_tm.specs.Participant.{member_of}
+use Rattle.qs_step.specs.Serving.{serve_or_drop, serve_next}
+use Rattle.qs_step.specs.State.{NodeValue, Work, with_queues}
 use Rattle.qs_agree.specs.World as machine
 use Rattle.qs_agree.specs.World.{World}
 use Rattle.qs_refine.specs.Faces.{Face, ShowsFace}
-use Rattle.qs_refine.specs.NodeFaces.{face, face_at, waiting_at}
-use Rattle.qs_refine.specs.ServeWhole.{CanCount, ServeAllGoes}
-use Rattle.qs_refine.specs.Shows.{Scene, sight_during, ShowsWork}
-use Rattle.qs_refine.specs.Sights.{Sight, ShowsSight, server_no}
-use Rattle.qs_refine.specs.Sound.{is_sound, is_sound_queue, is_sound_delivery, may_be_served}
-use Rattle.qs_refine.specs.SoundLaws.{StaysSound}
-use Rattle.qs_refine.specs.Stands.{Stands, GoesOn}
-use Rattle.qs_refine.specs.Steps.{Goes}
-use Rattle.qs_refine.proofs.HomeAborts.{none_is}
-use Rattle.qs_refine.proofs.OwnReplies.{OfServer, OfClient, own_replies}
-use Rattle.qs_refine.proofs.Queues.{waits_next, waits_first}
+use Rattle.qs_refine.specs.ServeWhole.{CanCount}
+use Rattle.qs_refine.specs.Shows.{Scene}
+use Rattle.qs_refine.specs.Sights.{server_no}
+use Rattle.qs_refine.specs.Sound.{is_sound_queue, is_sound_delivery}
+use Rattle.qs_refine.specs.Stands.{Stands}
 use Rattle.qs_refine.proofs.ServeFrames.{first_is, next_leaves, next_kinds}
-use Rattle.qs_refine.proofs.SettleStands.{stands_itself, stands_left, goes_further, whole_known}
-use Rattle.qs_refine.proofs.SoundKnown.{same_is}
+use Rattle.qs_refine.proofs.SettleStands.{stands_left}
 use Rattle.qs_refine.proofs.SoundParts.{and_both}
 use Rattle.qs_refine.proofs.SoundServe.{serve_next_sound}
-use Rattle.qs_refine.proofs.SoundViews.{seen}
-use Rattle.std.specs.Prelude.{slice_index_or}
-use Rattle.qs_ops.specs.Server.{reply_of}
-use Rattle.qs_ops.specs.declared.reply.Reply.TheVariants as replies
-use Rattle.qs_tm.specs.Members.{no_member}
-use Rattle.qs_tm.specs.Participant as participant
-use Rattle.qs_tm.specs.declared.members.MemberPart.{MemberPart}
-use Rattle.qs_step.specs.Serving.{serve}
 use Rattle.qs_agree.specs.World.{with_at}
-use Rattle.qs_refine.specs.Places.{place}
-use Rattle.qs_refine.specs.Steps.{Knows}
-use Rattle.qs_refine.proofs.Alike.{SameFace, same_itself, found_itself, sight_alike}
-use Rattle.qs_refine.proofs.DecidedStands.{KeepOutcomes, decided_stands}
-use Rattle.qs_refine.proofs.During.{Leaves, local_shown, face_here}
-use Rattle.qs_refine.proofs.Keeping.{nothing_goes}
-use Rattle.qs_refine.proofs.PassCarried.{Carried}
-use Rattle.qs_refine.proofs.Reading.{part_known}
-use Rattle.qs_refine.proofs.Refaced.{refaced}
-use Rattle.qs_refine.proofs.Same.{tid_same}
-use Rattle.qs_refine.proofs.ServeCounts.{KeepsCounts, served_outcome, served_superior, served_prepared, served_other, served_here, serve_counts}
-use Rattle.qs_refine.proofs.ServeGoes.{serve_law, lend_law}
-use Rattle.qs_refine.proofs.SettleRules.{beside, beside_apart, stands_on, clear_carried, answers_carried}
-use Rattle.qs_refine.proofs.SoundHolds.{known_sound}
-use Rattle.qs_refine.proofs.SoundMembers.{vote_covers}
+use Rattle.qs_refine.proofs.During.{Leaves}
 
 -- ---- what waits is an operation of its member's own, of a transaction that may be served
 

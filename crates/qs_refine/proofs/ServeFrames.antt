@@ -1,15 +1,14 @@
 -- A request that is served leaves every other transaction, and each server of its kind; of its own it changes no outcome.
-use Rattle.std.proofs.Common.{◌≡◌, ℕ, ◌+◌, ◌==◌, ◌&&◌, ◌||◌, not, Bool, true, false, List, [], ◌∷◌, ◌++◌, length, drop, Option, Some, None, refl, sym, ap, ◌∙◌, if◌then◌else◌}
+use Rattle.std.proofs.Common.{◌≡◌, ℕ, ◌==◌, ◌&&◌, not, Bool, true, false, List, [], ◌∷◌, ◌++◌, length, drop, Option, Some, None, refl, ap, ◌∙◌, if◌then◌else◌}
 use Rattle.std.specs.List.{filter}
 use Rattle.std.specs.Map.{lookup}
 use Rattle.std.specs.BTreeMap.{is_at}
 use Rattle.std.proofs.lemmas.List.Elements.{filter-append}
-use Rattle.qs_base.specs.Order.{tid_cmp, same_tid}
+use Rattle.qs_base.specs.Order.{same_tid}
 use Rattle.qs_base.specs.declared.identifiers.ClientNo.{ClientNo}
 use Rattle.qs_base.specs.declared.identifiers.Member.{Member}
 use Rattle.qs_base.specs.declared.identifiers.ServerNo.{ServerNo}
 use Rattle.qs_base.specs.declared.identifiers.Tid.{Tid}
-use Rattle.qs_engage.specs.Engage.{last_number}
 use Rattle.qs_engage.specs.Nodes.{same_node}
 use Rattle.qs_ipc.specs.Ipc as ipc
 use Rattle.qs_ipc.specs.Ipc.{IpcValue, queue_at}
@@ -24,16 +23,13 @@ use Rattle.qs_ops.specs.declared.reply.Reply.{Reply}
 use Rattle.qs_packet.specs.declared.message.Message.TheVariants as messages
 use Rattle.qs_servers.specs.Servers.{is_client, client_of}
 use Rattle.qs_tm.specs.Manager as tm
-use Rattle.qs_tm.specs.Members.{is_told_class, class_here}
 use Rattle.qs_tm.specs.Participant as participant
 use Rattle.qs_tm.specs.Participant.{member_of, with_member, is_undecided, is_by_files}
 use Rattle.qs_tm.specs.declared.participant.Outstanding.{Outstanding}
-use Rattle.qs_tm.specs.declared.participant.Participant.{Participant}
 use Rattle.qs_step.specs.Bringing.{member_here, enter, send, answer}
 use Rattle.qs_step.specs.Requests.{reply_came, take_reply, answer_issuer, waiting_at, waits_as}
-use Rattle.qs_step.specs.Serving.{reply_here, change_served, enter_serve, lent_to, make_loan, give_reply, serve, may_serve, serve_or_drop, serve_next}
-use Rattle.qs_step.specs.State.{Work, here, part_of, with_manager, with_queues, with_kept, with_doings, change_server, client_cmp}
-use Rattle.qs_refine.specs.Sights.{server_no}
+use Rattle.qs_step.specs.Serving.{reply_here, enter_serve, lent_to, make_loan, give_reply, serve, may_serve, serve_or_drop, serve_next}
+use Rattle.qs_step.specs.State.{Work, here, with_manager, with_queues, with_doings, change_server, client_cmp}
 use Rattle.qs_refine.proofs.BorrowerStands.{answer_kinds}
 use Rattle.qs_refine.proofs.During.{Leaves, leaves_itself, leaves_on, send_leaves}
 use Rattle.qs_refine.proofs.Frames.{out_leaves, part_apart}

@@ -1,15 +1,10 @@
 -- All that waits is served, and what stood of a transaction stands.
-use Rattle.std.proofs.Common.{◌≡◌, ◌≢◌, ◌⊎◌, inl, inr, ℕ, ◌+◌, ◌<◌, ◌≤◌, ◌==◌, ◌&&◌, ◌||◌, not, nat_le, nat_lt, Bool, true, false, List, [], ◌∷◌, drop, length, Option, Some, None, is_some, fold, refl, sym, subst, ap, ◌∙◌, arith, if◌then◌else◌}
-use Rattle.std.specs.Prelude.{is_none, unwrap_or}
-use Rattle.std.specs.BTreeMap.{is_at}
-use Rattle.std.specs.List.{list_all}
-use Rattle.std.specs.Map.{lookup}
+use Rattle.std.proofs.Common.{◌≡◌, ◌⊎◌, inl, inr, ℕ, ◌+◌, ◌<◌, ◌≤◌, ◌==◌, ◌&&◌, ◌||◌, not, nat_lt, Bool, true, false, List, [], ◌∷◌, drop, Option, Some, None, is_some, fold, refl, sym, subst, ap, ◌∙◌, arith, if◌then◌else◌}
+use Rattle.std.specs.Prelude.{is_none}
 use Rattle.std.proofs.lemmas.Bool.{eqb-true}
 use Rattle.std.proofs.lemmas.Bool.Decides.{nat_tests}
-use Rattle.qs_base.specs.Order.{tid_cmp, same_tid}
+use Rattle.qs_base.specs.Order.{same_tid}
 use Rattle.qs_base.specs.declared.identifiers.Class.TheVariants as classes
-use Rattle.qs_base.specs.declared.identifiers.ClientNo.{ClientNo}
-use Rattle.qs_base.specs.declared.identifiers.Member.{Member}
 use Rattle.qs_base.specs.declared.identifiers.Outcome.{Outcome}
 use Rattle.qs_base.specs.declared.identifiers.Outcome.TheVariants as outcomes
 use Rattle.qs_base.specs.declared.identifiers.ServerNo.{ServerNo}
@@ -17,33 +12,29 @@ use Rattle.qs_base.specs.declared.identifiers.Tid.{Tid}
 use Rattle.qs_engage.specs.Engage.{last_number}
 use Rattle.qs_ipc.specs.Ipc as ipc
 use Rattle.qs_ipc.specs.Ipc.{IpcValue, queue_at, server_cmp}
-use Rattle.qs_ipc.specs.Queue.{QueueValue, no_queue, count_of, first_of, is_for}
+use Rattle.qs_ipc.specs.Queue.{count_of, is_for}
 use Rattle.qs_ipc.specs.declared.delivery.Delivery.{Delivery}
 use Rattle.qs_ops.specs.Members.{class_of}
 use Rattle.qs_ops.specs.declared.reply.Reply.{Reply}
 use Rattle.qs_servers.specs.Servers.{server_at, is_client}
-use Rattle.qs_tm.specs.Manager as tm
 use Rattle.qs_tm.specs.Outcomes.{is_abort}
 use Rattle.qs_tm.specs.Participant.{member_of, is_undecided}
 use Rattle.qs_tm.specs.declared.participant.Participant.{Participant}
-use Rattle.qs_step.specs.Serving.{reply_here, may_serve, serve_or_drop, serve_next, serve_all}
-use Rattle.qs_step.specs.State.{NodeValue, Work, part_of, with_queues}
-use Rattle.qs_agree.specs.World as machine
+use Rattle.qs_step.specs.Serving.{reply_here, may_serve, serve_or_drop, serve_next}
+use Rattle.qs_step.specs.State.{Work, part_of, with_queues}
 use Rattle.qs_agree.specs.World.{World}
-use Rattle.qs_refine.specs.Faces.{Face, ShowsFace}
-use Rattle.qs_refine.specs.NodeFaces.{face, face_at, waiting_at}
+use Rattle.qs_refine.specs.Faces.{Face}
+use Rattle.qs_refine.specs.NodeFaces.{face, waiting_at}
 use Rattle.qs_refine.specs.ServeWhole.{CanCount, ServeAllGoes}
-use Rattle.qs_refine.specs.Shows.{Scene, sight_during, ShowsWork}
+use Rattle.qs_refine.specs.Shows.{Scene, sight_during}
 use Rattle.qs_refine.specs.Sights.{Sight, ShowsSight, server_no}
-use Rattle.qs_refine.specs.Sound.{is_sound, is_sound_queue, is_sound_delivery, may_be_served}
-use Rattle.qs_refine.specs.SoundLaws.{StaysSound}
+use Rattle.qs_refine.specs.Sound.{is_sound_delivery, may_be_served}
 use Rattle.qs_refine.specs.Stands.{Stands, GoesOn}
 use Rattle.qs_refine.specs.Steps.{Goes}
-use Rattle.qs_refine.proofs.HomeAborts.{none_is}
 use Rattle.qs_refine.proofs.OwnReplies.{OfServer, OfClient, own_replies}
 use Rattle.qs_refine.proofs.Queues.{waits_next, waits_first}
 use Rattle.qs_refine.proofs.ServeFrames.{first_is, next_leaves, next_kinds}
-use Rattle.qs_refine.proofs.SettleStands.{stands_itself, stands_left, goes_further, whole_known}
+use Rattle.qs_refine.proofs.SettleStands.{stands_itself, goes_further, whole_known}
 use Rattle.qs_refine.proofs.SoundKnown.{same_is}
 use Rattle.qs_refine.proofs.SoundParts.{and_both}
 use Rattle.qs_refine.proofs.SoundServe.{serve_next_sound}

@@ -1,5 +1,5 @@
 -- What a node does of itself for one transaction leaves every other one.
-use Rattle.std.proofs.Common.{◌≡◌, ℕ, ◌==◌, ◌||◌, Bool, true, false, List, [], ◌∷◌, ◌++◌, Option, Some, None, fold, refl, sym, ap, ◌∙◌, if◌then◌else◌}
+use Rattle.std.proofs.Common.{◌≡◌, ℕ, ◌||◌, Bool, true, false, List, [], ◌∷◌, ◌++◌, Option, Some, None, refl, sym, ap, if◌then◌else◌}
 use Rattle.std.specs.List.{find, list_any}
 use Rattle.qs_base.specs.Order.{same_tid}
 use Rattle.qs_base.specs.declared.identifiers.Member.{Member}
@@ -10,7 +10,6 @@ use Rattle.qs_base.specs.declared.identifiers.ServerNo.{ServerNo}
 use Rattle.qs_base.specs.declared.identifiers.Tid.{Tid}
 use Rattle.qs_engage.specs.Engage.{release_of}
 use Rattle.qs_engage.specs.Nodes.{same_node, listed}
-use Rattle.qs_ipc.specs.declared.delivery.Delivery.{Delivery}
 use Rattle.qs_kept.specs.Keeping.{is_outcome_of}
 use Rattle.qs_kept.specs.declared.kept.Decided.{Decided}
 use Rattle.qs_ops.specs.Server.{vote_of}
@@ -34,11 +33,10 @@ use Rattle.qs_tm.specs.declared.manager.Decision.{Decision}
 use Rattle.qs_tm.specs.declared.participant.Outstanding.{Outstanding}
 use Rattle.qs_tm.specs.declared.participant.Participant.{Participant}
 use Rattle.qs_step.specs.Answering.{is_kept_commit, was_committed}
-use Rattle.qs_step.specs.Asking.{where_undecided}
-use Rattle.qs_step.specs.Bringing.{enter, send_each, log_if, tid_of, member_here}
+use Rattle.qs_step.specs.Bringing.{enter, log_if, tid_of, member_here}
 use Rattle.qs_step.specs.Deciding.{decide, decide_as, decide_commit, keep_outcome, give_notices, end_members}
-use Rattle.qs_step.specs.Requests.{enter_issue, with_local, enqueue, issue, issue_as, issue_here, issue_away, next_number}
-use Rattle.qs_step.specs.Settling.{may_answer, is_quiet, is_pass_due, pass_rule, ready, ready_rule, answer_superior, say_yes, refusal_goes_to, send_refusal, refuse_elsewhere, refuse_home, refuse_rule, forget_rule, try, settle_tid}
+use Rattle.qs_step.specs.Requests.{enter_issue, with_local, issue, issue_as, issue_here, issue_away, next_number}
+use Rattle.qs_step.specs.Settling.{may_answer, is_quiet, is_pass_due, pass_rule, ready_rule, answer_superior, say_yes, refusal_goes_to, send_refusal, refuse_elsewhere, refuse_rule, forget_rule, try, settle_tid}
 use Rattle.qs_step.specs.State.{Work, here, part_of, doings_of, with_manager}
 use Rattle.qs_step.specs.Telling.{forget}
 use Rattle.qs_step.specs.Voting.{owes_note, issue_note, note_text, change_count, served_count, enter_vote, log_prepare, vote_with, vote_next, vote_frame, due_votes, vote_pass}

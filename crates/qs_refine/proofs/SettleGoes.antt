@@ -1,5 +1,5 @@
 -- A node settles at the end of a step: one transaction after the other.
-use Rattle.std.proofs.Common.{◌≡◌, ℕ, Bool, true, false, List, [], ◌∷◌, fold, refl, sym, subst}
+use Rattle.std.proofs.Common.{◌≡◌, ℕ, Bool, true, false, List, [], ◌∷◌, fold, refl, subst}
 use Rattle.qs_base.specs.Order.{same_tid}
 use Rattle.qs_base.specs.declared.identifiers.Tid.{Tid}
 use Rattle.qs_step.specs.Settling.{pass_rule, ready_rule, refuse_rule, forget_rule, try, settle_tid, due_tids}

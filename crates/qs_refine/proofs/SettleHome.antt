@@ -1,59 +1,35 @@
 -- Each rule by which a node settles a transaction leaves standing what stood of it, at the home and elsewhere.
-use Rattle.std.proofs.Common.{◌≡◌, ◌≢◌, ℕ, ◌+◌, ◌≤◌, ◌==◌, ◌&&◌, ◌||◌, not, Bool, true, false, List, [], ◌∷◌, ◌++◌, Option, Some, None, is_some, fold, refl, sym, subst, ap, ◌∙◌, arith, if◌then◌else◌}
-use Rattle.std.specs.List.{filter}
+use Rattle.std.proofs.Common.{◌≡◌, ℕ, ◌==◌, ◌&&◌, ◌||◌, not, Bool, true, false, List, [], ◌∷◌, Option, Some, None, is_some, refl, sym, subst, ap, ◌∙◌, arith, if◌then◌else◌}
 use Rattle.std.specs.Prelude.{is_none}
-use Rattle.std.specs.BTreeMap.{is_at}
 use Rattle.std.proofs.lemmas.Bool.{eqb-true}
 use Rattle.std.proofs.lemmas.Bool.Decides.{nat_tests}
-use Rattle.qs_base.specs.Order.{tid_cmp, same_tid}
-use Rattle.qs_base.specs.declared.identifiers.NodeNo.{NodeNo}
 use Rattle.qs_base.specs.declared.identifiers.Outcome.{Outcome}
 use Rattle.qs_base.specs.declared.identifiers.Outcome.TheVariants as outcomes
 use Rattle.qs_base.specs.declared.identifiers.Tid.{Tid}
-use Rattle.qs_engage.specs.Engage.{release_of}
-use Rattle.qs_engage.specs.Nodes.{same_node, listed}
+use Rattle.qs_engage.specs.Nodes.{same_node}
 use Rattle.qs_ops.specs.declared.answer.Cause.{Cause}
 use Rattle.qs_ops.specs.declared.answer.Cause.TheVariants as causes
-use Rattle.qs_packet.specs.declared.message.Message.TheVariants as messages
-use Rattle.qs_record.specs.declared.record.Record.{Record}
-use Rattle.qs_restart.specs.Recovery.{recovery}
 use Rattle.qs_tm.specs.Manager as tm
-use Rattle.qs_tm.specs.Outcomes.{told_with_own, is_abort}
-use Rattle.qs_tm.specs.Participant as participant
-use Rattle.qs_tm.specs.Participant.{is_undecided, is_forgotten, only_read}
+use Rattle.qs_tm.specs.Participant.{is_undecided, is_forgotten}
 use Rattle.qs_tm.specs.declared.participant.Participant.{Participant}
-use Rattle.qs_step.specs.Bringing.{is_forced, send}
 use Rattle.qs_step.specs.Deciding.{decide, decide_commit}
-use Rattle.qs_step.specs.Settling.{may_answer, is_quiet, pass_rule, ready_rule, answer_superior, say_yes, refusal_goes_to, send_refusal, refuse_elsewhere, refuse_rule, forget_rule, try}
-use Rattle.qs_step.specs.State.{Work, here, part_of, doings_of, with_manager}
+use Rattle.qs_step.specs.Settling.{may_answer, is_quiet, ready_rule, answer_superior, refuse_rule, forget_rule}
+use Rattle.qs_step.specs.State.{Work, part_of, doings_of}
 use Rattle.qs_step.specs.Telling.{forget}
 use Rattle.qs_agree.specs.World.{World}
-use Rattle.qs_refine.specs.Links.{node_no}
-use Rattle.qs_refine.specs.PassLaws.{HasKinds}
-use Rattle.qs_refine.specs.Shows.{Scene, sight_during}
-use Rattle.qs_refine.specs.Sights.{is_in_doubt}
-use Rattle.qs_refine.specs.Sound.{is_sound, where_so, in_order}
+use Rattle.qs_refine.specs.Shows.{Scene}
+use Rattle.qs_refine.specs.Sound.{is_sound}
 use Rattle.qs_refine.specs.SoundLaws.{StaysSound}
 use Rattle.qs_refine.specs.Stands.{may_doubt, Stands, GoesOn}
-use Rattle.qs_refine.specs.Steps.{Goes}
 use Rattle.qs_refine.proofs.During.{Leaves}
-use Rattle.qs_refine.proofs.Facts.{lawful_on}
-use Rattle.qs_refine.proofs.Forgetting.{forgotten}
-use Rattle.qs_refine.proofs.KindsKept.{KeepsKinds, pass_kinds, ready_kinds, refuse_kinds, forget_kinds}
+use Rattle.qs_refine.proofs.KindsKept.{ready_kinds, refuse_kinds}
 use Rattle.qs_refine.proofs.Known.{is_open}
-use Rattle.qs_refine.proofs.LogFrames.{Apart}
-use Rattle.qs_refine.proofs.Maps.{lookup_changed}
-use Rattle.qs_refine.proofs.PassCarried.{Carried, Carries, carries_itself, carries_on, carries_each, carries_send, pass_carries}
-use Rattle.qs_refine.proofs.PassGoes.{pass_rule_goes}
-use Rattle.qs_refine.proofs.SettleFrames.{pass_leaves, ready_leaves, refuse_leaves, forget_rule_leaves}
-use Rattle.qs_refine.proofs.SettleStands.{stands_itself, at_same, its, is_elsewhere, elsewhere, superior_known, untold, is_at_home, home_clear, home_free}
-use Rattle.qs_refine.proofs.Settles.{ready_home, ready_elsewhere, refuse_home, refuse_elsewhere_goes, forget_rule_goes}
+use Rattle.qs_refine.proofs.SettleFrames.{ready_leaves, refuse_leaves}
+use Rattle.qs_refine.proofs.SettleStands.{stands_itself, its, is_at_home, home_clear, home_free}
+use Rattle.qs_refine.proofs.Settles.{ready_home, refuse_home}
 use Rattle.qs_refine.proofs.SettlesWhole.{IsDecided, decided_now}
-use Rattle.qs_refine.proofs.SoundAnswer.{forget_rule_sound}
 use Rattle.qs_refine.proofs.SoundParts.{and_both}
 use Rattle.qs_refine.proofs.SoundSettle.{ready_rule_sound, refuse_rule_sound}
-use Rattle.qs_refine.proofs.SoundViews.{seen}
-use Rattle.qs_refine.proofs.SoundVotes.{pass_rule_sound}
 use Rattle.qs_refine.proofs.SettleRules.{beside, beside_apart, RuleStands, IsClear, Answers, stands_on, ready_there, refuse_there, forget_there}
 
 module _ (tid : Tid) (scene : Scene) (work : Work) (w : World) (part : Participant) (is : Stands tid scene tid.home.0 work w) (known : part_of tid work ≡ Some part) (undecided : part.outcome ≡ None) where

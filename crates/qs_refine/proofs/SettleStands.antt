@@ -1,39 +1,28 @@
 -- What stands of a transaction stands once its node has settled it, or another one.
-use Rattle.std.proofs.Common.{◌≡◌, ◌≢◌, ℕ, ◌+◌, ◌<◌, ◌≤◌, ◌==◌, ◌&&◌, ◌||◌, not, nat_le, nat_lt, Bool, true, false, List, [], ◌∷◌, ◌++◌, Option, Some, None, is_some, fold, refl, sym, subst, ap, ◌∙◌, arith, if◌then◌else◌}
-use Rattle.std.specs.List.{filter}
-use Rattle.std.specs.BTreeMap.{is_at}
-use Rattle.std.specs.Map.{lookup}
+use Rattle.std.proofs.Common.{◌≡◌, ◌≢◌, ℕ, ◌<◌, ◌==◌, ◌&&◌, not, nat_le, nat_lt, Bool, true, false, [], Option, Some, None, refl, sym, subst, ap, ◌∙◌, arith}
 use Rattle.std.proofs.lemmas.Bool.{eqb-true}
 use Rattle.std.proofs.lemmas.Bool.Decides.{nat_tests}
-use Rattle.qs_base.proofs.TidOrder.{tid_exact}
-use Rattle.qs_base.specs.Order.{tid_cmp, same_tid}
 use Rattle.qs_base.specs.declared.identifiers.NodeNo.{NodeNo}
 use Rattle.qs_base.specs.declared.identifiers.Tid.{Tid}
 use Rattle.qs_engage.specs.Nodes.{same_node, is_no_node}
-use Rattle.qs_record.specs.declared.record.Record.{Record}
-use Rattle.qs_restart.specs.Recovery.{Recovery, recovery}
 use Rattle.qs_tm.specs.Manager as tm
 use Rattle.qs_tm.specs.Participant.{is_undecided}
 use Rattle.qs_tm.specs.declared.participant.Participant.{Participant}
-use Rattle.qs_step.specs.Bringing.{is_forced}
 use Rattle.qs_step.specs.State.{Work, part_of}
 use Rattle.qs_agree.specs.World.{World}
-use Rattle.qs_agree.specs.Carry.{IsLawful, Leads}
+use Rattle.qs_agree.specs.Carry.{Leads}
 use Rattle.qs_agree.proofs.Carries.{leads_on}
 use Rattle.qs_refine.specs.DecisionLaws.{IsHome, HasNoDoubt}
 use Rattle.qs_refine.specs.Links.{node_no}
 use Rattle.qs_refine.specs.PassLaws.{HasKinds}
 use Rattle.qs_refine.specs.SettleLaws.{IsElsewhere}
-use Rattle.qs_refine.specs.Shows.{Scene, sight_during, ShowsWork}
+use Rattle.qs_refine.specs.Shows.{Scene, sight_during}
 use Rattle.qs_refine.specs.Sights.{is_in_doubt}
-use Rattle.qs_refine.specs.Sound.{is_sound, is_sound_home, is_superior, same_flag, where_so, in_order}
+use Rattle.qs_refine.specs.Sound.{is_sound, is_superior, same_flag, where_so}
 use Rattle.qs_refine.specs.Stands.{may_doubt, Stands, GoesOn}
 use Rattle.qs_refine.specs.Steps.{IsAt, IsKnown, Knows}
-use Rattle.qs_refine.proofs.Alike.{SameFound}
-use Rattle.qs_refine.proofs.During.{Leaves, forced_log, leaves_shown, found_same}
-use Rattle.qs_refine.proofs.Facts.{lawful_on}
+use Rattle.qs_refine.proofs.During.{Leaves, leaves_shown, found_same}
 use Rattle.qs_refine.proofs.Known.{is_open}
-use Rattle.qs_refine.proofs.LogFrames.{Apart}
 use Rattle.qs_refine.proofs.PassGoes.{whole_of}
 use Rattle.qs_refine.proofs.SoundHolds.{known_sound}
 use Rattle.qs_refine.proofs.SoundParts.{and_both}

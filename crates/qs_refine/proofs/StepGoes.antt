@@ -1,21 +1,20 @@
 -- A whole step of a node, for one transaction.
-use Rattle.std.proofs.Common.{◌≡◌, ℕ, ◌==◌, ◌++◌, Bool, true, false, List, [], ◌∷◌, refl, sym, ap, ◌∙◌, subst, arith, if◌then◌else◌}
+use Rattle.std.proofs.Common.{◌≡◌, ℕ, ◌==◌, ◌++◌, Bool, true, List, [], refl, sym, ap, ◌∙◌, arith, if◌then◌else◌}
 use Rattle.std.specs.List.{filter}
 use Rattle.std.proofs.lemmas.Bool.Decides.{nat_tests}
 use Rattle.qs_base.specs.declared.identifiers.Tid.{Tid}
 use Rattle.qs_record.specs.declared.record.Record.{Record}
-use Rattle.qs_restart.specs.Recovery.{Recovery, recovery}
+use Rattle.qs_restart.specs.Recovery.{recovery}
 use Rattle.qs_step.specs.Bringing.{is_forced}
 use Rattle.qs_step.specs.State.{NodeValue, Work, work_on}
 use Rattle.qs_step.specs.Step.{happen, step_work, accept}
-use Rattle.qs_step.specs.declared.event.Event.{Event}
 use Rattle.qs_agree.specs.World.{World}
 use Rattle.qs_agree.specs.Carry.{Leads, IsLawful}
 use Rattle.qs_agree.proofs.Carries.{leads_on}
 use Rattle.qs_refine.specs.Shows.{Scene, Shows, sight_during}
 use Rattle.qs_refine.specs.Sights.{is_in_doubt}
 use Rattle.qs_refine.specs.SoundSteps.{begun, settled}
-use Rattle.qs_refine.specs.Stands.{may_doubt, Stands, GoesOn}
+use Rattle.qs_refine.specs.Stands.{may_doubt, Stands}
 use Rattle.qs_refine.specs.StepLaws.{SaysSame, stepped}
 use Rattle.qs_refine.specs.StepWhole.{IsReady, Stepped, StepGoes}
 use Rattle.qs_refine.proofs.BeginStands.{begin_incarnation_goes}

@@ -1,11 +1,9 @@
 -- A Tell comes to another node than the home, and what stood of its transaction stands.
-use Rattle.std.proofs.Common.{◌≡◌, ◌≢◌, ℕ, ◌<◌, ◌≤◌, ◌==◌, ◌&&◌, ◌||◌, not, nat_lt, Bool, true, false, List, [], ◌∷◌, ◌++◌, Option, Some, None, is_some, refl, sym, subst, ap, ◌∙◌, arith, if◌then◌else◌}
+use Rattle.std.proofs.Common.{◌≡◌, ℕ, ◌≤◌, ◌==◌, ◌&&◌, ◌||◌, not, Bool, true, false, List, Option, Some, None, is_some, refl, sym, subst, ap, ◌∙◌, arith, if◌then◌else◌}
 use Rattle.std.specs.Prelude.{is_none}
 use Rattle.std.specs.BTreeMap.{is_at}
-use Rattle.std.specs.List.{filter, list_any}
-use Rattle.std.proofs.lemmas.Bool.{eqb-true}
 use Rattle.std.proofs.lemmas.Bool.Decides.{nat_tests}
-use Rattle.qs_base.specs.Order.{tid_cmp, same_tid}
+use Rattle.qs_base.specs.Order.{tid_cmp}
 use Rattle.qs_base.specs.declared.identifiers.NodeNo.{NodeNo}
 use Rattle.qs_base.specs.declared.identifiers.Outcome.{Outcome}
 use Rattle.qs_base.specs.declared.identifiers.Outcome.TheVariants as outcomes
@@ -13,48 +11,39 @@ use Rattle.qs_base.specs.declared.identifiers.Tid.{Tid}
 use Rattle.qs_engage.specs.Nodes.{same_node, is_no_node}
 use Rattle.qs_packet.specs.declared.message.Message.{Message}
 use Rattle.qs_packet.specs.declared.message.Message.TheVariants as messages
-use Rattle.qs_record.specs.declared.record.Record.{Record}
-use Rattle.qs_record.specs.declared.record.Record.TheVariants as records
-use Rattle.qs_restart.specs.Recovery.{recovery}
 use Rattle.qs_tm.specs.Manager as tm
 use Rattle.qs_tm.specs.Outcomes as outcome_rules
 use Rattle.qs_tm.specs.Outcomes.{is_abort, aborted_participant}
-use Rattle.qs_tm.specs.Participant as participant
 use Rattle.qs_tm.specs.Participant.{is_undecided}
 use Rattle.qs_tm.specs.declared.participant.Participant.{Participant}
-use Rattle.qs_step.specs.Answering.{was_committed, inquiry_came, answer_unknown, answer_known}
-use Rattle.qs_step.specs.Bringing.{is_other, is_forced, send, log_if, tid_of}
+use Rattle.qs_step.specs.Bringing.{send, log_if, tid_of}
 use Rattle.qs_step.specs.Deciding.{give_notices}
-use Rattle.qs_step.specs.State.{NodeValue, Work, here, part_of, with_manager}
+use Rattle.qs_step.specs.State.{NodeValue, Work, part_of, with_manager}
 use Rattle.qs_step.specs.Step.{message_came}
-use Rattle.qs_step.specs.Telling.{end_record, record_learnt, learn, learn_unknown, take_outcome, tell_came, names_at, keep_abort_told}
+use Rattle.qs_step.specs.Telling.{end_record, record_learnt, learn, learn_unknown, take_outcome, names_at}
 use Rattle.qs_agree.specs.World.{World}
 use Rattle.qs_refine.specs.Links.{node_no}
-use Rattle.qs_refine.specs.NodeFaces.{began_here, is_past_commit}
-use Rattle.qs_refine.specs.OutcomeWhole.{AgreesWith, TellStands, KeepsPast, InquireStands}
-use Rattle.qs_refine.specs.Shows.{Scene, handed, sight_during, ShowsWork}
-use Rattle.qs_refine.specs.Sights.{is_in_doubt}
+use Rattle.qs_refine.specs.OutcomeWhole.{AgreesWith, TellStands}
+use Rattle.qs_refine.specs.Shows.{Scene, handed}
 use Rattle.qs_refine.specs.Sound.{same_flag, where_so}
 use Rattle.qs_refine.specs.SoundLaws.{StaysSound}
-use Rattle.qs_refine.specs.Stands.{may_doubt, Stands, GoesOn}
-use Rattle.qs_refine.specs.Steps.{IsAt, IsNext, Goes}
+use Rattle.qs_refine.specs.Stands.{Stands, GoesOn}
+use Rattle.qs_refine.specs.Steps.{IsNext, Goes}
 use Rattle.qs_refine.proofs.DecidedStands.{KeepsOutcome, KeepOutcomes, outcome_itself, outcome_on, outcome_sent, outcome_notices, outcome_logged}
 use Rattle.qs_refine.proofs.During.{Leaves}
-use Rattle.qs_refine.proofs.Facts.{lawful_on}
 use Rattle.qs_refine.proofs.KindsKept.{KeepsKinds}
 use Rattle.qs_refine.proofs.LearnAbort.{tell_abort, tell_abort_unknown}
 use Rattle.qs_refine.proofs.Maps.{lookup_changed, lookup_put}
 use Rattle.qs_refine.proofs.MessageKinds.{message_kinds}
-use Rattle.qs_refine.proofs.MessageStands.{handed_at, fits_sound}
-use Rattle.qs_refine.proofs.OthersCame.{tell_leaves, inquiry_leaves}
+use Rattle.qs_refine.proofs.MessageStands.{fits_sound}
+use Rattle.qs_refine.proofs.OthersCame.{tell_leaves}
 use Rattle.qs_refine.proofs.RuleGoes.{tell_commit}
 use Rattle.qs_refine.proofs.SendGoes.{send_node}
 use Rattle.qs_refine.proofs.MetWork.{tid_itself}
-use Rattle.qs_refine.proofs.SettleRules.{beside, beside_apart, IsClear, Answers}
+use Rattle.qs_refine.proofs.SettleRules.{beside, beside_apart}
 use Rattle.qs_refine.proofs.SettleStands.{whole_known, no_doubt, manager_fits}
 use Rattle.qs_refine.proofs.SoundHolds.{known_sound}
 use Rattle.qs_refine.proofs.SoundParts.{and_both}
-use Rattle.qs_refine.proofs.SoundViews.{PartSound, seen}
 use Rattle.qs_refine.proofs.TellAbortCame.{tell_again}
 use Rattle.qs_refine.proofs.ToldAgain.{tell_commit_unknown, tell_commit_again}
 use Rattle.qs_refine.proofs.OutcomeAfter.{decided_after, unknown_after, send_records}

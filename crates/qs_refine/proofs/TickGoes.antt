@@ -1,7 +1,6 @@
 -- Time goes on at a node.
-use Rattle.std.proofs.Common.{◌≡◌, ℕ, ◌&&◌, Bool, true, false, List, [], ◌∷◌, Option, Some, None, fold, refl, sym, subst, ap, ◌∙◌, if◌then◌else◌}
+use Rattle.std.proofs.Common.{◌≡◌, ℕ, ◌&&◌, Bool, true, false, List, [], ◌∷◌, Option, Some, None, fold, refl, sym, subst, ap, if◌then◌else◌}
 use Rattle.std.specs.List.{list_all}
-use Rattle.qs_base.specs.declared.identifiers.Outcome.TheVariants as outcomes
 use Rattle.qs_base.specs.declared.identifiers.Tid.{Tid}
 use Rattle.qs_journal.specs.declared.entry.Act.TheVariants as acts
 use Rattle.qs_ops.specs.Timers.{ticked}
@@ -15,7 +14,7 @@ use Rattle.qs_tm.specs.declared.manager.Which.TheVariants as whiches
 use Rattle.qs_tm.specs.declared.participant.Participant.{Participant}
 use Rattle.qs_step.specs.Bringing.{enter}
 use Rattle.qs_step.specs.State.{Work, part_of, with_manager, change_server}
-use Rattle.qs_step.specs.Step.{abort_old, age_rule, tick}
+use Rattle.qs_step.specs.Step.{abort_old, age_rule}
 use Rattle.qs_agree.specs.World.{World}
 use Rattle.qs_refine.specs.Shows.{Scene}
 use Rattle.qs_refine.specs.Sound.{in_order, where_so}

@@ -1,5 +1,5 @@
 -- Where each transaction that a node knows has its turn, one of them has at most one.
-use Rattle.std.proofs.Common.{◌≡◌, ◌⊎◌, inl, inr, ◌&&◌, not, Bool, true, false, List, [], ◌∷◌, ◌++◌, Option, Some, None, fold, refl, sym, subst, ap, ◌∙◌, arith, if◌then◌else◌}
+use Rattle.std.proofs.Common.{◌≡◌, ◌⊎◌, inl, inr, not, Bool, true, false, List, [], ◌∷◌, ◌++◌, Some, fold, refl, sym, subst, ap, ◌∙◌, arith, if◌then◌else◌}
 use Rattle.std.specs.BTreeMap.{is_at}
 use Rattle.std.specs.List.{list_all}
 use Rattle.std.specs.Map.{lookup}
@@ -11,7 +11,6 @@ use Rattle.qs_step.specs.State.{Work}
 use Rattle.qs_refine.specs.Sound.{in_order, is_less}
 use Rattle.qs_refine.specs.SoundLaws.{StaysSound}
 use Rattle.qs_refine.proofs.During.{Leaves, leaves_itself, leaves_on}
-use Rattle.qs_refine.proofs.KindsKept.{KeepsKinds}
 use Rattle.qs_refine.proofs.LogFrames.{Apart}
 use Rattle.qs_refine.proofs.SoundFrames.{is_below, behind, order_tail}
 use Rattle.qs_refine.proofs.SoundKnown.{same_is}

@@ -8,12 +8,12 @@ use Rattle.qs_kept.specs.declared.kept.Begun.{Begun}
 use Rattle.qs_kept.specs.declared.kept.Decided.{Decided}
 use Rattle.qs_ops.specs.declared.answer.Answer.TheVariants as answers
 use Rattle.qs_step.specs.Answering.{kept_outcome}
-use Rattle.qs_step.specs.Borrowing.{is_aborted, borrower_command}
+use Rattle.qs_step.specs.Borrowing.{is_aborted}
 use Rattle.qs_step.specs.Bringing.{answer}
 use Rattle.qs_step.specs.Commands.{decided_answer}
 use Rattle.qs_step.specs.Serving.{label_at}
 use Rattle.qs_step.specs.State.{Work, client_cmp}
-use Rattle.qs_step.specs.Step.{is_owner, owner_waits, borrower_waits, waits_at, wait_command, wait_on, waiting_clients, answer_waiting}
+use Rattle.qs_step.specs.Step.{is_owner, owner_waits, borrower_waits, waits_at, wait_command, wait_on, waiting_clients}
 use Rattle.qs_step.specs.declared.state.Issued.{Issued}
 use Rattle.qs_step.specs.declared.state.OpenCommand.{OpenCommand}
 use Rattle.qs_agree.specs.World.{World}

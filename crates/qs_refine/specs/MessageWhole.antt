@@ -1,5 +1,5 @@
 -- The laws of messages that come: what stands of a transaction goes on to stand, and the message is handed up.
-use Rattle.std.specs.Prelude.{◌≡◌, ℕ, List}
+use Rattle.std.specs.Prelude.{ℕ, List}
 use Rattle.qs_base.specs.declared.identifiers.Member.{Member}
 use Rattle.qs_base.specs.declared.identifiers.Tid.{Tid}
 use Rattle.qs_ops.specs.declared.answer.Cause.{Cause}

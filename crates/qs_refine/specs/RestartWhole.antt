@@ -1,5 +1,5 @@
 -- The laws of what a node does where another one restarted, and in the first step of an incarnation: what stands of a transaction goes on to stand.
-use Rattle.std.specs.Prelude.{◌≡◌, ℕ, ◌<◌, ◌≤◌, true, [], Some, None}
+use Rattle.std.specs.Prelude.{◌≡◌, ℕ, true, Some, None}
 use Rattle.qs_base.specs.declared.identifiers.Outcome.TheVariants as outcomes
 use Rattle.qs_base.specs.declared.identifiers.Tid.{Tid}
 use Rattle.qs_tm.specs.declared.participant.Participant.{Participant}
