@@ -1,16 +1,14 @@
 -- The home decides abort: Abort.
-use Rattle.std.proofs.Common.{◌≡◌, ◌≢◌, inl, ℕ, ◌<◌, ◌==◌, Bool, true, false, [], ◌∷◌, arith, refl, sym, ◌∙◌, subst, ap, if◌then◌else◌}
+use Rattle.std.proofs.Common.{◌≡◌, ◌≢◌, inl, ℕ, ◌==◌, Bool, true, false, [], ◌∷◌, arith, refl, sym, ◌∙◌, subst, ap, if◌then◌else◌}
 use Rattle.std.proofs.lemmas.Bool.Decides.{nat_tests}
-use Rattle.qs_base.specs.declared.identifiers.Tid.{Tid}
 use Rattle.qs_agree.specs.World.{World, Open, Aborted, with_at}
 use Rattle.qs_agree.specs.Guards.{drawn}
 use Rattle.qs_agree.specs.Step.{Step, Abort}
-use Rattle.qs_refine.specs.Faces.{Face, ShowsFace, ShowsOpen}
+use Rattle.qs_refine.specs.Faces.{Face, ShowsFace}
 use Rattle.qs_refine.specs.Links.{link, waiting_link}
 use Rattle.qs_refine.specs.OutcomeLaws.{AbortGoes}
 use Rattle.qs_refine.specs.Places.{place}
 use Rattle.qs_refine.specs.SeenOutcome.{aborted_face}
-use Rattle.qs_refine.specs.Sights.{Sight, ShowsSight}
 use Rattle.qs_refine.proofs.Local.{Local, local_sight}
 use Rattle.qs_refine.proofs.Streams.{Stays}
 

@@ -1,5 +1,5 @@
 -- A Tell that answers an inquiry is put where the machine lets that outcome be told.
-use Rattle.std.proofs.Common.{◌≡◌, ◌≢◌, ℕ, Bool, true, false, [], ◌∷◌, arith, refl, sym, subst, ap, ◌∙◌}
+use Rattle.std.proofs.Common.{◌≡◌, ℕ, Bool, true, false, [], ◌∷◌, arith, refl, sym, subst, ap, ◌∙◌}
 use Rattle.std.proofs.lemmas.Bool.Decides.{nat_tests}
 use Rattle.qs_base.specs.declared.identifiers.Outcome.TheVariants as outcomes
 use Rattle.qs_base.specs.declared.identifiers.Tid.{Tid}
@@ -8,7 +8,7 @@ use Rattle.qs_packet.specs.declared.message.Message.TheVariants as messages
 use Rattle.qs_step.specs.Bringing.{is_other, send}
 use Rattle.qs_step.specs.State.{Work}
 use Rattle.qs_agree.specs.World.{World}
-use Rattle.qs_refine.specs.Links.{Said, Outcome_told, IsTold, Link, link, IsEmpty, node_no}
+use Rattle.qs_refine.specs.Links.{Outcome_told, IsTold, Link, link, IsEmpty, node_no}
 use Rattle.qs_refine.specs.Messages.{said}
 use Rattle.qs_refine.specs.NodeFaces.{face_at}
 use Rattle.qs_refine.specs.Places.{place}

@@ -1,5 +1,5 @@
 -- A home that is ready decides commit: Commit, Commit and End, or Commit_unlogged; and then it tells each node that is to be told.
-use Rattle.std.proofs.Common.{◌≡◌, ◌≢◌, ℕ, ◌<◌, ◌≤◌, ◌==◌, ◌&&◌, ◌||◌, not, Bool, true, false, List, [], ◌∷◌, ◌++◌, Option, Some, None, length, refl, sym, subst, ap, ◌∙◌, arith, if◌then◌else◌}
+use Rattle.std.proofs.Common.{◌≡◌, ℕ, ◌==◌, Bool, true, false, List, [], ◌∷◌, ◌++◌, Option, Some, None, refl, sym, subst, ap, ◌∙◌, if◌then◌else◌}
 use Rattle.std.specs.List.{filter}
 use Rattle.qs_base.specs.declared.identifiers.NodeNo.{NodeNo}
 use Rattle.qs_base.specs.declared.identifiers.Outcome.TheVariants as outcomes
@@ -28,8 +28,8 @@ use Rattle.qs_refine.specs.NodeFaces.{face, face_at, began_here}
 use Rattle.qs_refine.specs.Places.{place}
 use Rattle.qs_refine.specs.Seen.{SightGoes, FaceReady, sight_faced, sight_committed}
 use Rattle.qs_refine.specs.Shows.{Scene, sent_to, sight_during, ShowsWork}
-use Rattle.qs_refine.specs.Sights.{Sight, ShowsSight, is_in_doubt}
-use Rattle.qs_refine.specs.Steps.{IsAt, Knows, Goes}
+use Rattle.qs_refine.specs.Sights.{Sight, ShowsSight}
+use Rattle.qs_refine.specs.Steps.{Goes}
 use Rattle.qs_refine.proofs.Alike.{SameFace, SameFound, found_itself}
 use Rattle.qs_refine.proofs.Deciding as deciding
 use Rattle.qs_refine.proofs.Deciding.{IsOwn, none_own, some_own}

@@ -1,9 +1,7 @@
 -- Another node than the home forgets a transaction that it only read: Forget.
-use Rattle.std.proofs.Common.{◌≡◌, ◌≢◌, ℕ, ◌<◌, ◌==◌, ◌&&◌, not, Bool, true, false, Option, Some, None, unwrap_or, refl, sym, subst, ap, ◌∙◌, arith, if◌then◌else◌}
-use Rattle.std.specs.Prelude.{is_some, is_none}
+use Rattle.std.proofs.Common.{◌≡◌, ◌≢◌, ℕ, ◌<◌, ◌&&◌, not, Bool, true, false, Option, Some, None, unwrap_or, refl, subst, ap, ◌∙◌, arith, if◌then◌else◌}
+use Rattle.std.specs.Prelude.{is_none}
 use Rattle.std.proofs.lemmas.Bool.Decides.{nat_tests}
-use Rattle.qs_base.specs.declared.identifiers.NodeNo.{NodeNo}
-use Rattle.qs_base.specs.declared.identifiers.Outcome.{Outcome}
 use Rattle.qs_base.specs.declared.identifiers.Tid.{Tid}
 use Rattle.qs_engage.specs.Engage.{no_peer}
 use Rattle.qs_engage.specs.Nodes.{same_node, is_no_node}
@@ -13,13 +11,13 @@ use Rattle.qs_tm.specs.Members.{no_member}
 use Rattle.qs_tm.specs.Participant as participant
 use Rattle.qs_tm.specs.Participant.{new_participant, is_undecided, only_read}
 use Rattle.qs_tm.specs.declared.participant.Participant.{Participant}
-use Rattle.qs_step.specs.State.{NodeValue, Work, with_manager, with_queues}
+use Rattle.qs_step.specs.State.{Work, with_queues}
 use Rattle.qs_step.specs.Telling.{drop_counts, forget}
-use Rattle.qs_agree.specs.World.{World, Open}
+use Rattle.qs_agree.specs.World.{World}
 use Rattle.qs_agree.specs.Carry.{IsLawful}
 use Rattle.qs_refine.specs.DecisionLaws.{ForgetReadGoes}
 use Rattle.qs_refine.specs.Faces.{Face}
-use Rattle.qs_refine.specs.NodeFaces.{face, face_at, part_at, uncast_of, unknown_at_home, waiting_at, began_here}
+use Rattle.qs_refine.specs.NodeFaces.{face, part_at, uncast_of, unknown_at_home, waiting_at, began_here}
 use Rattle.qs_refine.specs.Seen.{SightGoes, sight_faced}
 use Rattle.qs_refine.specs.SeenOutcome.{forgotten_face}
 use Rattle.qs_refine.specs.Shows.{Scene, sight_during, ShowsWork}

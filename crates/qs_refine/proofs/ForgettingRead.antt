@@ -1,7 +1,6 @@
 -- Another node than the home forgets what it only read: Forget.
-use Rattle.std.proofs.Common.{◌≡◌, ◌≢◌, ℕ, ◌+◌, ◌<◌, ◌≤◌, ◌==◌, true, false, [], ◌∷◌, arith, refl, sym, ◌∙◌, ap, if◌then◌else◌}
+use Rattle.std.proofs.Common.{◌≡◌, ◌≢◌, ℕ, ◌+◌, ◌≤◌, true, false, [], ◌∷◌, arith, refl, ◌∙◌, ap}
 use Rattle.std.proofs.lemmas.Bool.Decides.{nat_tests}
-use Rattle.qs_base.specs.declared.identifiers.Tid.{Tid}
 use Rattle.qs_agree.specs.World.{World, Open, with_at}
 use Rattle.qs_agree.specs.Guards.{Votes}
 use Rattle.qs_agree.specs.Step.{Step, Forget}
@@ -10,7 +9,6 @@ use Rattle.qs_refine.specs.Links.{link, waiting_link}
 use Rattle.qs_refine.specs.OutcomeLaws.{ForgetGoes}
 use Rattle.qs_refine.specs.Places.{place}
 use Rattle.qs_refine.specs.SeenOutcome.{forgotten_face}
-use Rattle.qs_refine.specs.Sights.{Sight, ShowsSight}
 use Rattle.qs_refine.proofs.Facts.{invariant}
 use Rattle.qs_refine.proofs.Local.{Local, local_sight}
 use Rattle.qs_refine.proofs.Off.{Off}

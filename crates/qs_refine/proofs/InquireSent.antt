@@ -1,19 +1,18 @@
 -- A node sends an inquiry to the home's node, as its superior or the home restarted, or as it begins with a Prepare in doubt.
-use Rattle.std.proofs.Common.{◌≡◌, ◌≢◌, inl, ℕ, ◌<◌, ◌≤◌, ◌==◌, ◌&&◌, not, Bool, true, false, [], ◌∷◌, Option, Some, None, refl, ap, ◌∙◌, arith, if◌then◌else◌}
-use Rattle.std.proofs.lemmas.Bool.Decides.{nat_tests}
+use Rattle.std.proofs.Common.{◌≡◌, ◌≢◌, inl, ℕ, ◌<◌, ◌&&◌, not, Bool, true, false, Option, Some, None, refl, ap, ◌∙◌, if◌then◌else◌}
 use Rattle.qs_base.specs.declared.identifiers.Outcome.{Outcome}
 use Rattle.qs_base.specs.declared.identifiers.Tid.{Tid}
 use Rattle.qs_packet.specs.declared.message.Message.TheVariants as messages
 use Rattle.qs_tm.specs.declared.participant.Participant.{Participant}
 use Rattle.qs_step.specs.Bringing.{send}
-use Rattle.qs_step.specs.Restarts.{is_orphaned_by, inquire, resume_part, resume_home}
+use Rattle.qs_step.specs.Restarts.{is_orphaned_by, resume_home}
 use Rattle.qs_step.specs.State.{Work}
 use Rattle.qs_agree.specs.World.{World, Open}
 use Rattle.qs_agree.specs.Carry.{IsLawful}
-use Rattle.qs_refine.specs.Faces.{Face, ShowsFace}
+use Rattle.qs_refine.specs.Faces.{ShowsFace}
 use Rattle.qs_refine.specs.InquireLaws.{MayInquire, InquireRuleGoes, ResumeDoubtGoes}
 use Rattle.qs_refine.specs.Links.{Inquired, node_no}
-use Rattle.qs_refine.specs.NodeFaces.{face, face_at}
+use Rattle.qs_refine.specs.NodeFaces.{face}
 use Rattle.qs_refine.specs.Places.{place}
 use Rattle.qs_refine.specs.Shows.{Scene, sight_during, ShowsWork}
 use Rattle.qs_refine.specs.Sights.{Sight}

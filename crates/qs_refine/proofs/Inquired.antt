@@ -1,15 +1,15 @@
 -- The home's node answers inquiries: Answer_running, Answer_commit and Answer_abort.
-use Rattle.std.proofs.Common.{◌≡◌, ◌≢◌, ◌⊎◌, inl, inr, ℕ, ◌+◌, ◌<◌, ◌==◌, Bool, true, false, List, [], ◌∷◌, arith, refl, sym, ◌∙◌, subst, ap, if◌then◌else◌}
+use Rattle.std.proofs.Common.{◌≡◌, ◌≢◌, ◌⊎◌, inl, inr, ℕ, ◌+◌, ◌==◌, Bool, true, false, List, [], ◌∷◌, arith, refl, sym, ◌∙◌, subst, ap}
 use Rattle.std.proofs.lemmas.Bool.Decides.{nat_tests}
 use Rattle.qs_base.specs.declared.identifiers.Tid.{Tid}
 use Rattle.qs_agree.specs.World.{World, Open, Committed, Aborted, with_at, with_at2}
 use Rattle.qs_agree.specs.Guards.{NextInquiry, TellsAbort}
 use Rattle.qs_agree.specs.Step.{Step, Answer_running, Answer_commit, Answer_abort}
-use Rattle.qs_refine.specs.Faces.{Face, ShowsFace, ShowsOpen}
+use Rattle.qs_refine.specs.Faces.{Face, ShowsFace}
 use Rattle.qs_refine.specs.InquiryLaws.{telling_face, MayTellAbort, AnswerRunningGoes, AnswerCommitGoes, AnswerAbortGoes}
 use Rattle.qs_refine.specs.Links.{Said, Inquired, Link, link, waiting_link, IsLink}
 use Rattle.qs_refine.specs.Places.{place}
-use Rattle.qs_refine.specs.Seen.{Runs, Meets, SightGoes, sight_taken}
+use Rattle.qs_refine.specs.Seen.{Runs, Meets}
 use Rattle.qs_refine.specs.Sights.{Sight, ShowsSight}
 use Rattle.qs_refine.proofs.Around.{known_is}
 use Rattle.qs_refine.proofs.Streams.{Stays, asked}

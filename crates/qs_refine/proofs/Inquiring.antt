@@ -1,9 +1,9 @@
 -- A node inquires of the home's node: Inquire, Inquire_lost or Inquire_home.
-use Rattle.std.proofs.Common.{◌≡◌, ◌≢◌, ◌⊎◌, inl, inr, ℕ, ◌+◌, ◌<◌, ◌≤◌, ◌==◌, true, false, [], ◌∷◌, ◌++◌, arith, refl, sym, ◌∙◌, subst, ap, if◌then◌else◌}
+use Rattle.std.proofs.Common.{◌≡◌, ◌≢◌, inl, inr, ℕ, ◌+◌, ◌<◌, ◌≤◌, ◌==◌, true, [], ◌∷◌, ◌++◌, arith, refl, sym, ◌∙◌, ap, if◌then◌else◌}
 use Rattle.std.proofs.lemmas.Bool.Decides.{nat_tests}
 use Rattle.qs_base.specs.declared.identifiers.Tid.{Tid}
 use Rattle.qs_agree.specs.World.{World, Open, with_at, with_at2}
-use Rattle.qs_agree.specs.Step.{Step, Inquire, Inquire_lost, Inquire_home}
+use Rattle.qs_agree.specs.Step.{Inquire, Inquire_lost, Inquire_home}
 use Rattle.qs_agree.specs.Carry.{Leads}
 use Rattle.qs_refine.specs.Faces.{Face, ShowsFace}
 use Rattle.qs_refine.specs.InquireLaws.{MayInquire, InquireGoes, InquireWaitsGoes}

@@ -1,14 +1,12 @@
 -- An Inquire comes to the home's node: Answer_running, Answer_commit or Answer_abort, and a Tell goes back.
-use Rattle.std.proofs.Common.{◌≡◌, ◌≢◌, inl, inr, ℕ, ◌<◌, ◌==◌, ◌&&◌, ◌||◌, not, Bool, true, false, List, [], ◌∷◌, Option, Some, None, unwrap_or, refl, sym, subst, ap, ◌∙◌, arith, if◌then◌else◌}
-use Rattle.std.specs.Prelude.{is_some}
+use Rattle.std.proofs.Common.{◌≡◌, inl, ℕ, ◌<◌, Bool, true, false, List, ◌∷◌, Option, Some, None, unwrap_or, refl, sym, subst, ap, ◌∙◌, arith, if◌then◌else◌}
 use Rattle.std.specs.BTreeMap.{is_at}
 use Rattle.std.proofs.lemmas.Bool.Decides.{nat_tests}
 use Rattle.qs_base.specs.Order.{tid_cmp}
-use Rattle.qs_base.specs.declared.identifiers.NodeNo.{NodeNo}
 use Rattle.qs_base.specs.declared.identifiers.Outcome.{Outcome}
 use Rattle.qs_base.specs.declared.identifiers.Outcome.TheVariants as outcomes
 use Rattle.qs_base.specs.declared.identifiers.Tid.{Tid}
-use Rattle.qs_engage.specs.Nodes.{same_node, has_node, put_node}
+use Rattle.qs_engage.specs.Nodes.{same_node}
 use Rattle.qs_packet.specs.declared.message.Message.{Message}
 use Rattle.qs_packet.specs.declared.message.Message.TheVariants as messages
 use Rattle.qs_tm.specs.Manager as tm
@@ -16,23 +14,21 @@ use Rattle.qs_tm.specs.Outcomes as outcome_rules
 use Rattle.qs_tm.specs.Participant as participant
 use Rattle.qs_tm.specs.Participant.{new_participant}
 use Rattle.qs_tm.specs.declared.participant.Participant.{Participant}
-use Rattle.qs_step.specs.Answering.{was_committed, answer_unknown, answer_known}
+use Rattle.qs_step.specs.Answering.{answer_unknown, answer_known}
 use Rattle.qs_step.specs.Bringing.{send}
 use Rattle.qs_step.specs.State.{Work, here, part_of, with_manager}
 use Rattle.qs_step.specs.Step.{message_came}
 use Rattle.qs_step.specs.Telling.{keep_abort_told}
-use Rattle.qs_agree.specs.World.{World, Open, Committed, Aborted, with_at}
-use Rattle.qs_refine.specs.DecisionLaws.{IsHome, KnowsCommit}
-use Rattle.qs_refine.specs.Faces.{Face}
+use Rattle.qs_agree.specs.World.{World, Committed, with_at}
 use Rattle.qs_refine.specs.InquiryLaws.{telling_face, MayTellAbort, AnswerGoes}
-use Rattle.qs_refine.specs.InquiryRules.{InquiryRunningGoes, InquiryCommitGoes, InquiryPastGoes, InquiryAbortGoes, InquiryUnknownGoes}
-use Rattle.qs_refine.specs.Links.{Said, Inquired, node_no}
+use Rattle.qs_refine.specs.InquiryRules.{InquiryRunningGoes, InquiryCommitGoes, InquiryPastGoes, InquiryAbortGoes}
+use Rattle.qs_refine.specs.Links.{Inquired, node_no}
 use Rattle.qs_refine.specs.Messages.{all_said}
-use Rattle.qs_refine.specs.NodeFaces.{face, face_at, part_at, unknown_at_home, began_here, is_past_commit}
+use Rattle.qs_refine.specs.NodeFaces.{face, face_at, part_at, unknown_at_home}
 use Rattle.qs_refine.specs.Seen.{SightGoes, sight_taken}
 use Rattle.qs_refine.specs.Shows.{Scene, sight_during, ShowsWork, handed}
-use Rattle.qs_refine.specs.Sights.{Sight, ShowsSight, with_at4}
-use Rattle.qs_refine.specs.Steps.{IsAt, IsNext, IsKnown, Knows, Goes}
+use Rattle.qs_refine.specs.Sights.{Sight}
+use Rattle.qs_refine.specs.Steps.{IsAt, IsNext, IsKnown, Goes}
 use Rattle.qs_refine.proofs.Alike.{SameFace, same_itself, found_itself}
 use Rattle.qs_refine.proofs.Answered.{commit_put, abort_put}
 use Rattle.qs_refine.proofs.Arrays.{node_put}

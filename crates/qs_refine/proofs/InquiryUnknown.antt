@@ -1,5 +1,5 @@
 -- An Inquire comes to a later incarnation of the home's node, which knows nothing of the transaction: Answer_abort, and a Tell goes back.
-use Rattle.std.proofs.Common.{◌≡◌, ◌≢◌, inl, inr, ℕ, ◌==◌, ◌&&◌, ◌||◌, Bool, true, false, List, [], ◌∷◌, Option, Some, None, refl, sym, subst, ap, ◌∙◌, arith, if◌then◌else◌}
+use Rattle.std.proofs.Common.{◌≡◌, ◌≢◌, inr, ℕ, ◌==◌, ◌&&◌, ◌||◌, Bool, true, false, List, Option, Some, None, refl, sym, subst, ap, ◌∙◌, arith, if◌then◌else◌}
 use Rattle.std.specs.Prelude.{is_some}
 use Rattle.std.specs.List.{list_any}
 use Rattle.std.specs.BTreeMap.{is_at}
@@ -8,13 +8,12 @@ use Rattle.qs_base.specs.Order.{tid_cmp, same_tid}
 use Rattle.qs_base.specs.declared.identifiers.NodeNo.{NodeNo}
 use Rattle.qs_base.specs.declared.identifiers.Outcome.TheVariants as outcomes
 use Rattle.qs_base.specs.declared.identifiers.Tid.{Tid}
-use Rattle.qs_engage.specs.Nodes.{no_nodes, same_node, put_node}
+use Rattle.qs_engage.specs.Nodes.{no_nodes, same_node}
 use Rattle.qs_packet.specs.declared.message.Message.{Message}
 use Rattle.qs_packet.specs.declared.message.Message.TheVariants as messages
 use Rattle.qs_tm.specs.Manager as tm
 use Rattle.qs_tm.specs.Outcomes as outcome_rules
 use Rattle.qs_tm.specs.Outcomes.{aborted_participant}
-use Rattle.qs_tm.specs.declared.manager.Manager.{Manager}
 use Rattle.qs_tm.specs.declared.participant.Participant.{Participant}
 use Rattle.qs_step.specs.Answering.{was_committed, is_kept_commit, kept_outcome}
 use Rattle.qs_step.specs.Bringing.{send}
@@ -26,7 +25,7 @@ use Rattle.qs_refine.specs.Faces.{Face}
 use Rattle.qs_refine.specs.InquiryLaws.{telling_face}
 use Rattle.qs_refine.specs.InquiryRules.{InquiryUnknownGoes}
 use Rattle.qs_refine.specs.Links.{node_no}
-use Rattle.qs_refine.specs.NodeFaces.{face, face_at, part_at, unknown_at_home, began_here, is_past_commit}
+use Rattle.qs_refine.specs.NodeFaces.{face, unknown_at_home, began_here, is_past_commit}
 use Rattle.qs_refine.specs.Shows.{Scene, sight_during, ShowsWork, handed}
 use Rattle.qs_refine.specs.Steps.{IsAt, IsNext, Goes}
 use Rattle.qs_refine.proofs.Alike.{SameFace}

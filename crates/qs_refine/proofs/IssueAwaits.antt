@@ -1,5 +1,5 @@
 -- A node sends a request to another one, no incarnation of which is known: Issue_unmet.
-use Rattle.std.proofs.Common.{◌≡◌, ℕ, ◌+◌, ◌<◌, ◌==◌, true, arith, refl, subst, sym, ap, ◌∙◌}
+use Rattle.std.proofs.Common.{◌≡◌, ℕ, ◌+◌, ◌==◌, true, arith, subst, sym, ap, ◌∙◌}
 use Rattle.std.proofs.lemmas.Bool.Decides.{nat_tests}
 use Rattle.qs_base.specs.declared.identifiers.NodeNo.{NodeNo}
 use Rattle.qs_agree.specs.World.{with_at}

@@ -1,14 +1,12 @@
 -- A request goes to another node, no place of which is known, and waits: Issue_unmet.
-use Rattle.std.proofs.Common.{◌≡◌, ◌≢◌, ◌⊎◌, inl, inr, ℕ, ◌+◌, ◌<◌, ◌≤◌, ◌==◌, true, false, [], ◌∷◌, arith, refl, sym, ◌∙◌, ap, if◌then◌else◌}
+use Rattle.std.proofs.Common.{◌≡◌, ◌≢◌, ◌⊎◌, inl, inr, ℕ, ◌+◌, ◌≤◌, true, [], ◌∷◌, arith, refl, sym, ◌∙◌, ap}
 use Rattle.std.proofs.lemmas.Bool.Decides.{nat_tests}
-use Rattle.qs_base.specs.declared.identifiers.Tid.{Tid}
 use Rattle.qs_agree.specs.World.{World, Open, Committed, with_at, with_at2, with_at3}
 use Rattle.qs_agree.specs.Guards.{held, held_at}
 use Rattle.qs_agree.specs.Step.{Step, Issue_unmet}
 use Rattle.qs_refine.specs.Faces.{Face, ShowsFace}
 use Rattle.qs_refine.specs.Links.{Requested, link, waiting_link, IsLink}
 use Rattle.qs_refine.specs.Places.{place}
-use Rattle.qs_refine.specs.Sights.{Sight, ShowsSight}
 use Rattle.qs_refine.specs.WaitingLaws.{IssueUnmetGoes}
 use Rattle.qs_refine.proofs.EventFaces.{face_issue_unmet}
 use Rattle.qs_refine.proofs.Facts.{posted_below}

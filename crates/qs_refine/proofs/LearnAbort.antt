@@ -1,5 +1,5 @@
 -- Another node than the home learns abort, whether it knew the transaction or not: Learn_abort; and Told goes.
-use Rattle.std.proofs.Common.{◌≡◌, ◌≢◌, ℕ, ◌==◌, ◌&&◌, not, Bool, true, false, List, [], ◌∷◌, ◌++◌, Option, Some, None, unwrap_or, refl, sym, subst, ap, ◌∙◌, if◌then◌else◌}
+use Rattle.std.proofs.Common.{◌≡◌, ℕ, Bool, true, false, List, [], ◌++◌, Option, Some, None, unwrap_or, refl, sym, subst, ap, ◌∙◌, if◌then◌else◌}
 use Rattle.std.specs.Prelude.{is_some}
 use Rattle.std.specs.List.{filter}
 use Rattle.std.specs.BTreeMap.{is_at}
@@ -23,19 +23,19 @@ use Rattle.qs_step.specs.Deciding.{give_notices}
 use Rattle.qs_step.specs.declared.event.Sending.{Sending}
 use Rattle.qs_step.specs.State.{Work, here, part_of, with_manager}
 use Rattle.qs_step.specs.Step.{message_came}
-use Rattle.qs_step.specs.Telling.{learn, learn_unknown, names_of, take_outcome}
+use Rattle.qs_step.specs.Telling.{learn, learn_unknown, names_of}
 use Rattle.qs_agree.specs.World.{World, Aborted}
 use Rattle.qs_agree.specs.Carry.{IsLawful}
 use Rattle.qs_refine.specs.AbortRules.{IsToldAbort, TellAbortGoes, TellAbortUnknownGoes}
 use Rattle.qs_refine.specs.Faces.{Face}
 use Rattle.qs_refine.specs.Links.{node_no}
 use Rattle.qs_refine.specs.Messages.{all_said}
-use Rattle.qs_refine.specs.NodeFaces.{face, face_at, part_at, unknown_at_home, began_here}
+use Rattle.qs_refine.specs.NodeFaces.{face, face_at, part_at, unknown_at_home}
 use Rattle.qs_refine.specs.Seen.{NamedGoes, sight_faced}
 use Rattle.qs_refine.specs.Shows.{Scene, sent_to, sight_during, ShowsWork, handed}
 use Rattle.qs_refine.specs.Sights.{Sight, ShowsSight}
 use Rattle.qs_refine.specs.Steps.{Knows, Goes}
-use Rattle.qs_refine.proofs.Alike.{SameFace, SameFound, face_on, found_itself}
+use Rattle.qs_refine.proofs.Alike.{SameFace, face_on, found_itself}
 use Rattle.qs_refine.proofs.During.{Quiet, forced_log, recovery_same, local_shown, face_here, runs}
 use Rattle.qs_refine.proofs.Keeping.{part_keeps}
 use Rattle.qs_refine.proofs.Known.{is_open}

@@ -1,6 +1,6 @@
 -- A borrower takes a loan, which no event tells of, and gives it back: Yield.
-use Rattle.std.proofs.Common.{◌≡◌, ℕ, ◌+◌, ◌==◌, ◌&&◌, not, Bool, true, false, List, [], ◌∷◌, length, Option, Some, None, refl, sym, subst, ap, ◌∙◌, arith, if◌then◌else◌}
-use Rattle.std.specs.Prelude.{is_some, suc}
+use Rattle.std.proofs.Common.{◌≡◌, ℕ, ◌+◌, ◌==◌, ◌&&◌, Bool, true, false, List, [], ◌∷◌, length, Option, Some, None, refl, subst, ap, ◌∙◌, arith, if◌then◌else◌}
+use Rattle.std.specs.Prelude.{suc}
 use Rattle.std.specs.List.{filter}
 use Rattle.std.proofs.lemmas.Bool.Decides.{nat_tests}
 use Rattle.qs_base.specs.Order.{same_tid}
@@ -12,26 +12,24 @@ use Rattle.qs_kept.specs.declared.kept.Lent.{Lent}
 use Rattle.qs_ops.specs.declared.answer.Answer.TheVariants as answers
 use Rattle.qs_tm.specs.declared.participant.Participant.{Participant}
 use Rattle.qs_step.specs.Borrowing.{take, yield, is_void}
-use Rattle.qs_step.specs.Bringing.{enter, answer}
+use Rattle.qs_step.specs.Bringing.{enter}
 use Rattle.qs_step.specs.State.{Work, with_doings, with_kept}
-use Rattle.qs_agree.specs.World.{World, Open}
 use Rattle.qs_refine.specs.Faces.{Face}
 use Rattle.qs_refine.specs.LoanLaws.{TakeGoes, GiveBackGoes}
-use Rattle.qs_refine.specs.NodeFaces.{face, face_at, loans_at}
+use Rattle.qs_refine.specs.NodeFaces.{face, loans_at}
 use Rattle.qs_refine.specs.Seen.{SightGoes, sight_faced}
-use Rattle.qs_refine.specs.Shows.{Scene, sight_during, ShowsWork}
+use Rattle.qs_refine.specs.Shows.{sight_during}
 use Rattle.qs_refine.specs.Sights.{Sight, ShowsSight}
-use Rattle.qs_refine.specs.Steps.{IsAt, Knows, Goes}
-use Rattle.qs_refine.proofs.Alike.{SameFace, found_itself, face_on}
+use Rattle.qs_refine.proofs.Alike.{SameFace, found_itself}
 use Rattle.qs_refine.proofs.Asking as asking
-use Rattle.qs_refine.proofs.During.{Leaves, leaves_on, leaves_shown, local_shown, face_here, runs}
+use Rattle.qs_refine.proofs.During.{leaves_on, leaves_shown, local_shown, face_here, runs}
 use Rattle.qs_refine.proofs.Frames.{out_leaves}
 use Rattle.qs_refine.proofs.Keeping.{answer_leaves, nothing_goes}
 use Rattle.qs_refine.proofs.Reading.{part_known}
 
 -- ---- a loan that is taken stands as before
 
-taken_stands : (client : ClientNo) (tid t : Tid) (inc : ℕ) (loans : List Lent) → length (filter (is_standing_loan t inc) (take_first client tid loans)) ≡ length (filter (is_standing_loan t inc) loans)
+pub taken_stands : (client : ClientNo) (tid t : Tid) (inc : ℕ) (loans : List Lent) → length (filter (is_standing_loan t inc) (take_first client tid loans)) ≡ length (filter (is_standing_loan t inc) loans)
 taken_stands client tid t inc [] = refl
 taken_stands client tid t inc (loan ∷ loans) = by (is_untaken client tid loan) (is_standing_loan t inc loan) refl (taken_stands client tid t inc loans)
   where

@@ -1,16 +1,14 @@
 -- A node gets to know a first incarnation of another one, and what waited is put for it: Meet.
-use Rattle.std.proofs.Common.{◌≡◌, ◌≢◌, ℕ, ◌+◌, ◌*◌, ◌<◌, ◌≤◌, ◌==◌, ◌&&◌, Bool, true, false, List, [], ◌∷◌, arith, refl, sym, ◌∙◌, ap, subst, if◌then◌else◌}
+use Rattle.std.proofs.Common.{◌≡◌, ◌≢◌, ℕ, ◌+◌, ◌<◌, ◌≤◌, ◌==◌, ◌&&◌, Bool, true, false, List, [], ◌∷◌, arith, refl, sym, ◌∙◌, ap, if◌then◌else◌}
 use Rattle.std.proofs.lemmas.Bool.{eqb-true}
 use Rattle.std.proofs.lemmas.Bool.Decides.{nat_tests}
-use Rattle.qs_base.specs.declared.identifiers.Tid.{Tid}
-use Rattle.qs_agree.specs.World.{World, with_at, with_at2}
+use Rattle.qs_agree.specs.World.{World, with_at2}
 use Rattle.qs_agree.specs.Step.{Step, Meet}
 use Rattle.qs_refine.specs.Faces.{Face, ShowsFace, ShowsOpen}
 use Rattle.qs_refine.specs.Links.{Said, Requested, Closed, Outcome_told, Taken_in, Inquired, Link, link, waiting_link, IsLink}
-use Rattle.qs_refine.specs.MeetingLaws.{sight_met, MeetGoes}
+use Rattle.qs_refine.specs.MeetingLaws.{MeetGoes}
 use Rattle.qs_refine.specs.Places.{place, known_place}
-use Rattle.qs_refine.specs.Sights.{Sight, ShowsSight}
-use Rattle.qs_refine.proofs.Around.{faces_around, links_around, known_is, place_some}
+use Rattle.qs_refine.proofs.Around.{links_around, known_is, place_some}
 use Rattle.qs_refine.proofs.Facts.{invariant}
 use Rattle.qs_refine.proofs.FreshRuns.{fresh}
 use Rattle.qs_refine.proofs.Same.{same_place}

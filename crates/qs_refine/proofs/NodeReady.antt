@@ -62,7 +62,7 @@ none_counted tid (d ∷ rest) none = by (is_of tid d) none (none_counted tid res
     by true none more = absurd (cc none)
     by false none more = more none
 
-none_waits : (tid : Tid) (queues : IpcValue) (s : ServerNo) → ipc.waits tid queues ≡ false → count_of tid (queue_at queues s).waiting ≡ 0
+pub none_waits : (tid : Tid) (queues : IpcValue) (s : ServerNo) → ipc.waits tid queues ≡ false → count_of tid (queue_at queues s).waiting ≡ 0
 none_waits tid [] s none = refl
 none_waits tid (e ∷ es) s none = by (is_at (server_cmp s) e.0) refl (none_waits tid es s (neither (waits_at tid e.1) (ipc.waits tid es) none).1)
   where
@@ -72,7 +72,7 @@ none_waits tid (e ∷ es) s none = by (is_at (server_cmp s) e.0) refl (none_wait
 
 -- ---- no loan stands
 
-none_lent : (test : Lent → Bool) (loans : List Lent) → list_any test loans ≡ false → length (filter test loans) ≡ 0
+pub none_lent : (test : Lent → Bool) (loans : List Lent) → list_any test loans ≡ false → length (filter test loans) ≡ 0
 none_lent test [] none = refl
 none_lent test (l ∷ loans) none = by (test l) none (none_lent test loans)
   where

@@ -1,5 +1,5 @@
 -- Which nodes are in a set of those that pass a test, and in the sets that are built so.
-use Rattle.std.proofs.Common.{◌≡◌, ℕ, ◌<◌, ◌≤◌, ◌==◌, ◌&&◌, ◌||◌, not, Bool, true, false, List, [], ◌∷◌, length, fold, arith, refl, sym, subst, ap, ◌∙◌, if◌then◌else◌}
+use Rattle.std.proofs.Common.{◌≡◌, ℕ, ◌<◌, ◌≤◌, ◌==◌, ◌&&◌, ◌||◌, not, Bool, true, false, List, [], ◌∷◌, length, fold, arith, refl, sym, ap, ◌∙◌, if◌then◌else◌}
 use Rattle.std.specs.Prelude.{nat_lt, slice_index_or}
 use Rattle.std.proofs.lemmas.Bool.{eqb-true}
 use Rattle.std.proofs.lemmas.Bool.Decides.{nat_tests}
@@ -7,7 +7,6 @@ use Rattle.std.proofs.lemmas.List.{set_past, get_or_past}
 use Rattle.qs_base.specs.declared.identifiers.NodeNo.{NodeNo}
 use Rattle.qs_engage.specs.Engage.{no_peer, peer_of, has_sent, sent_to}
 use Rattle.qs_engage.specs.Nodes.{all_nodes, no_nodes, has_node, put_node, put_where, nodes_where, without, has_all}
-use Rattle.qs_engage.specs.declared.engage.PeerPart.{PeerPart}
 use Rattle.qs_engage.specs.declared.nodes.Nodes.{Nodes}
 use Rattle.qs_tm.specs.Outcomes.{drawn_in}
 use Rattle.qs_tm.specs.declared.participant.Participant.{Participant}

@@ -44,7 +44,7 @@ learns_on tid a b c first second = record {
 
 -- ---- a server is not to learn any more: its votes stand
 
-uncast_settled : (server : ServerNo) (part : Participant) (r : ℕ) → uncast_of (member_of (outcome_rules.settled server part) (server_no r)) ≡ uncast_of (member_of part (server_no r))
+pub uncast_settled : (server : ServerNo) (part : Participant) (r : ℕ) → uncast_of (member_of (outcome_rules.settled server part) (server_no r)) ≡ uncast_of (member_of part (server_no r))
 uncast_settled server part r = by (nat_lt server.0 (length part.members)) refl
   where
     within : (b : Bool) → (r == server.0) ≡ b → uncast_of (if b then record (member_of part server) { fresh = false } else member_of part (server_no r)) ≡ uncast_of (member_of part (server_no r))
@@ -64,7 +64,7 @@ notified tid notice server work new after =
     keeps_on tid work told new (leaves_keeps tid work told (out_leaves tid work told (record { around = record { setting = refl; waits = λ s. refl; loans = refl; past = refl }; part = refl }) refl refl))
     (keeps_on tid told (notify tid notice server work) new (part_keeps tid (outcome_rules.settled server) told (settled_hidden tid server told.node)) after)
 
-end_learns : (tid : Tid) (work : Work) (server : ServerNo) → Learns tid work (end_member tid work server)
+pub end_learns : (tid : Tid) (work : Work) (server : ServerNo) → Learns tid work (end_member tid work server)
 end_learns tid work server = record {
   keeps = notified tid notices.Ending server work (end_member tid work server)
       (leaves_keeps tid (notify tid notices.Ending server work) (end_member tid work server) (out_leaves tid (notify tid notices.Ending server work) (end_member tid work server) (record { around = record { setting = refl; waits = λ s. refl; loans = refl; past = refl }; part = refl }) refl refl));
@@ -78,7 +78,7 @@ learn_learns tid outcome work server = record {
   silent = record { messages = refl; records = refl; setting = refl };
 }
 
-all_learn : (tid : Tid) (f : Work → ServerNo → Work) → ((work : Work) (server : ServerNo) → Learns tid work (f work server)) → (servers : List ServerNo) (work : Work) → Learns tid work (fold f work servers)
+pub all_learn : (tid : Tid) (f : Work → ServerNo → Work) → ((work : Work) (server : ServerNo) → Learns tid work (f work server)) → (servers : List ServerNo) (work : Work) → Learns tid work (fold f work servers)
 all_learn tid f each [] work = record { keeps = keeps_itself tid work; silent = record { messages = refl; records = refl; setting = refl } }
 all_learn tid f each (server ∷ servers) work = learns_on tid work (f work server) (fold f (f work server) servers) (each work server) (all_learn tid f each servers (f work server))
 

@@ -1,7 +1,7 @@
 -- Who is not engaged has nothing open, after every run of the machine.
-use Rattle.std.proofs.Common.{◌≡◌, ℕ, ◌≤◌, List, [], ◌∷◌, arith, sym, subst}
+use Rattle.std.proofs.Common.{ℕ, List, [], ◌∷◌, arith, sym, subst}
 use Rattle.std.proofs.lemmas.Bool.Decides.{nat_tests}
-use Rattle.qs_agree.specs.World.{World, Opening, IsOpening, start}
+use Rattle.qs_agree.specs.World.{World, Opening, start}
 use Rattle.qs_agree.specs.Laws.{Run}
 use Rattle.qs_agree.specs.Carry.{IsLawful}
 use Rattle.qs_agree.proofs.Whole.{Inv}

@@ -53,7 +53,7 @@ use Rattle.qs_refine.proofs.Requested.{label_leaves}
 module _ (t tid : Tid) (apart : Apart t tid) where
   -- ---- a request
 
-  enqueue_leaves : (server : ServerNo) (d : Delivery) (work : Work) → d.tid ≡ tid → Leaves t work (enqueue server d work)
+  pub enqueue_leaves : (server : ServerNo) (d : Delivery) (work : Work) → d.tid ≡ tid → Leaves t work (enqueue server d work)
   enqueue_leaves server d work its = by (is_for server d.op)
     where
       by : (b : Bool) → Leaves t work (if b then with_queues (ipc.enqueue server d) work else work)
@@ -82,7 +82,7 @@ module _ (t tid : Tid) (apart : Apart t tid) where
       (part_leaves t tid (participant.requested peer number) (met tid work) apart)
       (cover_leaves (tm.engaged_at tid peer (met tid work).node.manager) peer number (with_manager (tm.requested tid peer number) (met tid work))))
 
-  request_leaves : (peer : NodeNo) (label : List ℕ) (member : Member) (number : ℕ) (op : Op) (work : Work) → Leaves t work (request_came peer tid label member number op work)
+  pub request_leaves : (peer : NodeNo) (label : List ℕ) (member : Member) (number : ℕ) (op : Op) (work : Work) → Leaves t work (request_came peer tid label member number op work)
   request_leaves peer label member number op work =
       leaves_on t work (learn_label label tid work) (request_came peer tid label member number op work) (label_leaves t tid label work)
       (leaves_on t (learn_label label tid work) (engage tid peer number (learn_label label tid work)) (request_came peer tid label member number op work)
@@ -102,7 +102,7 @@ module _ (t tid : Tid) (apart : Apart t tid) where
       by true = part_leaves t tid (participant.note_served request.count) work apart
       by false = answered (waits_as tid request.member request.number (lookup (is_at (client_cmp (client_of request.issuer))) work.node.commands))
 
-  reply_leaves : (member : Member) (number : ℕ) (reply : Reply) (work : Work) → Leaves t work (reply_came tid member number reply work)
+  pub reply_leaves : (member : Member) (number : ℕ) (reply : Reply) (work : Work) → Leaves t work (reply_came tid member number reply work)
   reply_leaves member number reply work = by (waiting_at tid member number work)
     where
       by : (o : Option Outstanding) → Leaves t work (elim o [ None ↦ work | Some request ↦ take_reply tid reply request (with_manager (tm.drop_waiting tid member number) work) ])
@@ -113,7 +113,7 @@ module _ (t tid : Tid) (apart : Apart t tid) where
 
   -- ---- an AskVote, and a refusal
 
-  ask_leaves : (peer : NodeNo) (work : Work) → Leaves t work (ask_came peer tid work)
+  pub ask_leaves : (peer : NodeNo) (work : Work) → Leaves t work (ask_came peer tid work)
   ask_leaves peer work = by (part_of tid work)
     where
       asked : (b : Bool) (part : Participant) → Leaves t work (if b then become_asked tid part work else work)
@@ -130,7 +130,7 @@ module _ (t tid : Tid) (apart : Apart t tid) where
       by None = leaves_itself t work
       by (Some part) = undecided (is_undecided part) part
 
-  refusal_leaves : (cause : Cause) (work : Work) → Leaves t work (refusal_came tid cause work)
+  pub refusal_leaves : (cause : Cause) (work : Work) → Leaves t work (refusal_came tid cause work)
   refusal_leaves cause work = by (part_of tid work)
     where
       passed : (b : Bool) → Leaves t work (if b then work else send tid.home (messages.VotedAbort tid cause) work)
@@ -183,7 +183,7 @@ module _ (t tid : Tid) (apart : Apart t tid) where
       by None = learn_unknown_leaves outcome work
       by (Some part) = undecided (is_undecided part) part
 
-  tell_leaves : (peer : NodeNo) (outcome : Outcome) (work : Work) → Leaves t work (tell_came peer tid outcome work)
+  pub tell_leaves : (peer : NodeNo) (outcome : Outcome) (work : Work) → Leaves t work (tell_came peer tid outcome work)
   tell_leaves peer outcome work = by (same_node tid.home (here work))
     where
       by : (b : Bool) → Leaves t work (if b then work else send peer (messages.Told tid (names_at tid outcome work)) (take_outcome tid outcome work))
@@ -201,7 +201,7 @@ module _ (t tid : Tid) (apart : Apart t tid) where
       by true = out_leaves t work (with_queues (λ queues. queues) work) (record { around = record { setting = refl; waits = λ s. refl; loans = refl; past = refl }; part = refl }) refl refl
       by false = forget_queues_leave t tid work
 
-  forget_leaves : (work : Work) → Leaves t work (forget tid work)
+  pub forget_leaves : (work : Work) → Leaves t work (forget tid work)
   forget_leaves work =
       leaves_on t work (with_manager (tm.forget tid) work) (forget tid work) (manager_leaves t (tm.forget tid) work (forget_apart t tid work.node.manager apart)) (drop_leaves (with_manager (tm.forget tid) work))
 
@@ -223,7 +223,7 @@ module _ (t tid : Tid) (apart : Apart t tid) where
   keep_told_leaves peer work = manager_leaves t (λ manager. tm.add_tell tid peer (tm.keep_abort tid manager)) work
       (part_apart t tid (outcome_rules.add_tell peer) (tm.keep_abort tid work.node.manager) apart ∙ keep_abort_apart t tid work.node.manager apart)
 
-  told_leaves : (peer : NodeNo) (further : List NodeNo) (work : Work) → Leaves t work (told_came peer tid further work)
+  pub told_leaves : (peer : NodeNo) (further : List NodeNo) (work : Work) → Leaves t work (told_came peer tid further work)
   told_leaves peer further work = by (same_node tid.home (here work))
     where
       unknown : (b : Bool) → Leaves t work (if b then take_names tid further (keep_abort_told tid peer work) else work)
@@ -245,7 +245,7 @@ module _ (t tid : Tid) (apart : Apart t tid) where
 
   -- ---- an Inquire
 
-  inquiry_leaves : (peer : NodeNo) (work : Work) → Leaves t work (inquiry_came peer tid work)
+  pub inquiry_leaves : (peer : NodeNo) (work : Work) → Leaves t work (inquiry_came peer tid work)
   inquiry_leaves peer work = by (same_node tid.home (here work))
     where
       unknown : (b : Bool) → Leaves t work (if b then send peer (messages.Tell tid outcomes.Commit) work else send peer (messages.Tell tid outcomes.Abort) (keep_abort_told tid peer work))

@@ -1,6 +1,4 @@
 -- The laws of decisions and of how they are told and taken in, each from its file.
-use Rattle.std.proofs.Common.{◌≡◌, ℕ, sym, subst, ap, ◌∙◌}
-use Rattle.qs_base.specs.declared.identifiers.Tid.{Tid}
 use Rattle.qs_refine.specs.OutcomeLaws.{CommitAloneGoes}
 use Rattle.qs_refine.specs.Places.{place}
 use Rattle.qs_refine.proofs.CommittingAlone as alone

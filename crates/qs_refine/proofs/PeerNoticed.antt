@@ -1,5 +1,5 @@
 -- A node finds that another one restarted, and looks at one transaction: Notice.
-use Rattle.std.proofs.Common.{◌≡◌, ◌≢◌, ℕ, ◌<◌, ◌≤◌, ◌==◌, ◌&&◌, ◌||◌, not, Bool, true, false, List, [], ◌∷◌, ◌++◌, Option, Some, None, length, refl, sym, subst, ap, ◌∙◌, arith, if◌then◌else◌}
+use Rattle.std.proofs.Common.{◌≡◌, ℕ, ◌≤◌, ◌==◌, ◌&&◌, ◌||◌, not, Bool, true, false, List, [], ◌++◌, Option, Some, refl, sym, ap, ◌∙◌, arith, if◌then◌else◌}
 use Rattle.std.specs.Prelude.{nat_le}
 use Rattle.std.specs.BTreeMap.{is_at}
 use Rattle.std.proofs.lemmas.Bool.{eqb-true}
@@ -17,9 +17,8 @@ use Rattle.qs_tm.specs.Participant as participant
 use Rattle.qs_tm.specs.Participant.{is_owed_by, waits_for}
 use Rattle.qs_tm.specs.declared.participant.Participant.{Participant}
 use Rattle.qs_step.specs.Asking.{block}
-use Rattle.qs_step.specs.Restarts.{find_gone}
 use Rattle.qs_step.specs.State.{Work, part_of, with_manager}
-use Rattle.qs_agree.specs.World.{World, Open, Committed, with_at}
+use Rattle.qs_agree.specs.World.{World, Open, with_at}
 use Rattle.qs_agree.specs.Carry.{IsLawful}
 use Rattle.qs_refine.specs.Faces.{Face, ShowsFace}
 use Rattle.qs_refine.specs.Links.{Said, node_no}
@@ -29,7 +28,7 @@ use Rattle.qs_refine.specs.Places.{place}
 use Rattle.qs_refine.specs.RestartLaws.{noticed, IsNoticed, FindGoneGoes, NoticeDecidedGoes}
 use Rattle.qs_refine.specs.Seen.{SightGoes, sight_noticed}
 use Rattle.qs_refine.specs.Shows.{Scene, sent_to, said_during, unmet_during, sight_during, ShowsWork}
-use Rattle.qs_refine.specs.Sights.{Sight, ShowsSight}
+use Rattle.qs_refine.specs.Sights.{Sight}
 use Rattle.qs_refine.specs.Steps.{IsAt, Knows, Goes}
 use Rattle.qs_refine.proofs.Alike.{SameFace, same_itself, found_itself, sight_alike}
 use Rattle.qs_refine.proofs.Arrays.{peer_put}

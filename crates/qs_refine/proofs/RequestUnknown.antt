@@ -1,9 +1,8 @@
 -- A request comes to the home's node, which knows nothing of the transaction any more: Drop_cover, and Covered goes back.
-use Rattle.std.proofs.Common.{◌≡◌, ◌≢◌, ℕ, ◌≤◌, ◌==◌, Bool, true, false, List, [], ◌∷◌, Option, Some, None, refl, sym, subst, ap, ◌∙◌, arith, if◌then◌else◌}
+use Rattle.std.proofs.Common.{◌≡◌, ℕ, ◌==◌, Bool, true, false, Option, Some, None, refl, sym, subst, ap, ◌∙◌, arith, if◌then◌else◌}
 use Rattle.std.specs.BTreeMap.{is_at}
 use Rattle.std.proofs.lemmas.Bool.Decides.{nat_tests}
 use Rattle.qs_base.specs.Order.{tid_cmp}
-use Rattle.qs_base.specs.declared.identifiers.Tid.{Tid}
 use Rattle.qs_engage.specs.Nodes.{same_node}
 use Rattle.qs_engage.specs.Engage.{engaged}
 use Rattle.qs_engage.specs.declared.engage.Engaged.{Engaged}
@@ -18,13 +17,12 @@ use Rattle.qs_step.specs.Serving.{learn_label, met, engage, cover_from, take_in,
 use Rattle.qs_step.specs.declared.setting.Setting.{Setting}
 use Rattle.qs_step.specs.State.{Work, here, part_of, with_manager}
 use Rattle.qs_step.specs.Step.{message_came}
-use Rattle.qs_agree.specs.World.{World}
 use Rattle.qs_refine.specs.Faces.{Face}
-use Rattle.qs_refine.specs.Links.{Requested, node_no}
+use Rattle.qs_refine.specs.Links.{node_no}
 use Rattle.qs_refine.specs.Messages.{all_said}
 use Rattle.qs_refine.specs.NodeFaces.{face_at}
 use Rattle.qs_refine.specs.Seen.{SightGoes, sight_returned}
-use Rattle.qs_refine.specs.Shows.{Scene, sight_during, ShowsWork, handed}
+use Rattle.qs_refine.specs.Shows.{sight_during, ShowsWork, handed}
 use Rattle.qs_refine.specs.Sights.{Sight}
 use Rattle.qs_refine.specs.Steps.{IsAt, Goes}
 use Rattle.qs_refine.specs.RuleLaws.{RequestUnknownGoes}

@@ -1,40 +1,32 @@
 -- What is told again as another node restarted, and what the first step of an incarnation of the home's node does: Tell, Tell_abort and Name_again.
-use Rattle.std.proofs.Common.{◌≡◌, ◌≢◌, ℕ, ◌<◌, ◌==◌, ◌&&◌, ◌||◌, not, Bool, true, false, List, [], ◌∷◌, ◌++◌, Option, Some, None, refl, sym, subst, ap, ◌∙◌, arith, if◌then◌else◌}
+use Rattle.std.proofs.Common.{◌≡◌, ◌≢◌, ℕ, ◌==◌, ◌&&◌, ◌||◌, not, Bool, true, false, [], ◌∷◌, Some, None, refl, sym, subst, ap, ◌∙◌, arith, if◌then◌else◌}
 use Rattle.std.specs.Prelude.{is_some}
-use Rattle.std.specs.List.{filter}
 use Rattle.std.proofs.lemmas.Bool.{eqb-true}
 use Rattle.std.proofs.lemmas.Bool.Decides.{nat_tests}
-use Rattle.qs_base.specs.declared.identifiers.NodeNo.{NodeNo}
 use Rattle.qs_base.specs.declared.identifiers.Outcome.{Outcome}
 use Rattle.qs_base.specs.declared.identifiers.Outcome.TheVariants as outcomes
-use Rattle.qs_base.specs.declared.identifiers.Tid.{Tid}
 use Rattle.qs_engage.specs.Nodes.{same_node, has_node, listed}
 use Rattle.qs_packet.specs.declared.message.Message.TheVariants as messages
-use Rattle.qs_record.specs.declared.record.Record.{Record}
 use Rattle.qs_record.specs.declared.record.Record.TheVariants as records
-use Rattle.qs_restart.specs.Recovery.{recovery}
 use Rattle.qs_tm.specs.Outcomes as outcome_rules
 use Rattle.qs_tm.specs.Outcomes.{is_abort, is_told_again, named_by}
 use Rattle.qs_tm.specs.declared.participant.Participant.{Participant}
-use Rattle.qs_step.specs.Bringing.{is_forced, send, log_if}
+use Rattle.qs_step.specs.Bringing.{send, log_if}
 use Rattle.qs_step.specs.Deciding.{give_notices}
-use Rattle.qs_step.specs.Restarts.{tell_again, name_again, resume_home}
-use Rattle.qs_step.specs.declared.event.Sending.{Sending}
+use Rattle.qs_step.specs.Restarts.{name_again}
 use Rattle.qs_step.specs.State.{Work}
-use Rattle.qs_step.specs.Telling.{record_learnt}
-use Rattle.qs_agree.specs.World.{World, Committed, Aborted}
+use Rattle.qs_agree.specs.World.{Aborted}
 use Rattle.qs_refine.specs.Faces.{Face}
 use Rattle.qs_refine.specs.Links.{node_no, names_node}
-use Rattle.qs_refine.specs.Messages.{all_said}
 use Rattle.qs_refine.specs.NodeFaces.{face, face_at}
 use Rattle.qs_refine.specs.RestartLaws.{TellAgainGoes, NameHomeGoes, NameOtherGoes, ResumeCommitGoes, ResumeAbortGoes}
 use Rattle.qs_refine.specs.Seen.{NamedGoes, drew, sight_faced}
-use Rattle.qs_refine.specs.Shows.{Scene, sent_to, sight_during, ShowsWork}
+use Rattle.qs_refine.specs.Shows.{sight_during, ShowsWork}
 use Rattle.qs_refine.specs.Sights.{Sight}
 use Rattle.qs_refine.specs.Steps.{Goes}
-use Rattle.qs_refine.proofs.Alike.{SameFace, same_itself, found_itself, face_on}
-use Rattle.qs_refine.proofs.During.{Quiet, quiet_itself, quiet_on, forced_log, recovery_same, local_shown, face_here, runs}
-use Rattle.qs_refine.proofs.Keeping.{Keeps, keeps_on, keeps_goes, keeps_itself, nothing_goes, part_keeps}
+use Rattle.qs_refine.proofs.Alike.{SameFace, same_itself, found_itself}
+use Rattle.qs_refine.proofs.During.{quiet_itself, forced_log, recovery_same, local_shown, face_here, runs}
+use Rattle.qs_refine.proofs.Keeping.{Keeps, keeps_on, keeps_goes, nothing_goes, part_keeps}
 use Rattle.qs_refine.proofs.LearningAbort as event
 use Rattle.qs_refine.proofs.NamesPut.{names_put}
 use Rattle.qs_refine.proofs.Notices.{notices_learn}

@@ -112,7 +112,7 @@ ignored tid scene n m i up_to told rest work w shown at next off decided = recor
 
 -- ---- every other transaction
 
-says_nothing : (t : Tid) (message : Message) → IsForeign t message → said t message ≡ []
+pub says_nothing : (t : Tid) (message : Message) → IsForeign t message → said t message ≡ []
 says_nothing t messages.Hello apart = refl
 says_nothing t (messages.Request tid label member number issuer op) apart = rw apart refl
 says_nothing t (messages.Answered tid member number reply) apart = refl

@@ -1,5 +1,5 @@
 -- A message of the transaction goes to one node, or to each of a list, where its event may follow for each.
-use Rattle.std.proofs.Common.{◌≡◌, ◌≢◌, ℕ, ◌<◌, ◌≤◌, ◌==◌, ◌&&◌, ◌||◌, not, nat_lt, Bool, true, false, List, [], ◌∷◌, arith, refl, sym, subst, ap, ◌∙◌, if◌then◌else◌}
+use Rattle.std.proofs.Common.{◌≡◌, ◌≢◌, ℕ, ◌<◌, ◌≤◌, ◌==◌, ◌&&◌, ◌||◌, not, nat_lt, Bool, true, false, List, [], ◌∷◌, arith, refl, sym, subst, ap, if◌then◌else◌}
 use Rattle.std.proofs.lemmas.Bool.{eqb-true}
 use Rattle.std.proofs.lemmas.Bool.Decides.{nat_tests}
 use Rattle.qs_base.specs.declared.identifiers.NodeNo.{NodeNo}
@@ -26,7 +26,7 @@ use Rattle.qs_refine.proofs.Alike.{same_itself}
 use Rattle.qs_refine.proofs.During.{quiet_itself, face_here, runs}
 use Rattle.qs_refine.proofs.EventGoes.{tell}
 use Rattle.qs_refine.proofs.Keeping.{nothing_goes}
-use Rattle.qs_refine.proofs.Posting.{put_shown, sent_work, send_is}
+use Rattle.qs_refine.proofs.Posting.{put_shown, sent_work}
 use Rattle.qs_refine.proofs.Same.{tid_same}
 use Rattle.qs_refine.proofs.Telling.{tell_waits, tell_abort, tell_abort_waits}
 use Rattle.qs_refine.proofs.Unmet.{wait_shown}

@@ -1,11 +1,10 @@
 -- What a node does of itself for one transaction: readiness, refusals and forgetting.
-use Rattle.std.proofs.Common.{◌≡◌, ◌≢◌, ℕ, ◌<◌, ◌&&◌, not, Bool, true, false, List, [], ◌∷◌, Option, Some, None, fold, refl, sym, subst, ap, ◌∙◌, if◌then◌else◌}
+use Rattle.std.proofs.Common.{◌≡◌, ℕ, ◌&&◌, not, Bool, true, false, List, [], ◌∷◌, Option, Some, None, refl, sym, subst, ap, if◌then◌else◌}
 use Rattle.std.specs.Prelude.{is_none}
 use Rattle.qs_base.specs.declared.identifiers.NodeNo.{NodeNo}
 use Rattle.qs_base.specs.declared.identifiers.Outcome.TheVariants as outcomes
 use Rattle.qs_base.specs.declared.identifiers.Tid.{Tid}
-use Rattle.qs_engage.specs.Engage.{peer_of, release_of}
-use Rattle.qs_engage.specs.Nodes.{is_no_node}
+use Rattle.qs_engage.specs.Engage.{peer_of}
 use Rattle.qs_ops.specs.declared.answer.Cause.{Cause}
 use Rattle.qs_ops.specs.declared.answer.Cause.TheVariants as causes
 use Rattle.qs_packet.specs.declared.message.Message.TheVariants as messages
@@ -14,23 +13,18 @@ use Rattle.qs_tm.specs.Participant as participant
 use Rattle.qs_tm.specs.Participant.{is_undecided, only_read, needs_pass}
 use Rattle.qs_tm.specs.declared.participant.Participant.{Participant}
 use Rattle.qs_step.specs.Deciding.{decide, decide_commit}
-use Rattle.qs_step.specs.Settling.{is_busy, may_answer, is_quiet, ready, ready_rule, answer_superior, say_yes, refusal_goes_to, send_refusal, refuse_rule, refuse_elsewhere, forget_rule}
+use Rattle.qs_step.specs.Settling.{is_busy, may_answer, is_quiet, ready_rule, answer_superior, say_yes, refusal_goes_to, send_refusal, refuse_elsewhere}
 use Rattle.qs_step.specs.State.{Work, doings_of, with_manager}
 use Rattle.qs_step.specs.Telling.{forget}
-use Rattle.qs_agree.specs.World.{World}
-use Rattle.qs_agree.specs.Carry.{IsLawful}
-use Rattle.qs_refine.specs.DecisionLaws.{IsHome, HasNoDoubt}
-use Rattle.qs_refine.specs.Links.{node_no}
 use Rattle.qs_refine.specs.NodeFaces.{face}
-use Rattle.qs_refine.specs.SettleLaws.{IsElsewhere, ReadyHomeGoes, ReadyElsewhereGoes, RefuseHomeGoes, RefuseElsewhereGoes, ForgetRuleGoes}
-use Rattle.qs_refine.specs.Shows.{Scene, ShowsWork}
-use Rattle.qs_refine.specs.Steps.{IsKnown, Goes}
+use Rattle.qs_refine.specs.SettleLaws.{ReadyHomeGoes, ReadyElsewhereGoes, RefuseHomeGoes, RefuseElsewhereGoes, ForgetRuleGoes}
+use Rattle.qs_refine.specs.Steps.{Goes}
 use Rattle.qs_refine.proofs.Alike.{SameFace}
 use Rattle.qs_refine.proofs.DecideAbort as abort
 use Rattle.qs_refine.proofs.DecideCommit as commit
-use Rattle.qs_refine.proofs.During.{Leaves, send_leaves, leaves_itself, leaves_on}
+use Rattle.qs_refine.proofs.During.{Leaves, send_leaves}
 use Rattle.qs_refine.proofs.ForgetRead as forgetting
-use Rattle.qs_refine.proofs.Keeping.{Keeps, keeps_on, keeps_goes, leaves_keeps, part_keeps, nothing_goes}
+use Rattle.qs_refine.proofs.Keeping.{keeps_on, keeps_goes, leaves_keeps, part_keeps, nothing_goes}
 use Rattle.qs_refine.proofs.Others.{fold_leaves}
 use Rattle.qs_refine.proofs.SayYes.{yes_goes}
 

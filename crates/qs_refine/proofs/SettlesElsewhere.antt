@@ -1,5 +1,5 @@
 -- What another node than the home does of itself for one transaction behind its vote pass: readiness, then refusals, then forgetting.
-use Rattle.std.proofs.Common.{◌≡◌, ◌≢◌, ℕ, ◌<◌, Bool, true, false, List, [], ◌∷◌, Option, Some, None, fold, refl, sym, subst, ap, ◌∙◌, if◌then◌else◌}
+use Rattle.std.proofs.Common.{◌≡◌, ℕ, Bool, true, false, List, [], ◌∷◌, Option, Some, None, fold, refl, sym, subst, ap, ◌∙◌, if◌then◌else◌}
 use Rattle.std.specs.BTreeMap.{is_at}
 use Rattle.qs_base.specs.Order.{tid_cmp}
 use Rattle.qs_base.specs.declared.identifiers.NodeNo.{NodeNo}
@@ -7,15 +7,13 @@ use Rattle.qs_base.specs.declared.identifiers.Tid.{Tid}
 use Rattle.qs_engage.specs.Engage.{release_of}
 use Rattle.qs_engage.specs.Nodes.{is_no_node, listed}
 use Rattle.qs_ops.specs.declared.answer.Cause.{Cause}
-use Rattle.qs_packet.specs.declared.message.Message.{Message}
 use Rattle.qs_packet.specs.declared.message.Message.TheVariants as messages
 use Rattle.qs_tm.specs.Manager as tm
 use Rattle.qs_tm.specs.Outcomes.{told_with_own}
 use Rattle.qs_tm.specs.Participant as participant
 use Rattle.qs_tm.specs.declared.participant.Participant.{Participant}
-use Rattle.qs_step.specs.Bringing.{send}
-use Rattle.qs_step.specs.Settling.{may_answer, ready, ready_rule, answer_superior, say_yes, refusal_goes_to, send_refusal, refuse_rule, refuse_elsewhere, refuse_home, forget_rule, try}
-use Rattle.qs_step.specs.State.{NodeValue, Work, here, part_of, with_manager}
+use Rattle.qs_step.specs.Settling.{may_answer, ready, ready_rule, say_yes, refusal_goes_to, send_refusal, refuse_rule, refuse_elsewhere, forget_rule, try}
+use Rattle.qs_step.specs.State.{NodeValue, Work, here, with_manager}
 use Rattle.qs_agree.specs.World.{World}
 use Rattle.qs_agree.specs.Carry.{IsLawful}
 use Rattle.qs_agree.proofs.Carries.{leads_on}
@@ -23,7 +21,7 @@ use Rattle.qs_refine.specs.Links.{node_no}
 use Rattle.qs_refine.specs.SettleLaws.{IsElsewhere, SettleElsewhereGoes}
 use Rattle.qs_refine.specs.Shows.{Scene, ShowsWork}
 use Rattle.qs_refine.specs.Sound.{in_order}
-use Rattle.qs_refine.specs.Steps.{IsAt, IsWhole, IsKnown, Goes}
+use Rattle.qs_refine.specs.Steps.{IsWhole, IsKnown, Goes}
 use Rattle.qs_refine.proofs.Facts.{lawful_on}
 use Rattle.qs_refine.proofs.Forgetting.{order_changed}
 use Rattle.qs_refine.proofs.Known.{undecided_is}

@@ -1,5 +1,5 @@
 -- What a node does of itself for one transaction behind its vote pass: readiness, then refusals, then forgetting.
-use Rattle.std.proofs.Common.{◌≡◌, ◌≢◌, ℕ, ◌<◌, ◌&&◌, not, Bool, true, false, List, [], ◌∷◌, Option, Some, None, fold, length, refl, sym, subst, ap, ◌∙◌, if◌then◌else◌}
+use Rattle.std.proofs.Common.{◌≡◌, ℕ, ◌&&◌, not, Bool, true, false, List, [], ◌∷◌, Option, Some, None, fold, refl, sym, subst, ap, ◌∙◌, if◌then◌else◌}
 use Rattle.std.specs.Prelude.{is_none}
 use Rattle.std.specs.BTreeMap.{is_at}
 use Rattle.qs_base.specs.Order.{tid_cmp}
@@ -8,33 +8,29 @@ use Rattle.qs_base.specs.declared.identifiers.Outcome.{Outcome}
 use Rattle.qs_base.specs.declared.identifiers.Outcome.TheVariants as outcomes
 use Rattle.qs_base.specs.declared.identifiers.ServerNo.{ServerNo}
 use Rattle.qs_base.specs.declared.identifiers.Tid.{Tid}
-use Rattle.qs_engage.specs.Engage.{peer_of}
-use Rattle.qs_engage.specs.Nodes.{is_no_node, listed}
+use Rattle.qs_engage.specs.Nodes.{listed}
 use Rattle.qs_ops.specs.declared.answer.Cause.{Cause}
 use Rattle.qs_ops.specs.declared.answer.Cause.TheVariants as causes
-use Rattle.qs_ops.specs.declared.vote.Notice.{Notice}
 use Rattle.qs_packet.specs.declared.message.Message.{Message}
 use Rattle.qs_packet.specs.declared.message.Message.TheVariants as messages
 use Rattle.qs_record.specs.declared.record.Record.{Record}
 use Rattle.qs_tm.specs.Manager as tm
 use Rattle.qs_tm.specs.Outcomes as outcome_rules
-use Rattle.qs_tm.specs.Participant as participant
 use Rattle.qs_tm.specs.Participant.{is_undecided, only_read}
 use Rattle.qs_tm.specs.declared.participant.Participant.{Participant}
 use Rattle.qs_step.specs.Asking.{where_undecided}
-use Rattle.qs_step.specs.Bringing.{send, send_each, log_if}
+use Rattle.qs_step.specs.Bringing.{send, send_each}
 use Rattle.qs_step.specs.Deciding.{decide, decide_commit, end_member, end_members, due_endings, learn_member, learners_at, give_notices}
-use Rattle.qs_step.specs.Settling.{may_answer, is_quiet, ready_rule, answer_superior, say_yes, refusal_goes_to, send_refusal, refuse_rule, refuse_elsewhere, forget_rule, try}
+use Rattle.qs_step.specs.Settling.{may_answer, is_quiet, ready_rule, refuse_rule, refuse_elsewhere, forget_rule, try}
 use Rattle.qs_step.specs.Settling.{refuse_home as refuse_at_home}
 use Rattle.qs_step.specs.State.{Work, doings_of, part_of, with_manager}
 use Rattle.qs_step.specs.Telling.{forget}
 use Rattle.qs_agree.specs.World.{World}
 use Rattle.qs_agree.specs.Carry.{IsLawful}
 use Rattle.qs_refine.specs.DecisionLaws.{IsHome, HasNoDoubt}
-use Rattle.qs_refine.specs.Links.{node_no}
 use Rattle.qs_refine.specs.SettleLaws.{SettleHomeGoes}
 use Rattle.qs_refine.specs.Shows.{Scene, ShowsWork}
-use Rattle.qs_refine.specs.Steps.{IsAt, IsKnown, Knows, Goes}
+use Rattle.qs_refine.specs.Steps.{Goes}
 use Rattle.qs_refine.proofs.Deciding as deciding
 use Rattle.qs_refine.proofs.Deciding.{IsOwn}
 use Rattle.qs_refine.proofs.Keeping.{nothing_goes}
@@ -45,10 +41,10 @@ use Rattle.qs_refine.proofs.Settles.{ready_home, refuse_home}
 
 -- ---- a transaction that a node has decided, of which nothing more is due
 
-record IsDecided (tid : Tid) (work : Work) : Type 0 where
-  part : Participant
-  known : part_of tid work ≡ Some part
-  decided : is_undecided part ≡ false
+pub record IsDecided (tid : Tid) (work : Work) : Type 0 where
+  pub part : Participant
+  pub known : part_of tid work ≡ Some part
+  pub decided : is_undecided part ≡ false
 
 decided_still : (tid : Tid) (rule : Participant → Work → Work) (work : Work) → IsDecided tid work → where_undecided tid rule work ≡ work
 decided_still tid rule work is =
@@ -86,7 +82,7 @@ module _ (tid : Tid) (scene : Scene) (work : Work) (part : Participant) (is_home
   }
 
   -- once it is decided it stays so
-  decided_now : (outcome : Outcome) (cause : Option Cause) → IsDecided tid (decide tid outcome cause work)
+  pub decided_now : (outcome : Outcome) (cause : Option Cause) → IsDecided tid (decide tid outcome cause work)
   decided_now outcome cause = subst (λ (k : Work). IsDecided tid k) (sym (deciding.decide_is tid scene outcome cause work part is_home (outcome_rules.record_of tid outcome part) refl))
       (decided_sent tid (messages.Tell tid outcome) (listed (outcome_rules.tell_of outcome part)) (deciding.noticed tid scene outcome cause work part is_home (outcome_rules.record_of tid outcome part))
       (decided_notices tid outcome (deciding.entered tid scene outcome cause work part is_home (outcome_rules.record_of tid outcome part)) (decided_entered outcome cause (outcome_rules.record_of tid outcome part) (own outcome))))

@@ -77,18 +77,18 @@ module _ (t tid : Tid) (other : same_tid t tid ≡ false) where
 
 -- ---- those that are picked, in order
 
-abbrev is_home_open : Participant → Bool
+abbrev pub is_home_open : Participant → Bool
 is_home_open part = part.engage.home && is_undecided part
 
-abbrev open_in : List (Tid × Participant) → Tid → Bool
+abbrev pub open_in : List (Tid × Participant) → Tid → Bool
 open_in es t = elim (lookup (is_at (tid_cmp t)) es) [ None ↦ false | Some p ↦ is_home_open p ]
 
 module _ (which : Which) where
-  abbrev picked : List (Tid × Participant) → List Tid
+  abbrev pub picked : List (Tid × Participant) → List Tid
   picked [] = []
   picked (e ∷ es) = if is_one which e.0 e.1 then e.0 ∷ picked es else picked es
 
-  put_all : (es : List (Tid × Participant)) (tids : List Tid) → fold (put_tid which) tids es ≡ tids ++ picked es
+  pub put_all : (es : List (Tid × Participant)) (tids : List Tid) → fold (put_tid which) tids es ≡ tids ++ picked es
   put_all [] tids = sym (append-nil tids)
   put_all (e ∷ es) tids = by (is_one which e.0 e.1) (put_all es (tids ++ e.0 ∷ [])) (put_all es tids)
     where
@@ -97,7 +97,7 @@ module _ (which : Which) where
       by true more rest = more ∙ append_assoc tids (e.0 ∷ []) (picked es)
       by false more rest = rest
 
-  abbrev is_fit : List (Tid × Participant) → Tid × Participant → Bool
+  abbrev pub is_fit : List (Tid × Participant) → Tid × Participant → Bool
   is_fit es e = where_so (is_one which e.0 e.1) (open_in es e.0)
 
   fit_more : (e : Tid × Participant) (es xs : List (Tid × Participant)) → list_all (is_below e.0) xs ≡ true → list_all (is_fit es) xs ≡ true → list_all (is_fit (e ∷ es)) xs ≡ true
@@ -112,7 +112,7 @@ module _ (which : Which) where
       past a b is = grind (arith, nat_tests, is)
 
   module _ (opens : (t : Tid) (part : Participant) → is_one which t part ≡ true → is_home_open part ≡ true) where
-    all_fit : (es : List (Tid × Participant)) → in_order es ≡ true → list_all (is_fit es) es ≡ true
+    pub all_fit : (es : List (Tid × Participant)) → in_order es ≡ true → list_all (is_fit es) es ≡ true
     all_fit [] ordered = refl
     all_fit (e ∷ es) ordered = both_and (is_fit (e ∷ es) e) (list_all (is_fit (e ∷ es)) es) (subst (λ (c : Bool). where_so (is_one which e.0 e.1) (elim (cond c (Some e.1) (lookup (is_at (tid_cmp e.0)) es)) [ None ↦ false | Some p ↦ is_home_open p ]) ≡ true) (sym (self e.0)) (by (is_one which e.0 e.1) refl)) (fit_more e es es (behind e es ordered) (all_fit es (order_tail e es ordered)))
       where
@@ -125,14 +125,14 @@ module _ (which : Which) where
 
 -- ---- they are aborted one by one
 
-abbrev is_open_at : Work → Tid → Bool
+abbrev pub is_open_at : Work → Tid → Bool
 is_open_at work t = tm.told_of t false is_home_open work.node.manager
 
 module _ (which : Which) (age : ℕ) where
-  abbrev still_fits : Work → Tid × Participant → Bool
+  abbrev pub still_fits : Work → Tid × Participant → Bool
   still_fits work e = where_so (is_one which e.0 e.1) (is_open_at work e.0)
 
-  aborted : (work : Work) (tid : Tid) → is_open_at work tid ≡ true → is_sound work.node ≡ true → is_sound (abort_old age work tid).node ≡ true
+  pub aborted : (work : Work) (tid : Tid) → is_open_at work tid ≡ true → is_sound work.node ≡ true → is_sound (abort_old age work tid).node ≡ true
   aborted work tid its sound = by (part_of tid work) refl
     where
       by : (o : Option Participant) → part_of tid work ≡ o → is_sound (abort_old age work tid).node ≡ true
@@ -143,7 +143,7 @@ module _ (which : Which) (age : ℕ) where
           let both : (part.engage.home ≡ true) × (is_undecided part ≡ true) = and_both part.engage.home (is_undecided part) (told_part is_home_open tid work.node.manager part known its) in
           decide_abort_sound tid part (Some (causes.Old age)) work known both.1 both.0 sound
 
-  fits_on : (tid : Tid) (work : Work) (es : List (Tid × Participant)) → list_all (is_below tid) es ≡ true → list_all (still_fits work) es ≡ true → list_all (still_fits (abort_old age work tid)) es ≡ true
+  pub fits_on : (tid : Tid) (work : Work) (es : List (Tid × Participant)) → list_all (is_below tid) es ≡ true → list_all (still_fits work) es ≡ true → list_all (still_fits (abort_old age work tid)) es ≡ true
   fits_on tid work [] above all = refl
   fits_on tid work (x ∷ xs) above all =
       let low : (is_below tid x ≡ true) × (list_all (is_below tid) xs ≡ true) = and_both (is_below tid x) (list_all (is_below tid) xs) above in

@@ -101,7 +101,7 @@ module _ (client : ClientNo) (tid : Tid) (loan : Lent) (work : Work) (found : la
   served_now : may_be_served work.node tid ≡ true
   served_now = lent_served work.node tid work.node.kept.now.loans (seen work.node sound).loans stands_now
 
-  loan_open : tm.told_of tid false is_open work.node.manager ≡ true
+  pub loan_open : tm.told_of tid false is_open work.node.manager ≡ true
   loan_open = by (part_of tid work) refl
     where
       undecided_now : (part : Participant) → part_of tid work ≡ Some part → is_undecided part ≡ true
@@ -160,10 +160,10 @@ borrower_command_sound client tid (commands.Request member op) work in_run = loa
 -- ---- the owner: what is not decided runs at its home here
 
 module _ (client : ClientNo) (tid : Tid) (work : Work) (owned : tm.told_of tid false (λ part. part.engage.home && is_undecided part) work.node.manager ≡ true) where
-  home_is : (part : Participant) → part_of tid work ≡ Some part → part.engage.home ≡ true
+  pub home_is : (part : Participant) → part_of tid work ≡ Some part → part.engage.home ≡ true
   home_is part known = (and_both part.engage.home (is_undecided part) (told_part (λ p. p.engage.home && is_undecided p) tid work.node.manager part known owned)).0
 
-  owner_open : tm.told_of tid false is_open work.node.manager ≡ true
+  pub owner_open : tm.told_of tid false is_open work.node.manager ≡ true
   owner_open = by (part_of tid work) owned
     where
       both : (h u t : Bool) → (h && u) ≡ true → (u && not (not h && (u && not (if h then u else t)))) ≡ true

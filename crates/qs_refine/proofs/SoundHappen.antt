@@ -42,7 +42,7 @@ use Rattle.qs_refine.proofs.SoundTell.{tell_came_sound}
 
 -- ---- commands
 
-find_all : (p q : Begun → Bool) (xs : List Begun) (x : Begun) → find p xs ≡ Some x → list_all q xs ≡ true → q x ≡ true
+pub find_all : (p q : Begun → Bool) (xs : List Begun) (x : Begun) → find p xs ≡ Some x → list_all q xs ≡ true → q x ≡ true
 find_all p q [] x found all = absurd (cc (found))
 find_all p q (y ∷ ys) x found all = by (p y) refl (find_all p q ys x)
   where
@@ -97,7 +97,7 @@ obey_sound line (commands.Request member op) work in_run owns = obeyed_sound lin
 low_peer : (peer : NodeNo) (work : Work) → nat_lt peer.0 work.node.setting.nodes ≡ true → is_sound work.node ≡ true → peer.0 < 16
 low_peer peer work in_run sound = let few : nat_le work.node.setting.nodes 16 ≡ true = few_nodes work.node (seen work.node sound).fits in grind (arith, nat_tests, in_run, few)
 
-message_sound : (peer : NodeNo) (message : Message) (work : Work) → nat_lt peer.0 work.node.setting.nodes ≡ true → same_node peer work.node.setting.node ≡ false → FitsMessage peer message work
+pub message_sound : (peer : NodeNo) (message : Message) (work : Work) → nat_lt peer.0 work.node.setting.nodes ≡ true → same_node peer work.node.setting.node ≡ false → FitsMessage peer message work
     → StaysSound work (message_came peer message work)
 message_sound peer messages.Hello work in_run other fits = λ sound. sound
 message_sound peer (messages.Request tid label member number issuer op) work in_run other fits = request_came_sound peer tid label member number op work in_run other fits.0 fits.1

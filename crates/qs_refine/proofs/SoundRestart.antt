@@ -117,7 +117,7 @@ module _ (peer : NodeNo) (old new : ℕ) (within : peer.0 < 16) where
       by true = again (is_told_again peer part)
       by false = named (is_abort part.outcome && same_node tid.home peer)
 
-  notice_sound : (work : Work) (tid : Tid) → StaysSound work (notice_tid peer old new work tid)
+  pub notice_sound : (work : Work) (tid : Tid) → StaysSound work (notice_tid peer old new work tid)
   notice_sound work tid sound = by (part_of tid work) sound
     where
       numbered : Work
@@ -172,7 +172,7 @@ resume_part_sound tid part work known sound = by part.outcome refl sound
     by None is so = rw (send_node tid.home (messages.Inquire tid) work) sound
     by (Some outcome) is so = resumed outcome is
 
-resume_tid_sound : (work : Work) (tid : Tid) → StaysSound work (resume_tid work tid)
+pub resume_tid_sound : (work : Work) (tid : Tid) → StaysSound work (resume_tid work tid)
 resume_tid_sound work tid = by (part_of tid work) refl
   where
     by : (o : Option Participant) → part_of tid work ≡ o → StaysSound work (elim o [ None ↦ work | Some part ↦ resume_part tid part work ])

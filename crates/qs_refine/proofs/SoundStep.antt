@@ -177,7 +177,7 @@ borrower_leaves client tid (commands.Request member op) work = loan_leaves clien
 
 -- ---- an open command
 
-abbrev Carries : Work → Work → Type 0
+abbrev pub Carries : Work → Work → Type 0
 Carries work new = (is_sound work.node ≡ true) × (commands_in_run work.node ≡ true) → (is_sound new.node ≡ true) × (commands_in_run new.node ≡ true)
 
 both_carry : (work new : Work) → StaysSound work new → Leaves work new → Carries work new
@@ -215,7 +215,7 @@ module _ (client : ClientNo) (command : OpenCommand) (work : Work) (in_run : goe
       by None = λ has. has
       by (Some begun) = label_carries begun (is_owner client begun.owner)
 
-found_all : (p : ClientNo → Bool) (q : ClientNo × OpenCommand → Bool) (r : OpenCommand → Bool) → ((e : ClientNo × OpenCommand) → q e ≡ r e.1) → (es : List (ClientNo × OpenCommand)) (v : OpenCommand) → lookup p es ≡ Some v → list_all q es ≡ true → r v ≡ true
+pub found_all : (p : ClientNo → Bool) (q : ClientNo × OpenCommand → Bool) (r : OpenCommand → Bool) → ((e : ClientNo × OpenCommand) → q e ≡ r e.1) → (es : List (ClientNo × OpenCommand)) (v : OpenCommand) → lookup p es ≡ Some v → list_all q es ≡ true → r v ≡ true
 found_all p q r same [] v found all = absurd (cc (found))
 found_all p q r same (e ∷ es) v found all = by (p e.0) refl (found_all p q r same es v)
   where
@@ -226,7 +226,7 @@ found_all p q r same (e ∷ es) v found all = by (p e.0) refl (found_all p q r s
     by true is more = let value : Some e.1 ≡ Some v = rw is at found in subst (λ (x : OpenCommand). r x ≡ true) (cc (value)) (sym (same e) ∙ both.0)
     by false is more = more (rw is at found) both.1
 
-wait_carries : (work : Work) (client : ClientNo) → Carries work (wait_on work client)
+pub wait_carries : (work : Work) (client : ClientNo) → Carries work (wait_on work client)
 wait_carries work client = by (lookup (is_at (client_cmp client)) work.node.commands) refl
   where
     by : (o : Option OpenCommand) → lookup (is_at (client_cmp client)) work.node.commands ≡ o → Carries work (elim o [ None ↦ work | Some command ↦ wait_command client command work ])

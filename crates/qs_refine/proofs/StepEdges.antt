@@ -1,20 +1,17 @@
 -- What shows the world shows the work as a step begins, and the other way round as it ends.
-use Rattle.std.proofs.Common.{◌≡◌, ℕ, ◌==◌, ◌&&◌, not, Bool, true, false, List, [], ◌∷◌, ◌++◌, refl, sym, ap, ◌∙◌, if◌then◌else◌}
+use Rattle.std.proofs.Common.{◌≡◌, ℕ, ◌==◌, ◌&&◌, not, Bool, true, false, List, [], ◌++◌, refl, if◌then◌else◌}
 use Rattle.std.specs.List.{filter}
 use Rattle.std.proofs.lemmas.Bool.{eqb-true}
-use Rattle.qs_base.specs.declared.identifiers.Tid.{Tid}
 use Rattle.qs_packet.specs.declared.message.Message.{Message}
-use Rattle.qs_record.specs.declared.record.Record.{Record}
 use Rattle.qs_restart.specs.Recovery.{recovery}
 use Rattle.qs_step.specs.Bringing.{is_forced}
-use Rattle.qs_step.specs.State.{Work, work_on}
+use Rattle.qs_step.specs.State.{work_on}
 use Rattle.qs_step.specs.Step.{accept}
-use Rattle.qs_agree.specs.World.{World}
 use Rattle.qs_refine.specs.Links.{Said}
 use Rattle.qs_refine.specs.Messages.{all_said}
 use Rattle.qs_refine.specs.NodeFaces.{face_at}
-use Rattle.qs_refine.specs.Shows.{Scene, sight, sent_to, sight_during, said_during, unmet_during, Shows, ShowsWork}
-use Rattle.qs_refine.specs.StepLaws.{StepBegins, SaysSame, stepped, StepEnds}
+use Rattle.qs_refine.specs.Shows.{sight, sent_to, sight_during, said_during, unmet_during}
+use Rattle.qs_refine.specs.StepLaws.{StepBegins, stepped, StepEnds}
 use Rattle.qs_refine.proofs.Alike.{SameFace, SameFound, same_itself, found_itself, sight_alike}
 use Rattle.qs_refine.proofs.Reading.{face_for}
 use Rattle.qs_refine.proofs.Sending.{append_nil, said_append}

@@ -1,14 +1,12 @@
 -- The home's node takes in one more whom an abort is to be told: Take_names.
-use Rattle.std.proofs.Common.{◌≡◌, ◌≢◌, ℕ, ◌==◌, true, [], ◌∷◌, arith, refl, if◌then◌else◌}
+use Rattle.std.proofs.Common.{◌≢◌, ℕ, true, [], ◌∷◌, arith, refl}
 use Rattle.std.proofs.lemmas.Bool.Decides.{nat_tests}
-use Rattle.qs_base.specs.declared.identifiers.Tid.{Tid}
 use Rattle.qs_agree.specs.World.{World, Committed, Aborted, with_at, with_at2}
 use Rattle.qs_agree.specs.Step.{Step, Take_names}
 use Rattle.qs_refine.specs.Faces.{Face, ShowsFace}
-use Rattle.qs_refine.specs.InquiryLaws.{telling_face, MayTellAbort, TakeNameGoes}
+use Rattle.qs_refine.specs.InquiryLaws.{telling_face, TakeNameGoes}
 use Rattle.qs_refine.specs.Links.{link, waiting_link}
 use Rattle.qs_refine.specs.Places.{place}
-use Rattle.qs_refine.specs.Sights.{Sight, ShowsSight}
 use Rattle.qs_refine.proofs.Inquired.{IsToTell, tells_abort, not_committed, to_tell}
 use Rattle.qs_refine.proofs.Local.{Local, local_sight}
 use Rattle.qs_refine.proofs.Streams.{Stays}

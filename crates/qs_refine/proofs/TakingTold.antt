@@ -1,12 +1,11 @@
 -- The home takes in that a node acknowledged the commit: Take_told.
-use Rattle.std.proofs.Common.{◌≡◌, ◌⊎◌, inl, inr, ℕ, ◌==◌, Bool, true, false, List, [], ◌∷◌, arith, refl, sym, ◌∙◌, subst, ap, if◌then◌else◌}
+use Rattle.std.proofs.Common.{◌≡◌, inl, inr, ℕ, true, false, List, [], ◌∷◌, arith, refl, ◌∙◌, subst}
 use Rattle.std.proofs.lemmas.Bool.Decides.{nat_tests}
-use Rattle.qs_base.specs.declared.identifiers.NodeNo.{NodeNo}
 use Rattle.qs_base.specs.declared.identifiers.Tid.{Tid}
-use Rattle.qs_agree.specs.World.{World, Committed, Aborted, with_at}
+use Rattle.qs_agree.specs.World.{World, Committed, with_at}
 use Rattle.qs_agree.specs.Step.{Step, Take_told}
 use Rattle.qs_refine.specs.Faces.{Face, ShowsFace}
-use Rattle.qs_refine.specs.Links.{Said, Taken_in, link, waiting_link, is_aborted, IsLink, IsTaken, node_no, names_node}
+use Rattle.qs_refine.specs.Links.{Said, Taken_in, link, waiting_link, is_aborted, IsLink, IsTaken}
 use Rattle.qs_refine.specs.OutcomeLaws.{TakeToldGoes}
 use Rattle.qs_refine.specs.Places.{place}
 use Rattle.qs_refine.specs.Sights.{Sight, ShowsSight}

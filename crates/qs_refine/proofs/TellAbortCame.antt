@@ -1,67 +1,46 @@
 -- A Tell with abort comes to another node than the home: Learn_abort or Name_again; and Told goes, with the names of all whom it drew in.
-use Rattle.std.proofs.Common.{◌≡◌, ◌≢◌, inr, ℕ, ◌<◌, ◌==◌, ◌&&◌, not, Bool, true, false, List, [], ◌∷◌, ◌++◌, Option, Some, None, unwrap_or, length, refl, sym, subst, ap, ◌∙◌, arith, if◌then◌else◌}
-use Rattle.std.specs.Prelude.{is_some}
-use Rattle.std.specs.List.{filter}
-use Rattle.std.specs.BTreeMap.{is_at}
+use Rattle.std.proofs.Common.{◌≡◌, ◌≢◌, ℕ, ◌<◌, ◌==◌, Bool, true, false, List, [], ◌∷◌, Option, Some, None, length, refl, sym, subst, ap, ◌∙◌, arith, if◌then◌else◌}
 use Rattle.std.proofs.lemmas.Bool.Decides.{nat_tests}
 use Rattle.std.proofs.lemmas.List.{length-set}
-use Rattle.qs_base.specs.Order.{tid_cmp}
 use Rattle.qs_base.specs.declared.identifiers.NodeNo.{NodeNo}
-use Rattle.qs_base.specs.declared.identifiers.Outcome.{Outcome}
 use Rattle.qs_base.specs.declared.identifiers.Outcome.TheVariants as outcomes
 use Rattle.qs_base.specs.declared.identifiers.Tid.{Tid}
 use Rattle.qs_engage.specs.Engage.{peer_of}
-use Rattle.qs_engage.specs.Nodes.{all_nodes, no_nodes, same_node, has_node, is_no_node, listed}
+use Rattle.qs_engage.specs.Nodes.{all_nodes, no_nodes, same_node, has_node, listed}
 use Rattle.qs_packet.specs.declared.message.Message.{Message}
 use Rattle.qs_packet.specs.declared.message.Message.TheVariants as messages
-use Rattle.qs_record.specs.declared.record.Record.{Record}
-use Rattle.qs_record.specs.declared.record.Record.TheVariants as records
-use Rattle.qs_restart.specs.Recovery.{recovery}
-use Rattle.qs_tm.specs.Manager as tm
-use Rattle.qs_tm.specs.Outcomes as outcome_rules
-use Rattle.qs_tm.specs.Outcomes.{drawn_in, named_by, aborted_participant}
-use Rattle.qs_tm.specs.Participant.{new_participant, is_undecided}
+use Rattle.qs_tm.specs.Outcomes.{drawn_in, named_by}
+use Rattle.qs_tm.specs.Participant.{is_undecided}
 use Rattle.qs_tm.specs.declared.participant.Participant.{Participant}
-use Rattle.qs_step.specs.Bringing.{is_other, is_forced, send, log_if}
-use Rattle.qs_step.specs.Deciding.{give_notices}
-use Rattle.qs_step.specs.declared.event.Sending.{Sending}
-use Rattle.qs_step.specs.declared.setting.Setting.{Setting}
-use Rattle.qs_step.specs.State.{Work, here, part_of, with_manager}
+use Rattle.qs_step.specs.Bringing.{send}
+use Rattle.qs_step.specs.State.{Work, here}
 use Rattle.qs_step.specs.Step.{message_came}
 use Rattle.qs_step.specs.Telling.{learn, learn_unknown, names_at, names_of, take_outcome}
-use Rattle.qs_agree.specs.World.{World, Open, Aborted}
+use Rattle.qs_agree.specs.World.{World, Aborted}
 use Rattle.qs_agree.specs.Carry.{IsLawful}
-use Rattle.qs_refine.specs.AbortRules.{IsToldAbort, TellAbortGoes, TellAbortAgainGoes, TellAbortUnknownGoes}
+use Rattle.qs_refine.specs.AbortRules.{IsToldAbort, TellAbortAgainGoes}
 use Rattle.qs_refine.specs.Faces.{Face}
-use Rattle.qs_refine.specs.Links.{Said, Outcome_told, Taken_in, Link, link, is_aborted, IsLink, IsTaken, IsEmpty, node_no, names_node}
+use Rattle.qs_refine.specs.Links.{Said, Outcome_told, link, IsLink, node_no, names_node}
 use Rattle.qs_refine.specs.Messages.{all_said}
-use Rattle.qs_refine.specs.NodeFaces.{face, face_at, part_at, unknown_at_home, began_here}
+use Rattle.qs_refine.specs.NodeFaces.{face, face_at, began_here}
 use Rattle.qs_refine.specs.Places.{place}
 use Rattle.qs_refine.specs.Seen.{NamedGoes, drew, sight_faced}
-use Rattle.qs_refine.specs.Shows.{Scene, sent_to, sight_during, ShowsWork, handed}
-use Rattle.qs_refine.specs.Sights.{Sight, ShowsSight}
+use Rattle.qs_refine.specs.Shows.{Scene, sight_during, ShowsWork, handed}
+use Rattle.qs_refine.specs.Sights.{Sight}
 use Rattle.qs_refine.specs.Steps.{IsAt, IsWhole, Knows, Goes}
-use Rattle.qs_refine.proofs.Alike.{SameFace, SameFound, face_on, same_itself, found_itself}
+use Rattle.qs_refine.proofs.Alike.{same_itself}
 use Rattle.qs_refine.proofs.Around.{known_is, place_some}
 use Rattle.qs_refine.proofs.Arrays.{node_dropped}
-use Rattle.qs_refine.proofs.During.{Quiet, quiet_itself, forced_log, recovery_same, local_shown, face_here, runs, meets}
-use Rattle.qs_refine.proofs.Facts.{lawful_on}
+use Rattle.qs_refine.proofs.During.{quiet_itself, local_shown, face_here, runs, meets}
 use Rattle.qs_refine.proofs.Handing.{taken_shown, head_said}
-use Rattle.qs_refine.proofs.Keeping.{part_keeps}
-use Rattle.qs_refine.proofs.Known.{told_is, is_open}
-use Rattle.qs_refine.proofs.Learning.{uncounted_taken, uncounted_said}
-use Rattle.qs_refine.proofs.LearningAbort.{learn_abort, name_again}
-use Rattle.qs_refine.proofs.Maps.{lookup_changed, lookup_put}
-use Rattle.qs_refine.proofs.MetWork.{tid_itself}
+use Rattle.qs_refine.proofs.Known.{told_is}
+use Rattle.qs_refine.proofs.Learning.{uncounted_taken}
+use Rattle.qs_refine.proofs.LearningAbort.{name_again}
 use Rattle.qs_refine.proofs.NamesPut.{names_put}
-use Rattle.qs_refine.proofs.NodeSets.{listed_has, none_listed, where_length}
+use Rattle.qs_refine.proofs.NodeSets.{listed_has, where_length}
 use Rattle.qs_refine.proofs.NodeTests.{drawn_has}
-use Rattle.qs_refine.proofs.Notices.{Learns, notices_learn}
-use Rattle.qs_refine.proofs.Posting.{put_shown, send_is}
 use Rattle.qs_refine.proofs.Reading.{part_known}
 use Rattle.qs_refine.proofs.Same.{tid_same}
-use Rattle.qs_refine.proofs.StartWorlds.{nobody}
-use Rattle.qs_refine.proofs.Streams.{ended}
 
 -- the names that a Told carries are of nodes that it drew in, and not of the home
 pub named_drew : (home : NodeNo) (part : Participant) (k : ℕ) → IsWhole part → home.0 < 16 → names_node (listed (named_by home part)) (node_no k) ≡ true

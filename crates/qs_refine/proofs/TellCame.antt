@@ -1,10 +1,10 @@
 -- A Tell with commit comes to a node that is undecided: Learn where it is involved, else Acknowledge; and Told goes.
-use Rattle.std.proofs.Common.{◌≡◌, ◌≢◌, inl, inr, ℕ, ◌<◌, ◌==◌, ◌&&◌, not, Bool, true, false, List, [], ◌∷◌, ◌++◌, Option, Some, None, refl, sym, subst, ap, ◌∙◌, arith, if◌then◌else◌}
-use Rattle.std.specs.List.{filter, list_any}
+use Rattle.std.proofs.Common.{◌≡◌, ◌≢◌, inl, inr, ℕ, ◌<◌, ◌==◌, ◌&&◌, Bool, true, false, List, [], ◌∷◌, ◌++◌, Option, Some, None, refl, sym, subst, ap, ◌∙◌, arith, if◌then◌else◌}
+use Rattle.std.specs.List.{filter}
 use Rattle.std.specs.BTreeMap.{is_at}
 use Rattle.std.proofs.lemmas.Bool.{eqb-true}
 use Rattle.std.proofs.lemmas.Bool.Decides.{nat_tests}
-use Rattle.qs_base.specs.Order.{tid_cmp, same_tid}
+use Rattle.qs_base.specs.Order.{tid_cmp}
 use Rattle.qs_base.specs.declared.identifiers.NodeNo.{NodeNo}
 use Rattle.qs_base.specs.declared.identifiers.Outcome.TheVariants as outcomes
 use Rattle.qs_base.specs.declared.identifiers.Tid.{Tid}
@@ -13,7 +13,7 @@ use Rattle.qs_packet.specs.declared.message.Message.TheVariants as messages
 use Rattle.qs_packet.specs.declared.message.Message.{Message}
 use Rattle.qs_record.specs.declared.record.Record.{Record}
 use Rattle.qs_record.specs.declared.record.Record.TheVariants as records
-use Rattle.qs_restart.specs.Recovery.{Recovery, Prepared, recovery, found_record, is_of, is_vote_of}
+use Rattle.qs_restart.specs.Recovery.{Recovery, recovery, found_record}
 use Rattle.qs_tm.specs.Manager as tm
 use Rattle.qs_tm.specs.Outcomes as outcome_rules
 use Rattle.qs_tm.specs.Participant.{is_undecided}
@@ -33,7 +33,7 @@ use Rattle.qs_refine.specs.NodeFaces.{face, face_at, began_here}
 use Rattle.qs_refine.specs.Places.{place}
 use Rattle.qs_refine.specs.Seen.{AckGoes, sight_faced, sight_learnt}
 use Rattle.qs_refine.specs.Shows.{Scene, sent_to, sight_during, ShowsWork, handed}
-use Rattle.qs_refine.specs.Sights.{Sight, ShowsSight, server_no, is_in_doubt}
+use Rattle.qs_refine.specs.Sights.{Sight, ShowsSight, is_in_doubt}
 use Rattle.qs_refine.specs.Steps.{IsAt, Knows, IsNext, IsKnown, Goes}
 use Rattle.qs_refine.proofs.Alike.{SameFace, SameFound, face_on, same_itself, found_itself, sight_alike}
 use Rattle.qs_refine.proofs.Around.{known_is, place_some}

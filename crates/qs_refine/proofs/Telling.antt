@@ -1,11 +1,11 @@
 -- The home tells an outcome, to a place that is known or to one that is to come: Tell and Tell_abort.
-use Rattle.std.proofs.Common.{◌≡◌, ◌≢◌, ◌⊎◌, inl, inr, ℕ, ◌<◌, ◌==◌, true, false, List, [], ◌∷◌, arith, refl, sym, ◌∙◌, subst, ap, if◌then◌else◌}
+use Rattle.std.proofs.Common.{◌≡◌, ◌⊎◌, inl, inr, ℕ, ◌<◌, true, false, [], ◌∷◌, arith, refl, sym, ◌∙◌, subst, ap}
 use Rattle.std.proofs.lemmas.Bool.Decides.{nat_tests}
 use Rattle.qs_base.specs.declared.identifiers.Tid.{Tid}
-use Rattle.qs_agree.specs.World.{World, Committed, Aborted, with_at}
+use Rattle.qs_agree.specs.World.{World, Aborted, with_at}
 use Rattle.qs_agree.specs.Step.{Step, Tell, Tell_abort}
 use Rattle.qs_refine.specs.Faces.{Face, ShowsFace}
-use Rattle.qs_refine.specs.Links.{Said, Outcome_told, link, waiting_link, IsLink}
+use Rattle.qs_refine.specs.Links.{Outcome_told, link, waiting_link, IsLink}
 use Rattle.qs_refine.specs.OutcomeLaws.{TellWaitsGoes, TellAbortGoes, TellAbortWaitsGoes}
 use Rattle.qs_refine.specs.Places.{place}
 use Rattle.qs_refine.specs.Seen.{Runs, SightGoes, sight_said}

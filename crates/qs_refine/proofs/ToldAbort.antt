@@ -1,5 +1,5 @@
 -- A Told comes to the home's node, which knows abort: Take_names for each name, then Tell_abort for each new one.
-use Rattle.std.proofs.Common.{◌≡◌, ◌≢◌, ◌⊎◌, inl, inr, ℕ, ◌<◌, ◌==◌, ◌&&◌, ◌||◌, not, Bool, true, false, List, [], ◌∷◌, Option, Some, None, length, refl, sym, subst, ap, ◌∙◌, arith, if◌then◌else◌}
+use Rattle.std.proofs.Common.{◌≡◌, inl, inr, ℕ, ◌<◌, ◌==◌, ◌&&◌, ◌||◌, not, Bool, true, false, List, [], ◌∷◌, Option, Some, None, length, refl, sym, subst, ap, ◌∙◌, arith, if◌then◌else◌}
 use Rattle.std.specs.BTreeMap.{is_at}
 use Rattle.std.proofs.lemmas.Bool.{eqb-true}
 use Rattle.std.proofs.lemmas.Bool.Decides.{nat_tests}
@@ -21,7 +21,7 @@ use Rattle.qs_step.specs.Bringing.{send_each}
 use Rattle.qs_step.specs.State.{Work, here, part_of, with_manager}
 use Rattle.qs_step.specs.Step.{message_came}
 use Rattle.qs_step.specs.Telling.{told_unknown, told_known}
-use Rattle.qs_agree.specs.World.{World, Aborted, with_at}
+use Rattle.qs_agree.specs.World.{World, Aborted}
 use Rattle.qs_refine.specs.Faces.{Face, ShowsFace}
 use Rattle.qs_refine.specs.InquiryLaws.{telling_face, NamesGoes}
 use Rattle.qs_refine.specs.Links.{Said, Taken_in, link, IsLink, IsTaken, node_no, names_node}
@@ -48,7 +48,6 @@ use Rattle.qs_refine.proofs.Same.{tid_same}
 use Rattle.qs_refine.proofs.SendGoes.{goes_on, tells_abort}
 use Rattle.qs_refine.proofs.StartWorlds.{nobody}
 use Rattle.qs_refine.proofs.TakingNames.{take_name}
-use Rattle.qs_agree.specs.Carry.{Leads}
 use Rattle.qs_agree.proofs.Carries.{leads_on}
 
 -- ---- one name after another

@@ -1,6 +1,5 @@
 -- Messages about an outcome that bring nothing new: Acknowledge where commit is told again, and no event otherwise.
-use Rattle.std.proofs.Common.{◌≡◌, ◌≢◌, ◌⊎◌, inl, inr, ℕ, ◌<◌, ◌==◌, ◌&&◌, ◌||◌, Bool, true, false, List, [], ◌∷◌, ◌++◌, Option, Some, None, unwrap_or, refl, sym, subst, ap, ◌∙◌, arith, if◌then◌else◌}
-use Rattle.std.specs.List.{list_any}
+use Rattle.std.proofs.Common.{◌≡◌, ◌≢◌, ◌⊎◌, inl, inr, ℕ, ◌<◌, Bool, true, false, List, [], ◌∷◌, ◌++◌, Option, Some, None, unwrap_or, refl, sym, subst, ap, ◌∙◌, arith, if◌then◌else◌}
 use Rattle.std.proofs.lemmas.Bool.Decides.{nat_tests}
 use Rattle.qs_base.specs.declared.identifiers.NodeNo.{NodeNo}
 use Rattle.qs_base.specs.declared.identifiers.Outcome.{Outcome}
@@ -9,15 +8,13 @@ use Rattle.qs_base.specs.declared.identifiers.Tid.{Tid}
 use Rattle.qs_engage.specs.Nodes.{same_node}
 use Rattle.qs_packet.specs.declared.message.Message.{Message}
 use Rattle.qs_packet.specs.declared.message.Message.TheVariants as messages
-use Rattle.qs_tm.specs.Manager as tm
 use Rattle.qs_tm.specs.Participant.{new_participant, is_undecided}
 use Rattle.qs_tm.specs.declared.participant.Participant.{Participant}
 use Rattle.qs_step.specs.Bringing.{send}
 use Rattle.qs_step.specs.State.{Work, here, part_of}
 use Rattle.qs_step.specs.Step.{message_came}
-use Rattle.qs_step.specs.Telling.{learn, learn_unknown, names_at, names_of, take_outcome, told_at_home, told_unknown, told_known, is_other_node, take_names, keep_abort_told}
+use Rattle.qs_step.specs.Telling.{learn, learn_unknown, names_at, names_of, take_outcome, told_at_home, told_unknown, told_known, take_names, keep_abort_told}
 use Rattle.qs_agree.specs.World.{World, Open, Committed}
-use Rattle.qs_agree.specs.Carry.{IsLawful}
 use Rattle.qs_refine.specs.AgainLaws.{IsToldCommit, TellCommitUnknownGoes, TellCommitAgainGoes, TellHomeGoes, ToldElsewhereGoes, ToldRunningGoes, ToldNobodyGoes}
 use Rattle.qs_refine.specs.Faces.{Face}
 use Rattle.qs_refine.specs.Links.{Said, Outcome_told, Taken_in, link, IsLink, node_no}
@@ -27,7 +24,7 @@ use Rattle.qs_refine.specs.Places.{place}
 use Rattle.qs_refine.specs.Seen.{AckGoes, sight_faced}
 use Rattle.qs_refine.specs.Shows.{Scene, sight_during, ShowsWork, handed}
 use Rattle.qs_refine.specs.Sights.{Sight}
-use Rattle.qs_refine.specs.Steps.{IsAt, IsNext, IsKnown, Knows, Goes}
+use Rattle.qs_refine.specs.Steps.{IsAt, IsNext, Goes}
 use Rattle.qs_refine.proofs.Alike.{same_itself}
 use Rattle.qs_refine.proofs.Around.{known_is, place_some}
 use Rattle.qs_refine.proofs.During.{quiet_itself, local_shown, face_here, runs, meets}

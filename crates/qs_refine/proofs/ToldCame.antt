@@ -1,7 +1,6 @@
 -- A Told comes to the home's node, which knows the commit: Take_told; with the last one the commit is over there.
-use Rattle.std.proofs.Common.{◌≡◌, ◌≢◌, ℕ, ◌<◌, ◌==◌, ◌&&◌, ◌||◌, not, Bool, true, false, List, [], ◌∷◌, ◌++◌, Option, Some, None, unwrap_or, length, refl, sym, subst, ap, ◌∙◌, arith, if◌then◌else◌}
+use Rattle.std.proofs.Common.{◌≡◌, ℕ, ◌<◌, ◌==◌, ◌&&◌, not, Bool, true, false, List, Option, Some, None, unwrap_or, refl, sym, subst, ap, ◌∙◌, arith, if◌then◌else◌}
 use Rattle.std.specs.Prelude.{is_some}
-use Rattle.std.specs.List.{list_any}
 use Rattle.std.specs.BTreeMap.{is_at}
 use Rattle.std.proofs.lemmas.Bool.{eqb-true}
 use Rattle.std.proofs.lemmas.Bool.Decides.{nat_tests}
@@ -10,12 +9,10 @@ use Rattle.qs_base.specs.declared.identifiers.NodeNo.{NodeNo}
 use Rattle.qs_base.specs.declared.identifiers.Outcome.{Outcome}
 use Rattle.qs_base.specs.declared.identifiers.Outcome.TheVariants as outcomes
 use Rattle.qs_base.specs.declared.identifiers.Tid.{Tid}
-use Rattle.qs_engage.specs.Nodes.{same_node, has_node, put_node, has_all, without, is_no_node}
+use Rattle.qs_engage.specs.Nodes.{same_node, has_node, put_node, has_all}
 use Rattle.qs_packet.specs.declared.message.Message.{Message}
 use Rattle.qs_packet.specs.declared.message.Message.TheVariants as messages
-use Rattle.qs_record.specs.declared.record.Record.{Record}
 use Rattle.qs_record.specs.declared.record.Record.TheVariants as records
-use Rattle.qs_restart.specs.Recovery.{is_untold_of}
 use Rattle.qs_tm.specs.Manager as tm
 use Rattle.qs_tm.specs.Outcomes as outcome_rules
 use Rattle.qs_tm.specs.Participant.{new_participant}
@@ -23,19 +20,19 @@ use Rattle.qs_tm.specs.declared.participant.Participant.{Participant}
 use Rattle.qs_step.specs.Bringing.{log}
 use Rattle.qs_step.specs.State.{Work, here, part_of, with_manager}
 use Rattle.qs_step.specs.Step.{message_came}
-use Rattle.qs_step.specs.Telling.{told_unknown, told_known, end_told, forget, take_told}
+use Rattle.qs_step.specs.Telling.{told_unknown, told_known, end_told, forget}
 use Rattle.qs_agree.specs.World.{World, Committed}
 use Rattle.qs_agree.specs.Carry.{IsLawful}
 use Rattle.qs_refine.specs.DecisionLaws.{ShowsTold, GoesTold, GoesEnding, KnowsCommit, IsListed, ToldCommitGoes, ToldLastGoes}
 use Rattle.qs_refine.specs.Faces.{Face}
-use Rattle.qs_refine.specs.Links.{Said, Taken_in, node_no, names_node}
+use Rattle.qs_refine.specs.Links.{node_no}
 use Rattle.qs_refine.specs.Messages.{all_said}
-use Rattle.qs_refine.specs.NodeFaces.{face, face_at, part_at, is_past_commit, unknown_at_home, unknown, began_here}
+use Rattle.qs_refine.specs.NodeFaces.{face, face_at, part_at, is_past_commit, unknown_at_home, began_here}
 use Rattle.qs_refine.specs.Places.{place}
 use Rattle.qs_refine.specs.SeenOutcome.{ToldGoes}
 use Rattle.qs_refine.specs.Seen.{sight_taken}
 use Rattle.qs_refine.specs.Shows.{Scene, sight_during, ShowsWork, handed}
-use Rattle.qs_refine.specs.Sights.{Sight, ShowsSight, list_of, with_at4}
+use Rattle.qs_refine.specs.Sights.{Sight, with_at4}
 use Rattle.qs_refine.specs.Sound.{in_order}
 use Rattle.qs_refine.specs.Steps.{IsAt, IsNext}
 use Rattle.qs_refine.proofs.Alike.{SameFace, same_itself, found_itself}

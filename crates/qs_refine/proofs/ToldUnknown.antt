@@ -1,5 +1,5 @@
 -- A Told that names others comes to a later incarnation of the home's node, which knows nothing of the transaction: Take_names for each name, then Tell_abort for each.
-use Rattle.std.proofs.Common.{◌≡◌, ◌≢◌, ◌⊎◌, inl, inr, ℕ, ◌<◌, ◌==◌, ◌&&◌, ◌||◌, not, Bool, true, false, List, [], ◌∷◌, Option, Some, None, length, refl, sym, subst, ap, ◌∙◌, arith, if◌then◌else◌}
+use Rattle.std.proofs.Common.{◌≡◌, ◌≢◌, ◌⊎◌, inl, inr, ℕ, ◌<◌, ◌==◌, ◌&&◌, ◌||◌, Bool, true, false, List, [], ◌∷◌, Option, Some, None, length, refl, sym, subst, ap, ◌∙◌, arith, if◌then◌else◌}
 use Rattle.std.specs.List.{list_any}
 use Rattle.std.specs.BTreeMap.{is_at}
 use Rattle.std.proofs.lemmas.Bool.{eqb-true}
@@ -10,7 +10,6 @@ use Rattle.qs_base.specs.declared.identifiers.NodeNo.{NodeNo}
 use Rattle.qs_base.specs.declared.identifiers.Outcome.TheVariants as outcomes
 use Rattle.qs_base.specs.declared.identifiers.Tid.{Tid}
 use Rattle.qs_engage.specs.Nodes.{all_nodes, no_nodes, same_node, has_node, joined, without, listed}
-use Rattle.qs_engage.specs.declared.nodes.Nodes.{Nodes}
 use Rattle.qs_packet.specs.declared.message.Message.{Message}
 use Rattle.qs_packet.specs.declared.message.Message.TheVariants as messages
 use Rattle.qs_tm.specs.Manager as tm
@@ -26,11 +25,11 @@ use Rattle.qs_agree.specs.World as machine
 use Rattle.qs_agree.specs.Carry.{IsLawful}
 use Rattle.qs_refine.specs.Faces.{Face, ShowsFace}
 use Rattle.qs_refine.specs.InquiryLaws.{telling_face, NamesGoes}
-use Rattle.qs_refine.specs.Links.{Said, Taken_in, link, is_aborted, IsLink, IsTaken, node_no, names_node}
-use Rattle.qs_refine.specs.Messages.{said, all_said}
+use Rattle.qs_refine.specs.Links.{Taken_in, link, is_aborted, IsLink, IsTaken, node_no, names_node}
+use Rattle.qs_refine.specs.Messages.{all_said}
 use Rattle.qs_refine.specs.NodeFaces.{face, face_at, unknown_at_home, began_here, is_past_commit}
 use Rattle.qs_refine.specs.Places.{place}
-use Rattle.qs_refine.specs.Seen.{Runs, sight_faced}
+use Rattle.qs_refine.specs.Seen.{sight_faced}
 use Rattle.qs_refine.specs.Shows.{Scene, sight_during, ShowsWork, handed}
 use Rattle.qs_refine.specs.Sights.{Sight, ShowsSight}
 use Rattle.qs_refine.specs.Steps.{IsAt, IsNext, Goes}
@@ -47,7 +46,6 @@ use Rattle.qs_refine.proofs.NodeSets.{listed_has, where_length}
 use Rattle.qs_refine.proofs.NodeTests.{where_is, in_run}
 use Rattle.qs_refine.proofs.Reading.{part_known}
 use Rattle.qs_refine.proofs.Refaced.{refaced}
-use Rattle.qs_refine.proofs.Same.{tid_same}
 use Rattle.qs_refine.proofs.SendGoes.{goes_on, tells_abort}
 use Rattle.qs_refine.proofs.StartWorlds.{nobody}
 use Rattle.qs_refine.proofs.TakingNames.{take_name}

@@ -5,7 +5,6 @@ use Rattle.qs_agree.specs.World.{World, Open, Committed, Aborted, with_at}
 use Rattle.qs_agree.specs.Carry.{Leads}
 use Rattle.qs_refine.specs.Faces.{Face}
 use Rattle.qs_refine.specs.Links.{Said, Inquired}
-use Rattle.qs_refine.specs.Places.{place}
 use Rattle.qs_refine.specs.Seen.{Runs, Meets, SightGoes, sight_faced, sight_taken}
 use Rattle.qs_refine.specs.Sights.{Sight, ShowsSight}
 

@@ -33,3 +33,15 @@ pub mod StartLaws
 pub mod SoundLaws
 pub mod SoundSteps
 pub mod SoundMoves
+pub mod PassLaws
+pub mod Stands
+pub mod SettleWhole
+pub mod TickLaws
+pub mod CommandLaws
+pub mod RestartWhole
+pub mod ServeWhole
+pub mod StepWhole
+pub mod MessageWhole
+pub mod RestartFound
+pub mod OutcomeWhole
+pub mod RequestWhole

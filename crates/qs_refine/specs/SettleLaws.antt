@@ -1,5 +1,5 @@
 -- The laws of what a node does of itself for one transaction at the end of a step: what shows the work before shows it after.
-use Rattle.std.specs.Prelude.{◌≡◌, ◌≢◌, ℕ, ◌<◌, ◌≤◌, true, false, None, Some}
+use Rattle.std.specs.Prelude.{◌≡◌, ◌≢◌, ℕ, ◌<◌, true, false, None, Some}
 use Rattle.qs_base.specs.declared.identifiers.Tid.{Tid}
 use Rattle.qs_engage.specs.Nodes.{is_no_node}
 use Rattle.qs_tm.specs.declared.participant.Participant.{Participant}

@@ -1,5 +1,5 @@
 -- The laws of where a node's step begins and ends: what shows the world shows the work as it begins, and what shows the work as it ends shows the world once its messages are put and its records stand.
-use Rattle.std.specs.Prelude.{◌≡◌, ℕ, ◌==◌, Bool, not, ◌&&◌, List, [], ◌++◌, if◌then◌else◌}
+use Rattle.std.specs.Prelude.{◌≡◌, ℕ, ◌==◌, not, ◌&&◌, List, ◌++◌, if◌then◌else◌}
 use Rattle.std.specs.List.{filter, list_any}
 use Rattle.qs_base.specs.Order.{same_tid}
 use Rattle.qs_base.specs.declared.identifiers.Tid.{Tid}

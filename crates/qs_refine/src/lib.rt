@@ -5,4 +5,5 @@ pub mod events;
 pub mod rules;
 pub mod sound_rules;
 pub mod starts;
+pub mod steps;
 pub mod trials;
