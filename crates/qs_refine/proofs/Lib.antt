@@ -19,6 +19,7 @@ pub mod Crashing
 pub mod DecideAbort
 pub mod DecideCommit
 pub mod Deciding
+pub mod Doubts
 pub mod During
 pub mod EventFaces
 pub mod EventGoes
@@ -67,6 +68,8 @@ pub mod Others
 pub mod OthersCame
 pub mod OutcomeGoes
 pub mod PeerNoticed
+pub mod Placing
+pub mod Posted
 pub mod Posting
 pub mod Putting
 pub mod Queues
@@ -85,9 +88,19 @@ pub mod RestartGoes
 pub mod Restarting
 pub mod Resuming
 pub mod Returning
+pub mod RisenFaces
 pub mod RuleGoes
+pub mod SaidMoves
+pub mod SaidSteps
 pub mod Same
 pub mod SayYes
+pub mod SaysLogs
+pub mod SaysOn
+pub mod SaysOutcomes
+pub mod SaysRules
+pub mod SaysSeen
+pub mod SaysSettles
+pub mod SaysStep
 pub mod SendGoes
 pub mod Sending
 pub mod ServeGoes
@@ -138,6 +151,7 @@ pub mod Streams
 pub mod Taking
 pub mod TakingNames
 pub mod TakingTold
+pub mod TakingUp
 pub mod TellAbortCame
 pub mod TellCame
 pub mod Telling

@@ -49,14 +49,14 @@ module _ (tid : Tid) (part : Participant) (work : Work) (known : part_of tid wor
       by true home = quiet home (is_quiet (doings_of tid work))
       by false away = answer_superior_sound tid part work known may
 
-  ready_rule_sound : StaysSound work (ready_rule tid part work)
+  pub ready_rule_sound : StaysSound work (ready_rule tid part work)
   ready_rule_sound = by (may_answer tid part work) refl
     where
       by : (b : Bool) → may_answer tid part work ≡ b → StaysSound work (if b then ready tid part work else work)
       by true may = ready_sound may
       by false may = λ sound. sound
 
-  refuse_rule_sound : StaysSound work (refuse_rule tid part work)
+  pub refuse_rule_sound : StaysSound work (refuse_rule tid part work)
   refuse_rule_sound = by part.engage.home refl
     where
       first : part.engage.home ≡ true → (list : List Cause) → StaysSound work (elim list [ [] ↦ work | cause ∷ more ↦ decide tid outcomes.Abort (Some cause) work ])
@@ -67,7 +67,7 @@ module _ (tid : Tid) (part : Participant) (work : Work) (known : part_of tid wor
       by true home = first home part.causes
       by false away = refuse_elsewhere_sound tid part work
 
-settle_tid_sound : (work : Work) (tid : Tid) → StaysSound work (settle_tid work tid)
+pub settle_tid_sound : (work : Work) (tid : Tid) → StaysSound work (settle_tid work tid)
 settle_tid_sound work tid sound =
     undecided_known tid (forget_rule tid) refused (λ part known open_now. forget_rule_sound tid part refused known)
     (undecided_known tid (refuse_rule tid) readied (λ part known open_now. refuse_rule_sound tid part readied known open_now)

@@ -33,3 +33,5 @@ pub mod StartLaws
 pub mod SoundLaws
 pub mod SoundSteps
 pub mod SoundMoves
+pub mod RiseLaws
+pub mod SaidLaws

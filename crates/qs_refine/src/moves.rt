@@ -1,0 +1,28 @@
+//! Moves of the world: a node stops and restarts, and each move as events of the agreement machine.
+ghost use Rattle.qs_refine.specs.SaidLaws.{SaidSeen, SeenSaid, StepSaid, StepSeated, OpenedSaid, RestartSaid, MoveSaid};
+ghost use Rattle.qs_refine.specs.RiseLaws.{StartPlaced, StaysPlaced, RisenFace, RiseGoes};
+
+/// A place that has not begun knows nobody, and 0 is no place.
+pub fn places()
+    ensures start { StartPlaced }
+    ensures stay { StaysPlaced }
+{}
+
+/// A node opens over its log in a later incarnation, and what is seen of a transaction is what the log says of it; so the
+/// machine shows it after the restart, at the home's node or another one, with votes in doubt or none.
+pub fn risings()
+    ensures face { RisenFace }
+    ensures rise { RiseGoes }
+{}
+
+/// A node that is sound over its log keeps of each transaction what the log says, with the records that wait: where a world
+/// begins, after a whole step and a restart, and after each move.
+pub fn logs()
+    ensures seen { SaidSeen }
+    ensures said { SeenSaid }
+    ensures opens { OpenedSaid }
+    ensures step { StepSaid }
+    ensures seated { StepSeated }
+    ensures restart { RestartSaid }
+    ensures moves { MoveSaid }
+{}
