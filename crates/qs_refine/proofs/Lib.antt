@@ -1,4 +1,5 @@
 pub mod Aborting
+pub mod Acking
 pub mod Agreeing
 pub mod AgreeingLost
 pub mod Alike
@@ -9,7 +10,9 @@ pub mod Arrays
 pub mod Asking
 pub mod Ballots
 pub mod Beginning
+pub mod Channelled
 pub mod CloserCame
+pub mod ClosingAll
 pub mod Committing
 pub mod CommittingAlone
 pub mod CountFaces
@@ -56,6 +59,8 @@ pub mod Logging
 pub mod Maps
 pub mod Meeting
 pub mod MetWork
+pub mod MoveGoes
+pub mod Moving
 pub mod NamesPut
 pub mod NodeReady
 pub mod NodeSets
@@ -101,6 +106,8 @@ pub mod SaysRules
 pub mod SaysSeen
 pub mod SaysSettles
 pub mod SaysStep
+pub mod Seating
+pub mod SeenMoved
 pub mod SendGoes
 pub mod Sending
 pub mod ServeGoes
@@ -146,6 +153,7 @@ pub mod StartLogs
 pub mod StartWorlds
 pub mod Starting
 pub mod StepEdges
+pub mod StepMoves
 pub mod Still
 pub mod Streams
 pub mod Taking

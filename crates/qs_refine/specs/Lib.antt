@@ -35,3 +35,4 @@ pub mod SoundSteps
 pub mod SoundMoves
 pub mod RiseLaws
 pub mod SaidLaws
+pub mod MoveLaws

@@ -1,4 +1,5 @@
 //! Moves of the world: a node stops and restarts, and each move as events of the agreement machine.
+ghost use Rattle.qs_refine.specs.MoveLaws.{StartSeated, MoveSeated, StaysClosed, ClosedGoes, MoveGoes};
 ghost use Rattle.qs_refine.specs.SaidLaws.{SaidSeen, SeenSaid, StepSaid, StepSeated, OpenedSaid, RestartSaid, MoveSaid};
 ghost use Rattle.qs_refine.specs.RiseLaws.{StartPlaced, StaysPlaced, RisenFace, RiseGoes};
 
@@ -25,4 +26,23 @@ pub fn logs()
     ensures seated { StepSeated }
     ensures restart { RestartSaid }
     ensures moves { MoveSaid }
+{}
+
+/// Records of a transaction that wait may close it, and still may while their node runs; and the machine goes on as they
+/// reach the disk.
+pub fn closings()
+    ensures stays { StaysClosed }
+    ensures goes { ClosedGoes }
+{}
+
+/// The nodes of a world sit in their places, where it begins and after each move.
+pub fn seats()
+    ensures start { StartSeated }
+    ensures moves { MoveSeated }
+{}
+
+/// What shows the world before a move shows it after: a whole step and one that is cut off, as far as the step goes on by
+/// events of the machine, a stop, a restart and a first meeting.
+pub fn going()
+    ensures moves { MoveGoes }
 {}
