@@ -34,6 +34,7 @@ pub mod Frames
 pub mod Fresh
 pub mod FreshRuns
 pub mod Handing
+pub mod InTurn
 pub mod InquireSent
 pub mod Inquired
 pub mod Inquiring
@@ -44,6 +45,7 @@ pub mod IssueAway
 pub mod IssueHere
 pub mod Issuing
 pub mod IssuingUnmet
+pub mod Joining
 pub mod Keeping
 pub mod Known
 pub mod Lasting
@@ -69,6 +71,7 @@ pub mod Notices
 pub mod Noticing
 pub mod Off
 pub mod OffRuns
+pub mod OpenMoves
 pub mod Others
 pub mod OthersCame
 pub mod OutcomeGoes

@@ -120,7 +120,7 @@ module _ (tid : Tid) (world : World) (w : machine.World) (seated : IsSeated worl
 in_run : (world : World) (n stamp : ℕ) → is_in_order world n stamp ≡ true → n < world.size
 in_run world n stamp is = grind (arith, nat_tests, (and_both (nat_lt n world.size) _ (and_both (nat_lt n world.size && nat_lt stamp _) _ is).0).0)
 
-later_in : (world : World) (n stamp : ℕ) → is_later world n stamp ≡ true → n < world.size
+pub later_in : (world : World) (n stamp : ℕ) → is_later world n stamp ≡ true → n < world.size
 later_in world n stamp is = in_run world n stamp (and_both (is_in_order world n stamp) _ is).0
 
 pub move_goes : MoveGoes

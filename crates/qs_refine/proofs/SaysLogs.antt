@@ -1,5 +1,5 @@
 -- A record that is appended: the flags say of its transaction what the log says then.
-use Rattle.std.proofs.Common.{◌≡◌, ◌⊎◌, inl, inr, ◌==◌, not, Bool, true, false, List, [], ◌∷◌, length, Option, Some, None, refl, sym, ap, subst, ◌∙◌, arith}
+use Rattle.std.proofs.Common.{◌≡◌, ◌||◌, ◌⊎◌, inl, inr, ◌==◌, not, Bool, true, false, List, [], ◌∷◌, length, Option, Some, None, refl, sym, ap, subst, ◌∙◌, arith}
 use Rattle.std.specs.List.{filter, list_any}
 use Rattle.std.specs.Map.{lookup}
 use Rattle.std.specs.BTreeMap.{is_at}
@@ -66,11 +66,17 @@ module _ (rec : Record) (work : Work) (may : MayLog rec work) where
           ap (λ (es : List (Tid × Participant)). told (lookup (is_at (tid_cmp (tid_of rec))) es)) (Rattle.qs_refine.proofs.Maps.changed_none (is_at (tid_cmp (tid_of rec))) (logged rec) work.node.manager.known none)
           ∙ (ap told none ∙ (unknown_flags rec loose ∙ ap (in_log rec) (sym (ap told none))))
 
+  or_none : (a : Bool) → a ≡ (a || false)
+  or_none true = refl
+  or_none false = refl
+
   pub log_on : SaysOn work (log rec work)
   log_on = record {
     setting = refl;
     more = rec ∷ [];
     records = refl;
+    forced = ap (λ (f : Bool). work.out.force || f) (or_none (is_forced rec));
+    commands = λ is. is;
     said = λ said is t. by said is t (same_tid t (tid_of rec)) refl;
   }
     where

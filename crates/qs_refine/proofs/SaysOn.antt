@@ -1,8 +1,10 @@
 -- Pieces of a step that leave a node sound over its log, one after another.
-use Rattle.std.proofs.Common.{◌≡◌, Bool, true, false, List, [], ◌∷◌, ◌++◌, fold, Option, Some, None, is_some, refl, sym, ap, subst, ◌∙◌, arith, if◌then◌else◌}
+use Rattle.std.proofs.Common.{◌≡◌, ◌||◌, Bool, true, false, List, [], ◌∷◌, ◌++◌, fold, Option, Some, None, is_some, refl, sym, ap, subst, ◌∙◌, arith, if◌then◌else◌}
 use Rattle.std.specs.Map.{lookup, set_value}
 use Rattle.std.specs.BTreeMap.{is_at}
 use Rattle.std.proofs.lemmas.Bool.Decides.{nat_tests}
+use Rattle.std.specs.List.{list_any}
+use Rattle.std.proofs.lemmas.List.Folds.{list_any-append}
 use Rattle.std.proofs.lemmas.List.Sums.{fold-append}
 use Rattle.qs_base.specs.Order.{same_tid, tid_cmp}
 use Rattle.qs_base.specs.declared.identifiers.ClientNo.{ClientNo}
@@ -21,15 +23,17 @@ use Rattle.qs_tm.specs.Manager as tm
 use Rattle.qs_tm.specs.Manager.{changed_value}
 use Rattle.qs_tm.specs.declared.participant.InLog.{InLog}
 use Rattle.qs_tm.specs.declared.participant.Participant.{Participant}
-use Rattle.qs_step.specs.Bringing.{enter, send, send_next, send_each, answer, is_other}
+use Rattle.qs_step.specs.Bringing.{enter, send, send_next, send_each, answer, is_other, is_forced}
 use Rattle.qs_step.specs.State.{Work, with_manager, with_queues, with_kept, with_doings, change_server, client_cmp}
 use Rattle.qs_step.specs.declared.state.Doings.{Doings}
 use Rattle.qs_step.specs.declared.state.OpenCommand.{OpenCommand}
 use Rattle.qs_refine.specs.SaidLaws.{no_flags, flags_at, AreSaid, SaysOn}
+use Rattle.qs_refine.specs.SoundSteps.{is_open_in_run, commands_in_run}
 use Rattle.qs_refine.proofs.Maps.{lookup_put}
 use Rattle.qs_refine.proofs.Others.{put_apart}
 use Rattle.qs_refine.proofs.Sending.{append_nil}
 use Rattle.qs_refine.proofs.SoundKnown.{same_is}
+use Rattle.qs_refine.proofs.SoundStep.{all_left}
 
 -- ---- one after another
 
@@ -37,34 +41,57 @@ pub append_three : {A : Type 0} (xs ys zs : List A) → (xs ++ ys) ++ zs ≡ xs 
 append_three [] ys zs = refl
 append_three (x ∷ xs) ys zs = ap (λ (l : List _). x ∷ l) (append_three xs ys zs)
 
+or_more : (a b c : Bool) → ((a || b) || c) ≡ (a || (b || c))
+or_more true b c = refl
+or_more false b c = refl
+
+or_none : (a : Bool) → a ≡ (a || false)
+or_none true = refl
+or_none false = refl
+
 pub on_then : {a b c : Work} → SaysOn a b → SaysOn b c → SaysOn a c
 on_then {a} {b} {c} first second = record {
   setting = second.setting ∙ first.setting;
   more = first.more ++ second.more;
   records = second.records ∙ (ap (λ (l : List Record). l ++ second.more) first.records ∙ append_three a.out.records first.more second.more);
+  forced = second.forced ∙ (ap (λ (f : Bool). f || list_any is_forced second.more) first.forced ∙ (or_more a.out.force (list_any is_forced first.more) (list_any is_forced second.more)
+      ∙ ap (λ (f : Bool). a.out.force || f) (sym (list_any-append is_forced first.more second.more))));
+  commands = λ is. second.commands (first.commands is);
   said = λ said is. subst (λ (r : Recovery). AreSaid c.node r) (sym (fold-append found_record said first.more second.more)) (second.said (fold found_record said first.more) (first.said said is));
 }
 
+-- what piece of a work stays the same
+pub record SameRest (work new : Work) : Type 0 where
+  pub setting : new.node.setting ≡ work.node.setting
+  pub records : new.out.records ≡ work.out.records
+  pub force : new.out.force ≡ work.out.force
+  pub commands : commands_in_run work.node ≡ true → commands_in_run new.node ≡ true
+
 -- nothing is logged, and the flags stay
-pub two_on : (work new : Work) → new.node.setting ≡ work.node.setting → new.out.records ≡ work.out.records
+pub two_on : (work new : Work) → SameRest work new
     → ((tid : Tid) → ((flags_at tid new.node).prepared ≡ (flags_at tid work.node).prepared) × ((flags_at tid new.node).listed ≡ (flags_at tid work.node).listed)) → SaysOn work new
-two_on work new setting records same = record {
-  setting = setting;
+two_on work new rest same = record {
+  setting = rest.setting;
   more = [];
-  records = records ∙ sym (append_nil work.out.records);
+  records = rest.records ∙ sym (append_nil work.out.records);
+  forced = rest.force ∙ or_none work.out.force;
+  commands = rest.commands;
   said = λ said is tid. record { prepared = (same tid).0 ∙ (is tid).prepared; listed = (same tid).1 ∙ (is tid).listed };
 }
 
-pub flags_on : (work new : Work) → new.node.setting ≡ work.node.setting → new.out.records ≡ work.out.records → ((tid : Tid) → flags_at tid new.node ≡ flags_at tid work.node) → SaysOn work new
-flags_on work new setting records same = two_on work new setting records (λ tid. (ap (λ (f : InLog). f.prepared) (same tid), ap (λ (f : InLog). f.listed) (same tid)))
+pub flags_on : (work new : Work) → SameRest work new → ((tid : Tid) → flags_at tid new.node ≡ flags_at tid work.node) → SaysOn work new
+flags_on work new rest same = two_on work new rest (λ tid. (ap (λ (f : InLog). f.prepared) (same tid), ap (λ (f : InLog). f.listed) (same tid)))
 
 -- nothing changes that the log speaks of
-pub rest_on : (work new : Work) → new.node.setting ≡ work.node.setting → new.out.records ≡ work.out.records → new.node.manager.known ≡ work.node.manager.known → SaysOn work new
-rest_on work new setting records known = flags_on work new setting records
-    (λ tid. ap (λ (es : List (Tid × Participant)). elim (lookup (is_at (tid_cmp tid)) es) [ None ↦ no_flags | Some part ↦ part.log ]) known)
+pub plain_on : (work new : Work) → SameRest work new → new.node.manager.known ≡ work.node.manager.known → SaysOn work new
+plain_on work new rest known = flags_on work new rest (λ tid. ap (λ (es : List (Tid × Participant)). elim (lookup (is_at (tid_cmp tid)) es) [ None ↦ no_flags | Some part ↦ part.log ]) known)
+
+-- nor what is open
+pub rest_on : (work new : Work) → new.node.setting ≡ work.node.setting → new.out.records ≡ work.out.records → new.out.force ≡ work.out.force → new.node.commands ≡ work.node.commands → new.node.manager.known ≡ work.node.manager.known → SaysOn work new
+rest_on work new setting records force commands known = plain_on work new (record { setting = setting; records = records; force = force; commands = λ is. rw (commands, setting) is }) known
 
 pub on_itself : (work : Work) → SaysOn work work
-on_itself work = rest_on work work refl refl refl
+on_itself work = rest_on work work refl refl refl refl refl
 
 pub fold_on : {X : Type 0} (f : Work → X → Work) → ((work : Work) (x : X) → SaysOn work (f work x)) → (xs : List X) (work : Work) → SaysOn work (fold f work xs)
 fold_on f each [] work = on_itself work
@@ -77,13 +104,13 @@ if_on false first second = second
 -- ---- what is done beside what is kept of transactions
 
 pub enter_on : (act : Act) (work : Work) → SaysOn work (enter act work)
-enter_on act work = rest_on work (enter act work) refl refl refl
+enter_on act work = rest_on work (enter act work) refl refl refl refl refl
 
 pub send_on : (to : NodeNo) (message : Message) (work : Work) → SaysOn work (send to message work)
 send_on to message work = by (is_other work.node.setting to)
   where
     by : (b : Bool) → SaysOn work (if b then record work { out = record work.out { messages = work.out.messages ++ record { to = to; message = message } ∷ [] } } else work)
-    by true = rest_on work (record work { out = record work.out { messages = work.out.messages ++ record { to = to; message = message } ∷ [] } }) refl refl refl
+    by true = rest_on work (record work { out = record work.out { messages = work.out.messages ++ record { to = to; message = message } ∷ [] } }) refl refl refl refl refl
     by false = on_itself work
 
 pub sends_on : (nodes : List NodeNo) (message : Message) (work : Work) → SaysOn work (send_each nodes message work)
@@ -103,25 +130,25 @@ answer_on client said work = by (lookup (is_at (client_cmp client)) work.node.co
       }
     ])
     by None = on_itself work
-    by (Some command) = rest_on work (record work {
+    by (Some command) = plain_on work (record work {
       node = record work.node { commands = Rattle.std.specs.Map.remove_entry (is_at (client_cmp client)) work.node.commands };
       out = record work.out {
         answers = work.out.answers ++ record { client = client; answer = record { line = command.line.line; answer = said } } ∷ [];
         entries = work.out.entries ++ Rattle.qs_journal.specs.declared.entry.Act.TheVariants.Answer client command.line.line said ∷ [];
       };
-    }) refl refl refl
+    }) (record { setting = refl; records = refl; force = refl; commands = all_left (is_at (client_cmp client)) (is_open_in_run work.node.setting.nodes) work.node.commands }) refl
 
 pub queues_on : (f : IpcValue → IpcValue) (work : Work) → SaysOn work (with_queues f work)
-queues_on f work = rest_on work (with_queues f work) refl refl refl
+queues_on f work = rest_on work (with_queues f work) refl refl refl refl refl
 
 pub kept_on : (f : Kept → Kept) (work : Work) → SaysOn work (with_kept f work)
-kept_on f work = rest_on work (with_kept f work) refl refl refl
+kept_on f work = rest_on work (with_kept f work) refl refl refl refl refl
 
 pub doings_on : (tid : Tid) (f : Doings → Doings) (work : Work) → SaysOn work (with_doings tid f work)
-doings_on tid f work = rest_on work (with_doings tid f work) refl refl refl
+doings_on tid f work = rest_on work (with_doings tid f work) refl refl refl refl refl
 
 pub server_on : (server : ServerNo) (f : ServerValue → ServerValue) (work : Work) → SaysOn work (change_server server f work)
-server_on server f work = rest_on work (change_server server f work) refl refl refl
+server_on server f work = rest_on work (change_server server f work) refl refl refl refl refl
 
 -- ---- what is kept of one transaction is changed
 
@@ -148,12 +175,12 @@ module _ {X A : Type 0} (d : A) (g : X → A) where
       by (Some v) found = told_set p q es v (f v) found (same v)
 
 pub part_on : (tid : Tid) (f : Participant → Participant) → ((part : Participant) → (f part).log ≡ part.log) → (work : Work) → SaysOn work (with_manager (tm.with_part tid f) work)
-part_on tid f same work = flags_on work (with_manager (tm.with_part tid f) work) refl refl (λ t. told_changed no_flags (λ (part : Participant). part.log) (is_at (tid_cmp tid)) (is_at (tid_cmp t)) f same work.node.manager.known)
+part_on tid f same work = flags_on work (with_manager (tm.with_part tid f) work) (record { setting = refl; records = refl; force = refl; commands = λ is. is }) (λ t. told_changed no_flags (λ (part : Participant). part.log) (is_at (tid_cmp tid)) (is_at (tid_cmp t)) f same work.node.manager.known)
 
 -- ---- a transaction becomes known
 
 pub put_on : (tid : Tid) (part : Participant) (work : Work) → tm.part_of tid work.node.manager ≡ None → part.log ≡ no_flags → SaysOn work (with_manager (tm.put_part tid part) work)
-put_on tid part work none new = flags_on work (with_manager (tm.put_part tid part) work) refl refl (λ t. by t (same_tid t tid) refl)
+put_on tid part work none new = flags_on work (with_manager (tm.put_part tid part) work) (record { setting = refl; records = refl; force = refl; commands = λ is. is }) (λ t. by t (same_tid t tid) refl)
   where
     found : Option Participant → InLog
     found o = elim o [ None ↦ no_flags | Some part ↦ part.log ]

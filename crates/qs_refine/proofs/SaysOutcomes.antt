@@ -110,7 +110,7 @@ pub decide_on : (tid : Tid) (outcome : Outcome) (cause : Option Cause) (work : W
 decide_on tid outcome cause work =
     on_then (part_on tid (outcome_rules.decided outcome) (λ part. refl) work)
     (on_then (log_if_on (tm.decision tid outcome work.node.manager).rec decided may)
-    (on_then (rest_on (log_if (tm.decision tid outcome work.node.manager).rec decided) (keep_outcome tid outcome cause (log_if (tm.decision tid outcome work.node.manager).rec decided)) refl refl refl)
+    (on_then (rest_on (log_if (tm.decision tid outcome work.node.manager).rec decided) (keep_outcome tid outcome cause (log_if (tm.decision tid outcome work.node.manager).rec decided)) refl refl refl refl refl)
     (on_then (enter_on _ (keep_outcome tid outcome cause (log_if (tm.decision tid outcome work.node.manager).rec decided)))
     (on_then (notices_on tid outcome _) (sends_on (tm.decision tid outcome work.node.manager).tell (messages.Tell tid outcome) _)))))
   where
@@ -171,7 +171,7 @@ tell_came_on peer tid outcome work = if_on (same_node tid.home (here work)) (on_
 
 -- what has nothing in the log may be forgotten
 pub forget_on : (tid : Tid) (work : Work) → in_order work.node.manager.known ≡ true → (flags_at tid work.node).prepared ≡ false → (flags_at tid work.node).listed ≡ false → SaysOn work (forget tid work)
-forget_on tid work ordered prepared listed = on_then (two_on work forgot refl refl (λ t. by t (same_tid t tid) refl)) (queues_on (Rattle.qs_step.specs.Telling.drop_counts tid) forgot)
+forget_on tid work ordered prepared listed = on_then (two_on work forgot (record { setting = refl; records = refl; force = refl; commands = λ is. is }) (λ t. by t (same_tid t tid) refl)) (queues_on (Rattle.qs_step.specs.Telling.drop_counts tid) forgot)
   where
     forgot : Work
     forgot = with_manager (tm.forget tid) work

@@ -45,7 +45,7 @@ enter_issue_on tid request op work = on_then (enter_on _ work) (part_on tid (par
 issue_here_on : (tid : Tid) (request : Outstanding) (op : Op) (work : Work) → SaysOn work (issue_here tid request op work)
 issue_here_on tid request op work =
     on_then (enter_issue_on tid request op work)
-    (on_then (rest_on (enter_issue tid request op work) (with_local tid request.number (enter_issue tid request op work)) refl refl refl)
+    (on_then (rest_on (enter_issue tid request op work) (with_local tid request.number (enter_issue tid request op work)) refl refl refl refl refl)
     (enqueue_on request.member.server (record { tid = tid; from = here work; number = request.number; op = op; stale = false }) (with_local tid request.number (enter_issue tid request op work))))
 
 ask_on_on : (b : Bool) (tid : Tid) (to : NodeNo) (work : Work) → SaysOn work (ask_on b tid to work)
@@ -96,7 +96,7 @@ engage_on tid peer number work =
     (cover_on (tm.engaged_at tid peer (met tid work).node.manager) tid peer number (with_manager (tm.requested tid peer number) (met tid work))))
 
 learn_label_on : (label : List ℕ) (tid : Tid) (work : Work) → SaysOn work (learn_label label tid work)
-learn_label_on label tid work = if_on (is_none (label_at label work.node)) (rest_on work (put_label (record { label = label; tid = Some tid; owner = None }) work) refl refl refl) (on_itself work)
+learn_label_on label tid work = if_on (is_none (label_at label work.node)) (rest_on work (put_label (record { label = label; tid = Some tid; owner = None }) work) refl refl refl refl refl) (on_itself work)
 
 take_in_on : (dropped : Bool) (member : Member) (delivery : Delivery) (work : Work) → SaysOn work (take_in dropped member delivery work)
 take_in_on true member delivery work = on_itself work
@@ -132,7 +132,7 @@ enter_serve_on server delivery reply work =
 
 make_loan_on : (tid : Tid) (client : Option ClientNo) (work : Work) → SaysOn work (make_loan tid client work)
 make_loan_on tid None work = on_itself work
-make_loan_on tid (Some client) work = rest_on work (make_loan tid (Some client) work) refl refl refl
+make_loan_on tid (Some client) work = rest_on work (make_loan tid (Some client) work) refl refl refl refl refl
 
 give_reply_on : (member : Member) (delivery : Delivery) (reply : Reply) (work : Work) → SaysOn work (give_reply member delivery reply work)
 give_reply_on member delivery reply work = if_on (same_node delivery.from (here work)) (reply_came_on delivery.tid member delivery.number reply work)

@@ -235,7 +235,7 @@ resume_tid_on work tid = by (part_of tid work) refl
     by (Some part) known = at part known part.outcome
 
 pub begin_incarnation_on : (work : Work) → SaysOn work (begin_incarnation work)
-begin_incarnation_on work = if_on work.node.is_first (on_then (rest_on work begun refl refl refl) (fold_on resume_tid resume_tid_on (known_tids work) begun)) (on_itself work)
+begin_incarnation_on work = if_on work.node.is_first (on_then (rest_on work begun refl refl refl refl refl) (fold_on resume_tid resume_tid_on (known_tids work) begun)) (on_itself work)
   where
     begun : Work
     begun = with_node (λ node. record node { is_first = false }) work

@@ -1,7 +1,10 @@
 -- Commands, messages and whole steps leave a node sound over its log.
-use Rattle.std.proofs.Common.{◌≡◌, ℕ, ◌+◌, true, [], Option, Some, None, refl}
-use Rattle.std.specs.Map.{lookup}
-use Rattle.std.specs.BTreeMap.{is_at}
+use Rattle.std.proofs.Common.{◌≡◌, ℕ, ◌+◌, true, List, [], ◌∷◌, Option, Some, None, refl}
+use Rattle.std.specs.List.{list_all}
+use Rattle.std.specs.Map.{lookup, set_value}
+use Rattle.std.specs.BTreeMap.{insert_entry, is_at}
+use Rattle.std.specs.declared.cmp.Ordering.{Ordering}
+use Rattle.std.specs.declared.cmp.Ordering.TheVariants.{Less, Equal, Greater}
 use Rattle.qs_base.specs.declared.identifiers.ClientNo.{ClientNo}
 use Rattle.qs_base.specs.declared.identifiers.Member.{Member}
 use Rattle.qs_base.specs.declared.identifiers.NodeNo.{NodeNo}
@@ -38,20 +41,23 @@ use Rattle.qs_step.specs.declared.event.Event.TheVariants as events
 use Rattle.qs_step.specs.declared.state.Issued.{Issued}
 use Rattle.qs_step.specs.declared.state.OpenCommand.{OpenCommand}
 use Rattle.qs_refine.specs.SaidLaws.{SaysOn, BeginsNew}
-use Rattle.qs_refine.specs.Sound.{in_order}
-use Rattle.qs_refine.proofs.SaysOn.{on_itself, on_then, fold_on, if_on, rest_on, enter_on, answer_on, kept_on, doings_on, put_on}
+use Rattle.qs_refine.specs.Sound.{in_order, goes_in_run}
+use Rattle.qs_refine.specs.SoundSteps.{MayHappen, is_open_in_run, commands_in_run}
+use Rattle.qs_refine.proofs.SaysOn.{on_itself, on_then, fold_on, if_on, rest_on, enter_on, answer_on, kept_on, doings_on, put_on, plain_on}
 use Rattle.qs_refine.proofs.SaysOutcomes.{decide_on, tell_came_on, told_came_on, inquiry_came_on}
 use Rattle.qs_refine.proofs.SaysRules.{issue_as_on, reply_came_on, request_came_on, serve_all_on, become_asked_on, undecided_on, ask_came_on, closer_came_on, refusal_came_on}
 use Rattle.qs_refine.proofs.SaysSettles.{peer_restarted_on}
+use Rattle.qs_refine.proofs.SoundParts.{and_both, both_and}
+use Rattle.qs_refine.proofs.SoundStep.{all_changed}
 
 -- ---- what clients command
 
 -- a transaction begins, of which nothing is known
 begin_as_on : (line : ScriptLine) (work : Work) → tm.part_of (tm.next_tid work.node.manager) work.node.manager ≡ None → SaysOn work (begin_as line (tm.next_tid work.node.manager) work)
 begin_as_on line work new =
-    on_then (rest_on work counted refl refl refl)
+    on_then (rest_on work counted refl refl refl refl refl)
     (on_then (put_on (tm.next_tid work.node.manager) (begun_participant line.client work.node.manager.ticks) counted new refl)
-    (on_then (rest_on begun (put_label (record { label = line.label; tid = Some (tm.next_tid work.node.manager); owner = Some line.client }) begun) refl refl refl) (on_then (enter_on _ _) (answer_on line.client answers.Done _))))
+    (on_then (rest_on begun (put_label (record { label = line.label; tid = Some (tm.next_tid work.node.manager); owner = Some line.client }) begun) refl refl refl refl refl) (on_then (enter_on _ _) (answer_on line.client answers.Done _))))
   where
     begun : Work
     begun = with_manager (tm.begin line.client) work
@@ -64,16 +70,25 @@ begin_command_on line work new = by (tm.begin_fault work.room work.node.manager)
   where
     by : (o : Option BeginFault) → SaysOn work (begin_or_refuse line o work)
     by None = begin_as_on line work new
-    by (Some (faults.LogFull need room)) = on_then (rest_on work (put_label (record { label = line.label; tid = None; owner = Some line.client }) work) refl refl refl) (answer_on line.client (answers.LogFull need room) _)
+    by (Some (faults.LogFull need room)) = on_then (rest_on work (put_label (record { label = line.label; tid = None; owner = Some line.client }) work) refl refl refl refl refl) (answer_on line.client (answers.LogFull need room) _)
     by (Some (faults.Last number)) = on_itself work
     by (Some faults.NoMemory) = on_itself work
+
+-- what is open waits for its reply
+issued_on : (client : ClientNo) (issued : Issued) (work : Work) → SaysOn work (with_issued client issued work)
+issued_on client issued work = plain_on work (with_issued client issued work) (record { setting = refl; records = refl; force = refl; commands = at (lookup (is_at (client_cmp client)) work.node.commands) refl }) refl
+  where
+    at : (o : Option OpenCommand) → lookup (is_at (client_cmp client)) work.node.commands ≡ o → commands_in_run work.node ≡ true
+        → list_all (is_open_in_run work.node.setting.nodes) (elim o [ None ↦ work.node.commands | Some v ↦ set_value (is_at (client_cmp client)) work.node.commands (record v { issued = Some issued }) ]) ≡ true
+    at None none is = is
+    at (Some v) found is = all_changed (is_at (client_cmp client)) (is_open_in_run work.node.setting.nodes) (λ command. record command { issued = Some issued }) (λ k command. refl) work.node.commands v found is
 
 request_command_on : (client : ClientNo) (tid : Tid) (member : Member) (op : Op) (work : Work) → SaysOn work (request_command client tid member op work)
 request_command_on client tid member op work = by (next_number tid member.node work)
   where
     by : (o : Option ℕ) → SaysOn work (elim o [ None ↦ work | Some number ↦ request_as client tid member op number work ])
     by None = on_itself work
-    by (Some number) = on_then (rest_on work (with_issued client (record { tid = tid; member = member; number = number }) work) refl refl refl) (issue_as_on tid _ op (with_issued client (record { tid = tid; member = member; number = number }) work))
+    by (Some number) = on_then (issued_on client (record { tid = tid; member = member; number = number }) work) (issue_as_on tid _ op (with_issued client (record { tid = tid; member = member; number = number }) work))
 
 ask_on : (tid : Tid) (part : Participant) (work : Work) → SaysOn work (ask tid part work)
 ask_on tid part work = if_on part.asked (on_itself work) (on_then (enter_on _ work) (on_then (doings_on tid (λ doings. record doings { asked = true }) _) (become_asked_on tid part (enter_ask tid work))))
@@ -146,8 +161,23 @@ obey_on line command work = by (label_at line.label work.node)
     by None = on_itself work
     by (Some begun) = labelled_on line.client begun command work
 
-command_came_on : (line : ScriptLine) (work : Work) → BeginsNew (events.Command line.client line.line line.label line.command) work → SaysOn work (command_came line work)
-command_came_on line work new = on_then (rest_on work (with_command line work) refl refl refl) (by line.command new)
+-- a command of a node of the run is open
+command_open : (nodes : ℕ) (client : ClientNo) (command : OpenCommand) → goes_in_run nodes command.line.command ≡ true → (es : List (ClientNo × OpenCommand)) → list_all (is_open_in_run nodes) es ≡ true → list_all (is_open_in_run nodes) (insert_entry client_cmp es client command) ≡ true
+command_open nodes client command its [] all = rw its refl
+command_open nodes client command its (e ∷ es) all = by (client_cmp client e.0) refl (command_open nodes client command its es (and_both (is_open_in_run nodes e) (list_all (is_open_in_run nodes) es) all).1)
+  where
+    both : (is_open_in_run nodes e ≡ true) × (list_all (is_open_in_run nodes) es ≡ true)
+    both = and_both (is_open_in_run nodes e) (list_all (is_open_in_run nodes) es) all
+
+    by : (r : Ordering) → client_cmp client e.0 ≡ r → list_all (is_open_in_run nodes) (insert_entry client_cmp es client command) ≡ true → list_all (is_open_in_run nodes) (insert_entry client_cmp (e ∷ es) client command) ≡ true
+    by Less is more = rw is (both_and (goes_in_run nodes command.line.command) (list_all (is_open_in_run nodes) (e ∷ es)) its all)
+    by Equal is more = rw is (both_and (goes_in_run nodes command.line.command) (list_all (is_open_in_run nodes) es) its both.1)
+    by Greater is more = rw is (both_and (is_open_in_run nodes e) (list_all (is_open_in_run nodes) (insert_entry client_cmp es client command)) both.0 more)
+
+command_came_on : (line : ScriptLine) (work : Work) → goes_in_run work.node.setting.nodes line.command ≡ true → BeginsNew (events.Command line.client line.line line.label line.command) work → SaysOn work (command_came line work)
+command_came_on line work its new = on_then
+    (plain_on work (with_command line work) (record { setting = refl; records = refl; force = refl; commands = λ is. command_open work.node.setting.nodes line.client (record { line = line; issued = None }) its work.node.commands is }) refl)
+    (by line.command new)
   where
     by : (command : Command) → BeginsNew (events.Command line.client line.line line.label command) work → SaysOn (with_command line work) (obey line command (with_command line work))
     by commands.Begin new = begin_command_on line (with_command line work) new
@@ -172,7 +202,7 @@ message_came_on peer (messages.Told tid further) work ordered = told_came_on pee
 message_came_on peer (messages.Inquire tid) work ordered = inquiry_came_on peer tid work
 
 tick_on : (work : Work) → SaysOn work (tick work)
-tick_on work = on_then (rest_on work ticked refl refl refl) (by work.node.setting.age)
+tick_on work = on_then (rest_on work ticked refl refl refl refl refl) (by work.node.setting.age)
   where
     ticked : Work
     ticked = with_manager tm.tick (change_server Rattle.qs_servers.specs.Servers.timers_no (λ value. record value { timers = Rattle.qs_ops.specs.Timers.ticked value.timers }) (enter Rattle.qs_journal.specs.declared.entry.Act.TheVariants.Tick work))
@@ -181,12 +211,12 @@ tick_on work = on_then (rest_on work ticked refl refl refl) (by work.node.settin
     by None = on_itself ticked
     by (Some age) = fold_on (abort_old age) (λ w tid. decide_on tid outcomes.Abort (Some (causes.Old age)) w) (tm.aged age ticked.node.manager) ticked
 
-pub happen_on : (event : Event) (work : Work) → BeginsNew event work → in_order work.node.manager.known ≡ true → SaysOn work (happen event work)
-happen_on (events.Command client line label command) work new ordered = command_came_on (record { client = client; line = line; label = label; command = command }) work new
-happen_on (events.Received peer message) work new ordered = message_came_on peer message work ordered
-happen_on events.ServeAll work new ordered = serve_all_on work
-happen_on (events.PeerRestarted peer old now) work new ordered = peer_restarted_on peer old now work
-happen_on events.Tick work new ordered = tick_on work
+pub happen_on : (event : Event) (work : Work) → MayHappen event work → BeginsNew event work → in_order work.node.manager.known ≡ true → SaysOn work (happen event work)
+happen_on (events.Command client line label command) work may new ordered = command_came_on (record { client = client; line = line; label = label; command = command }) work may.0 new
+happen_on (events.Received peer message) work may new ordered = message_came_on peer message work ordered
+happen_on events.ServeAll work may new ordered = serve_all_on work
+happen_on (events.PeerRestarted peer old now) work may new ordered = peer_restarted_on peer old now work
+happen_on events.Tick work may new ordered = tick_on work
 
 -- ---- commands that stay open
 

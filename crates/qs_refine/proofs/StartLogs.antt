@@ -36,7 +36,7 @@ module _ (tid : Tid) where
   other_apart (records.Aborted u) is = off (same_tid tid u) is
   other_apart (records.End u) is = off (same_tid tid u) is
 
-  says_on : (log : List Record) (r : Recovery) → list_all (is_of_other tid) log ≡ true → SameFound tid r (fold found_record r log)
+  pub says_on : (log : List Record) (r : Recovery) → list_all (is_of_other tid) log ≡ true → SameFound tid r (fold found_record r log)
   says_on [] r all = found_itself tid r
   says_on (rec ∷ log) r all = let is : (is_of_other tid rec ≡ true) × (list_all (is_of_other tid) log ≡ true) = both (is_of_other tid rec) (list_all (is_of_other tid) log) all in
       found_on tid r (found_record r rec) (fold found_record (found_record r rec) log) (record_apart tid rec r (other_apart rec is.0)) (says_on log (found_record r rec) is.1)

@@ -33,7 +33,7 @@ use Rattle.qs_refine.proofs.Seating.{well_seated, well_taken}
 
 -- ---- records that may close
 
-all_append : (tid : Tid) (n q : ℕ) (w : machine.World) (xs ys : List Record) → AllClose tid n q w xs → AllClose tid n q w ys → AllClose tid n q w (xs ++ ys)
+pub all_append : (tid : Tid) (n q : ℕ) (w : machine.World) (xs ys : List Record) → AllClose tid n q w xs → AllClose tid n q w ys → AllClose tid n q w (xs ++ ys)
 all_append tid n q w [] ys first second = second
 all_append tid n q w (x ∷ xs) ys first second = (first.0, all_append tid n q w xs ys first.1 second)
 

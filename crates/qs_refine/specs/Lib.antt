@@ -36,3 +36,5 @@ pub mod SoundMoves
 pub mod RiseLaws
 pub mod SaidLaws
 pub mod MoveLaws
+pub mod OpenLaws
+pub mod JoinLaws

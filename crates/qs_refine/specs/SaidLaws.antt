@@ -1,5 +1,5 @@
 -- A node over its log: what it keeps of a transaction's records is what the log says, with the records that wait.
-use Rattle.std.specs.Prelude.{◌≡◌, ℕ, ◌<◌, ⊤, Bool, true, false, List, [], ◌++◌, fold, Option, Some, None}
+use Rattle.std.specs.Prelude.{◌≡◌, ℕ, ◌<◌, ◌||◌, ⊤, Bool, true, false, List, [], ◌++◌, fold, Option, Some, None}
 use Rattle.std.specs.List.{list_any}
 use Rattle.qs_base.specs.declared.identifiers.Tid.{Tid}
 use Rattle.qs_journal.specs.declared.script_line.Command.TheVariants as commands
@@ -7,6 +7,7 @@ use Rattle.qs_record.specs.declared.record.Record.{Record}
 use Rattle.qs_restart.specs.Recovery.{Recovery, recovery, found_record, is_untold_of}
 use Rattle.qs_tm.specs.Manager as tm
 use Rattle.qs_tm.specs.declared.participant.InLog.{InLog}
+use Rattle.qs_step.specs.Bringing.{is_forced}
 use Rattle.qs_step.specs.Opening.{recovered_of}
 use Rattle.qs_step.specs.State.{NodeValue, Work}
 use Rattle.qs_step.specs.Step.{after_step, effects_of}
@@ -42,12 +43,15 @@ SaidSeen = (node : NodeValue) (said : Recovery) → is_sound node ≡ true → i
 abbrev pub SeenSaid : Type 0
 SeenSaid = (node : NodeValue) (said : Recovery) → is_sound node ≡ true → AreSaid node said → is_sound_said node said ≡ true
 
--- ---- a piece of a step leaves a node sound over its log: the setting stays, and the log goes on by the records that it appended
+-- ---- a piece of a step leaves a node sound over its log: the setting stays, the log goes on by the records that it appended, and is forced
+-- for these; and what is open goes to nodes of the run
 
 pub record SaysOn (work new : Work) : Type 0 where
   pub setting : new.node.setting ≡ work.node.setting
   pub more : List Record
   pub records : new.out.records ≡ work.out.records ++ more
+  pub forced : new.out.force ≡ (work.out.force || list_any is_forced more)
+  pub commands : commands_in_run work.node ≡ true → commands_in_run new.node ≡ true
   pub said : (said : Recovery) → AreSaid work.node said → AreSaid new.node (fold found_record said more)
 
 -- where a client begins a transaction, its number is new
@@ -74,6 +78,16 @@ StepSaid = (node : NodeValue) (event : Event) (free : ℕ) (log : List Record) �
 -- and its setting stays
 abbrev pub StepSeated : Type 0
 StepSeated = (node : NodeValue) (event : Event) (free : ℕ) → MayHappen event (begun node free) → BeginsNew event (begun node free) → is_sound node ≡ true → (after_step node event free).setting ≡ node.setting
+
+-- the log is forced where one of the step's records is to be
+abbrev pub StepForces : Type 0
+StepForces = (node : NodeValue) (event : Event) (free : ℕ) → MayHappen event (begun node free) → BeginsNew event (begun node free) → is_sound node ≡ true
+    → (effects_of node event free).force ≡ list_any is_forced (effects_of node event free).records
+
+-- what is open before the step goes to nodes of the run, and so it does as the node has settled, and after the step
+abbrev pub StepOpen : Type 0
+StepOpen = (node : NodeValue) (event : Event) (free : ℕ) → MayHappen event (begun node free) → BeginsNew event (begun node free) → is_sound node ≡ true → commands_in_run node ≡ true
+    → (commands_in_run (settled node event free).node ≡ true) × (commands_in_run (after_step node event free) ≡ true)
 
 -- ---- a world
 

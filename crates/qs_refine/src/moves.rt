@@ -1,6 +1,8 @@
 //! Moves of the world: a node stops and restarts, and each move as events of the agreement machine.
+ghost use Rattle.qs_refine.specs.JoinLaws.{StepCloses};
 ghost use Rattle.qs_refine.specs.MoveLaws.{StartSeated, MoveSeated, StaysClosed, ClosedGoes, MoveGoes};
-ghost use Rattle.qs_refine.specs.SaidLaws.{SaidSeen, SeenSaid, StepSaid, StepSeated, OpenedSaid, RestartSaid, MoveSaid};
+ghost use Rattle.qs_refine.specs.SaidLaws.{SaidSeen, SeenSaid, StepSaid, StepSeated, StepForces, StepOpen, OpenedSaid, RestartSaid, MoveSaid};
+ghost use Rattle.qs_refine.specs.OpenLaws.{StartOpen, MoveMay, MoveOpen};
 ghost use Rattle.qs_refine.specs.RiseLaws.{StartPlaced, StaysPlaced, RisenFace, RiseGoes};
 
 /// A place that has not begun knows nobody, and 0 is no place.
@@ -24,6 +26,8 @@ pub fn logs()
     ensures opens { OpenedSaid }
     ensures step { StepSaid }
     ensures seated { StepSeated }
+    ensures forces { StepForces }
+    ensures stays_open { StepOpen }
     ensures restart { RestartSaid }
     ensures moves { MoveSaid }
 {}
@@ -45,4 +49,16 @@ pub fn seats()
 /// events of the machine, a stop, a restart and a first meeting.
 pub fn going()
     ensures moves { MoveGoes }
+{}
+
+/// The commands that are open in a world go to nodes of the run, so that a move of it need not ask for that.
+pub fn commands()
+    ensures start { StartOpen }
+    ensures may { MoveMay }
+    ensures moves { MoveOpen }
+{}
+
+/// What shows the world with those of a step's records on the disk that must be forced goes on to what shows it with all.
+pub fn joins()
+    ensures closes { StepCloses }
 {}
