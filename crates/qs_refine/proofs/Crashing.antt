@@ -53,7 +53,7 @@ crash_other : (p k : ℕ) (w v : World) (f : Face) → k ≢ p → ShowsFace f k
 crash_other p k w v f other i s = grind (arith, nat_tests, other, i, s)
 
 module _ (tid : Tid) (x y : Sight) (w : World) (n : ℕ) (shown : ShowsSight tid x w) (n_in : n < x.size) (is_up : x.up n ≡ true)
-    (size : y.size ≡ x.size) (inc : y.inc ≡ x.inc) (knows : y.knows ≡ x.knows) (found : (k : ℕ) → y.found k ≡ x.found k)
+    (size : y.size ≡ x.size) (inc : y.inc ≡ x.inc) (knows : (a b : ℕ) → a ≢ n → y.knows a b ≡ x.knows a b) (found : (k : ℕ) → y.found k ≡ x.found k)
     (up : (k : ℕ) → y.up k ≡ (if k == n then false else x.up k))
     (faces : (k : ℕ) → k ≢ n → y.face k ≡ x.face k) (unmet : (a b : ℕ) → a ≢ n → y.unmet a b ≡ x.unmet a b)
     (said_other : (a k b l : ℕ) → (a ≡ n → k ≡ x.inc n → ⊥) → b ≢ n → y.said a k b l ≡ x.said a k b l)
@@ -107,11 +107,11 @@ module _ (tid : Tid) (x y : Sight) (w : World) (n : ℕ) (shown : ShowsSight tid
       classes = shown.stage.classes;
       present = λ k k_in. rw inc (shown.stage.present k (rw size at k_in));
       up = λ k i k_in. rw (inc, up k) (up_now k i (rw size at k_in) (shown.stage.up k i (rw size at k_in)));
-      peers = λ k m k_in m_in k_up. rw (inc, knows) (shown.stage.peers k m (rw size at k_in) (rw size at m_in) (ran k k_up).1);
+      peers = λ k m k_in m_in k_up. let was = ran k k_up in rw (inc, knows k m was.0) (shown.stage.peers k m (rw size at k_in) (rw size at m_in) was.1);
     };
     faces = λ k k_in k_up. let was = ran k k_up in rw (inc, faces k was.0) (crash_other p (place k (x.inc k)) w v (x.face k) (apart k (x.inc k) (rw size at k_in) (λ is _. was.0 is)) (shown.faces k (rw size at k_in) was.1) step);
     links = λ a k b l a_in b_in b_up now. let was = ran b b_up in links_after a k b l (rw size at a_in) (rw size at b_in) was.0 was.1 (rw inc at now);
-    unmet = λ a b a_in b_in a_up none. let was = ran a a_up in rw (unmet a b was.0, inc) (still (x.unmet a b) (waiting_link w (place a (x.inc a)) b) (waiting_link v (place a (x.inc a)) b) (crash_waiting p (place a (x.inc a)) b w v step) (shown.unmet a b (rw size at a_in) (rw size at b_in) was.1 (rw knows at none)));
+    unmet = λ a b a_in b_in a_up none. let was = ran a a_up in rw (unmet a b was.0, inc) (still (x.unmet a b) (waiting_link w (place a (x.inc a)) b) (waiting_link v (place a (x.inc a)) b) (crash_waiting p (place a (x.inc a)) b w v step) (shown.unmet a b (rw size at a_in) (rw size at b_in) was.1 (sym (knows a b was.0) ∙ none)));
     logs = λ k k_in. rw (found k) (log_still tid k (x.found k) w v (record { prepared = refl; commit_logged = refl; unended = refl; commit_list = refl }) (shown.logs k (rw size at k_in)));
   }
     where

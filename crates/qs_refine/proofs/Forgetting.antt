@@ -1,5 +1,5 @@
 -- A transaction that a node forgets is known there no more, since what is known stands in order.
-use Rattle.std.proofs.Common.{◌≡◌, ◌⊎◌, inl, inr, ◌&&◌, Bool, true, false, List, [], ◌∷◌, Option, Some, None, refl, sym, ap, ◌∙◌, if◌then◌else◌}
+use Rattle.std.proofs.Common.{◌≡◌, ◌⊎◌, inl, inr, ◌&&◌, Bool, true, false, List, [], ◌∷◌, Option, Some, None, refl, ap, ◌∙◌}
 use Rattle.std.specs.Map.{lookup, remove_entry, set_value}
 use Rattle.std.specs.BTreeMap.{is_at}
 use Rattle.std.specs.declared.cmp.Ordering.{Ordering}
@@ -48,7 +48,7 @@ order_changed tid f manager ordered = by (lookup (is_at (tid_cmp tid)) manager.k
 
 -- ---- behind an entry that is not before it a transaction is not found
 
-none_behind : (tid : Tid) (e : Tid × Participant) (es : List (Tid × Participant)) → in_order (e ∷ es) ≡ true → (tid_cmp tid e.0 ≡ Equal) ⊎ (tid_cmp tid e.0 ≡ Less) → lookup (is_at (tid_cmp tid)) es ≡ None
+pub none_behind : (tid : Tid) (e : Tid × Participant) (es : List (Tid × Participant)) → in_order (e ∷ es) ≡ true → (tid_cmp tid e.0 ≡ Equal) ⊎ (tid_cmp tid e.0 ≡ Less) → lookup (is_at (tid_cmp tid)) es ≡ None
 none_behind tid e [] ordered first = refl
 none_behind tid e (next ∷ rest) ordered first = rw below (none_behind tid next rest (both (is_less (tid_cmp e.0 next.0)) (in_order (next ∷ rest)) ordered).1 (inr below))
   where

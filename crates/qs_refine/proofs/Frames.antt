@@ -48,7 +48,7 @@ sends_leave t [] message work nothing = leaves_itself t work
 sends_leave t (node ∷ nodes) message work nothing =
     leaves_on t work (send node message work) (send_each nodes message (send node message work)) (send_leaves t node message work nothing) (sends_leave t nodes message (send node message work) nothing)
 
-same_record : (rec : Record) → tid_of rec ≡ record_tid rec
+pub same_record : (rec : Record) → tid_of rec ≡ record_tid rec
 same_record rec = elim rec [
   | Rattle.qs_record.specs.declared.record.Record.TheVariants.Prepare tid server covers changes ↦ refl
   | Rattle.qs_record.specs.declared.record.Record.TheVariants.Commit tid told ↦ refl

@@ -35,7 +35,7 @@ use Rattle.qs_refine.proofs.SoundViews.{seen, sound_as}
 
 -- ---- what stands of a fold
 
-all_filtered : {X : Type 0} (p q : X → Bool) (xs : List X) → list_all p xs ≡ true → list_all p (filter q xs) ≡ true
+pub all_filtered : {X : Type 0} (p q : X → Bool) (xs : List X) → list_all p xs ≡ true → list_all p (filter q xs) ≡ true
 all_filtered p q [] all = refl
 all_filtered p q (x ∷ xs) all = by (q x) refl (all_filtered p q xs (and_both (p x) (list_all p xs) all).1)
   where
@@ -179,7 +179,7 @@ module _ (o : Opening) (n : ℕ) where
   record_fits (records.Aborted tid) said its is = ended_fits me tid said is
   record_fits (records.End tid) said its is = ended_fits me tid said is
 
-  log_fits : (log : List Record) (said : Recovery) → list_all (is_record o n) log ≡ true → Fits me said → Fits me (fold found_record said log)
+  pub log_fits : (log : List Record) (said : Recovery) → list_all (is_record o n) log ≡ true → Fits me said → Fits me (fold found_record said log)
   log_fits [] said all is = is
   log_fits (rec ∷ log) said all is =
       let both : (is_record o n rec ≡ true) × (list_all (is_record o n) log ≡ true) = and_both (is_record o n rec) (list_all (is_record o n) log) all in

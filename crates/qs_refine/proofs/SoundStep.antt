@@ -45,7 +45,7 @@ use Rattle.qs_refine.proofs.SoundSettle.{settle_sound}
 -- ---- what is open goes to nodes of the run
 
 module _ (p : ClientNo → Bool) (q : ClientNo × OpenCommand → Bool) where
-  all_left : (es : List (ClientNo × OpenCommand)) → list_all q es ≡ true → list_all q (remove_entry p es) ≡ true
+  pub all_left : (es : List (ClientNo × OpenCommand)) → list_all q es ≡ true → list_all q (remove_entry p es) ≡ true
   all_left [] all = refl
   all_left (e ∷ es) all = by (p e.0) refl (all_left es (and_both (q e) (list_all q es) all).1)
     where
@@ -53,7 +53,7 @@ module _ (p : ClientNo → Bool) (q : ClientNo × OpenCommand → Bool) where
       by true is rest = rw is (and_both (q e) (list_all q es) all).1
       by false is rest = rw is (both_and (q e) (list_all q (remove_entry p es)) (and_both (q e) (list_all q es) all).0 rest)
 
-  all_changed : (f : OpenCommand → OpenCommand) → ((k : ClientNo) (command : OpenCommand) → q (k, f command) ≡ q (k, command)) → (es : List (ClientNo × OpenCommand)) (v : OpenCommand) → lookup p es ≡ Some v
+  pub all_changed : (f : OpenCommand → OpenCommand) → ((k : ClientNo) (command : OpenCommand) → q (k, f command) ≡ q (k, command)) → (es : List (ClientNo × OpenCommand)) (v : OpenCommand) → lookup p es ≡ Some v
       → list_all q es ≡ true → list_all q (set_value p es (f v)) ≡ true
   all_changed f same [] v found all = refl
   all_changed f same (e ∷ es) v found all = by (p e.0) refl (all_changed f same es v)

@@ -81,7 +81,7 @@ module _ (tid : Tid) (server : ServerNo) (ballot : Vote) (work : Work) where
       same : (n : ℕ) → (n == n) ≡ true
       same n = grind (arith, nat_tests)
 
-  entered_holds : Holds is_open tid work.node → Holds (is_drawn (is_binding (ballot_of ballot))) tid (enter_vote tid server ballot work).node
+  pub entered_holds : Holds is_open tid work.node → Holds (is_drawn (is_binding (ballot_of ballot))) tid (enter_vote tid server ballot work).node
   entered_holds holds = by (part_of tid work) refl
     where
       by : (o : Option Participant) → part_of tid work ≡ o → Holds (is_drawn (is_binding (ballot_of ballot))) tid (enter_vote tid server ballot work).node
@@ -144,7 +144,7 @@ issue_note_holds tid (Some node) work its holds = issue_holds tid files_no (reco
     in_run : nat_lt node.0 work.node.setting.nodes ≡ true
     in_run = subst (λ (o : Option NodeNo). is_audit work.node.setting.nodes o ≡ true) (sym its) (audit_fits work.node (seen work.node holds.0).fits)
 
-vote_next_holds : (tid : Tid) (work : Work) (server : ServerNo) → Holds is_open tid work.node → Holds is_open tid (vote_next tid work server).node
+pub vote_next_holds : (tid : Tid) (work : Work) (server : ServerNo) → Holds is_open tid work.node → Holds is_open tid (vote_next tid work server).node
 vote_next_holds tid work server holds = by (owes_note tid server work)
   where
     by : (b : Bool) → Holds is_open tid (if b then issue_note tid work.node.setting.audit work
@@ -159,8 +159,13 @@ vote_pass_holds tid work holds = each (due_votes tid work) (end_members tid work
     each [] w so = so
     each (server ∷ servers) w so = each servers (vote_next tid w server) (vote_next_holds tid w server so)
 
-pub pass_rule_sound : PassRuleSound
-pass_rule_sound tid part work known open_now sound = by (is_pass_due tid part work) refl
+-- where a pass is due nothing waits and no loan stands
+pub pass_open : (tid : Tid) (part : Participant) (work : Work) → part_of tid work ≡ Some part → is_undecided part ≡ true → is_sound work.node ≡ true → is_pass_due tid part work ≡ true → Holds is_open tid work.node
+pass_open tid part work known open_now sound is = (
+  sound,
+  told_as is_open tid work.node.manager part known (both_and (is_undecided part) (is_held part) open_now
+      (held_as part (busy (is_apart part) (not (ipc.waits tid work.node.queues)) (not (is_lent tid work.node)) (needs_pass part) due s.idle))),
+)
   where
     s : PartSound work.node tid part
     s = known_sound tid work.node part known sound
@@ -172,13 +177,12 @@ pass_rule_sound tid part work known open_now sound = by (is_pass_due tid part wo
     busy true a b false is so = absurd (cc (is))
     busy false a b n is so = refl
 
-    due : is_pass_due tid part work ≡ true → needs_pass part ≡ true
-    due is = (and_both (needs_pass part) _ (and_both (part.asked && not (is_busy tid work.node part)) _ is).1).0
+    due : needs_pass part ≡ true
+    due = (and_both (needs_pass part) _ (and_both (part.asked && not (is_busy tid work.node part)) _ is).1).0
 
+pub pass_rule_sound : PassRuleSound
+pass_rule_sound tid part work known open_now sound = by (is_pass_due tid part work) refl
+  where
     by : (b : Bool) → is_pass_due tid part work ≡ b → is_sound (if b then vote_pass tid work else work).node ≡ true
-    by true is = (vote_pass_holds tid work (
-      sound,
-      told_as is_open tid work.node.manager part known (both_and (is_undecided part) (is_held part) open_now
-          (held_as part (busy (is_apart part) (not (ipc.waits tid work.node.queues)) (not (is_lent tid work.node)) (needs_pass part) (due is) s.idle))),
-    )).0
+    by true is = (vote_pass_holds tid work (pass_open tid part work known open_now sound is)).0
     by false is = sound

@@ -13,8 +13,8 @@ use Rattle.qs_tm.specs.Manager as tm
 use Rattle.qs_tm.specs.Outcomes.{voted_before, committed_before}
 use Rattle.qs_tm.specs.declared.manager.Manager.{Manager}
 use Rattle.qs_step.specs.declared.setting.Setting.{Setting}
-use Rattle.qs_step.specs.Opening.{take_up, recovered_of, opened_manager, new_manager}
-use Rattle.qs_refine.specs.Sights.{server_no}
+use Rattle.qs_step.specs.Opening.{take_up, recovered_as, recovered_of, opened_manager, new_manager}
+use Rattle.qs_refine.specs.Sights.{server_no, is_in_doubt}
 use Rattle.qs_refine.specs.Starts.{SaysNothing, is_of_other}
 use Rattle.qs_refine.proofs.Alike.{SameFound, found_itself, found_on}
 use Rattle.qs_refine.proofs.Frames.{part_apart}
@@ -36,7 +36,7 @@ module _ (tid : Tid) where
   other_apart (records.Aborted u) is = off (same_tid tid u) is
   other_apart (records.End u) is = off (same_tid tid u) is
 
-  says_on : (log : List Record) (r : Recovery) → list_all (is_of_other tid) log ≡ true → SameFound tid r (fold found_record r log)
+  pub says_on : (log : List Record) (r : Recovery) → list_all (is_of_other tid) log ≡ true → SameFound tid r (fold found_record r log)
   says_on [] r all = found_itself tid r
   says_on (rec ∷ log) r all = let is : (is_of_other tid rec ≡ true) × (list_all (is_of_other tid) log ≡ true) = both (is_of_other tid rec) (list_all (is_of_other tid) log) all in
       found_on tid r (found_record r rec) (fold found_record (found_record r rec) log) (record_apart tid rec r (other_apart rec is.0)) (says_on log (found_record r rec) is.1)
@@ -88,7 +88,7 @@ module _ (tid : Tid) where
   all_both (x ∷ xs) ys all more = let is : (is_of_other tid x ≡ true) × (list_all (is_of_other tid) xs ≡ true) = both (is_of_other tid x) (list_all (is_of_other tid) xs) all in
       rw is.0 (all_both xs ys is.1 more)
 
-  taken_apart : (rec : Record) (manager : Manager) → is_of_other tid rec ≡ true → tm.part_of tid (take_up manager rec) ≡ tm.part_of tid manager
+  pub taken_apart : (rec : Record) (manager : Manager) → is_of_other tid rec ≡ true → tm.part_of tid (take_up manager rec) ≡ tm.part_of tid manager
   taken_apart (records.Prepare u s covers changes) manager is =
       part_apart tid u (voted_before (tm.is_home u manager) s covers) (tm.meet u manager) (off (same_tid tid u) is) ∙ meet_apart tid u manager (off (same_tid tid u) is)
   taken_apart (records.Commit u told) manager is = by (length told == 0)
@@ -104,6 +104,9 @@ module _ (tid : Tid) where
   all_apart (rec ∷ recs) manager all = let is : (is_of_other tid rec ≡ true) × (list_all (is_of_other tid) recs ≡ true) = both (is_of_other tid rec) (list_all (is_of_other tid) recs) all in
       all_apart recs (take_up manager rec) is.1 ∙ taken_apart rec manager is.0
 
+  pub unknown_log : (alloc : Global) (setting : Setting) (said : Recovery) → ((s : ℕ) → is_in_doubt tid s said ≡ false) → list_any (is_untold_of tid) said.untold ≡ false → tm.part_of tid (opened_manager alloc setting (recovered_as said)) ≡ None
+  unknown_log alloc setting said none told = all_apart (in_doubt said ++ untold said) (new_manager alloc setting)
+      (all_both (in_doubt said) (untold said) (votes_other said.prepared none) (commits_other said.untold told))
+
   pub unknown_there : (alloc : Global) (setting : Setting) (log : List Record) → SaysNothing tid (recovery log) → tm.part_of tid (opened_manager alloc setting (recovered_of log)) ≡ None
-  unknown_there alloc setting log says = all_apart (in_doubt (recovery log) ++ untold (recovery log)) (new_manager alloc setting)
-      (all_both (in_doubt (recovery log)) (untold (recovery log)) (votes_other (recovery log).prepared says.prepared) (commits_other (recovery log).untold says.untold))
+  unknown_there alloc setting log says = unknown_log alloc setting (recovery log) says.prepared says.untold

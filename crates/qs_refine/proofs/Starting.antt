@@ -11,7 +11,8 @@ use Rattle.qs_agree.specs.World as machine
 use Rattle.qs_agree.specs.World.{World}
 use Rattle.qs_refine.specs.Faces.{ShowsFace}
 use Rattle.qs_refine.specs.Links.{Said, IsLink, link, waiting_link}
-use Rattle.qs_refine.specs.Places.{place, known_place}
+use Rattle.qs_refine.specs.Places.{place, known_place, home_place}
+use Rattle.qs_refine.specs.RiseLaws.{StartPlaced}
 use Rattle.qs_refine.specs.Sights.{Sight, ShowsSight, ShowsLog, ShowsStage}
 use Rattle.qs_refine.specs.Starts.{IsNewFace, SaysNothing, begins_at, IsUnseen, node_of, opening_seen, MayBegin}
 
@@ -74,7 +75,7 @@ module _ (tid : Tid) (x : Sight) (u : IsUnseen tid x) where
     classes = λ n s. refl;
     present = λ n in_run. refl;
     up = up_is;
-    peers = λ n m in_run in_too up. rw (node_place n (x.inc n) (below n in_run)) (picked (nat_lt m x.size) (grind (arith, nat_tests, in_too)) (known_place m (x.knows n m)));
+    peers = λ n m in_run in_too up. rw (node_place n (x.inc n) (below n in_run)) (picked ((place n (x.inc n) == place n (x.inc n)) && nat_lt m x.size) (grind (arith, nat_tests, in_too)) (known_place m (x.knows n m)));
   }
     where
       picked : (b : Bool) → b ≡ true → (k : ℕ) → (if b then k else 0) ≡ k
@@ -110,8 +111,8 @@ pub may_begin : (tid : Tid) (x : Sight) → MayBegin tid x → machine.IsOpening
 may_begin tid x may = record {
   home_up = rw (node_place tid.home.0 tid.inc (below tid.home.0 may.home_in)) (home_runs (x.up tid.home.0) may.home_up);
   up_present = λ p up. sym (eqb-true p (place (node_of p) (x.inc (node_of p))) (second (x.up (node_of p)) (p == place (node_of p) (x.inc (node_of p))) up));
-  peer_node = λ p m some. by_node p m (nat_lt m x.size) refl some;
-  peer_present = λ p m. by_present p m (nat_lt m x.size);
+  peer_node = λ p m some. by_node p m (is_asked p m) refl some;
+  peer_present = λ p m. by_present p m (is_asked p m);
 }
   where
     below : (n : ℕ) → n < x.size → n < 256
@@ -124,12 +125,16 @@ may_begin tid x may = record {
     second true b is = is
     second false b is = absurd (cc (is))
 
-    by_node : (p m : ℕ) (b : Bool) → nat_lt m x.size ≡ b → 1 ≤ (if b then known_place m (x.knows (node_of p) m) else 0) → node_of (if b then known_place m (x.knows (node_of p) m) else 0) ≡ m
+    -- the place is its node's present one, and the other a node of the run
+    is_asked : ℕ → ℕ → Bool
+    is_asked p m = (p == place (node_of p) (x.inc (node_of p))) && nat_lt m x.size
+
+    by_node : (p m : ℕ) (b : Bool) → is_asked p m ≡ b → 1 ≤ (if b then known_place m (x.knows (node_of p) m) else 0) → node_of (if b then known_place m (x.knows (node_of p) m) else 0) ≡ m
     by_node p m true in_run some = place_known (x.knows (node_of p) m == 0) some
       where
         place_known : (b : Bool) → 1 ≤ (if b then 0 else place m (x.knows (node_of p) m)) → node_of (if b then 0 else place m (x.knows (node_of p) m)) ≡ m
         place_known true some = absurd (omega (arith, some))
-        place_known false some = node_place m (x.knows (node_of p) m) (below m (grind (arith, nat_tests, in_run)))
+        place_known false some = node_place m (x.knows (node_of p) m) (below m (grind (arith, nat_tests, second (p == place (node_of p) (x.inc (node_of p))) (nat_lt m x.size) in_run)))
     by_node p m false past some = absurd (omega (arith, some))
 
     by_present : (p m : ℕ) (b : Bool) → (if b then known_place m (x.knows (node_of p) m) else 0) ≤ place m (x.inc m)
@@ -142,3 +147,22 @@ may_begin tid x may = record {
 
 pub begins_lawful : (tid : Tid) (x : Sight) → MayBegin tid x → IsLawful (machine.start (opening_seen tid x))
 begins_lawful tid x may = lawful (machine.start (opening_seen tid x)) (record { opening = opening_seen tid x; opens = may_begin tid x may; events = []; run = refl })
+
+-- a place that has not begun is not its node's present one, and 0 is nowhere
+pub start_placed : StartPlaced
+start_placed tid x may begun q m = record {
+  stranger = λ late. apart (q == place (node_of q) (x.inc (node_of q))) (grind (arith, nat_tests, late)) (nat_lt m x.size) (known_place m (x.knows (node_of q) m));
+  none_up = nowhere (x.up 0) (0 == place 0 (x.inc 0)) (no_place (x.inc 0) (begun 0 (grind (arith, nat_tests, may.home_in))));
+  none_posted = refl;
+  engager = λ on away. absurd (away (eqb-true q (home_place tid) on));
+}
+  where
+    apart : (a : Bool) → a ≡ false → (b : Bool) (k : ℕ) → (if a && b then k else 0) ≡ 0
+    apart a is b k = rw is refl
+
+    nowhere : (a b : Bool) → b ≡ false → (a && b) ≡ false
+    nowhere true b is = is
+    nowhere false b is = refl
+
+    no_place : (i : ℕ) → 1 ≤ i → (0 == place 0 i) ≡ false
+    no_place i some = grind (arith, nat_tests, some)

@@ -1,5 +1,5 @@
 -- A place that no restart has taken yet holds nothing, after every run of the machine.
-use Rattle.std.proofs.Common.{◌≡◌, ℕ, List, [], ◌∷◌, arith, sym, subst}
+use Rattle.std.proofs.Common.{ℕ, List, [], ◌∷◌, arith, sym, subst}
 use Rattle.std.proofs.lemmas.Bool.Decides.{nat_tests}
 use Rattle.qs_agree.specs.World.{World, Opening, IsOpening, start}
 use Rattle.qs_agree.specs.Laws.{Run}

@@ -195,7 +195,7 @@ NoticeGoes = (tid : Tid) (x : Sight) (w : World) (n m i new : ℕ) (blocked : Bo
 pub record IsCut (x y : Sight) (n : ℕ) : Type 0 where
   pub size : y.size ≡ x.size
   pub inc : y.inc ≡ x.inc
-  pub knows : y.knows ≡ x.knows
+  pub knows : (a b : ℕ) → a ≢ n → y.knows a b ≡ x.knows a b
   pub found : (k : ℕ) → y.found k ≡ x.found k
   pub up : (k : ℕ) → y.up k ≡ (if k == n then false else x.up k)
   pub faces : (k : ℕ) → k ≢ n → y.face k ≡ x.face k

@@ -45,3 +45,8 @@ pub mod MessageWhole
 pub mod RestartFound
 pub mod OutcomeWhole
 pub mod RequestWhole
+pub mod RiseLaws
+pub mod SaidLaws
+pub mod MoveLaws
+pub mod OpenLaws
+pub mod JoinLaws

@@ -68,7 +68,7 @@ opening_seen tid x = record {
   home = home_place tid;
   present = λ n. place n (x.inc n);
   up = λ p. x.up (node_of p) && (p == place (node_of p) (x.inc (node_of p)));
-  peer = λ p m. if nat_lt m x.size then known_place m (x.knows (node_of p) m) else 0;
+  peer = λ p m. if (p == place (node_of p) (x.inc (node_of p))) && nat_lt m x.size then known_place m (x.knows (node_of p) m) else 0;  -- no other place of a node knows anybody
 }
 
 -- its home runs, in the incarnation in which it begins, and nobody knows a later incarnation than there is

@@ -2,6 +2,7 @@
 #![tactic(auto)]
 
 pub mod events;
+pub mod moves;
 pub mod rules;
 pub mod sound_rules;
 pub mod starts;

@@ -1,0 +1,230 @@
+-- Decisions, outcomes that are told, and inquiries leave a node sound over its log.
+use Rattle.std.proofs.Common.{◌≡◌, inl, inr, ◌==◌, ◌&&◌, ◌||◌, not, Bool, true, false, List, [], ◌∷◌, fold, Option, Some, None, is_some, refl, sym, ap, subst, ◌∙◌, arith, if◌then◌else◌}
+use Rattle.std.specs.List.{list_any}
+use Rattle.std.specs.BTreeMap.{is_at}
+use Rattle.qs_base.specs.Order.{same_tid, tid_cmp}
+use Rattle.qs_base.specs.declared.identifiers.NodeNo.{NodeNo}
+use Rattle.qs_base.specs.declared.identifiers.Outcome.{Outcome}
+use Rattle.qs_base.specs.declared.identifiers.Outcome.TheVariants as outcomes
+use Rattle.qs_base.specs.declared.identifiers.ServerNo.{ServerNo}
+use Rattle.qs_base.specs.declared.identifiers.Tid.{Tid}
+use Rattle.qs_engage.specs.Nodes.{listed, same_node}
+use Rattle.qs_ops.specs.Server.{after_notice}
+use Rattle.qs_ops.specs.declared.answer.Cause.{Cause}
+use Rattle.qs_ops.specs.declared.answer.Cause.TheVariants as causes
+use Rattle.qs_ops.specs.declared.vote.Notice.{Notice}
+use Rattle.qs_packet.specs.declared.message.Message.TheVariants as messages
+use Rattle.qs_record.specs.declared.record.Record.{Record}
+use Rattle.qs_record.specs.declared.record.Record.TheVariants as records
+use Rattle.qs_tm.specs.Manager as tm
+use Rattle.qs_tm.specs.Outcomes as outcome_rules
+use Rattle.qs_tm.specs.Outcomes.{aborted_participant, record_of, writes_commit}
+use Rattle.qs_tm.specs.Participant as participant
+use Rattle.qs_tm.specs.Participant.{is_undecided}
+use Rattle.qs_tm.specs.declared.manager.Decision.{Decision}
+use Rattle.qs_tm.specs.declared.participant.InLog.{InLog}
+use Rattle.qs_tm.specs.declared.participant.Participant.{Participant}
+use Rattle.qs_step.specs.Answering.{was_committed, answer_unknown, answer_known, inquiry_came}
+use Rattle.qs_step.specs.Bringing.{log, log_if, tid_of}
+use Rattle.qs_step.specs.Deciding.{notice_of, notify, end_member, due_endings, end_members, learn_member, learners_at, learn_members, give_notices, keep_outcome, decide, decide_commit}
+use Rattle.qs_step.specs.State.{Work, here, part_of, with_manager, change_server}
+use Rattle.qs_step.specs.Telling.{names_at, end_record, record_learnt, learn, learn_unknown, take_outcome, tell_came, forget, end_told, take_told, take_names, keep_abort_told, is_other_node, told_unknown, told_known, told_at_home, told_came}
+use Rattle.qs_refine.specs.SaidLaws.{no_flags, flags_at, SaysOn}
+use Rattle.qs_refine.specs.Sound.{in_order}
+use Rattle.qs_refine.proofs.Forgetting.{forgotten, order_changed}
+use Rattle.qs_refine.proofs.Maps.{lookup_changed}
+use Rattle.qs_refine.proofs.Others.{forget_apart}
+use Rattle.qs_refine.proofs.SaysLogs.{MayLog, log_on, log_if_on, flags_logged}
+use Rattle.qs_refine.proofs.SaysOn.{on_itself, on_then, fold_on, if_on, rest_on, two_on, enter_on, send_on, sends_on, queues_on, server_on, part_on, absent_on}
+use Rattle.qs_refine.proofs.SoundKnown.{same_is}
+
+-- ---- notices
+
+notify_on : (tid : Tid) (notice : Notice) (server : ServerNo) (work : Work) → SaysOn work (notify tid notice server work)
+notify_on tid notice server work = on_then (server_on server (λ value. after_notice value tid notice) work) (part_on tid (outcome_rules.settled server) (λ part. refl) (change_server server (λ value. after_notice value tid notice) work))
+
+end_member_on : (tid : Tid) (work : Work) (server : ServerNo) → SaysOn work (end_member tid work server)
+end_member_on tid work server = on_then (notify_on tid Rattle.qs_ops.specs.declared.vote.Notice.TheVariants.Ending server work) (enter_on _ _)
+
+pub end_members_on : (tid : Tid) (work : Work) → SaysOn work (end_members tid work)
+end_members_on tid work = fold_on (end_member tid) (end_member_on tid) (due_endings tid work) work
+
+learn_member_on : (tid : Tid) (outcome : Outcome) (work : Work) (server : ServerNo) → SaysOn work (learn_member tid outcome work server)
+learn_member_on tid outcome work server = on_then (notify_on tid (notice_of outcome) server work) (enter_on _ _)
+
+learn_members_on : (tid : Tid) (outcome : Outcome) (work : Work) → SaysOn work (learn_members tid outcome work)
+learn_members_on tid outcome work = fold_on (learn_member tid outcome) (learn_member_on tid outcome) (learners_at tid work) work
+
+pub notices_on : (tid : Tid) (outcome : Outcome) (work : Work) → SaysOn work (give_notices tid outcome work)
+notices_on tid outcomes.Commit work = learn_members_on tid outcomes.Commit work
+notices_on tid outcomes.Abort work = on_then (end_members_on tid work) (learn_members_on tid outcomes.Abort (end_members tid work))
+
+-- the transaction stays known
+abbrev pub IsKnown : Tid → Work → Type 0
+IsKnown tid work = (part : Participant) × (part_of tid work ≡ Some part)
+
+pub part_known : (tid : Tid) (f : Participant → Participant) (work : Work) → IsKnown tid work → IsKnown tid (with_manager (tm.with_part tid f) work)
+part_known tid f work known = (f known.0, lookup_changed (is_at (tid_cmp tid)) f work.node.manager.known known.0 known.1)
+
+learns_known : (tid : Tid) (outcome : Outcome) (servers : List ServerNo) (work : Work) → IsKnown tid work → IsKnown tid (fold (learn_member tid outcome) work servers)
+learns_known tid outcome [] work known = known
+learns_known tid outcome (server ∷ servers) work known = learns_known tid outcome servers (learn_member tid outcome work server)
+    (part_known tid (outcome_rules.settled server) (change_server server (λ value. after_notice value tid (notice_of outcome)) work) known)
+
+ends_known : (tid : Tid) (servers : List ServerNo) (work : Work) → IsKnown tid work → IsKnown tid (fold (end_member tid) work servers)
+ends_known tid [] work known = known
+ends_known tid (server ∷ servers) work known = ends_known tid servers (end_member tid work server)
+    (part_known tid (outcome_rules.settled server) (change_server server (λ value. after_notice value tid Rattle.qs_ops.specs.declared.vote.Notice.TheVariants.Ending) work) known)
+
+pub notices_known : (tid : Tid) (outcome : Outcome) (work : Work) → IsKnown tid work → IsKnown tid (give_notices tid outcome work)
+notices_known tid outcomes.Commit work known = learns_known tid outcomes.Commit (learners_at tid work) work known
+notices_known tid outcomes.Abort work known = learns_known tid outcomes.Abort (learners_at tid (end_members tid work)) (end_members tid work) (ends_known tid (due_endings tid work) work known)
+
+-- ---- the decision
+
+abbrev made : Tid → Outcome → Option Participant → Decision
+made tid outcome o = elim o [ None ↦ tm.no_decision | Some part ↦ record { rec = record_of tid outcome part; tell = listed (outcome_rules.tell_of outcome part) } ]
+
+-- its record is of the transaction, which is known where there is one
+decided_may : (tid : Tid) (outcome : Outcome) (work : Work) (rec : Record) → (tm.decision tid outcome work.node.manager).rec ≡ Some rec → (tid_of rec ≡ tid) × IsKnown tid work
+decided_may tid outcome work rec = by outcome (part_of tid work) refl
+  where
+    written : (b : Bool) (list : List NodeNo) → (if b then Some (records.Commit tid list) else None) ≡ Some rec → tid_of rec ≡ tid
+    written true list is = let same : records.Commit tid list ≡ rec = cc (is) in subst (λ (r : Record). tid_of r ≡ tid) same refl
+    written false list is = absurd (cc (is))
+
+    ended : (b : Bool) → (if b then Some (records.Aborted tid) else None) ≡ Some rec → tid_of rec ≡ tid
+    ended true is = let same : records.Aborted tid ≡ rec = cc (is) in subst (λ (r : Record). tid_of r ≡ tid) same refl
+    ended false is = absurd (cc (is))
+
+    of_it : (outcome : Outcome) (part : Participant) → record_of tid outcome part ≡ Some rec → tid_of rec ≡ tid
+    of_it outcomes.Commit part is = written (writes_commit part) (listed part.told) is
+    of_it outcomes.Abort part is = ended part.log.prepared is
+
+    by : (outcome : Outcome) (o : Option Participant) → part_of tid work ≡ o
+        → (made tid outcome o).rec ≡ Some rec → (tid_of rec ≡ tid) × IsKnown tid work
+    by outcome None none is = absurd (cc (is))
+    by outcome (Some part) known is = (of_it outcome part is, (part, known))
+
+pub decide_on : (tid : Tid) (outcome : Outcome) (cause : Option Cause) (work : Work) → SaysOn work (decide tid outcome cause work)
+decide_on tid outcome cause work =
+    on_then (part_on tid (outcome_rules.decided outcome) (λ part. refl) work)
+    (on_then (log_if_on (tm.decision tid outcome work.node.manager).rec decided may)
+    (on_then (rest_on (log_if (tm.decision tid outcome work.node.manager).rec decided) (keep_outcome tid outcome cause (log_if (tm.decision tid outcome work.node.manager).rec decided)) refl refl refl refl refl)
+    (on_then (enter_on _ (keep_outcome tid outcome cause (log_if (tm.decision tid outcome work.node.manager).rec decided)))
+    (on_then (notices_on tid outcome _) (sends_on (tm.decision tid outcome work.node.manager).tell (messages.Tell tid outcome) _)))))
+  where
+    decided : Work
+    decided = with_manager (tm.decide tid outcome) work
+
+    may : (rec : Record) → (tm.decision tid outcome work.node.manager).rec ≡ Some rec → MayLog rec decided
+    may rec is = let of_it : (tid_of rec ≡ tid) × IsKnown tid work = decided_may tid outcome work rec is in
+        inr (subst (λ (t : Tid). IsKnown t decided) (sym of_it.0) (part_known tid (outcome_rules.decided outcome) work of_it.1))
+
+pub decide_commit_on : (tid : Tid) (work : Work) → SaysOn work (decide_commit tid work)
+decide_commit_on tid work = by (tm.need_past tid work.room work.node.manager)
+  where
+    by : (o : Option Rattle.std.proofs.Common.ℕ) → SaysOn work (elim o [ None ↦ decide tid outcomes.Commit None work | Some need ↦ decide tid outcomes.Abort (Some (causes.Room need work.room)) work ])
+    by None = decide_on tid outcomes.Commit None work
+    by (Some need) = decide_on tid outcomes.Abort (Some (causes.Room need work.room)) work
+
+-- ---- an outcome is told
+
+learn_on : (tid : Tid) (outcome : Outcome) (part : Participant) (work : Work) → part_of tid work ≡ Some part → SaysOn work (learn tid outcome part work)
+learn_on tid outcome part work known =
+    on_then (part_on tid (outcome_rules.took_outcome outcome) (λ part. refl) work)
+    (on_then (notices_on tid outcome taken) (log_if_on (record_learnt tid outcome part) (give_notices tid outcome taken) (λ rec is. inr (subst (λ (t : Tid). IsKnown t (give_notices tid outcome taken)) (sym (of_it rec part.log.prepared outcome is)) known_still))))
+  where
+    taken : Work
+    taken = with_manager (tm.took_outcome tid outcome) work
+
+    known_still : IsKnown tid (give_notices tid outcome taken)
+    known_still = notices_known tid outcome taken (part_known tid (outcome_rules.took_outcome outcome) work (part, known))
+
+    ended : (outcome : Outcome) → tid_of (end_record tid outcome) ≡ tid
+    ended outcomes.Commit = refl
+    ended outcomes.Abort = refl
+
+    of_it : (rec : Record) (b : Bool) (outcome : Outcome) → (if b then Some (end_record tid outcome) else None) ≡ Some rec → tid_of rec ≡ tid
+    of_it rec true outcome is = let same : end_record tid outcome ≡ rec = cc (is) in subst (λ (r : Record). tid_of r ≡ tid) same (ended outcome)
+    of_it rec false outcome is = absurd (cc (is))
+
+-- of what is not known abort is kept
+pub keep_abort_on : (tid : Tid) (work : Work) → SaysOn work (with_manager (tm.keep_abort tid) work)
+keep_abort_on tid work = absent_on tid (aborted_participant (tm.is_home tid work.node.manager)) work refl
+
+take_outcome_on : (tid : Tid) (outcome : Outcome) (work : Work) → SaysOn work (take_outcome tid outcome work)
+take_outcome_on tid outcome work = by (part_of tid work) refl
+  where
+    unknown : (outcome : Outcome) → SaysOn work (learn_unknown tid outcome work)
+    unknown outcomes.Commit = on_itself work
+    unknown outcomes.Abort = keep_abort_on tid work
+
+    by : (o : Option Participant) → part_of tid work ≡ o → SaysOn work (elim o [ None ↦ learn_unknown tid outcome work | Some part ↦ if is_undecided part then learn tid outcome part work else work ])
+    by None none = unknown outcome
+    by (Some part) known = if_on (is_undecided part) (learn_on tid outcome part work known) (on_itself work)
+
+pub tell_came_on : (peer : NodeNo) (tid : Tid) (outcome : Outcome) (work : Work) → SaysOn work (tell_came peer tid outcome work)
+tell_came_on peer tid outcome work = if_on (same_node tid.home (here work)) (on_itself work) (on_then (take_outcome_on tid outcome work) (send_on peer (messages.Told tid (names_at tid outcome work)) (take_outcome tid outcome work)))
+
+-- ---- it was taken in
+
+-- what has nothing in the log may be forgotten
+pub forget_on : (tid : Tid) (work : Work) → in_order work.node.manager.known ≡ true → (flags_at tid work.node).prepared ≡ false → (flags_at tid work.node).listed ≡ false → SaysOn work (forget tid work)
+forget_on tid work ordered prepared listed = on_then (two_on work forgot (record { setting = refl; records = refl; force = refl; commands = λ is. is }) (λ t. by t (same_tid t tid) refl)) (queues_on (Rattle.qs_step.specs.Telling.drop_counts tid) forgot)
+  where
+    forgot : Work
+    forgot = with_manager (tm.forget tid) work
+
+    told : Option Participant → InLog
+    told o = elim o [ None ↦ no_flags | Some part ↦ part.log ]
+
+    gone : flags_at tid forgot.node ≡ no_flags
+    gone = ap told (forgotten tid work.node.manager ordered)
+
+    by : (t : Tid) (b : Bool) → same_tid t tid ≡ b → ((flags_at t forgot.node).prepared ≡ (flags_at t work.node).prepared) × ((flags_at t forgot.node).listed ≡ (flags_at t work.node).listed)
+    by t true same = subst (λ (u : Tid). ((flags_at u forgot.node).prepared ≡ (flags_at u work.node).prepared) × ((flags_at u forgot.node).listed ≡ (flags_at u work.node).listed)) (sym (same_is t tid same))
+        (ap (λ (f : InLog). f.prepared) gone ∙ sym prepared, ap (λ (f : InLog). f.listed) gone ∙ sym listed)
+    by t false apart = let same : flags_at t forgot.node ≡ flags_at t work.node = ap told (forget_apart t tid work.node.manager apart) in (ap (λ (f : InLog). f.prepared) same, ap (λ (f : InLog). f.listed) same)
+
+end_told_on : (b : Bool) (tid : Tid) (work : Work) → in_order work.node.manager.known ≡ true → SaysOn work (end_told b tid work)
+end_told_on false tid work ordered = on_itself work
+end_told_on true tid work ordered = on_then (log_on (records.End tid) work (inl refl))
+    (forget_on tid (log (records.End tid) work) (order_changed tid (outcome_rules.logged (records.End tid)) work.node.manager ordered)
+    (ap (λ (f : InLog). f.prepared) (flags_logged (records.End tid) work (inl refl))) (ap (λ (f : InLog). f.listed) (flags_logged (records.End tid) work (inl refl))))
+
+take_told_on : (peer : NodeNo) (tid : Tid) (work : Work) → in_order work.node.manager.known ≡ true → SaysOn work (take_told peer tid work)
+take_told_on peer tid work ordered = on_then (part_on tid (outcome_rules.acknowledged peer) (λ part. refl) work)
+    (end_told_on (tm.all_acknowledged tid peer work.node.manager) tid (with_manager (tm.acknowledged tid peer) work) (order_changed tid (outcome_rules.acknowledged peer) work.node.manager ordered))
+
+take_names_on : (tid : Tid) (further : List NodeNo) (work : Work) → SaysOn work (take_names tid further work)
+take_names_on tid further work = on_then (part_on tid (outcome_rules.take_names tid.home further) (λ part. refl) work) (sends_on (listed (tm.new_names tid further work.node.manager)) (messages.Tell tid outcomes.Abort) _)
+
+keep_told_on : (tid : Tid) (peer : NodeNo) (work : Work) → SaysOn work (keep_abort_told tid peer work)
+keep_told_on tid peer work = on_then (keep_abort_on tid work) (part_on tid (outcome_rules.add_tell peer) (λ part. refl) (with_manager (tm.keep_abort tid) work))
+
+pub told_came_on : (peer : NodeNo) (tid : Tid) (further : List NodeNo) (work : Work) → in_order work.node.manager.known ≡ true → SaysOn work (told_came peer tid further work)
+told_came_on peer tid further work ordered = if_on (same_node tid.home (here work)) (by (part_of tid work)) (on_itself work)
+  where
+    known : (o : Option Outcome) → SaysOn work (told_known peer tid further o work)
+    known None = on_itself work
+    known (Some outcomes.Commit) = take_told_on peer tid work ordered
+    known (Some outcomes.Abort) = take_names_on tid further work
+
+    by : (o : Option Participant) → SaysOn work (elim o [ None ↦ told_unknown peer tid further work | Some part ↦ told_known peer tid further part.outcome work ])
+    by None = if_on (list_any (is_other_node tid) further) (on_then (keep_told_on tid peer work) (take_names_on tid further (keep_abort_told tid peer work))) (on_itself work)
+    by (Some part) = known part.outcome
+
+-- ---- inquiries
+
+pub inquiry_came_on : (peer : NodeNo) (tid : Tid) (work : Work) → SaysOn work (inquiry_came peer tid work)
+inquiry_came_on peer tid work = if_on (same_node tid.home (here work)) (by (part_of tid work)) (on_itself work)
+  where
+    known : (o : Option Outcome) → SaysOn work (answer_known peer tid o work)
+    known None = part_on tid (participant.add_told peer) (λ part. refl) work
+    known (Some outcomes.Commit) = send_on peer (messages.Tell tid outcomes.Commit) work
+    known (Some outcomes.Abort) = on_then (part_on tid (outcome_rules.add_tell peer) (λ part. refl) work) (send_on peer (messages.Tell tid outcomes.Abort) _)
+
+    by : (o : Option Participant) → SaysOn work (elim o [ None ↦ answer_unknown peer tid work | Some part ↦ answer_known peer tid part.outcome work ])
+    by None = if_on (was_committed tid work.node) (send_on peer (messages.Tell tid outcomes.Commit) work) (on_then (keep_told_on tid peer work) (send_on peer (messages.Tell tid outcomes.Abort) (keep_abort_told tid peer work)))
+    by (Some part) = known part.outcome

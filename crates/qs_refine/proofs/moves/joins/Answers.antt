@@ -1,0 +1,5 @@
+use Rattle.qs_refine.proofs.Joining.{step_closes}
+use Rattle.qs_refine.proofs.moves.joins.Goals as goal
+
+pub returns : goal.returns
+returns c = record { closes = step_closes }

@@ -1,0 +1,64 @@
+//! Moves of the world: a node stops and restarts, and each move as events of the agreement machine.
+ghost use Rattle.qs_refine.specs.JoinLaws.{StepCloses};
+ghost use Rattle.qs_refine.specs.MoveLaws.{StartSeated, MoveSeated, StaysClosed, ClosedGoes, MoveGoes};
+ghost use Rattle.qs_refine.specs.SaidLaws.{SaidSeen, SeenSaid, StepSaid, StepSeated, StepForces, StepOpen, OpenedSaid, RestartSaid, MoveSaid};
+ghost use Rattle.qs_refine.specs.OpenLaws.{StartOpen, MoveMay, MoveOpen};
+ghost use Rattle.qs_refine.specs.RiseLaws.{StartPlaced, StaysPlaced, RisenFace, RiseGoes};
+
+/// A place that has not begun knows nobody, and 0 is no place.
+pub fn places()
+    ensures start { StartPlaced }
+    ensures stay { StaysPlaced }
+{}
+
+/// A node opens over its log in a later incarnation, and what is seen of a transaction is what the log says of it; so the
+/// machine shows it after the restart, at the home's node or another one, with votes in doubt or none.
+pub fn risings()
+    ensures face { RisenFace }
+    ensures rise { RiseGoes }
+{}
+
+/// A node that is sound over its log keeps of each transaction what the log says, with the records that wait: where a world
+/// begins, after a whole step and a restart, and after each move.
+pub fn logs()
+    ensures seen { SaidSeen }
+    ensures said { SeenSaid }
+    ensures opens { OpenedSaid }
+    ensures step { StepSaid }
+    ensures seated { StepSeated }
+    ensures forces { StepForces }
+    ensures stays_open { StepOpen }
+    ensures restart { RestartSaid }
+    ensures moves { MoveSaid }
+{}
+
+/// Records of a transaction that wait may close it, and still may while their node runs; and the machine goes on as they
+/// reach the disk.
+pub fn closings()
+    ensures stays { StaysClosed }
+    ensures goes { ClosedGoes }
+{}
+
+/// The nodes of a world sit in their places, where it begins and after each move.
+pub fn seats()
+    ensures start { StartSeated }
+    ensures moves { MoveSeated }
+{}
+
+/// What shows the world before a move shows it after: a whole step and one that is cut off, as far as the step goes on by
+/// events of the machine, a stop, a restart and a first meeting.
+pub fn going()
+    ensures moves { MoveGoes }
+{}
+
+/// The commands that are open in a world go to nodes of the run, so that a move of it need not ask for that.
+pub fn commands()
+    ensures start { StartOpen }
+    ensures may { MoveMay }
+    ensures moves { MoveOpen }
+{}
+
+/// What shows the world with those of a step's records on the disk that must be forced goes on to what shows it with all.
+pub fn joins()
+    ensures closes { StepCloses }
+{}
