@@ -1,0 +1,16 @@
+pub mod Alike
+pub mod Answers
+pub mod Begun
+pub mod Borrowing
+pub mod Commands
+pub mod Conforming
+pub mod Course
+pub mod CrashRows
+pub mod Crashes
+pub mod Effects
+pub mod FileRows
+pub mod Files
+pub mod Rules
+pub mod LoanRows
+pub mod OwnerRows
+pub mod Scenes
