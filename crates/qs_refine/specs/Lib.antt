@@ -38,3 +38,4 @@ pub mod SaidLaws
 pub mod MoveLaws
 pub mod OpenLaws
 pub mod JoinLaws
+pub mod SaysLaws
