@@ -39,3 +39,4 @@ pub mod MoveLaws
 pub mod OpenLaws
 pub mod JoinLaws
 pub mod SaysLaws
+pub mod TakenLaws

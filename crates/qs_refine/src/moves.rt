@@ -4,6 +4,7 @@ ghost use Rattle.qs_refine.specs.MoveLaws.{StartSeated, MoveSeated, StaysClosed,
 ghost use Rattle.qs_refine.specs.SaidLaws.{SaidSeen, SeenSaid, StepSaid, StepSeated, StepForces, StepOpen, OpenedSaid, RestartSaid, MoveSaid};
 ghost use Rattle.qs_refine.specs.OpenLaws.{StartOpen, MoveMay, MoveOpen};
 ghost use Rattle.qs_refine.specs.SaysLaws.{BeginSays, RequestSays, ReplySays, AskSays, CloserSays, RefusalSays, TellSays, ToldSays, InquirySays, ServeSays, NoticeSays, HappenSays, DecideSays, PassSays, ReadySays, RefuseSays, ForgetSays, SettleSays, ResumeSays, WaitingSays};
+ghost use Rattle.qs_refine.specs.TakenLaws.{HandedTaken, NoticedTaken};
 ghost use Rattle.qs_refine.specs.RiseLaws.{StartPlaced, StaysPlaced, RisenFace, RiseGoes};
 
 /// A place that has not begun knows nobody, and 0 is no place.
@@ -87,7 +88,10 @@ pub fn commands()
     ensures moves { MoveOpen }
 {}
 
-/// What shows the world with those of a step's records on the disk that must be forced goes on to what shows it with all.
+/// What shows the world with those of a step's records on the disk that must be forced goes on to what shows it with all; and
+/// a message that a step takes, or a restart that it notices, is taken from the channels as from all that is read.
 pub fn joins()
     ensures closes { StepCloses }
+    ensures handed { HandedTaken }
+    ensures noticed { NoticedTaken }
 {}
