@@ -159,6 +159,7 @@ pub mod StepEdges
 pub mod StepMoves
 pub mod Still
 pub mod Streams
+pub mod Taken
 pub mod Taking
 pub mod TakingNames
 pub mod TakingTold

@@ -92,21 +92,21 @@ vote_pass_on tid work holds = on_then (end_members_on tid work) (each (due_votes
 -- ---- settling
 
 module _ (tid : Tid) (part : Participant) (work : Work) (known : part_of tid work ≡ Some part) where
-  pass_on : is_undecided part ≡ true → is_sound work.node ≡ true → SaysOn work (pass_rule tid part work)
+  pub pass_on : is_undecided part ≡ true → is_sound work.node ≡ true → SaysOn work (pass_rule tid part work)
   pass_on open_now sound = by (is_pass_due tid part work) refl
     where
       by : (b : Bool) → is_pass_due tid part work ≡ b → SaysOn work (if b then vote_pass tid work else work)
       by true is = vote_pass_on tid work (pass_open tid part work known open_now sound is)
       by false is = on_itself work
 
-  ready_on : SaysOn work (ready_rule tid part work)
+  pub ready_on : SaysOn work (ready_rule tid part work)
   ready_on = if_on (may_answer tid part work) (if_on part.engage.home (if_on (is_quiet (doings_of tid work)) (decide_commit_on tid work) (on_itself work)) (answers (release_of part.engage))) (on_itself work)
     where
       answers : (o : Option (NodeNo × ℕ)) → SaysOn work (elim o [ None ↦ work | Some superior ↦ say_yes tid part superior work ])
       answers None = on_itself work
       answers (Some superior) = on_then (part_on tid participant.released (λ part. refl) work) (send_on _ _ (with_manager (tm.released tid) work))
 
-  refuse_on : SaysOn work (refuse_rule tid part work)
+  pub refuse_on : SaysOn work (refuse_rule tid part work)
   refuse_on = if_on part.engage.home (first part.causes) (on_then (part_on tid participant.take_causes (λ part. refl) work) (fold_on (send_refusal tid (refusal_goes_to tid part)) (λ w cause. send_on _ _ w) part.causes (with_manager (tm.take_causes tid) work)))
     where
       first : (list : List Cause) → SaysOn work (elim list [ [] ↦ work | cause ∷ more ↦ decide tid outcomes.Abort (Some cause) work ])
@@ -114,7 +114,7 @@ module _ (tid : Tid) (part : Participant) (work : Work) (known : part_of tid wor
       first (cause ∷ more) = decide_on tid outcomes.Abort (Some cause) work
 
   -- what is forgotten has nothing in the log
-  forget_rule_on : is_sound work.node ≡ true → SaysOn work (forget_rule tid part work)
+  pub forget_rule_on : is_sound work.node ≡ true → SaysOn work (forget_rule tid part work)
   forget_rule_on sound = by (is_forgotten part) refl
     where
       s : PartSound work.node tid part

@@ -65,7 +65,7 @@ begin_as_on line work new =
     counted : Work
     counted = with_manager (λ manager. record manager { begun = manager.begun + 1 }) work
 
-begin_command_on : (line : ScriptLine) (work : Work) → tm.part_of (tm.next_tid work.node.manager) work.node.manager ≡ None → SaysOn work (begin_command line work)
+pub begin_command_on : (line : ScriptLine) (work : Work) → tm.part_of (tm.next_tid work.node.manager) work.node.manager ≡ None → SaysOn work (begin_command line work)
 begin_command_on line work new = by (tm.begin_fault work.room work.node.manager)
   where
     by : (o : Option BeginFault) → SaysOn work (begin_or_refuse line o work)

@@ -50,3 +50,5 @@ pub mod SaidLaws
 pub mod MoveLaws
 pub mod OpenLaws
 pub mod JoinLaws
+pub mod SaysLaws
+pub mod TakenLaws

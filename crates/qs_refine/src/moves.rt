@@ -3,6 +3,8 @@ ghost use Rattle.qs_refine.specs.JoinLaws.{StepCloses};
 ghost use Rattle.qs_refine.specs.MoveLaws.{StartSeated, MoveSeated, StaysClosed, ClosedGoes, MoveGoes};
 ghost use Rattle.qs_refine.specs.SaidLaws.{SaidSeen, SeenSaid, StepSaid, StepSeated, StepForces, StepOpen, OpenedSaid, RestartSaid, MoveSaid};
 ghost use Rattle.qs_refine.specs.OpenLaws.{StartOpen, MoveMay, MoveOpen};
+ghost use Rattle.qs_refine.specs.SaysLaws.{BeginSays, RequestSays, ReplySays, AskSays, CloserSays, RefusalSays, TellSays, ToldSays, InquirySays, ServeSays, NoticeSays, HappenSays, DecideSays, PassSays, ReadySays, RefuseSays, ForgetSays, SettleSays, ResumeSays, WaitingSays};
+ghost use Rattle.qs_refine.specs.TakenLaws.{HandedTaken, NoticedTaken};
 ghost use Rattle.qs_refine.specs.RiseLaws.{StartPlaced, StaysPlaced, RisenFace, RiseGoes};
 
 /// A place that has not begun knows nobody, and 0 is no place.
@@ -16,6 +18,34 @@ pub fn places()
 pub fn risings()
     ensures face { RisenFace }
     ensures rise { RiseGoes }
+{}
+
+/// What comes to a node and is done leaves it sound over its log.
+pub fn arrivals()
+    ensures begin { BeginSays }
+    ensures request { RequestSays }
+    ensures reply { ReplySays }
+    ensures ask { AskSays }
+    ensures closer { CloserSays }
+    ensures refusal { RefusalSays }
+    ensures tell { TellSays }
+    ensures told { ToldSays }
+    ensures inquiry { InquirySays }
+    ensures serve { ServeSays }
+    ensures restart { NoticeSays }
+    ensures happens { HappenSays }
+{}
+
+/// So does what a node does of itself, a decision and each rule at the end of a step, and the first step of an incarnation.
+pub fn rules()
+    ensures decide { DecideSays }
+    ensures pass { PassSays }
+    ensures ready { ReadySays }
+    ensures refuse { RefuseSays }
+    ensures forget { ForgetSays }
+    ensures settle { SettleSays }
+    ensures resume { ResumeSays }
+    ensures waiting { WaitingSays }
 {}
 
 /// A node that is sound over its log keeps of each transaction what the log says, with the records that wait: where a world
@@ -58,7 +88,10 @@ pub fn commands()
     ensures moves { MoveOpen }
 {}
 
-/// What shows the world with those of a step's records on the disk that must be forced goes on to what shows it with all.
+/// What shows the world with those of a step's records on the disk that must be forced goes on to what shows it with all; and
+/// a message that a step takes, or a restart that it notices, is taken from the channels as from all that is read.
 pub fn joins()
     ensures closes { StepCloses }
+    ensures handed { HandedTaken }
+    ensures noticed { NoticedTaken }
 {}
