@@ -193,3 +193,5 @@ pub mod TellStands
 pub mod InquireStands
 pub mod RequestKept
 pub mod RequestStands
+pub mod CountDecided
+pub mod CloserStands

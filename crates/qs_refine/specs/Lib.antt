@@ -45,3 +45,4 @@ pub mod MessageWhole
 pub mod RestartFound
 pub mod OutcomeWhole
 pub mod RequestWhole
+pub mod CloserWhole

@@ -3,6 +3,7 @@ ghost use Rattle.qs_refine.specs.PassLaws.{PassRuleGoes};
 ghost use Rattle.qs_refine.specs.SettleWhole.{SettleTidGoes, SettleGoes};
 ghost use Rattle.qs_refine.specs.TickLaws.{TickGoes};
 ghost use Rattle.qs_refine.specs.RequestWhole.{RequestStands};
+ghost use Rattle.qs_refine.specs.CloserWhole.{CoveredStands, VotedYesStands};
 ghost use Rattle.qs_refine.specs.OutcomeWhole.{TellStands, InquireStands};
 ghost use Rattle.qs_refine.specs.RestartFound.{PeerRestartedGoes};
 ghost use Rattle.qs_refine.specs.MessageWhole.{ForeignStands, AnsweredStands, AskVoteStands, RefusalStands};
@@ -71,4 +72,10 @@ pub fn outcomes()
 /// A request comes.
 pub fn requests()
     ensures request { RequestStands }
+{}
+
+/// A node that was engaged answers for what came to it: a Covered or a VotedYes comes.
+pub fn closers()
+    ensures covered { CoveredStands }
+    ensures voted_yes { VotedYesStands }
 {}
