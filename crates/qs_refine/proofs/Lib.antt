@@ -195,3 +195,4 @@ pub mod RequestKept
 pub mod RequestStands
 pub mod CountDecided
 pub mod CloserStands
+pub mod ToldStands

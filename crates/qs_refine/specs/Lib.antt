@@ -46,3 +46,4 @@ pub mod RestartFound
 pub mod OutcomeWhole
 pub mod RequestWhole
 pub mod CloserWhole
+pub mod ToldWhole

@@ -4,6 +4,7 @@ ghost use Rattle.qs_refine.specs.SettleWhole.{SettleTidGoes, SettleGoes};
 ghost use Rattle.qs_refine.specs.TickLaws.{TickGoes};
 ghost use Rattle.qs_refine.specs.RequestWhole.{RequestStands};
 ghost use Rattle.qs_refine.specs.CloserWhole.{CoveredStands, VotedYesStands};
+ghost use Rattle.qs_refine.specs.ToldWhole.{ToldStands, ToldAwayStands};
 ghost use Rattle.qs_refine.specs.OutcomeWhole.{TellStands, InquireStands};
 ghost use Rattle.qs_refine.specs.RestartFound.{PeerRestartedGoes};
 ghost use Rattle.qs_refine.specs.MessageWhole.{ForeignStands, AnsweredStands, AskVoteStands, RefusalStands};
@@ -78,4 +79,10 @@ pub fn requests()
 pub fn closers()
     ensures covered { CoveredStands }
     ensures voted_yes { VotedYesStands }
+{}
+
+/// A node that was told the outcome acknowledges it: a Told comes to the home's node, and to another one.
+pub fn tellings()
+    ensures told { ToldStands }
+    ensures away { ToldAwayStands }
 {}
