@@ -196,3 +196,4 @@ pub mod RequestStands
 pub mod CountDecided
 pub mod CloserStands
 pub mod ToldStands
+pub mod MessageCame

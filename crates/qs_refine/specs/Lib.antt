@@ -47,3 +47,4 @@ pub mod OutcomeWhole
 pub mod RequestWhole
 pub mod CloserWhole
 pub mod ToldWhole
+pub mod CameWhole

@@ -4,6 +4,7 @@ ghost use Rattle.qs_refine.specs.SettleWhole.{SettleTidGoes, SettleGoes};
 ghost use Rattle.qs_refine.specs.TickLaws.{TickGoes};
 ghost use Rattle.qs_refine.specs.RequestWhole.{RequestStands};
 ghost use Rattle.qs_refine.specs.CloserWhole.{CoveredStands, VotedYesStands};
+ghost use Rattle.qs_refine.specs.CameWhole.{MessageStands};
 ghost use Rattle.qs_refine.specs.ToldWhole.{ToldStands, ToldAwayStands};
 ghost use Rattle.qs_refine.specs.OutcomeWhole.{TellStands, InquireStands};
 ghost use Rattle.qs_refine.specs.RestartFound.{PeerRestartedGoes};
@@ -85,4 +86,9 @@ pub fn closers()
 pub fn tellings()
     ensures told { ToldStands }
     ensures away { ToldAwayStands }
+{}
+
+/// A message comes, whatever it is.
+pub fn comings()
+    ensures message { MessageStands }
 {}
