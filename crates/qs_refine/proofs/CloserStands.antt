@@ -11,23 +11,20 @@ use Rattle.qs_base.specs.declared.identifiers.Tid.{Tid}
 use Rattle.qs_engage.specs.Nodes.{same_node, has_node}
 use Rattle.qs_packet.specs.declared.message.Message.{Message}
 use Rattle.qs_packet.specs.declared.message.Message.TheVariants as messages
-use Rattle.qs_tm.specs.Manager as tm
 use Rattle.qs_tm.specs.Participant.{new_participant, is_undecided}
 use Rattle.qs_tm.specs.Participant as participant
 use Rattle.qs_tm.specs.declared.participant.Participant.{Participant}
 use Rattle.qs_step.specs.Asking.{closer_came, count}
 use Rattle.qs_step.specs.State.{Work, part_of}
-use Rattle.qs_step.specs.Step.{message_came}
 use Rattle.qs_agree.specs.World.{World, Open}
 use Rattle.qs_refine.specs.CloserWhole.{CountsNoMore, CoveredStands, VotedYesStands}
 use Rattle.qs_refine.specs.Faces.{Face}
 use Rattle.qs_refine.specs.Links.{Closed, names_node, node_no}
 use Rattle.qs_refine.specs.Messages.{said, all_said}
-use Rattle.qs_refine.specs.NodeFaces.{began_here, face, face_at, is_past_commit, outcome_of, unknown}
+use Rattle.qs_refine.specs.NodeFaces.{began_here, face, face_at, is_past_commit, unknown}
 use Rattle.qs_refine.specs.Seen.{SightGoes, sight_taken}
 use Rattle.qs_refine.specs.Shows.{Scene, handed, sight_during, ShowsWork}
 use Rattle.qs_refine.specs.SoundLaws.{StaysSound}
-use Rattle.qs_refine.specs.SoundSteps.{FitsMessage}
 use Rattle.qs_refine.specs.Stands.{Stands, GoesOn}
 use Rattle.qs_refine.specs.Steps.{IsNext, IsToldSet, Goes}
 use Rattle.qs_refine.proofs.Alike.{same_itself}

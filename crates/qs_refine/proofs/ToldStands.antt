@@ -1,5 +1,5 @@
 -- A Told comes, and what stood of its transaction stands.
-use Rattle.std.proofs.Common.{◌≡◌, ◌≢◌, ℕ, ◌≤◌, ◌==◌, ◌&&◌, ◌||◌, not, Bool, true, false, List, [], ◌∷◌, Option, Some, None, is_some, refl, sym, subst, ap, ◌∙◌, arith, if◌then◌else◌}
+use Rattle.std.proofs.Common.{◌≡◌, ◌≢◌, ℕ, ◌==◌, Bool, true, false, List, Option, Some, None, is_some, refl, sym, subst, ap, ◌∙◌, arith, if◌then◌else◌}
 use Rattle.std.specs.BTreeMap.{is_at}
 use Rattle.std.specs.List.{list_any}
 use Rattle.std.proofs.lemmas.Bool.Decides.{nat_tests}
@@ -16,10 +16,10 @@ use Rattle.qs_tm.specs.Manager as tm
 use Rattle.qs_tm.specs.Outcomes as outcome_rules
 use Rattle.qs_tm.specs.Outcomes.{aborted_participant}
 use Rattle.qs_tm.specs.declared.participant.Participant.{Participant}
-use Rattle.qs_step.specs.Bringing.{log, send_each}
+use Rattle.qs_step.specs.Bringing.{log}
 use Rattle.qs_step.specs.State.{Work, part_of, with_manager}
 use Rattle.qs_step.specs.Step.{message_came}
-use Rattle.qs_step.specs.Telling.{end_told, forget, is_other_node, keep_abort_told, take_names, take_told, told_at_home, told_came, told_known, told_unknown}
+use Rattle.qs_step.specs.Telling.{end_told, is_other_node, keep_abort_told, take_names, told_at_home, told_known, told_unknown}
 use Rattle.qs_agree.specs.World.{World}
 use Rattle.qs_refine.specs.DecisionLaws.{GoesTold, GoesEnding}
 use Rattle.qs_refine.specs.Links.{node_no}
