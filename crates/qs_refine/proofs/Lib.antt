@@ -219,3 +219,7 @@ pub mod TellStands
 pub mod InquireStands
 pub mod RequestKept
 pub mod RequestStands
+pub mod CountDecided
+pub mod CloserStands
+pub mod ToldStands
+pub mod MessageCame

@@ -52,3 +52,6 @@ pub mod OpenLaws
 pub mod JoinLaws
 pub mod SaysLaws
 pub mod TakenLaws
+pub mod CloserWhole
+pub mod ToldWhole
+pub mod CameWhole

@@ -3,6 +3,9 @@ ghost use Rattle.qs_refine.specs.PassLaws.{PassRuleGoes};
 ghost use Rattle.qs_refine.specs.SettleWhole.{SettleTidGoes, SettleGoes};
 ghost use Rattle.qs_refine.specs.TickLaws.{TickGoes};
 ghost use Rattle.qs_refine.specs.RequestWhole.{RequestStands};
+ghost use Rattle.qs_refine.specs.CloserWhole.{CoveredStands, VotedYesStands};
+ghost use Rattle.qs_refine.specs.CameWhole.{MessageStands};
+ghost use Rattle.qs_refine.specs.ToldWhole.{ToldStands, ToldAwayStands};
 ghost use Rattle.qs_refine.specs.OutcomeWhole.{TellStands, InquireStands};
 ghost use Rattle.qs_refine.specs.RestartFound.{PeerRestartedGoes};
 ghost use Rattle.qs_refine.specs.MessageWhole.{ForeignStands, AnsweredStands, AskVoteStands, RefusalStands};
@@ -71,4 +74,21 @@ pub fn outcomes()
 /// A request comes.
 pub fn requests()
     ensures request { RequestStands }
+{}
+
+/// A node that was engaged answers for what came to it: a Covered or a VotedYes comes.
+pub fn closers()
+    ensures covered { CoveredStands }
+    ensures voted_yes { VotedYesStands }
+{}
+
+/// A node that was told the outcome acknowledges it: a Told comes to the home's node, and to another one.
+pub fn tellings()
+    ensures told { ToldStands }
+    ensures away { ToldAwayStands }
+{}
+
+/// A message comes, whatever it is.
+pub fn comings()
+    ensures message { MessageStands }
 {}
