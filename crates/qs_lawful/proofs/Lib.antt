@@ -106,3 +106,6 @@ pub mod RequestingAny
 pub mod CommandCame
 pub mod WholeStep
 pub mod Uncommitted
+pub mod SameSetting
+pub mod SameSettingTold
+pub mod SameSettings
