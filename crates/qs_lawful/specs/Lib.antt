@@ -1,6 +1,9 @@
 pub mod Face
 pub mod Holds
 pub mod Entering
+pub mod Doubts
+pub mod Given
+pub mod GivenStep
 pub mod Places
 pub mod Logs
 pub mod Issues
@@ -10,6 +13,3 @@ pub mod Filed
 pub mod Tables
 pub mod Waits
 pub mod TableTests
-pub mod Doubts
-pub mod Given
-pub mod GivenStep
