@@ -65,19 +65,19 @@ module _ (stamp : ℕ) (before : BookValue) (tid : Tid) where
         by (Some superior) = by_send stamp before (with_manager (tm.released tid) work) superior.0 (messages.VotedYes tid superior.1 (listed (told_with_own (here work) part)))
             (by_engaged stamp before work h tid engage.released (λ e other. refl))
 
-    by_ready : (part.engage.home ≡ true → may_answer tid part work ≡ true → MayCommit stamp before work tid) → HoldsWork stamp before (ready_rule tid part work)
+    by_ready : (part.engage.home ≡ true → may_answer tid part work ≡ true → is_quiet (doings_of tid work) ≡ true → MayCommit stamp before work tid) → HoldsWork stamp before (ready_rule tid part work)
     by_ready given = by (may_answer tid part work) refl
       where
         asked : (a b c d e f g : Bool) → (((a && b) && ((c && d) && e)) && (f && g)) ≡ true → a ≡ true
         asked true b c d e f g is = refl
         asked false b c d e f g is = absurd (cc is)
 
-        quiet : may_answer tid part work ≡ true → part.engage.home ≡ true → (b : Bool) → HoldsWork stamp before (if b then decide_commit tid work else work)
-        quiet is home true = committed (asked part.asked (not part.blocked) (not (is_busy tid work.node part)) (is_passive part.engage) (all_agree part) (not (needs_pass part)) (not (doings_of tid work).prepared) is) (given home is)
-        quiet is home false = h
+        quiet : may_answer tid part work ≡ true → part.engage.home ≡ true → (b : Bool) → is_quiet (doings_of tid work) ≡ b → HoldsWork stamp before (if b then decide_commit tid work else work)
+        quiet is home true still = committed (asked part.asked (not part.blocked) (not (is_busy tid work.node part)) (is_passive part.engage) (all_agree part) (not (needs_pass part)) (not (doings_of tid work).prepared) is) (given home is still)
+        quiet is home false still = h
 
         of : may_answer tid part work ≡ true → (b : Bool) → part.engage.home ≡ b → HoldsWork stamp before (if b then (if is_quiet (doings_of tid work) then decide_commit tid work else work) else answer_superior tid part work)
-        of is true home = quiet is home (is_quiet (doings_of tid work))
+        of is true home = quiet is home (is_quiet (doings_of tid work)) refl
         of is false home = answered
 
         by : (b : Bool) → may_answer tid part work ≡ b → HoldsWork stamp before (if b then (if part.engage.home then (if is_quiet (doings_of tid work) then decide_commit tid work else work) else answer_superior tid part work) else work)

@@ -1,5 +1,5 @@
 -- The whole step of a node: what comes is done, the node settles, and commands that stayed open are answered.
-use Rattle.std.proofs.Common.{ℕ, [], Option, Some, None, refl}
+use Rattle.std.proofs.Common.{ℕ, [], Option, Some, None, refl, subst}
 use Rattle.qs_base.specs.declared.identifiers.NodeNo.{NodeNo}
 use Rattle.qs_machine.specs.Book.{BookValue}
 use Rattle.qs_machine.specs.Lawful.{IsLawful, book_after}
@@ -23,6 +23,8 @@ use Rattle.qs_lawful.proofs.FilesHeld.{files_held}
 use Rattle.qs_lawful.proofs.FirstSteps.{by_begin_incarnation}
 use Rattle.qs_lawful.proofs.Frames.{at_none, clients_on, held_on}
 use Rattle.qs_lawful.proofs.PeerRestarts.{by_peer_restarted}
+use Rattle.qs_step.specs.declared.setting.Setting.{Setting}
+use Rattle.qs_lawful.proofs.SameSettings.{step_same}
 use Rattle.qs_lawful.proofs.Replied.{by_replied, by_serve_all}
 use Rattle.qs_lawful.proofs.RequestsCame.{by_request_came}
 use Rattle.qs_lawful.proofs.Settled.{aborted, by_settle}
@@ -79,8 +81,10 @@ by_step stamp book node event free h may = by_answer_waiting stamp book (settle 
 
 -- the entries of the step, and what the node is after it
 pub by_whole_step : (stamp : ℕ) (book : BookValue) (node : NodeValue) (event : Event) (free : ℕ) → Holds stamp book node → MayStep stamp book node event free
-    → IsLawful book (entries_of (after_step node event free).setting.node.0 stamp (effects_of node event free).entries)
-    × Holds stamp (book_after book (entries_of (after_step node event free).setting.node.0 stamp (effects_of node event free).entries)) (after_step node event free)
+    → IsLawful book (entries_of node.setting.node.0 stamp (effects_of node event free).entries) × Holds stamp (book_after book (entries_of node.setting.node.0 stamp (effects_of node event free).entries)) (after_step node event free)
 by_whole_step stamp book node event free h may =
-    let done = by_step stamp book node event free h may in
+    subst (λ (s : Setting). IsLawful book (entries_of s.node.0 stamp (effects_of node event free).entries) × Holds stamp (book_after book (entries_of s.node.0 stamp (effects_of node event free).entries)) (after_step node event free)) (step_same node event free)
     (done.lawful, accepted_on stamp (book_at stamp book (step_work node event free)) (step_work node event free).node done.holds)
+  where
+    done : HoldsWork stamp book (step_work node event free)
+    done = by_step stamp book node event free h may

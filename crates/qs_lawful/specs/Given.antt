@@ -26,8 +26,8 @@ use Rattle.qs_tm.specs.Participant.{awaits_note, drop_waiting, has_noted, is_by_
 use Rattle.qs_tm.specs.declared.participant.Outstanding.{Outstanding}
 use Rattle.qs_tm.specs.declared.participant.Participant.{Participant}
 use Rattle.qs_step.specs.Serving.{enter_serve, lent_to, make_loan, reply_here}
-use Rattle.qs_step.specs.Settling.{is_pass_due, may_answer, pass_rule, ready_rule, refuse_rule, try}
-use Rattle.qs_step.specs.State.{Work, with_queues}
+use Rattle.qs_step.specs.Settling.{is_pass_due, is_quiet, may_answer, pass_rule, ready_rule, refuse_rule, try}
+use Rattle.qs_step.specs.State.{Work, doings_of, with_queues}
 use Rattle.qs_lawful.specs.Entering.{book_at}
 use Rattle.qs_lawful.specs.Face.{at_server}
 use Rattle.qs_lawful.specs.Holds.{is_kept}
@@ -121,7 +121,7 @@ pub record MayForget (stamp : ℕ) (before : BookValue) (work : Work) (tid : Tid
 pub record MaySettle (stamp : ℕ) (before : BookValue) (work : Work) (tid : Tid) : Type 0 where
   pub passes : (part : Participant) → tm.part_of tid work.node.manager ≡ Some part → is_pass_due tid part work ≡ true → MayPass stamp before work tid part
   pub commits : (part : Participant) → tm.part_of tid (try tid pass_rule work).node.manager ≡ Some part → part.outcome ≡ None → part.engage.home ≡ true → may_answer tid part (try tid pass_rule work) ≡ true
-      → MayCommit stamp before (try tid pass_rule work) tid
+      → is_quiet (doings_of tid (try tid pass_rule work)) ≡ true → MayCommit stamp before (try tid pass_rule work) tid
   pub aborts : (part : Participant) (cause : Cause) (more : List Cause) → tm.part_of tid (try tid ready_rule (try tid pass_rule work)).node.manager ≡ Some part → part.outcome ≡ None → part.engage.home ≡ true → part.causes ≡ cause ∷ more
       → MayDecide stamp before (try tid ready_rule (try tid pass_rule work)) tid × HasCause stamp before (try tid ready_rule (try tid pass_rule work)) tid cause
   pub forgets : (part : Participant) → tm.part_of tid (try tid refuse_rule (try tid ready_rule (try tid pass_rule work))).node.manager ≡ Some part → is_forgotten part ≡ true

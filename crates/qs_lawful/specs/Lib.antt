@@ -1,6 +1,9 @@
 pub mod Face
 pub mod Holds
 pub mod Entering
+pub mod Doubts
+pub mod Given
+pub mod GivenStep
 pub mod Places
 pub mod Logs
 pub mod Issues

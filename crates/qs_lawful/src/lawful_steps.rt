@@ -81,8 +81,9 @@ pub fn event_is_lawful()
 {}
 
 /// A whole step: from what is held of a node as the event comes, the entries of the step are lawful in their order, and the machine
-/// after them holds what the node is then. What the step is given beside is `MayStep`.
+/// after them holds what the node is then. What the step is given beside is `MayStep`. The node's setting stays.
 pub fn step_is_lawful()
     ensures work { (stamp : ℕ) (book : BookValue) (node : NodeValue) (event : Event) (free : ℕ) → Holds stamp book node → MayStep stamp book node event free → HoldsWork stamp book (step_work node event free) }
-    ensures entries { (stamp : ℕ) (book : BookValue) (node : NodeValue) (event : Event) (free : ℕ) → Holds stamp book node → MayStep stamp book node event free → IsLawful book (entries_of (after_step node event free).setting.node.0 stamp (effects_of node event free).entries) × Holds stamp (book_after book (entries_of (after_step node event free).setting.node.0 stamp (effects_of node event free).entries)) (after_step node event free) }
+    ensures entries { (stamp : ℕ) (book : BookValue) (node : NodeValue) (event : Event) (free : ℕ) → Holds stamp book node → MayStep stamp book node event free → IsLawful book (entries_of node.setting.node.0 stamp (effects_of node event free).entries) × Holds stamp (book_after book (entries_of node.setting.node.0 stamp (effects_of node event free).entries)) (after_step node event free) }
+    ensures setting { (node : NodeValue) (event : Event) (free : ℕ) → (after_step node event free).setting ≡ node.setting }
 {}
