@@ -75,7 +75,7 @@ acting book stamp here act state there lawful =
     subst (λ (o : Option machine.NodeValue). broken_at book stamp here o act ≡ None) there (held (is_in_order book (entry_of here stamp act)) 1 _ lawful).1
 
 -- a lawful begin is new
-fresh : (book : BookValue) (stamp here : ℕ) (state : machine.NodeValue) → Inv book → slice_get book.nodes here ≡ Some state → (tid : Tid) (label : List ℕ) (client : ClientNo)
+pub fresh : (book : BookValue) (stamp here : ℕ) (state : machine.NodeValue) → Inv book → slice_get book.nodes here ≡ Some state → (tid : Tid) (label : List ℕ) (client : ClientNo)
     → broken book (entry_of here stamp (acts.Begin tid label client)) ≡ None → find_transaction book tid ≡ None
 fresh book stamp here state i there tid label client lawful = by (find_transaction book tid) refl
   where
