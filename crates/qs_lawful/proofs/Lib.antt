@@ -115,3 +115,4 @@ pub mod LogBeginning
 pub mod LogHappening
 pub mod LogSteps
 pub mod LogCrashes
+pub mod LogOthers

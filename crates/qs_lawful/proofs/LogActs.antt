@@ -41,7 +41,7 @@ use Rattle.qs_lawful.proofs.LogFrames.{later, logged_on, logged_by}
 
 -- ---- the nodes
 
-plain_facets : (stamp here : ℕ) (act : Act) (book : BookValue) → is_plain act ≡ true → (n : ℕ) → facet_at (effect_act stamp here act book) n ≡ facet_at book n
+pub plain_facets : (stamp here : ℕ) (act : Act) (book : BookValue) → is_plain act ≡ true → (n : ℕ) → facet_at (effect_act stamp here act book) n ≡ facet_at book n
 plain_facets stamp here (acts.Begin tid label client) book plain n = changed_at_alike facet (λ node. record node { begun = tid.seq }) (λ node. refl) book.nodes here n
 plain_facets stamp here (acts.Issue tid issuer member number op) book plain n = (still.by_issue here tid issuer member number op book).facets n
 plain_facets stamp here (acts.Serve tid member from number reply) book plain n = (still.by_serve here tid member from number stamp reply book).facets n

@@ -1,6 +1,6 @@
 -- A node stops, in place of a step or in a step whose batch is lost: a restart will find the log that is on the disk.
-use Rattle.std.proofs.Common.{◌≡◌, ◌⊎◌, inl, inr, ℕ, Bool, true, false, List, [], ◌∷◌, Option, Some, None, refl, sym, subst, ◌∙◌}
-use Rattle.std.specs.Prelude.{slice_get}
+use Rattle.std.proofs.Common.{◌≡◌, ◌⊎◌, inl, inr, ℕ, Bool, true, false, List, [], ◌∷◌, ◌++◌, Option, Some, None, refl, sym, subst, ◌∙◌}
+use Rattle.std.specs.Prelude.{nat_lt, slice_get}
 use Rattle.std.specs.Map.{lookup}
 use Rattle.std.specs.BTreeMap.{is_at}
 use Rattle.qs_base.specs.declared.identifiers.Tid.{Tid}
@@ -19,7 +19,7 @@ use Rattle.qs_machine.specs.Book.{BookValue, find_transaction, cell_of_transacti
 use Rattle.qs_machine.specs.Lawful.{book_after, effect, broken}
 use Rattle.qs_machine.specs.Nodes as machine
 use Rattle.qs_machine.specs.Opening.{opening}
-use Rattle.qs_machine.specs.Restart.{may_be_lost, is_committed}
+use Rattle.qs_machine.specs.Restart.{may_be_lost, is_committed, broken_restart}
 use Rattle.qs_machine.specs.declared.opened.Opened.{Opened}
 use Rattle.qs_machine.specs.declared.state.OnRecord.{OnRecord}
 use Rattle.qs_machine.specs.declared.state.Voter.{Voter}
@@ -27,9 +27,15 @@ use Rattle.qs_record.specs.declared.record.Record.{Record}
 use Rattle.qs_restart.specs.Recovery.{Prepared, Recovery, recovery}
 use Rattle.qs_tm.specs.declared.manager.Manager.{Manager}
 use Rattle.qs_world.specs.Posting.{entry_of}
-use Rattle.qs_lawful.specs.Logs.{Every, IsVoteLogged, IsCutVote, IsRecordKept, IsCommitLogged, HoldsStopped}
+use Rattle.qs_machine.specs.Clauses.{is_crash}
+use Rattle.qs_step.specs.State as state
+use Rattle.qs_lawful.specs.Holds.{Holds}
+use Rattle.qs_lawful.specs.Logs.{found_votes, Every, IsVoteLogged, IsCutVote, IsRecordKept, IsCommitLogged, HoldsStopped}
 use Rattle.qs_lawful.specs.Logged.{IsRecordSafe, IsCommitMade, HoldsLogged, HoldsHost}
-use Rattle.qs_lawful.proofs.LogActs.{LoggedAfter, by_plain}
+use Rattle.qs_lawful.proofs.LogActs.{LoggedAfter, by_plain, acted_later}
+use Rattle.qs_lawful.proofs.Marks.{knows_on, knows_self}
+use Rattle.qs_lawful.proofs.NamedActs.{named_after}
+use Rattle.qs_lawful.proofs.Restarting.{may_restart}
 use Rattle.qs_lawful.proofs.LogFrames.{every_on}
 
 -- ---- each entry of a map is found under its key
@@ -96,13 +102,36 @@ ran_tidy : (entries : List Entry) (book : BookValue) → AllTidy book.nodes → 
 ran_tidy [] book tidy = tidy
 ran_tidy (entry ∷ entries) book tidy = ran_tidy entries (effect book entry) (step_tidy book entry tidy)
 
-module _ (opened : List Opened) (history : List Entry) (coherent : IsCoherent opened) (i : Inv (book_after (opening opened) history)) where
+module _ (opened : List Opened) (history : List Entry) (coherent : IsCoherent opened) (i : Inv (book_after (opening opened) history)) (n : ℕ) (manager : Manager) (disk waiting : List Record) where
   abbrev book : BookValue
   book = book_after (opening opened) history
 
-  pub crashed : (n stamp : ℕ) (manager : Manager) (disk waiting : List Record) → HoldsHost n book manager disk waiting → (cause : CrashCause) → broken book (entry_of n stamp (acts.Crash cause)) ≡ None
-      → (state : machine.NodeValue) × (slice_get (effect book (entry_of n stamp (acts.Crash cause))).nodes n ≡ Some state) × HoldsStopped n (effect book (entry_of n stamp (acts.Crash cause))) state (recovery disk)
-  crashed n stamp manager disk waiting h cause lawful =
-      let new : BookValue = effect book (entry_of n stamp (acts.Crash cause)) in
-      let at : LoggedAfter n new (HoldsLogged n book h.state) = by_plain book stamp n h.state i h.there (acts.Crash cause) refl lawful in
-      (at.state, at.there, stopped n new at.state (recovery disk) (step_tidy book (entry_of n stamp (acts.Crash cause)) (ran_tidy history (opening opened) (opening_tidy opened coherent)) n at.state at.there).records (at.logged (recovery disk) h.on_disk))
+  module _ (h : HoldsHost n book manager disk waiting) where
+    -- what is held of its log is so while it is down
+    pub still_held : (stamp : ℕ) (cause : CrashCause) → broken book (entry_of n stamp (acts.Crash cause)) ≡ None → HoldsHost n (effect book (entry_of n stamp (acts.Crash cause))) manager disk waiting
+    still_held stamp cause lawful =
+        let new : BookValue = effect book (entry_of n stamp (acts.Crash cause)) in
+        let at : LoggedAfter n new (HoldsLogged n book h.state) = by_plain book stamp n h.state i h.there (acts.Crash cause) refl lawful in
+        record {
+          state = at.state;
+          there = at.there;
+          named = named_after book stamp n h.state h.there (acts.Crash cause) refl lawful h.named;
+          all = at.logged (recovery (disk ++ waiting)) h.all;
+          knows = knows_on book new manager manager (recovery (disk ++ waiting)) (acted_later book stamp n h.state i h.there (acts.Crash cause) refl lawful) (knows_self manager) h.knows;
+          on_disk = at.logged (recovery disk) h.on_disk;
+          alike = h.alike;
+        }
+
+    -- and so a restart may find it
+    pub may_find : HoldsStopped n book h.state (recovery disk)
+    may_find = stopped n book h.state (recovery disk) (ran_tidy history (opening opened) (opening_tidy opened coherent) n h.state h.there).records h.on_disk
+
+    pub may_rise : (state : machine.NodeValue) → slice_get book.nodes n ≡ Some state → (inc : ℕ) → nat_lt state.inc inc ≡ true → broken_restart n book state inc (found_votes (recovery disk)) (recovery disk).committed ≡ None
+    may_rise state there inc rises = may_restart n book state disk inc rises (subst (λ (v : machine.NodeValue). HoldsStopped n book v (recovery disk)) (of_some (sym h.there ∙ there)) may_find)
+      where
+        of_some : {x y : machine.NodeValue} → Some x ≡ Some y → x ≡ y
+        of_some e = cc e
+
+-- a crash is lawful, where the machine holds what the node has
+pub may_crash : (stamp : ℕ) (book : BookValue) (node : state.NodeValue) → Holds stamp book node → (cause : CrashCause) → is_crash cause ≡ true → broken book (entry_of node.setting.node.0 stamp (acts.Crash cause)) ≡ None
+may_crash stamp book node h cause is = rw (h.order, h.there, h.same.up, is) refl

@@ -1,18 +1,22 @@
 //! What the log of a node says of the machine, and what the node knows of its log, through the rules of a step.
-ghost use Rattle.std.specs.Prelude.{◌≡◌, ℕ, None, Some, List, slice_get};
+ghost use Rattle.std.specs.Prelude.{◌≡◌, ◌==◌, ℕ, None, Some, List, slice_get, nat_lt, true, false};
 ghost use Rattle.qs_base.specs.declared.identifiers.ClientNo.{ClientNo};
 ghost use Rattle.qs_base.specs.declared.identifiers.Member.{Member};
 ghost use Rattle.qs_base.specs.declared.identifiers.NodeNo.{NodeNo};
 ghost use Rattle.qs_base.specs.declared.identifiers.ServerNo.{ServerNo};
 ghost use Rattle.qs_base.specs.declared.identifiers.Tid.{Tid};
+ghost use Rattle.qs_journal.specs.declared.entry.Act.{Act};
 ghost use Rattle.qs_journal.specs.declared.entry.Act.TheVariants as acts;
 ghost use Rattle.qs_journal.specs.declared.entry.CrashCause.{CrashCause};
 ghost use Rattle.qs_journal.specs.declared.entry.Entry.{Entry};
 ghost use Rattle.qs_journal.specs.declared.script_line.Command.{Command};
 ghost use Rattle.qs_laws.specs.Laws.{IsCoherent};
+ghost use Rattle.qs_machine.specs.Book.{BookValue};
+ghost use Rattle.qs_machine.specs.Clauses.{is_crash};
 ghost use Rattle.qs_machine.specs.Lawful.{IsLawful, book_after, broken, effect};
 ghost use Rattle.qs_machine.specs.Nodes.{NodeValue};
 ghost use Rattle.qs_machine.specs.Opening.{opening};
+ghost use Rattle.qs_machine.specs.Restart.{broken_restart};
 ghost use Rattle.qs_machine.specs.declared.opened.Opened.{Opened};
 ghost use Rattle.qs_ops.specs.declared.operation.Op.{Op};
 ghost use Rattle.qs_ops.specs.declared.reply.Reply.{Reply};
@@ -23,6 +27,7 @@ ghost use Rattle.qs_step.specs.Asking.{ask_came, closer_came};
 ghost use Rattle.qs_step.specs.Borrowing.{borrower_command};
 ghost use Rattle.qs_step.specs.Requests.{reply_came};
 ghost use Rattle.qs_step.specs.Serving.{request_came, serve_all};
+ghost use Rattle.qs_step.specs.State as state;
 ghost use Rattle.qs_step.specs.State.{Work, part_of};
 ghost use Rattle.qs_restart.specs.Recovery.{recovery};
 ghost use Rattle.qs_step.specs.Step.{after_step, effects_of};
@@ -33,8 +38,9 @@ ghost use Rattle.qs_tm.specs.declared.participant.Participant.{Participant};
 ghost use Rattle.qs_world.specs.Moves.{log_after, waiting_after};
 ghost use Rattle.qs_world.specs.Posting.{entry_of, entries_of};
 ghost use Rattle.qs_world.specs.World.{Host};
+ghost use Rattle.qs_lawful.specs.Holds.{Holds};
 ghost use Rattle.qs_lawful.specs.Logged.{HoldsHost, IsTrueEvent, KeepsLogs};
-ghost use Rattle.qs_lawful.specs.Logs.{HoldsStopped};
+ghost use Rattle.qs_lawful.specs.Logs.{found_votes, HoldsStopped};
 
 /// A server votes: a vote that it can commit stands in the log with its Prepare, of every other vote the log says nothing.
 pub fn vote_keeps_the_log()
@@ -60,8 +66,20 @@ pub fn step_keeps_the_log()
     ensures { (opened : List Opened) (history : List Entry) → IsCoherent opened → IsLawful (opening opened) history → (stamp : ℕ) (host : Host) (event : Event) (free : ℕ) → IsTrueEvent (book_after (opening opened) history) event → HoldsHost host.node.setting.node.0 (book_after (opening opened) history) host.node.manager host.log host.waiting → IsLawful (book_after (opening opened) history) (entries_of host.node.setting.node.0 stamp (effects_of host.node event free).entries) → HoldsHost host.node.setting.node.0 (book_after (book_after (opening opened) history) (entries_of host.node.setting.node.0 stamp (effects_of host.node event free).entries)) (after_step host.node event free).manager (log_after host (effects_of host.node event free)) (waiting_after host (effects_of host.node event free)) }
 {}
 
-/// A node stops after a whole step, or in one whose batch is lost: what its log on the disk says against the machine after the crash is
-/// what a restart may find.
-pub fn crash_leaves_a_log_to_restart_from()
-    ensures { (opened : List Opened) (history : List Entry) → IsCoherent opened → IsLawful (opening opened) history → (n stamp : ℕ) (manager : Manager) (disk waiting : List Record) → HoldsHost n (book_after (opening opened) history) manager disk waiting → (cause : CrashCause) → broken (book_after (opening opened) history) (entry_of n stamp (acts.Crash cause)) ≡ None → (state : NodeValue) × (slice_get (effect (book_after (opening opened) history) (entry_of n stamp (acts.Crash cause))).nodes n ≡ Some state) × HoldsStopped n (effect (book_after (opening opened) history) (entry_of n stamp (acts.Crash cause))) state (recovery disk) }
+/// A node stops after a whole step, or in one whose batch is lost. What is held of its log stays so while it is down; what its log on the
+/// disk says is what a restart may find; and a restart that finds it, into a later incarnation, is lawful.
+pub fn stopped_node_may_restart()
+    ensures stopped { (opened : List Opened) (history : List Entry) → IsCoherent opened → IsLawful (opening opened) history → (n : ℕ) (manager : Manager) (disk waiting : List Record) → HoldsHost n (book_after (opening opened) history) manager disk waiting → (stamp : ℕ) (cause : CrashCause) → broken (book_after (opening opened) history) (entry_of n stamp (acts.Crash cause)) ≡ None → HoldsHost n (effect (book_after (opening opened) history) (entry_of n stamp (acts.Crash cause))) manager disk waiting }
+    ensures found { (opened : List Opened) (history : List Entry) → IsCoherent opened → IsLawful (opening opened) history → (n : ℕ) (manager : Manager) (disk waiting : List Record) → (h : HoldsHost n (book_after (opening opened) history) manager disk waiting) → HoldsStopped n (book_after (opening opened) history) h.state (recovery disk) }
+    ensures restarted { (opened : List Opened) (history : List Entry) → IsCoherent opened → IsLawful (opening opened) history → (n : ℕ) (manager : Manager) (disk waiting : List Record) → HoldsHost n (book_after (opening opened) history) manager disk waiting → (state : NodeValue) → slice_get (book_after (opening opened) history).nodes n ≡ Some state → (inc : ℕ) → nat_lt state.inc inc ≡ true → broken_restart n (book_after (opening opened) history) state inc (found_votes (recovery disk)) (recovery disk).committed ≡ None }
+{}
+
+/// What another node does, a crash and a restart of it too, leaves what is held of the log of a node.
+pub fn others_keep_the_log()
+    ensures { (opened : List Opened) (history : List Entry) → IsCoherent opened → IsLawful (opening opened) history → (stamp m n : ℕ) → (m == n) ≡ false → (manager : Manager) (disk waiting : List Record) (act : Act) → broken (book_after (opening opened) history) (entry_of m stamp act) ≡ None → HoldsHost n (book_after (opening opened) history) manager disk waiting → HoldsHost n (effect (book_after (opening opened) history) (entry_of m stamp act)) manager disk waiting }
+{}
+
+/// Where the machine holds what a node has, a crash of it is lawful, of a cause that a crash may have.
+pub fn crash_is_lawful()
+    ensures { (stamp : ℕ) (book : BookValue) (node : state.NodeValue) → Holds stamp book node → (cause : CrashCause) → is_crash cause ≡ true → broken book (entry_of node.setting.node.0 stamp (acts.Crash cause)) ≡ None }
 {}
