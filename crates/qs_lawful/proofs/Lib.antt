@@ -137,3 +137,15 @@ pub mod LogRules
 pub mod LogVoting
 pub mod LogLearning
 pub mod LogLaws
+pub mod LogAborting
+pub mod LogForgetting
+pub mod LogCommitting
+pub mod LogEndings
+pub mod LogDeciding
+pub mod LogDecisions
+pub mod LogSettling
+pub mod LogBeginning
+pub mod LogHappening
+pub mod LogSteps
+pub mod LogCrashes
+pub mod LogOthers

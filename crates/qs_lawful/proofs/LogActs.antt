@@ -41,7 +41,7 @@ use Rattle.qs_lawful.proofs.LogFrames.{later, logged_on, logged_by}
 
 -- ---- the nodes
 
-plain_facets : (stamp here : ℕ) (act : Act) (book : BookValue) → is_plain act ≡ true → (n : ℕ) → facet_at (effect_act stamp here act book) n ≡ facet_at book n
+pub plain_facets : (stamp here : ℕ) (act : Act) (book : BookValue) → is_plain act ≡ true → (n : ℕ) → facet_at (effect_act stamp here act book) n ≡ facet_at book n
 plain_facets stamp here (acts.Begin tid label client) book plain n = changed_at_alike facet (λ node. record node { begun = tid.seq }) (λ node. refl) book.nodes here n
 plain_facets stamp here (acts.Issue tid issuer member number op) book plain n = (still.by_issue here tid issuer member number op book).facets n
 plain_facets stamp here (acts.Serve tid member from number reply) book plain n = (still.by_serve here tid member from number stamp reply book).facets n
@@ -75,7 +75,7 @@ acting book stamp here act state there lawful =
     subst (λ (o : Option machine.NodeValue). broken_at book stamp here o act ≡ None) there (held (is_in_order book (entry_of here stamp act)) 1 _ lawful).1
 
 -- a lawful begin is new
-fresh : (book : BookValue) (stamp here : ℕ) (state : machine.NodeValue) → Inv book → slice_get book.nodes here ≡ Some state → (tid : Tid) (label : List ℕ) (client : ClientNo)
+pub fresh : (book : BookValue) (stamp here : ℕ) (state : machine.NodeValue) → Inv book → slice_get book.nodes here ≡ Some state → (tid : Tid) (label : List ℕ) (client : ClientNo)
     → broken book (entry_of here stamp (acts.Begin tid label client)) ≡ None → find_transaction book tid ≡ None
 fresh book stamp here state i there tid label client lawful = by (find_transaction book tid) refl
   where

@@ -29,7 +29,7 @@ later_self book = record { aborted = λ tid is. is; committed = λ tid is. is; l
 pub later_then : (old mid new : BookValue) → Later old mid → Later mid new → Later old new
 later_then old mid new a b = record { aborted = λ tid is. b.aborted tid (a.aborted tid is); committed = λ tid is. b.committed tid (a.committed tid is); learnt = learnt_then old mid new a.learnt b.learnt }
 
-map_both : (n stamp : ℕ) (acts more : List Act) → entries_of n stamp (acts ++ more) ≡ entries_of n stamp acts ++ entries_of n stamp more
+pub map_both : (n stamp : ℕ) (acts more : List Act) → entries_of n stamp (acts ++ more) ≡ entries_of n stamp acts ++ entries_of n stamp more
 map_both n stamp [] more = refl
 map_both n stamp (act ∷ acts) more = ap (λ (es : List Entry). entry_of n stamp act ∷ es) (map_both n stamp acts more)
 

@@ -34,7 +34,7 @@ pub record ChangesPart (tid : Tid) (old new : Manager) (was is : Participant) : 
   pub now : tm.part_of tid new ≡ Some is
   pub others : (t : Tid) → is_at (tid_cmp t) tid ≡ false → MarksOn (tm.part_of t old) (tm.part_of t new)
 
-turned : (t tid : Tid) → is_at (tid_cmp t) tid ≡ false → (k : Tid) → is_at (tid_cmp t) k ≡ true → is_at (tid_cmp tid) k ≡ false
+pub turned : (t tid : Tid) → is_at (tid_cmp t) tid ≡ false → (k : Tid) → is_at (tid_cmp t) k ≡ true → is_at (tid_cmp tid) k ≡ false
 turned t tid far k is = by (is_at (tid_cmp tid) k) refl
   where
     by : (b : Bool) → is_at (tid_cmp tid) k ≡ b → b ≡ false
@@ -77,7 +77,7 @@ changes_on tid old mid new x y a on = by (tm.part_of tid new) refl (subst (λ (o
       subst (λ (o : Option Participant). MarksOn (Some y) o) is marks,
     )
 
-apart_is : (t tid : Tid) → same_tid t tid ≡ false → is_at (tid_cmp t) tid ≡ false
+pub apart_is : (t tid : Tid) → same_tid t tid ≡ false → is_at (tid_cmp t) tid ≡ false
 apart_is t tid far = by (is_at (tid_cmp t) tid) refl
   where
     by : (b : Bool) → is_at (tid_cmp t) tid ≡ b → b ≡ false
@@ -104,6 +104,17 @@ module _ (tid : Tid) (old new : Manager) (was now : Participant) (c : ChangesPar
       by : (b : Bool) → same_tid vote.tid tid ≡ b → IsPrepared (tm.part_of vote.tid new)
       by true same = subst (λ (t : Tid). IsPrepared (tm.part_of t new)) (sym (same_tid-true vote.tid tid same)) (subst IsPrepared (sym c.now) marked)
       by false far = known_apart vote far is named undone
+
+  -- where it was not prepared, none of its votes is in doubt
+  pub known_unprepared : was.log.prepared ≡ false → (vote : Prepared) → IsKnown old vote → IsKnown new vote
+  known_unprepared unmarked vote is = by (same_tid vote.tid tid) refl
+    where
+      clash : (b : Bool) → b ≡ false → b ≡ true → ⊥
+      clash b e f = cc (sym e ∙ f)
+
+      by : (b : Bool) → same_tid vote.tid tid ≡ b → IsKnown new vote
+      by true same = λ named undone. absurd (clash was.log.prepared unmarked (subst IsPrepared c.before (subst (λ (t : Tid). IsPrepared (tm.part_of t old)) (same_tid-true vote.tid tid same) (is named undone))))
+      by false far = known_apart vote far is
 
   pub own_known : now.log.prepared ≡ true → (vote : Prepared) → vote.tid ≡ tid → IsKnown new vote
   own_known marked vote same named undone = subst (λ (t : Tid). IsPrepared (tm.part_of t new)) (sym same) (subst IsPrepared (sym c.now) marked)

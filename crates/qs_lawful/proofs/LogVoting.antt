@@ -48,7 +48,7 @@ use Rattle.qs_lawful.proofs.QuietRequests.{quiet_node}
 voted_marks : (member : Member) (ballot : Vote) (covers : ℕ) (part : Participant) → SameMarks part (participant.voted member ballot covers part)
 voted_marks member ballot covers part = record { log = refl; outcome = refl; involved = λ is. ap (λ (b : Bool). b || is_binding (ballot_of ballot)) is }
 
-quiet_voted : (tid : Tid) (server : ServerNo) (ballot : Vote) (work : Work) → is_plain (acts.Vote tid (member_here work server) ballot (served_count tid server work)) ≡ true → Quiet work (enter_vote tid server ballot work)
+pub quiet_voted : (tid : Tid) (server : ServerNo) (ballot : Vote) (work : Work) → is_plain (acts.Vote tid (member_here work server) ballot (served_count tid server work)) ≡ true → Quiet work (enter_vote tid server ballot work)
 quiet_voted tid server ballot work plain =
     let changed : Work = change_server server (λ value. after_vote value tid ballot) work in
     let counted : Work = with_manager (tm.voted tid (member_here work server) ballot (served_count tid server work)) changed in
@@ -96,7 +96,7 @@ module _ (stamp : ℕ) (before : BookValue) (i : Inv before) (disk waiting : Lis
   abbrev now : Participant
   now = outcome_rules.logged rec (voting part)
 
-  changed : ChangesPart tid work.node.manager new.node.manager part now
+  pub changed : ChangesPart tid work.node.manager new.node.manager part now
   changed = changes_then tid work.node.manager (tm.with_part tid voting work.node.manager) new.node.manager part (voting part) now
       (changes_part tid voting work.node.manager part known)
       (changes_part tid (outcome_rules.logged rec) (tm.with_part tid voting work.node.manager) (voting part) (changes_part tid voting work.node.manager part known).now)

@@ -106,6 +106,14 @@ part_on tid f keeps manager = record { rises = changed_rises tid f manager; mark
         (subst (λ (o : Option Participant). lookup (is_at (tid_cmp t)) (elim o [ None ↦ manager.known | Some v ↦ set_value (is_at (tid_cmp tid)) manager.known (f v) ]) ≡ tm.part_of t manager) (sym is) refl)
     by t (Some v) is = at t v (changed_either (is_at (tid_cmp tid)) (is_at (tid_cmp t)) f manager.known v is)
 
+-- of what is not known nothing is changed
+pub part_none : (tid : Tid) (f : Participant → Participant) (manager : Manager) → tm.part_of tid manager ≡ None → KnowsOn manager (tm.with_part tid f manager)
+part_none tid f manager none = record {
+  rises = changed_rises tid f manager;
+  marks = λ t. marks_equal (tm.part_of t manager) (tm.part_of t (tm.with_part tid f manager))
+      (subst (λ (o : Option Participant). lookup (is_at (tid_cmp t)) (elim o [ None ↦ manager.known | Some v ↦ set_value (is_at (tid_cmp tid)) manager.known (f v) ]) ≡ tm.part_of t manager) (sym none) refl);
+}
+
 -- every other transaction is known as before
 pub put_apart : (tid t : Tid) (part : Participant) (manager : Manager) → is_at (tid_cmp t) tid ≡ false → tm.part_of t (tm.put_part tid part manager) ≡ tm.part_of t manager
 put_apart tid t part manager far = lookup_put_apart tid_cmp tid part (λ x same. at_exact tid x (is_equal x same)) (is_at (tid_cmp t)) far manager.known

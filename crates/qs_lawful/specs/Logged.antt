@@ -2,16 +2,17 @@
 --
 -- While a node runs less may be missing than once it stopped: what is on record stands open in the log, or is committed there, or
 -- is aborted; and each Commit is of a committed transaction.
-use Rattle.std.specs.Prelude.{◌≡◌, ◌⊎◌, ℕ, Bool, true, false, ◌++◌, List, Option, Some, None, is_some, slice_get}
+use Rattle.std.specs.Prelude.{◌≡◌, ◌⊎◌, ℕ, Bool, true, false, ◌++◌, List, Option, Some, None, is_some, slice_get, ⊤}
 use Rattle.std.specs.List.{list_any}
 use Rattle.qs_base.specs.Order.{tid_cmp}
 use Rattle.qs_base.specs.declared.identifiers.Member.{Member}
+use Rattle.qs_base.specs.declared.identifiers.Outcome.{Outcome}
 use Rattle.qs_base.specs.declared.identifiers.Outcome.TheVariants as outcomes
 use Rattle.qs_base.specs.declared.identifiers.Tid.{Tid}
 use Rattle.qs_journal.specs.declared.entry.Act.{Act}
 use Rattle.qs_journal.specs.declared.entry.Act.TheVariants as acts
 use Rattle.qs_ops.specs.declared.vote.Vote.TheVariants as votes
-use Rattle.qs_machine.specs.Transaction.{TransactionValue, has_learnt}
+use Rattle.qs_machine.specs.Transaction.{TransactionValue, cell_of, has_learnt}
 use Rattle.qs_machine.specs.declared.transaction.Cell.TheVariants as cells
 use Rattle.qs_machine.specs.Book.{BookValue, find_transaction, cell_of_transaction}
 use Rattle.qs_machine.specs.Lawful.{IsLawful}
@@ -21,6 +22,10 @@ use Rattle.qs_machine.specs.declared.state.OnRecord.{OnRecord}
 use Rattle.qs_machine.specs.declared.state.Voter.{Voter}
 use Rattle.qs_laws.proofs.Rising.{IsRising}
 use Rattle.qs_record.specs.declared.record.Record.{Record}
+use Rattle.qs_packet.specs.declared.message.Message.{Message}
+use Rattle.qs_packet.specs.declared.message.Message.TheVariants as messages
+use Rattle.qs_step.specs.declared.event.Event.{Event}
+use Rattle.qs_step.specs.declared.event.Event.TheVariants as events
 use Rattle.qs_restart.specs.Recovery.{Prepared, Recovery, recovery, names_transaction}
 use Rattle.qs_tm.specs.Manager as tm
 use Rattle.qs_tm.specs.declared.manager.Manager.{Manager}
@@ -43,6 +48,9 @@ HasAborted book tid = cell_of_transaction (find_transaction book tid) ≡ Some c
 
 abbrev pub HasCommitted : BookValue → Tid → Type 0
 HasCommitted book tid = cell_of_transaction (find_transaction book tid) ≡ Some cells.Commit
+
+abbrev pub HasOutcome : BookValue → Tid → Outcome → Type 0
+HasOutcome book tid outcome = cell_of_transaction (find_transaction book tid) ≡ Some (cell_of outcome)
 
 -- a later machine of the same run
 pub record Later (old new : BookValue) : Type 0 where
@@ -147,3 +155,14 @@ pub record KeepsLogs (stamp : ℕ) (before : BookValue) (disk waiting : List Rec
   pub entries : new.out.entries ≡ work.out.entries ++ more
   pub setting : new.node.setting ≡ work.node.setting
   pub keeps : IsLawful before (entries_so_far stamp new) → HoldsLogs stamp before disk waiting work → HoldsLogs stamp before disk waiting new
+
+-- ---- what comes
+
+-- a Tell says the outcome that the machine has
+abbrev pub IsTrue : BookValue → Message → Type 0
+IsTrue book (messages.Tell tid outcome) = HasOutcome book tid outcome
+IsTrue book message = ⊤
+
+abbrev pub IsTrueEvent : BookValue → Event → Type 0
+IsTrueEvent book (events.Received peer message) = IsTrue book message
+IsTrueEvent book event = ⊤

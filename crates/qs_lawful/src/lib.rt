@@ -19,7 +19,10 @@ pub use lawful_commands::{
     yield_command_is_lawful,
 };
 pub use lawful_entries::{entries_are_lawful, requests_are_lawful, settled_is_unanimous};
-pub use lawful_logs::{requests_keep_the_log, vote_keeps_the_log};
+pub use lawful_logs::{
+    crash_is_lawful, others_keep_the_log, requests_keep_the_log, step_keeps_the_log,
+    stopped_node_may_restart, vote_keeps_the_log,
+};
 pub use lawful_outcomes::{
     abort_command_is_lawful, abort_is_lawful, asked_abort_is_lawful, begin_command_is_lawful,
     commit_command_is_lawful, commit_is_lawful, deciding_is_lawful, inquiry_is_lawful,
