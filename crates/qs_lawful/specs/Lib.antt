@@ -13,7 +13,4 @@ pub mod Filed
 pub mod Tables
 pub mod Waits
 pub mod TableTests
-pub mod Doubts
-pub mod Given
-pub mod GivenStep
 pub mod Logged
