@@ -1,12 +1,38 @@
 #!/bin/sh
-# Proves and builds the program where that is still to do, and runs it: ./qs run 1 --serial 7 < examples/hello.qs
+# Runs the program: ./qs run 1 --serial 7 < examples/hello.qs
+# ./qs --prove proves and builds it first, which takes an hour and more where nothing is kept. Until then it is built and
+# run without proofs.
 top=$(cd "$(dirname "$0")" && pwd) || exit 1
-log=$(mktemp) || exit 1
-trap 'rm -f "$log"' EXIT
-# The build ends with a first run, of an empty script, whose output goes to the log.
-if ! (cd "$top/crates/qs" && rt run -- run 1 --serial 0 </dev/null) >"$log" 2>&1; then
-  cat "$log" >&2
-  exit 1
+program=$top/crates/qs/out/qs
+proved=$program.proved
+
+# One sum of all that the program is made of.
+sources() {
+  (cd "$top" && find crates -name out -prune -o \( -name '*.rt' -o -name '*.antt' \) -print | LC_ALL=C sort | xargs cat crates.txt | sha256sum)
+}
+
+# For .ci/run alone, which has just proved and built the program.
+if [ "$1" = --proved ]; then
+  sources >"$proved"
+  exit
 fi
-rm -f "$log"
-exec "$top/crates/qs/out/qs" "$@"
+
+if [ "$1" = --prove ]; then
+  # The build ends with a first run, of an empty script.
+  (cd "$top/crates/qs" && rt run -- run 1 --serial 0 </dev/null) && sources >"$proved"
+  exit
+fi
+
+if [ -x "$program" ] && [ "$(cat "$proved" 2>/dev/null)" = "$(sources)" ]; then
+  exec "$program" "$@"
+fi
+
+echo "qs: not proved here yet, so this run is not of the proved program: ./qs --prove proves and builds it" >&2
+said=$(mktemp) || exit 1
+trap 'rm -f "$said"' EXIT
+(cd "$top/crates/qs" && rt try -- "$@") 2>"$said"
+# Behind the program's own lines stand those of the trial, with its status.
+sed '/^checked: /,$d' "$said" >&2
+status=$(sed -n 's/^run=ended status=\([0-9]*\) .*/\1/p' "$said")
+[ -n "$status" ] || cat "$said" >&2
+exit "${status:-1}"

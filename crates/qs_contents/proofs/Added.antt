@@ -1,11 +1,11 @@
 -- Changes that write files, added behind others.
 use Rattle.std.proofs.Common.{◌≡◌, ℕ, ◌<◌, List, [], ◌∷◌, ◌++◌, length, take, drop, map, Option, Some, None, refl, sym, ap, ◌∙◌, subst}
-use Rattle.std.proofs.lemmas.List.{append_assoc, append-nil, take_min, drop_min}
-use Rattle.qs_ops.specs.Server.{AreAppends, IsFileWritten, AreFilesWritten, none, next}
+use Rattle.std.proofs.lemmas.List.{append_assoc, append-nil}
+use Rattle.qs_ops.specs.Server.{AreAppends, AreFilesWritten, none, next}
 use Rattle.qs_ops.specs.declared.file.File.{File}
 use Rattle.qs_ops.specs.declared.operation.Op.{Op}
 use Rattle.qs_ops.specs.declared.operation.Op.TheVariants.{Put, Append}
-use Rattle.qs_contents.specs.Slots.{Entries, files_in, text_at}
+use Rattle.qs_contents.specs.Slots.{files_in, text_at}
 use Rattle.qs_contents.specs.Written.{AddsAppends, AddsFile, AddsFiles}
 use Rattle.qs_contents.specs.declared.slot.Slot.{Slot}
 

@@ -1,6 +1,6 @@
 -- What several steps make of the slot of each name.
-use Rattle.std.proofs.Common.{◌≡◌, ℕ, List, [], ◌∷◌, ◌++◌, take, Option, Some, None, refl, sym, ap, ◌∙◌}
-use Rattle.std.specs.Prelude.{Bool, true, false, ◌&&◌, ◌||◌, if◌then◌else◌}
+use Rattle.std.proofs.Common.{◌≡◌, ℕ, List, [], ◌∷◌, Some, None, refl, ap, ◌∙◌}
+use Rattle.std.specs.Prelude.{Bool, true, false, ◌||◌, if◌then◌else◌}
 use Rattle.std.specs.List.{fold, list_any}
 use Rattle.std.specs.List.Sorted.{IsStrictlySortedBy}
 use Rattle.std.specs.Map.{keys_of}
@@ -10,15 +10,13 @@ use Rattle.qs_base.proofs.Same.{same_tid-self}
 use Rattle.qs_ops.specs.Table.{is_change_of}
 use Rattle.qs_ops.specs.declared.operation.Op.{Op}
 use Rattle.qs_ops.specs.declared.operation.Op.TheVariants.{Put, Append, Del, Bind, Window, Keep}
-use Rattle.qs_contents.specs.Edits.{no_edit, edited, changed, changed_under, changed_name}
-use Rattle.qs_contents.specs.Slots.{Entries, slot_or_new, new_slot, edit_at, reader_at, placed, slot_changed, finished, tidied, slot_unread, at_slot, put_slot, swept, place_for, change_by, at_change, tidy_change, unread_name}
-use Rattle.qs_contents.specs.Texts.{Pieces}
+use Rattle.qs_contents.specs.Edits.{changed, changed_under, changed_name}
+use Rattle.qs_contents.specs.Slots.{Entries, slot_or_new, new_slot, edit_at, placed, slot_changed, finished, tidied, slot_unread, at_slot, swept, place_for, change_by, at_change, tidy_change, unread_name}
 use Rattle.qs_contents.specs.declared.edit.Edit.{Edit}
 use Rattle.qs_contents.specs.declared.prepared.Prepared.{Prepared}
 use Rattle.qs_contents.specs.declared.slot.Slot.{Slot}
 use Rattle.qs_contents.proofs.Named.{slot-put, slot-at, slot-swept, sorted-put_slot, sorted-at_slot, sorted-swept}
-use Rattle.qs_contents.proofs.Pieces.{linked-none}
-use Rattle.qs_contents.proofs.Steps.{has_room, edit-placed, text-placed, readers-placed, sorted-placed, room-placed, edit-changed, text-changed, readers-changed, sorted-changed, room-changed, text-finished, edit-finished, readers-finished, sorted-finished, room-finished, edit-tidied, text-tidied, readers-tidied, sorted-tidied, reader-unread}
+use Rattle.qs_contents.proofs.Steps.{has_room, edit-placed, text-placed, readers-placed, sorted-placed, room-placed, edit-changed, room-changed, edit-tidied, text-tidied, readers-tidied, sorted-tidied}
 
 abbrev pub AreSorted : Entries → Type 0
 AreSorted slots = IsStrictlySortedBy bytes_cmp (keys_of slots)

@@ -1,7 +1,9 @@
 pub mod Added
+pub mod Counted
 pub mod Ends
 pub mod Folds
 pub mod Maps
 pub mod Named
 pub mod Pieces
 pub mod Steps
+pub mod Sums

@@ -1,10 +1,7 @@
 -- What stands under each name, once the slot of one name is changed.
-use Rattle.std.proofs.Common.{◌≡◌, ℕ, List, [], ◌∷◌, length, Option, Some, None, refl, sym, ap, ◌∙◌, subst, arith}
+use Rattle.std.proofs.Common.{◌≡◌, ℕ, List, [], ◌∷◌, length, Option, Some, None, refl, sym, ap, ◌∙◌, arith}
 use Rattle.std.specs.Prelude.{Bool, true, false, cond, unwrap_or, is_none, ◌&&◌, ◌==◌, if◌then◌else◌}
-use Rattle.std.specs.List.{fold}
 use Rattle.std.specs.List.Sorted.{IsStrictlySortedBy}
-use Rattle.std.specs.declared.cmp.Ordering.{Ordering}
-use Rattle.std.specs.declared.cmp.Ordering.TheVariants.{Less, Equal, Greater}
 use Rattle.std.specs.Ordering.{is_eq}
 use Rattle.std.specs.Cmp.Lexicographic.{texts_ties, nat_list_eq_equiv}
 use Rattle.std.specs.Map.{lookup, set_value, remove_entry, keys_of}
@@ -21,7 +18,7 @@ use Rattle.qs_contents.specs.declared.edit.Edit.{Edit}
 use Rattle.qs_contents.specs.declared.slot.Slot.{Slot}
 use Rattle.qs_contents.proofs.Maps.{lookup-put, lookup-set, lookup-out, sorted-put, sorted-set, sorted-out}
 
-same_cmp : (name q : List ℕ) → is_eq (bytes_cmp q name) ≡ same_bytes name q
+pub same_cmp : (name q : List ℕ) → is_eq (bytes_cmp q name) ≡ same_bytes name q
 same_cmp name q = sym (texts_ties q name) ∙ nat_list_eq_equiv.symm q name
 
 or_new : (b : Bool) (w : Slot) (o : Option Slot) → unwrap_or (cond b (Some w) o) new_slot ≡ (if b then w else unwrap_or o new_slot)
@@ -111,7 +108,7 @@ second-of false b is = absurd (cc)
 abbrev slot_of : Option Pieces → List (Tid × Edit) → List (Tid × Bool) → Slot
 slot_of text edits readers = record { text = text; edits = edits; readers = readers }
 
-empty_is_new : (slot : Slot) → is_empty_slot slot ≡ true → slot ≡ new_slot
+pub empty_is_new : (slot : Slot) → is_empty_slot slot ≡ true → slot ≡ new_slot
 empty_is_new slot is =
     let rest = second-of (is_none slot.text) ((length slot.edits == 0) && (length slot.readers == 0)) is in
     ap (λ (t : Option Pieces). slot_of t slot.edits slot.readers) (no_text slot.text (first-of (is_none slot.text) ((length slot.edits == 0) && (length slot.readers == 0)) is))

@@ -4,7 +4,7 @@ use Rattle.std.specs.Prelude.{Bool, true, false, nat_lt, if◌then◌else◌, If
 use Rattle.std.specs.List.{concat, fold}
 use Rattle.std.proofs.lemmas.Bool.Decides.{nat_tests}
 use Rattle.std.proofs.lemmas.List.{append_assoc, append-nil, length-append}
-use Rattle.qs_contents.specs.Texts.{Pieces, flat, joined, both, linked, piece_count, add_piece, IsSum}
+use Rattle.qs_contents.specs.Texts.{Pieces, flat, joined, linked, piece_count, add_piece, IsSum}
 
 pub concat-append : (xs ys : Pieces) → concat (xs ++ ys) ≡ concat xs ++ concat ys
 concat-append [] ys = refl

@@ -1,22 +1,20 @@
 -- What one step makes of a slot: of its text, of each transaction's edit, and of who read it.
-use Rattle.std.proofs.Common.{◌≡◌, ℕ, List, [], ◌∷◌, Option, Some, None, refl, sym, ap, ◌∙◌}
-use Rattle.std.specs.Prelude.{Bool, true, false, not, cond, unwrap_or, is_some, is_none, ◌&&◌, ◌||◌, if◌then◌else◌}
-use Rattle.std.specs.List.{fold, list_any}
+use Rattle.std.proofs.Common.{◌≡◌, List, Option, Some, None, refl, sym, ap, ◌∙◌}
+use Rattle.std.specs.Prelude.{Bool, true, false, not, cond, unwrap_or, is_some, is_none, ◌&&◌, if◌then◌else◌}
 use Rattle.std.specs.List.Sorted.{IsStrictlySortedBy}
 use Rattle.std.specs.Ordering.{is_eq}
 use Rattle.std.specs.Map.{lookup, set_value, remove_entry, keys_of}
 use Rattle.std.specs.BTreeMap.{insert_entry, is_at}
-use Rattle.qs_base.specs.Order.{tid_cmp, same_tid, same_bytes}
+use Rattle.qs_base.specs.Order.{tid_cmp, same_tid}
 use Rattle.qs_base.specs.declared.identifiers.Tid.{Tid}
 use Rattle.qs_base.proofs.Same.{same_tid-true, same_tid-self}
 use Rattle.qs_base.proofs.TidOrder.{tid_total, tid_exact, same_tid-cmp}
 use Rattle.qs_shares.proofs.Held.{same_tid-sym}
-use Rattle.qs_contents.specs.Edits.{no_edit, is_no_edit, edited, changed, changed_under}
+use Rattle.qs_contents.specs.Edits.{no_edit, is_no_edit, edited, changed}
 use Rattle.qs_contents.specs.Slots.{edit_at, reader_at, placed, slot_changed, finished, tidied, slot_read, slot_unread}
 use Rattle.qs_contents.specs.Texts.{Pieces}
 use Rattle.qs_contents.specs.declared.edit.Edit.{Edit}
 use Rattle.qs_contents.specs.declared.edit.Change.{Change}
-use Rattle.qs_contents.specs.declared.prepared.Prepared.{Prepared}
 use Rattle.qs_contents.specs.declared.slot.Slot.{Slot}
 use Rattle.qs_contents.proofs.Maps.{lookup-put, lookup-set, lookup-out, sorted-put, sorted-set, sorted-out}
 use Rattle.qs_contents.proofs.Pieces.{linked-none}

@@ -68,6 +68,16 @@ impl Slot {
         }
     }
 
+    /// How many bytes it has; `None` only where they are more than a `usize` can tell.
+    pub fn committed_length(&self) -> Option<usize>
+        ensures { IfSome result (λ n. n ≡ text_bytes (text_at self.now)) }
+    {
+        match &self.text {
+            Some(text) => text.len(),
+            None => Some(0),
+        }
+    }
+
     /// The text that the transaction sees.
     pub fn seen(&self, alloc: Global, tid: Tid) -> Result<Option<Bytes>, NoMemory>
         ensures { IfOk result (λ text. text ≡ seen_at self.now tid) }

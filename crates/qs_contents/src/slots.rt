@@ -7,10 +7,13 @@ ghost use Rattle.qs_base.specs.Order.{bytes_cmp};
 ghost use Rattle.qs_ops.specs.Server.{AreFilesWritten};
 ghost use Rattle.qs_contents.specs.Written.{AddsFiles};
 ghost use Rattle.qs_contents.specs.Texts.{text_bytes};
-ghost use Rattle.qs_contents.specs.Slots.{slot_or_new, seen_at, first_other, is_edit, is_read, reader_at, placed, slot_changed, finished, tidied, slot_read, slot_unread, at_slot, put_slot, swept, place_for, SomePlaced, change_by, at_change, tidy_change, unread_name, add_name, add_bytes, add_entry, files_in};
+ghost use Rattle.qs_contents.specs.Slots.{slot_or_new, seen_at, first_other, is_edit, is_read, reader_at, placed, slot_changed, finished, tidied, slot_read, slot_unread, at_slot, put_slot, swept, place_for, SomePlaced, change_by, at_change, tidy_change, unread_name, add_name, add_entry, files_in};
+ghost use Rattle.qs_contents.specs.Sums.{ChangesAlone};
 
+use crate::counting::count_seen;
 use crate::prepared::{Prepared, changed_name};
 use crate::slot::Slot;
+use crate::under;
 use crate::writing::add_file;
 use qs_base::{Bytes, Copied, List, NoMemory, Tid};
 use qs_map::Map;
@@ -23,15 +26,20 @@ use std::marker::Model;
 #[derive(Drop)]
 pub struct Slots {
     names: Map<Bytes, Slot>,
+    /// How many bytes the committed texts have; `None` where they are more than a `usize` can tell.
+    committed: Option<usize>,
     alloc: Global,
 }
 
 impl Model for Slots {
     ghost use Rattle.qs_contents.specs.Slots.{Entries};
+    ghost use Rattle.qs_contents.specs.Sums.{IsCommitted};
 
     ghost Value = { Entries };
 
     ghost view = { λ s. s.names };
+
+    ghost invariant = { λ s. IsCommitted s.names s.committed };
 }
 
 impl Slots {
@@ -41,6 +49,7 @@ impl Slots {
     {
         Slots {
             names: Map::new(alloc),
+            committed: Some(0),
             alloc,
         }
     }
@@ -106,19 +115,11 @@ impl Slots {
     }
 
     /// Makes room for a change of the transaction. After a refusal all is as it was.
-    #[tactic(auto, using(std::proofs::lemmas::Map::Steps::set_value_same))]
     fn place(&mut self, name: &Bytes, tid: Tid) -> Result<(), NoMemory>
         ensures ok { OnOk result (self.new ≡ put_slot (placed tid) name.now self.old) }
         ensures err { OnErr result (self.new ≡ self.old) }
     {
-        match self.names.get_mut(name) {
-            Some(slot) => slot.place(tid),
-            None => {
-                let mut slot = Slot::new(self.alloc);
-                slot.place(tid)?;
-                self.names.put(name.copy()?, slot)
-            }
-        }
+        under::place(self.alloc, &mut self.names, name, tid)
     }
 
     /// Makes room for these changes of the transaction. After a refusal there is room for some.
@@ -136,10 +137,7 @@ impl Slots {
     fn change(&mut self, change: Prepared, tid: Tid)
         ensures { self.new ≡ change_by tid self.old change }
     {
-        let Prepared { name, change } = change;
-        if let Some(slot) = self.names.get_mut(&name) {
-            slot.change(tid, change);
-        }
+        under::change(&mut self.names, change, tid);
     }
 
     /// These changes more of a transaction that room was made for. It takes no memory.
@@ -156,9 +154,7 @@ impl Slots {
     fn finish(&mut self, name: &Bytes, tid: Tid, commits: bool)
         ensures { self.new ≡ at_slot (finished tid commits) name.now self.old }
     {
-        if let Some(slot) = self.names.get_mut(name) {
-            slot.finish(tid, commits);
-        }
+        self.committed = under::finish(&mut self.names, self.committed, name, tid, commits);
     }
 
     /// The same for the names of these changes.
@@ -183,10 +179,7 @@ impl Slots {
     fn tidy(&mut self, name: &Bytes, tid: Tid)
         ensures { self.new ≡ swept name.now (at_slot (tidied tid) name.now self.old) }
     {
-        if let Some(slot) = self.names.get_mut(name) {
-            slot.tidy(tid);
-        }
-        self.sweep(name);
+        under::tidy(&mut self.names, name, tid);
     }
 
     /// The same for the names of these changes.
@@ -206,43 +199,19 @@ impl Slots {
         }
     }
 
-    /// Takes the slot of the name out where nothing stands there.
-    fn sweep(&mut self, name: &Bytes)
-        ensures { self.new ≡ swept name.now self.old }
-    {
-        let empty = match self.names.get(name) {
-            Some(slot) => slot.is_empty(),
-            None => true,
-        };
-        if empty {
-            self.names.remove(name);
-        }
-    }
-
     /// The transaction read the text under the name. After a refusal all is as it was.
-    #[tactic(auto, using(std::proofs::lemmas::Map::Steps::set_value_same))]
     pub fn read(&mut self, name: &Bytes, tid: Tid) -> Result<(), NoMemory>
         ensures ok { OnOk result (self.new ≡ put_slot (slot_read tid) name.now self.old) }
         ensures err { OnErr result (self.new ≡ self.old) }
     {
-        match self.names.get_mut(name) {
-            Some(slot) => slot.read(tid),
-            None => {
-                let mut slot = Slot::new(self.alloc);
-                slot.read(tid)?;
-                self.names.put(name.copy()?, slot)
-            }
-        }
+        under::read(self.alloc, &mut self.names, name, tid)
     }
 
     /// The transaction did not read the text under the name any more. It takes no memory.
     pub fn unread(&mut self, name: &Bytes, tid: Tid)
         ensures { self.new ≡ unread_name tid self.old name.now }
     {
-        if let Some(slot) = self.names.get_mut(name) {
-            slot.unread(tid);
-        }
-        self.sweep(name);
+        under::unread(&mut self.names, name, tid);
     }
 
     /// The same for these names.
@@ -265,16 +234,15 @@ impl Slots {
         Ok(names)
     }
 
-    /// How many bytes the texts have that the transaction sees. A count past its end is a refusal of
-    /// memory too.
-    pub fn bytes(&self, tid: Tid) -> Result<u64, NoMemory>
+    /// How many bytes the texts have that the transaction sees, where these are the changes that it
+    /// is about to make. A count past its end is a refusal of memory too.
+    pub fn bytes(&self, tid: Tid, changes: &[Op]) -> Result<u64, NoMemory>
+        requires { ChangesAlone tid self.now changes.now }
         ensures { IfOk result (λ bytes. bytes ≡ fold (add_entry tid) 0 self.now) }
     {
-        let mut bytes = 0u64;
-        for entry in self.names.iter() {
-            bytes = add_bytes(bytes, tid, entry.1)?;
-        }
-        Ok(bytes)
+        let committed = self.committed.ok_or(NoMemory)?;
+        let bytes = count_seen(self.alloc, &self.names, committed, tid, changes)?;
+        Ok(bytes as u64)
     }
 
     /// Changes that write the committed texts as files again, in byte order of their names.
@@ -293,6 +261,7 @@ impl Slots {
         ensures { self.new ≡ [] }
     {
         self.names = Map::new(self.alloc);
+        self.committed = Some(0);
     }
 }
 
@@ -304,16 +273,6 @@ fn add_name(names: &mut List<Bytes>, tid: Tid, name: &Bytes, slot: &Slot) -> Res
         names.push(name.copy()?)?;
     }
     Ok(())
-}
-
-/// Adds the bytes of the text that the transaction sees.
-fn add_bytes(bytes: u64, tid: Tid, slot: &Slot) -> Result<u64, NoMemory>
-    ensures { IfOk result (λ sum. sum ≡ add_bytes tid bytes slot.now) }
-{
-    let Some(length) = slot.length(tid) else {
-        return Err(NoMemory);
-    };
-    bytes.checked_add(length as u64).ok_or(NoMemory)
 }
 
 /// Adds changes that write the committed text as a file, where one stands under the name.

@@ -90,7 +90,7 @@ impl Holdings {
     pub fn view_bytes(&self, tid: Tid) -> Result<u64, NoMemory>
         ensures { IfOk result (λ bytes. bytes ≡ view_bytes self.now tid) }
     {
-        self.slots.bytes(tid)
+        self.slots.bytes(tid, self.shares.changes(tid))
     }
 
     /// The least other transaction with a pending change to the name.

@@ -4,9 +4,7 @@ ghost use Rattle.qs_step.specs.Step.{is_owner, obey, with_command, command_came,
 ghost use Rattle.qs_node.specs.Labelled.{obeyed, on_label, waited};
 
 use qs_base::{ClientNo, Copied, List, NoMemory, Tid};
-use qs_commands::{
-    begin_command, borrower_command, decided_answer, is_aborted, owner_command,
-};
+use qs_commands::{begin_command, borrower_command, decided_answer, is_aborted, owner_command};
 use qs_journal::{Command, ScriptLine};
 use qs_ops::{Answer, Server};
 use qs_servers::Servers;

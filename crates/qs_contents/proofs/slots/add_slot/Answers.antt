@@ -1,4 +1,4 @@
-use Rattle.std.proofs.Common.{rules, ◌∙◌, sym}
+use Rattle.std.proofs.Common.{rules}
 use Rattle.qs_contents.proofs.Added.{adds-none, adds-some}
 use Rattle.qs_contents.proofs.slots.add_slot.Goals as goal
 

@@ -1,11 +1,20 @@
-use Rattle.std.proofs.Common.{◌≡◌, List, fold, sym, ap, ◌∙◌}
+use Rattle.std.proofs.Common.{◌≡◌, List, fold, sym, subst, ap, ◌∙◌}
 use Rattle.std.specs.Prelude.{sum_by, length}
 use Rattle.std.proofs.lemmas.Result.{IfOk-weaker}
 use Rattle.qs_contents.specs.Slots.{add_entry}
 use Rattle.qs_ops.specs.declared.file.File.{File}
 use Rattle.qs_ops.specs.Table.{TableValue, view_bytes}
+use Rattle.qs_ops.specs.declared.operation.Op.{Op}
+use Rattle.qs_contents.specs.Sums.{ChangesAlone}
+use Rattle.qs_files.proofs.Alone.{changes_alone}
 use Rattle.qs_files.proofs.Seen.{bytes-seen, files-seen}
 use Rattle.qs_files.proofs.holdings.Holdings.view_bytes.Goals as goal
+
+pub bytes-requires : goal.bytes-requires
+bytes-requires c =
+    let inside = c.self.inside in
+    subst (λ (ops : List Op). ChangesAlone c.args.tid inside.slots ops) (sym c.changes.ensures)
+    (changes_alone inside.slots inside.shares c.args.tid inside.counts.committed c.self.invariant.follows)
 
 pub returns : goal.returns
 returns c =

@@ -1,0 +1,110 @@
+//! What stands under one name of a map, made, changed or taken out.
+ghost use Rattle.std.specs.Prelude.{◌≡◌, OnOk, OnErr};
+ghost use Rattle.qs_contents.specs.Slots.{placed, finished, tidied, slot_read, at_slot, put_slot, swept, change_by, unread_name};
+ghost use Rattle.qs_contents.specs.Sums.{IsCommitted};
+
+use crate::counting::replaced;
+use crate::prepared::Prepared;
+use crate::slot::Slot;
+use qs_base::{Bytes, Copied, NoMemory, Tid};
+use qs_map::Map;
+use std::alloc::Global;
+
+/// What stands under names.
+pub type Names = Map<Bytes, Slot>;
+
+/// Makes room for a change of the transaction. After a refusal all is as it was.
+#[tactic(auto, using(std::proofs::lemmas::Map::Steps::set_value_same))]
+pub fn place(alloc: Global, names: &mut Names, name: &Bytes, tid: Tid) -> Result<(), NoMemory>
+    ensures ok { OnOk result (names.new ≡ put_slot (placed tid) name.now names.old) }
+    ensures err { OnErr result (names.new ≡ names.old) }
+{
+    match names.get_mut(name) {
+        Some(slot) => slot.place(tid),
+        None => {
+            let mut slot = Slot::new(alloc);
+            slot.place(tid)?;
+            names.put(name.copy()?, slot)
+        }
+    }
+}
+
+/// One more change of a transaction that room was made for. It takes no memory.
+pub fn change(names: &mut Names, change: Prepared, tid: Tid)
+    ensures { names.new ≡ change_by tid names.old change }
+{
+    let Prepared { name, change } = change;
+    if let Some(slot) = names.get_mut(&name) {
+        slot.change(tid, change);
+    }
+}
+
+/// The transaction does not change the text any more; where it commits, what it was about to make
+/// of it is committed. Its room stays. Of all committed bytes that are passed those of after it come
+/// back; `None` only where one count was not told. It takes no memory.
+pub fn finish(
+    names: &mut Names,
+    committed: Option<usize>,
+    name: &Bytes,
+    tid: Tid,
+    commits: bool,
+) -> Option<usize>
+    ensures names { names.new ≡ at_slot (finished tid commits) name.now names.old }
+    ensures committed { IsCommitted names.old committed → IsCommitted names.new result }
+{
+    let Some(slot) = names.get_mut(name) else {
+        return committed;
+    };
+    let before = slot.committed_length();
+    slot.finish(tid, commits);
+    replaced(committed, before, slot.committed_length())
+}
+
+/// Gives back the room of a transaction that changes nothing. It takes no memory.
+pub fn tidy(names: &mut Names, name: &Bytes, tid: Tid)
+    ensures { names.new ≡ swept name.now (at_slot (tidied tid) name.now names.old) }
+{
+    if let Some(slot) = names.get_mut(name) {
+        slot.tidy(tid);
+    }
+    sweep(names, name);
+}
+
+/// The transaction read the text. After a refusal all is as it was.
+#[tactic(auto, using(std::proofs::lemmas::Map::Steps::set_value_same))]
+pub fn read(alloc: Global, names: &mut Names, name: &Bytes, tid: Tid) -> Result<(), NoMemory>
+    ensures ok { OnOk result (names.new ≡ put_slot (slot_read tid) name.now names.old) }
+    ensures err { OnErr result (names.new ≡ names.old) }
+{
+    match names.get_mut(name) {
+        Some(slot) => slot.read(tid),
+        None => {
+            let mut slot = Slot::new(alloc);
+            slot.read(tid)?;
+            names.put(name.copy()?, slot)
+        }
+    }
+}
+
+/// The transaction did not read the text any more. It takes no memory.
+pub fn unread(names: &mut Names, name: &Bytes, tid: Tid)
+    ensures { names.new ≡ unread_name tid names.old name.now }
+{
+    if let Some(slot) = names.get_mut(name) {
+        slot.unread(tid);
+    }
+    sweep(names, name);
+}
+
+/// Takes the slot of the name out where nothing stands there.
+fn sweep(names: &mut Names, name: &Bytes)
+    ensures { names.new ≡ swept name.now names.old }
+{
+    let empty = match names.get(name) {
+        Some(slot) => slot.is_empty(),
+        None => true,
+    };
+    if empty {
+        names.remove(name);
+    }
+}
