@@ -70,12 +70,13 @@ step_of told did crash = record {
   crash = crash;
 }
 
--- a step with the stamp that stands, and its entries
+-- a step with the stamp that stands, and these entries
+abbrev pub stepped : Did → List Entry → Option CrashCause → Told → Told
+stepped did entries crash told = record told { journal = told.journal ++ entries; trace = told.trace ++ step_of told did crash ∷ [] }
+
+-- the same with the entries of these acts
 abbrev pub noted : Did → List Act → Option CrashCause → Told → Told
-noted did acts crash told = record told {
-  journal = told.journal ++ map (entry_of told.node told.stamp) acts;
-  trace = told.trace ++ step_of told did crash ∷ [];
-}
+noted did acts crash told = stepped did (map (entry_of told.node told.stamp) acts) crash told
 
 -- the node stops in a step: no other entry of it is made
 abbrev pub crashed : Did → CrashCause → Told → Told

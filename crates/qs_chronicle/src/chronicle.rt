@@ -1,6 +1,6 @@
 //! What a cell tells: its journal, its trace, and its counts.
 ghost use Rattle.std.specs.Prelude.{◌≡◌, ◌≤◌, ◌<◌, ◌+◌, ◌++◌, ◌∷◌, map, length, Some, None, [], IfOk, OnOk};
-ghost use Rattle.qs_chronicle.specs.Chronicle.{HasRoom, new_told, is_last, stamped, numbered, in_round, entry_of, step_of, noted, crashed};
+ghost use Rattle.qs_chronicle.specs.Chronicle.{HasRoom, new_told, is_last, stamped, numbered, in_round, entry_of, step_of, stepped, noted, crashed};
 
 use qs_base::{Copied, List, NoMemory, NodeNo, Stamp};
 use qs_journal::{Act, CrashCause, Entry};
@@ -54,7 +54,7 @@ impl Chronicle {
         }
     }
 
-    /// Room for so many more entries and steps. Room that was made before stays.
+    /// Room for so many more entries and steps. Room that was made before stays. `NoMemory` comes where memory was refused.
     pub fn make_room(&mut self, entries: usize, steps: usize) -> Result<(), NoMemory>
         ensures told { self.new.told ≡ self.old.told }
         ensures ok { OnOk result (HasRoom entries steps self.new) }
@@ -99,7 +99,7 @@ impl Chronicle {
         self.rounds = self.rounds.saturating_add(1);
     }
 
-    /// Entries of these acts, with the node and the stamp that stands.
+    /// Entries of these acts, with the node and the stamp that stands. `NoMemory` comes where memory was refused.
     pub fn entries_of(&self, acts: &[Act]) -> Result<List<Entry>, NoMemory>
         ensures { IfOk result (λ entries. entries ≡ map (entry_of self.now.told.node self.now.told.stamp) acts.now) }
     {
@@ -109,7 +109,7 @@ impl Chronicle {
     /// A step with these entries, for which there is room. It takes no memory.
     pub fn note(&mut self, did: Did, entries: List<Entry>)
         requires room { HasRoom (length entries) 1 self.old }
-        ensures told { (acts : _) → entries ≡ map (entry_of self.old.told.node self.old.told.stamp) acts → self.new.told ≡ noted did acts None self.old.told }
+        ensures told { self.new.told ≡ stepped did entries None self.old.told }
         ensures entries { self.old.entries ≤ self.new.entries + length entries }
         ensures steps { self.old.steps ≤ self.new.steps + 1 }
     {
