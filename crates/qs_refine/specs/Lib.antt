@@ -55,3 +55,4 @@ pub mod StartLaws
 pub mod SoundLaws
 pub mod SoundSteps
 pub mod SoundMoves
+pub mod Steady
