@@ -223,3 +223,12 @@ pub mod CountDecided
 pub mod CloserStands
 pub mod ToldStands
 pub mod MessageCame
+pub mod TurnOn
+pub mod TurnRules
+pub mod TurnOutcomes
+pub mod TurnSettles
+pub mod Heads
+pub mod TurnStep
+pub mod BeginKeeps
+pub mod MessageFits
+pub mod Calm

@@ -56,3 +56,4 @@ pub mod SoundLaws
 pub mod SoundSteps
 pub mod SoundMoves
 pub mod Steady
+pub mod EachMove

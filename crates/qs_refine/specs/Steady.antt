@@ -48,7 +48,7 @@ is_other_server server entry = not (entry.0.0 == server.0)
 
 abbrev pub are_queues_apart : IpcValue → Bool
 are_queues_apart [] = true
-are_queues_apart (entry ∷ rest) = (nat_lt entry.0.0 7 && list_all (is_other_server entry.0) rest) && are_queues_apart rest
+are_queues_apart (entry ∷ rest) = list_all (is_other_server entry.0) rest && are_queues_apart rest
 
 pub record IsSteadyNode (node : NodeValue) : Type 0 where
   pub kinds : HasKinds node
@@ -58,8 +58,7 @@ pub record IsSteadyNode (node : NodeValue) : Type 0 where
   pub unknown : tm.part_of (tm.next_tid node.manager) node.manager ≡ None  -- the next number that it gives is new
   pub fresh : was_committed (tm.next_tid node.manager) node ≡ false
   pub past : (t : Tid) → began_here node t ≡ true → names_transaction t ≡ true → t.seq ≤ node.manager.begun → is_past node t ≡ true  -- what began here and is known no more is committed
-  pub ended : (t : Tid) → same_node t.home node.setting.node ≡ true → tm.part_of t node.manager ≡ None → was_committed t node ≡ true → is_past_commit node t ≡ true  -- what it keeps as committed, and began earlier, is of its log
-  pub decided : (t : Tid) (part : Participant) → tm.part_of t node.manager ≡ Some part → part.engage.home ≡ true → part.outcome ≡ Some outcomes.Commit → is_past_commit node t ≡ true  -- and so is a commit that it still knows
+  pub decided : (t : Tid) (part : Participant) → tm.part_of t node.manager ≡ Some part → part.engage.home ≡ true → part.outcome ≡ Some outcomes.Commit → is_past_commit node t ≡ true  -- a commit that it still knows is kept, or is of its log
   pub released : (t : Tid) (part : Participant) → tm.part_of t node.manager ≡ Some part → part.engage.home ≡ false → part.outcome ≡ None → part.engage.superior ≡ None → part.involved ≡ true  -- who answers to nobody, and was not forgotten, is to be told
   pub early : node.is_first ≡ true → (t : Tid) (part : Participant) → tm.part_of t node.manager ≡ Some part → IsEarly part
   pub idle : node.is_first ≡ true → (t : Tid) (s : ℕ) → waiting_at node t s ≡ 0  -- and nothing waits
@@ -108,7 +107,7 @@ is_line_in_run size line = goes_in_run size line.command
 pub record IsSteady (world : World) : Type 0 where
   pub seated : IsSeated world
   pub sound : AreSoundOver world
-  pub open : AreOpenInRun world
+  pub commands : AreOpenInRun world
   pub nodes : (n : ℕ) → n < world.size → IsSteadyNode (world.hosts n).node
   pub peers : (n m : ℕ) → 1 ≤ world.channels.peer n m → (m < world.size) × (m ≢ n)  -- a node knows other nodes of the run
   pub superior : (n m : ℕ) (t : Tid) (part : Participant) → n < world.size → world.channels.up n ≡ true → tm.part_of t (world.hosts n).node.manager ≡ Some part → part.engage.superior ≡ Some (node_no m)
