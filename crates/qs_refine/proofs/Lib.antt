@@ -232,3 +232,6 @@ pub mod TurnStep
 pub mod BeginKeeps
 pub mod MessageFits
 pub mod Calm
+pub mod TookLast
+pub mod Orphaned
+pub mod FirstNoticed

@@ -224,8 +224,8 @@ forget_on {k} tid work ordered kept = on_then (by (same_tid k.tid tid) refl) (qu
 
 -- what the home's node asks as it takes in that a commit was told
 pub record MayTold (k : Case) (peer : NodeNo) (tid : Tid) (work : Work) : Type 0 where
-  pub acks : same_tid k.tid tid ≡ true → k.acks peer.0 ≡ true
-  pub ends : same_tid k.tid tid ≡ true → tm.all_acknowledged tid peer work.node.manager ≡ true → k.ends ≡ true
+  pub acks : same_tid k.tid tid ≡ true → (part : Participant) → part_of tid work ≡ Some part → part.outcome ≡ Some outcomes.Commit → tm.all_acknowledged tid peer work.node.manager ≡ false → k.acks peer.0 ≡ true
+  pub ends : same_tid k.tid tid ≡ true → (part : Participant) → part_of tid work ≡ Some part → part.outcome ≡ Some outcomes.Commit → tm.all_acknowledged tid peer work.node.manager ≡ true → k.ends ≡ true
 
 acked_on : {k : Case} (peer : NodeNo) (tid : Tid) (part : Participant) (work : Work) → part_of tid work ≡ Some part → (same_tid k.tid tid ≡ true → k.acks peer.0 ≡ true) → TurnsOn k work (with_manager (tm.acknowledged tid peer) work)
 acked_on {k} peer tid part work known may = by (same_tid k.tid tid) refl
@@ -263,15 +263,54 @@ end_told_on {k} true tid work ordered ends at fate = on_then (log_on k (records.
     after : fate_at k.tid (log (records.End tid) work).node ≡ fate_at k.tid work.node
     after = told_changed None fate_of (is_at (tid_cmp tid)) (is_at (tid_cmp k.tid)) (outcome_rules.logged (records.End tid)) (λ part. refl) work.node.manager.known
 
+-- whose acknowledgement may be known matters no more once it is forgotten
+abbrev any_acks : Case → Case
+any_acks k = record k { acks = λ m. true }
+
+loosened : {k : Case} (node : NodeNo) (fate : Option Fate) (more : List Record) → TurnedAs k node fate more → TurnedAs (any_acks k) node fate more
+loosened node fate more is = record { aborted = is.aborted; ended = is.ended; ends = is.ends; turn = is.turn; learnt = is.learnt; acked = λ o acks its m has. refl }
+
+tightened : {k : Case} (node : NodeNo) (more : List Record) → TurnedAs (any_acks k) node None more → TurnedAs k node None more
+tightened {k} node more is = record { aborted = is.aborted; ended = is.ended; ends = is.ends; turn = is.turn; learnt = is.learnt; acked = λ o acks its m has. absurd (none o acks its) }
+  where
+    none : (o : Option Outcome) (acks : Nodes) → None ≡ became o acks → ⊥
+    none o acks its = cc (its)
+
 take_told_on : {k : Case} (peer : NodeNo) (tid : Tid) (part : Participant) (work : Work) → in_order work.node.manager.known ≡ true → part_of tid work ≡ Some part → part.outcome ≡ Some outcomes.Commit → same_node tid.home (here work) ≡ true
     → MayTold k peer tid work → TurnsOn k work (take_told peer tid work)
-take_told_on {k} peer tid part work ordered known committed at may = on_then (acked_on peer tid part work known may.acks)
-    (end_told_on (tm.all_acknowledged tid peer work.node.manager) tid (with_manager (tm.acknowledged tid peer) work) (order_changed tid (outcome_rules.acknowledged peer) work.node.manager ordered)
-    (λ all same. may.ends same all) (λ all. at) (λ all same. (
+take_told_on {k} peer tid part work ordered known committed at may = by (tm.all_acknowledged tid peer work.node.manager) refl (same_tid k.tid tid) refl
+  where
+    took : Work
+    took = with_manager (tm.acknowledged tid peer) work
+
+    took_ordered : in_order took.node.manager.known ≡ true
+    took_ordered = order_changed tid (outcome_rules.acknowledged peer) work.node.manager ordered
+
+    fate : (c : Case) → same_tid c.tid tid ≡ true → (acks : Nodes) × (fate_at c.tid took.node ≡ became (Some outcomes.Commit) acks)
+    fate c same = (
       put_node part.acknowledged peer,
-      fate_known k tid (with_manager (tm.acknowledged tid peer) work) (outcome_rules.acknowledged peer part) same (lookup_changed (is_at (tid_cmp tid)) (outcome_rules.acknowledged peer) work.node.manager.known part known)
+      fate_known c tid took (outcome_rules.acknowledged peer part) same (lookup_changed (is_at (tid_cmp tid)) (outcome_rules.acknowledged peer) work.node.manager.known part known)
           ∙ ap (λ (o : Option Outcome). became o (put_node part.acknowledged peer)) committed,
-    )))
+    )
+
+    -- it is forgotten then
+    ending : same_tid k.tid tid ≡ true → tm.all_acknowledged tid peer work.node.manager ≡ true → TurnsOn (any_acks k) work (end_told true tid took)
+    ending same all = on_then (acked_on peer tid part work known (λ _. refl)) (end_told_on true tid took took_ordered (λ _ _. may.ends same part known committed all) (λ _. at) (λ _ own. fate (any_acks k) own))
+
+    gone : same_tid k.tid tid ≡ true → fate_at k.tid (end_told true tid took).node ≡ None
+    gone same = subst (λ (u : Tid). fate_at u (end_told true tid took).node ≡ None) (sym (same_is k.tid tid same))
+        (ap fate_found (forgotten tid (log (records.End tid) took).node.manager (order_changed tid (outcome_rules.logged (records.End tid)) took.node.manager took_ordered)))
+
+    by : (b : Bool) → tm.all_acknowledged tid peer work.node.manager ≡ b → (s : Bool) → same_tid k.tid tid ≡ s → TurnsOn k work (end_told b tid took)
+    by false still s own = acked_on peer tid part work known (λ same. may.acks same part known committed still)
+    by true all false apart = on_then (acked_on peer tid part work known (λ same. absurd (cc (same, apart)))) (end_told_on true tid took took_ordered (λ _ same. absurd (cc (same, apart))) (λ _. at) (λ _ own. fate k own))
+    by true all true same = record {
+      setting = (ending same all).setting;
+      goes = λ is. subst (λ (f : Option Fate). TurnedAs k (end_told true tid took).node.setting.node f (end_told true tid took).out.records) (sym (gone same))
+          (tightened (end_told true tid took).node.setting.node (end_told true tid took).out.records
+          (subst (λ (f : Option Fate). TurnedAs (any_acks k) (end_told true tid took).node.setting.node f (end_told true tid took).out.records) (gone same)
+          ((ending same all).goes (loosened (here work) (fate_at k.tid work.node) work.out.records is))));
+    }
 
 take_names_on : {k : Case} (tid : Tid) (further : List NodeNo) (work : Work) → TurnsOn k work (take_names tid further work)
 take_names_on {k} tid further work = on_then (part_on tid (outcome_rules.take_names tid.home further) (λ part. refl) work) (sends_on (listed (tm.new_names tid further work.node.manager)) (messages.Tell tid outcomes.Abort) _)
