@@ -38,6 +38,7 @@ pub record SameCore (part other : Participant) : Type 0 where
   pub blocked : other.blocked ≡ part.blocked
   pub tell : other.tell ≡ part.tell
   pub acknowledged : other.acknowledged ≡ part.acknowledged
+  pub waiting : other.waiting ≡ part.waiting
 
 same_core : (part other : Participant) → core_of other ≡ core_of part → SameCore part other
 same_core part other same = record {
@@ -47,6 +48,7 @@ same_core part other same = record {
   blocked = ap (λ (p : Participant). p.blocked) whole;
   tell = ap (λ (p : Participant). p.tell) whole;
   acknowledged = ap (λ (p : Participant). p.acknowledged) whole;
+  waiting = ap (λ (p : Participant). p.waiting) whole;
 }
   where
     some_same : {a b : Participant} → Some a ≡ Some b → a ≡ b

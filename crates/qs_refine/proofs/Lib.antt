@@ -235,3 +235,6 @@ pub mod Calm
 pub mod TookLast
 pub mod Orphaned
 pub mod FirstNoticed
+pub mod EachReady
+pub mod LaterWorlds
+pub mod EachHears

@@ -224,8 +224,8 @@ forget_on {k} tid work ordered kept = on_then (by (same_tid k.tid tid) refl) (qu
 
 -- what the home's node asks as it takes in that a commit was told
 pub record MayTold (k : Case) (peer : NodeNo) (tid : Tid) (work : Work) : Type 0 where
-  pub acks : same_tid k.tid tid ≡ true → (part : Participant) → part_of tid work ≡ Some part → part.outcome ≡ Some outcomes.Commit → tm.all_acknowledged tid peer work.node.manager ≡ false → k.acks peer.0 ≡ true
-  pub ends : same_tid k.tid tid ≡ true → (part : Participant) → part_of tid work ≡ Some part → part.outcome ≡ Some outcomes.Commit → tm.all_acknowledged tid peer work.node.manager ≡ true → k.ends ≡ true
+  pub acks : same_tid k.tid tid ≡ true → same_node tid.home work.node.setting.node ≡ true → (part : Participant) → part_of tid work ≡ Some part → part.outcome ≡ Some outcomes.Commit → tm.all_acknowledged tid peer work.node.manager ≡ false → k.acks peer.0 ≡ true
+  pub ends : same_tid k.tid tid ≡ true → same_node tid.home work.node.setting.node ≡ true → (part : Participant) → part_of tid work ≡ Some part → part.outcome ≡ Some outcomes.Commit → tm.all_acknowledged tid peer work.node.manager ≡ true → k.ends ≡ true
 
 acked_on : {k : Case} (peer : NodeNo) (tid : Tid) (part : Participant) (work : Work) → part_of tid work ≡ Some part → (same_tid k.tid tid ≡ true → k.acks peer.0 ≡ true) → TurnsOn k work (with_manager (tm.acknowledged tid peer) work)
 acked_on {k} peer tid part work known may = by (same_tid k.tid tid) refl
@@ -295,14 +295,14 @@ take_told_on {k} peer tid part work ordered known committed at may = by (tm.all_
 
     -- it is forgotten then
     ending : same_tid k.tid tid ≡ true → tm.all_acknowledged tid peer work.node.manager ≡ true → TurnsOn (any_acks k) work (end_told true tid took)
-    ending same all = on_then (acked_on peer tid part work known (λ _. refl)) (end_told_on true tid took took_ordered (λ _ _. may.ends same part known committed all) (λ _. at) (λ _ own. fate (any_acks k) own))
+    ending same all = on_then (acked_on peer tid part work known (λ _. refl)) (end_told_on true tid took took_ordered (λ _ _. may.ends same at part known committed all) (λ _. at) (λ _ own. fate (any_acks k) own))
 
     gone : same_tid k.tid tid ≡ true → fate_at k.tid (end_told true tid took).node ≡ None
     gone same = subst (λ (u : Tid). fate_at u (end_told true tid took).node ≡ None) (sym (same_is k.tid tid same))
         (ap fate_found (forgotten tid (log (records.End tid) took).node.manager (order_changed tid (outcome_rules.logged (records.End tid)) took.node.manager took_ordered)))
 
     by : (b : Bool) → tm.all_acknowledged tid peer work.node.manager ≡ b → (s : Bool) → same_tid k.tid tid ≡ s → TurnsOn k work (end_told b tid took)
-    by false still s own = acked_on peer tid part work known (λ same. may.acks same part known committed still)
+    by false still s own = acked_on peer tid part work known (λ same. may.acks same at part known committed still)
     by true all false apart = on_then (acked_on peer tid part work known (λ same. absurd (cc (same, apart)))) (end_told_on true tid took took_ordered (λ _ same. absurd (cc (same, apart))) (λ _. at) (λ _ own. fate k own))
     by true all true same = record {
       setting = (ending same all).setting;

@@ -7,6 +7,7 @@ use Rattle.qs_packet.specs.declared.message.Message.{Message}
 use Rattle.qs_packet.specs.declared.message.Message.TheVariants as messages
 use Rattle.qs_tm.specs.Manager as tm
 use Rattle.qs_tm.specs.declared.participant.Participant.{Participant}
+use Rattle.qs_step.specs.Answering.{was_committed}
 use Rattle.qs_step.specs.declared.event.Event.{Event}
 use Rattle.qs_world.specs.Moves.{Source, Move, event_of, may_move, moved}
 use Rattle.qs_world.specs.Posting.{next_parcel}
@@ -36,6 +37,10 @@ pub record AllGoes (tid : Tid) (world : World) (w : machine.World) : Type 0 wher
   pub next : machine.World
   pub leads : Leads w next
   pub shown : ShowsAll tid world next
+
+-- what the home's node keeps as committed was
+abbrev pub KeepsDecided : Tid → World → machine.World → Type 0
+KeepsDecided tid world w = was_committed tid (world.hosts tid.home.0).node ≡ true → w.cell ≡ Committed
 
 -- ---- what comes
 
