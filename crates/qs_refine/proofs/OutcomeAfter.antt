@@ -25,7 +25,7 @@ use Rattle.qs_refine.proofs.SettleRules.{beside, IsClear, Answers}
 -- ---- what stands after a message of its own
 
 module _ (t : Tid) (scene : Scene) (n m i : ℕ) (rest : List Message) (work new : Work) (w : World) (is : Stands t scene n work w) (goes : Goes t (handed scene m i n rest) n new w) (left : Leaves (beside t) work new) (sound : StaysSound work new) (kinds : KeepsKinds work new) where
-  pub stands_after : IsClear t scene n new → Answers t scene n new → GoesOn t (handed scene m i n rest) n new w
+  unfoldable pub stands_after : IsClear t scene n new → Answers t scene n new → GoesOn t (handed scene m i n rest) n new w
   stands_after clear answers = record {
     next = goes.next;
     leads = goes.leads;
@@ -42,7 +42,7 @@ module _ (t : Tid) (scene : Scene) (n m i : ℕ) (rest : List Message) (work new
   }
 
   -- it is decided then
-  pub decided_after : (part : Participant) → part_of t new ≡ Some part → is_some part.outcome ≡ true → ((k : ℕ) → part.engage.superior ≡ Some (node_no k) → 1 ≤ scene.knows n k) → GoesOn t (handed scene m i n rest) n new w
+  unfoldable pub decided_after : (part : Participant) → part_of t new ≡ Some part → is_some part.outcome ≡ true → ((k : ℕ) → part.engage.superior ≡ Some (node_no k) → 1 ≤ scene.knows n k) → GoesOn t (handed scene m i n rest) n new w
   decided_after part known decided answers = stands_after
       (λ none s. absurd (off (is_some part.outcome) part.log.prepared decided (sym (ap (may_doubt (t.home.0 == n)) known) ∙ none)))
       (λ p k its has. answers k (ap (λ (q : Participant). q.engage.superior) (some_same part p (sym known ∙ its)) ∙ has))

@@ -1,5 +1,5 @@
 -- A node finds that another one restarted: the turn of one transaction, in which its machine comes to know it.
-use Rattle.std.proofs.Common.{◌≡◌, ◌≢◌, ℕ, ◌<◌, ◌≤◌, ◌==◌, ◌&&◌, not, nat_lt, Bool, true, false, List, [], ◌∷◌, Option, Some, None, fold, refl, sym, subst, ap, ◌∙◌, arith, if◌then◌else◌}
+use Rattle.std.proofs.Common.{◌≡◌, ◌≢◌, ◌⊎◌, ℕ, ◌<◌, ◌≤◌, ◌==◌, ◌&&◌, not, nat_lt, Bool, true, false, List, [], ◌∷◌, Option, Some, None, is_some, fold, refl, sym, subst, ap, ◌∙◌, arith, if◌then◌else◌}
 use Rattle.std.specs.BTreeMap.{is_at}
 use Rattle.std.proofs.lemmas.Bool.{eqb-true}
 use Rattle.std.proofs.lemmas.Bool.Decides.{nat_tests}
@@ -19,10 +19,9 @@ use Rattle.qs_step.specs.State.{Work, part_of, with_manager}
 use Rattle.qs_agree.specs.World.{World}
 use Rattle.qs_agree.specs.Carry.{IsLawful, Leads}
 use Rattle.qs_refine.specs.Links.{node_no}
-use Rattle.qs_refine.specs.RestartFound.{OrphansMayInquire}
 use Rattle.qs_refine.specs.RestartLaws.{noticed, IsNoticed}
 use Rattle.qs_refine.specs.Shows.{Scene, ShowsWork}
-use Rattle.qs_refine.specs.Sound.{same_flag}
+use Rattle.qs_refine.specs.Sound.{same_flag, is_superior}
 use Rattle.qs_refine.specs.SoundLaws.{StaysSound}
 use Rattle.qs_refine.specs.Stands.{Stands, GoesOn}
 use Rattle.qs_refine.specs.Steps.{IsAt, Knows, Goes}
@@ -33,7 +32,6 @@ use Rattle.qs_refine.proofs.InquireSent.{inquire_goes}
 use Rattle.qs_refine.proofs.Keeping.{nothing_goes}
 use Rattle.qs_refine.proofs.KindsKept.{KeepsKinds}
 use Rattle.qs_refine.proofs.PassCarried.{Carries}
-use Rattle.qs_refine.proofs.PeerNoticed.{find_gone_goes, notice_decided as notice_decided_goes}
 use Rattle.qs_refine.proofs.RestartFrames.{notice_leaves, notice_kinds, undecided_carries, decided_outcomes}
 use Rattle.qs_refine.proofs.Resuming.{tell_again_goes, name_home, name_other}
 use Rattle.qs_refine.proofs.SendGoes.{goes_on}
@@ -57,6 +55,8 @@ use Rattle.qs_step.specs.Restarts.{tell_again, name_again}
 use Rattle.qs_refine.specs.Steps.{IsWhole}
 use Rattle.qs_refine.proofs.DecidedStands.{decided_clear, decided_answers}
 use Rattle.qs_refine.proofs.Maps.{lookup_changed}
+use Rattle.qs_refine.proofs.SoundParts.{and_both}
+use Rattle.qs_refine.proofs.Orphaned.{IsOrphan, orphan_inquires}
 use Rattle.qs_refine.proofs.SettleStands.{at_home}
 
 module _ (t : Tid) (scene : Scene) (n m old new : ℕ) where
@@ -72,9 +72,9 @@ module _ (t : Tid) (scene : Scene) (n m old new : ℕ) where
       by true false = some
       by false b = some
 
-  pub stands_later : (work now : Work) (w v : World) → old < new → scene.knows n m ≡ old → Stands t scene n work w → Leads w v → ShowsWork t later n now v → Leaves (beside t) work now → StaysSound work now → KeepsKinds work now
+  pub stands_later : (work now : Work) (w v : World) → ((k : ℕ) → 1 ≤ scene.knows n k → 1 ≤ later.knows n k) → Stands t scene n work w → Leads w v → ShowsWork t later n now v → Leaves (beside t) work now → StaysSound work now → KeepsKinds work now
       → IsClear t scene n now → Answers t scene n now → Stands t later n now v
-  stands_later work now w v less knows is leads shown left sound kinds clear answers =
+  stands_later work now w v more is leads shown left sound kinds clear answers =
       let at : IsAt scene n now = at_same t scene n work now left.node.around.setting is.at in
       record {
         at = record { in_run = at.in_run; up = at.up; node = at.node; nodes = at.nodes; inc = at.inc };
@@ -84,7 +84,7 @@ module _ (t : Tid) (scene : Scene) (n m old new : ℕ) where
         lawful = lawful_on w v is.lawful leads;
         shown = shown;
         clear = clear;
-        superior = λ part k known has. knows_more less knows k (answers part k known has);
+        superior = λ part k known has. more k (answers part k known has);
       }
 
 -- ---- whom it drew in stays as the numbers of requests begin anew
@@ -107,7 +107,17 @@ module _ (t : Tid) (m : ℕ) (small : m < 16) (part : Participant) (whole : IsWh
 
 -- ---- its own turn
 
-module _ (t : Tid) (scene : Scene) (n m old new : ℕ) (work : Work) (w : World) (is : Stands t scene n work w) (found : IsNoticed t scene n m old new work) (small : m < 16) (orphans : OrphansMayInquire t scene n m new) (part : Participant) (known : part_of t work ≡ Some part) where
+-- the machine comes to know the restart in this turn, or knows it
+pub record IsFound (t : Tid) (scene : Scene) (n m old new : ℕ) (work : Work) (w : World) (part : Participant) : Type 0 where
+  pub other : m ≢ n
+  pub in_run : m < scene.size
+  pub later : 1 ≤ new
+  pub more : (k : ℕ) → 1 ≤ scene.knows n k → 1 ≤ (noticed scene n m new).knows n k
+  pub gone : part.outcome ≡ None → Goes t (noticed scene n m new) n (find_gone (node_no m) old t part (with_manager (tm.restarted t (node_no m)) work)) w
+  pub decided : (outcome : Outcome) → part.outcome ≡ Some outcome → Goes t (noticed scene n m new) n (with_manager (tm.restarted t (node_no m)) work) w
+
+module _ (t : Tid) (scene : Scene) (n m old new : ℕ) (work : Work) (w : World) (is : Stands t scene n work w) (part : Participant) (known : part_of t work ≡ Some part) (found : IsFound t scene n m old new work w part) (small : m < 16)
+    (answers_to : part.outcome ≡ None → part.engage.home ≡ false → (part.involved ≡ true) ⊎ (is_some part.engage.superior ≡ true)) where
   turn_is : notice_tid (node_no m) old new work t ≡ notice_part (node_no m) old new t part (with_manager (tm.restarted t (node_no m)) work)
   turn_is = ap (λ (o : Option Participant). elim o [ None ↦ work | Some part ↦ notice_part (node_no m) old new t part (with_manager (tm.restarted t (node_no m)) work) ]) known
 
@@ -124,9 +134,9 @@ module _ (t : Tid) (scene : Scene) (n m old new : ℕ) (work : Work) (w : World)
   knows = whole_known t scene n work w is part known
 
   -- it inquires, where it is orphaned
-  asks : (mid : Work) (v : World) (p : Participant) → IsLawful v → ShowsWork t (noticed scene n m new) n mid v → IsAt (noticed scene n m new) n mid → Knows t mid p → p.outcome ≡ None → (t.home.0 == n) ≡ false
+  asks : (mid : Work) (v : World) (p : Participant) → IsLawful v → ShowsWork t (noticed scene n m new) n mid v → IsAt (noticed scene n m new) n mid → Knows t mid p → p.outcome ≡ None → (p.engage.home ≡ false → IsOrphan m p) → (t.home.0 == n) ≡ false
       → Goes t (noticed scene n m new) n (inquire (node_no m) new t p mid) v
-  asks mid v p lawful shown at its_knows undecided away = by p.engage.home refl (is_orphaned_by (node_no m) new t p) refl
+  asks mid v p lawful shown at its_knows undecided its away = by p.engage.home refl (is_orphaned_by (node_no m) new t p) refl
     where
       other : t.home.0 ≢ n
       other same = off (t.home.0 == n) (grind (arith, nat_tests, same)) away
@@ -134,8 +144,11 @@ module _ (t : Tid) (scene : Scene) (n m old new : ℕ) (work : Work) (w : World)
           off : (b : Bool) → b ≡ true → b ≡ false → ⊥
           off b so never = cc (so, never)
 
+      now_known : (a b : Bool) → a ≡ true → b ≡ true → (if a && b then new else scene.knows n m) ≡ new
+      now_known a b is so = rw (is, so) refl
+
       by : (h : Bool) → p.engage.home ≡ h → (b : Bool) → is_orphaned_by (node_no m) new t p ≡ b → Goes t (noticed scene n m new) n (inquire (node_no m) new t p mid) v
-      by false home true orphan = inquire_goes t (noticed scene n m new) n m new mid p v lawful shown at its_knows undecided other is.home_in (orphans mid v p lawful shown its_knows.known undecided home orphan)
+      by false home true orphan = inquire_goes t (noticed scene n m new) n m new mid p v lawful shown at its_knows undecided other is.home_in (orphan_inquires t (noticed scene n m new) n m new mid v p lawful shown at is.home_in found.in_run (now_known (n == n) (m == m) (grind (arith, nat_tests)) (grind (arith, nat_tests))) found.later away its_knows.known undecided (its home) orphan)
       by true home b orphan = rw home (nothing_goes t (noticed scene n m new) n mid v shown)
       by false home false orphan = rw (home, orphan) (nothing_goes t (noticed scene n m new) n mid v shown)
 
@@ -144,7 +157,7 @@ module _ (t : Tid) (scene : Scene) (n m old new : ℕ) (work : Work) (w : World)
   undecided_turn undecided = record {
     next = whole.next;
     leads = whole.leads;
-    stands = stands_later t scene n m old new work (notice_tid (node_no m) old new work t) w whole.next found.later found.knows is whole.leads whole.shown left sound kinds
+    stands = stands_later t scene n m old new work (notice_tid (node_no m) old new work t) w whole.next found.more is whole.leads whole.shown left sound kinds
         (clear_carried t scene n work (notice_tid (node_no m) old new work t) w is part known undecided (carries part known)) (answers_carried t scene n work (notice_tid (node_no m) old new work t) w is part known undecided (carries part known));
   }
     where
@@ -158,7 +171,7 @@ module _ (t : Tid) (scene : Scene) (n m old new : ℕ) (work : Work) (w : World)
       carries = subst (λ (k : Work). Carries t work k) (sym both_are) (undecided_carries (node_no m) old new t part work)
 
       first : Goes t (noticed scene n m new) n (find_gone (node_no m) old t part (with_manager (tm.restarted t (node_no m)) work)) w
-      first = find_gone_goes t scene n m old new work part w is.lawful is.shown is.at found knows undecided
+      first = found.gone undecided
 
       whole : Goes t (noticed scene n m new) n (notice_tid (node_no m) old new work t) w
       whole = subst (λ (k : Work). Goes t (noticed scene n m new) n k w) (sym both_are)
@@ -188,19 +201,37 @@ module _ (t : Tid) (scene : Scene) (n m old new : ℕ) (work : Work) (w : World)
               whole_then : IsWhole (participant.restarted (node_no m) part)
               whole_then = record { peers = length-set part.engage.peers m _ ∙ knows.whole.peers; members = knows.whole.members; told = knows.whole.told; tell = knows.whole.tell; acknowledged = knows.whole.acknowledged }
 
+              orphan : part.engage.home ≡ false → IsOrphan m (participant.restarted (node_no m) part)
+              orphan home = record {
+                answers = answers_to undecided home;
+                last = λ s other answers was. same_last s other answers was;
+                anew = ap (λ (e : PeerPart). e.last) (peer_put m m (record (peer_of part.engage (node_no m)) { last = 0 }) part.engage (rw knows.whole.peers small)) ∙ picked (m == m) (grind (arith, nat_tests));
+              }
+                where
+                  picked : (b : Bool) → b ≡ true → (if b then record (peer_of part.engage (node_no m)) { last = 0 } else peer_of part.engage (node_no m)).last ≡ 0
+                  picked b is = rw is refl
+
+                  same_last : (s other : NodeNo) → part.engage.superior ≡ Some s → part.engage.last_superior ≡ Some other → other.0 ≡ s.0
+                  same_last s other answers was = eqb-true other.0 s.0 (subst (λ (o : Option NodeNo). (elim o [ None ↦ false | Some other ↦ same_node other s ]) ≡ true) was (tested s answers))
+                    where
+                      tested : (s : NodeNo) → part.engage.superior ≡ Some s → (elim part.engage.last_superior [ None ↦ false | Some other ↦ same_node other s ]) ≡ true
+                      tested s answers = (and_both (nat_lt s.0 work.node.setting.nodes && not (same_node s work.node.setting.node)) (elim part.engage.last_superior [ None ↦ false | Some other ↦ same_node other s ])
+                          (and_both (not part.engage.home) (is_superior work.node part.engage.last_superior s) (subst (λ (o : Option NodeNo). (elim o [ None ↦ true | Some superior ↦ not part.engage.home && is_superior work.node part.engage.last_superior superior ]) ≡ true) answers
+                          (known_sound t work.node part known is.sound).superior)).1).1
+
               asked : (b : Bool) → is_owed_by (node_no m) part ≡ b → Goes t (noticed scene n m new) n (inquire (node_no m) new t part (find_gone (node_no m) old t part (with_manager (tm.restarted t (node_no m)) work))) first.next
               asked true owed = subst (λ (k : Work). ShowsWork t (noticed scene n m new) n k first.next → Goes t (noticed scene n m new) n (inquire (node_no m) new t part k) first.next) (sym (gone_is true owed))
                   (λ shown. asks (block t (causes.Gone (node_no m) old) (with_manager (tm.restarted t (node_no m)) work)) first.next (participant.add_cause (causes.Gone (node_no m) old) (participant.refused (participant.restarted (node_no m) part))) (lawful_on w first.next is.lawful first.leads) shown (at_gone true)
-                  (record { known = blocked_known; whole = record { peers = whole_then.peers; members = whole_then.members; told = whole_then.told; tell = whole_then.tell; acknowledged = whole_then.acknowledged } }) undecided away) first.shown
+                  (record { known = blocked_known; whole = record { peers = whole_then.peers; members = whole_then.members; told = whole_then.told; tell = whole_then.tell; acknowledged = whole_then.acknowledged } }) undecided (λ home. record { answers = (orphan home).answers; last = (orphan home).last; anew = (orphan home).anew }) away) first.shown
               asked false owed = subst (λ (k : Work). ShowsWork t (noticed scene n m new) n k first.next → Goes t (noticed scene n m new) n (inquire (node_no m) new t part k) first.next) (sym (gone_is false owed))
-                  (λ shown. asks (with_manager (tm.restarted t (node_no m)) work) first.next (participant.restarted (node_no m) part) (lawful_on w first.next is.lawful first.leads) shown (at_gone false) (record { known = numbered_known; whole = whole_then }) undecided away) first.shown
+                  (λ shown. asks (with_manager (tm.restarted t (node_no m)) work) first.next (participant.restarted (node_no m) part) (lawful_on w first.next is.lawful first.leads) shown (at_gone false) (record { known = numbered_known; whole = whole_then }) undecided orphan away) first.shown
 
   -- where it is decided
   decided_turn : (outcome : Outcome) → part.outcome ≡ Some outcome → GoesOn t (noticed scene n m new) n (notice_tid (node_no m) old new work t) w
   decided_turn outcome decided = record {
     next = whole.next;
     leads = whole.leads;
-    stands = stands_later t scene n m old new work (notice_tid (node_no m) old new work t) w whole.next found.later found.knows is whole.leads whole.shown left sound kinds
+    stands = stands_later t scene n m old new work (notice_tid (node_no m) old new work t) w whole.next found.more is whole.leads whole.shown left sound kinds
         (decided_clear t scene n work (notice_tid (node_no m) old new work t) w is part known outcome decided keeps) (decided_answers t scene n work (notice_tid (node_no m) old new work t) w is part known outcome decided keeps);
   }
     where
@@ -214,7 +245,7 @@ module _ (t : Tid) (scene : Scene) (n m old new : ℕ) (work : Work) (w : World)
       keeps = subst (λ (k : Work). KeepOutcomes t work k) (sym both_are) (decided_outcomes (node_no m) old new t part outcome work)
 
       first : Goes t (noticed scene n m new) n (with_manager (tm.restarted t (node_no m)) work) w
-      first = notice_decided_goes t scene n m old new outcome work part w is.lawful is.shown is.at found knows decided
+      first = found.decided outcome decided
 
       then_knows : Knows t (with_manager (tm.restarted t (node_no m)) work) (participant.restarted (node_no m) part)
       then_knows = record {

@@ -17,7 +17,7 @@ use Rattle.qs_step.specs.State.{Work, part_of, with_queues}
 use Rattle.qs_agree.specs.World.{World}
 use Rattle.qs_refine.specs.Links.{node_no}
 use Rattle.qs_refine.specs.NodeFaces.{face_at, part_at}
-use Rattle.qs_refine.specs.RestartFound.{OrphansMayInquire, PeerRestartedGoes}
+use Rattle.qs_refine.specs.RestartFound.{CanAnswer, PeerRestartedGoes}
 use Rattle.qs_refine.specs.RestartLaws.{noticed, IsNoticed}
 use Rattle.qs_refine.specs.Shows.{Scene, sight_during}
 use Rattle.qs_refine.specs.Sights.{Sight}
@@ -25,10 +25,10 @@ use Rattle.qs_refine.specs.Stands.{Stands, GoesOn}
 use Rattle.qs_refine.specs.Steps.{Goes}
 use Rattle.qs_refine.proofs.During.{Leaves, leaves_itself}
 use Rattle.qs_refine.proofs.KindsKept.{fold_kinds}
-use Rattle.qs_refine.proofs.PeerNoticed.{noticed_goes}
+use Rattle.qs_refine.proofs.PeerNoticed.{noticed_goes, find_gone_goes, notice_decided as notice_decided_goes}
 use Rattle.qs_refine.proofs.RestartFrames.{marked_leaves, notice_leaves, notice_kinds}
 use Rattle.qs_refine.proofs.SettleRules.{beside}
-use Rattle.qs_refine.proofs.SettleStands.{stands_left, goes_further, stands_itself}
+use Rattle.qs_refine.proofs.SettleStands.{stands_left, goes_further, stands_itself, whole_known}
 use Rattle.qs_refine.proofs.SoundParts.{and_both}
 use Rattle.qs_refine.proofs.SoundQueued.{marked_sound}
 use Rattle.qs_refine.proofs.SoundRestart.{notice_sound}
@@ -44,13 +44,13 @@ use Rattle.qs_agree.specs.World.{with_at}
 use Rattle.qs_refine.proofs.Alike.{SameFace}
 use Rattle.qs_refine.proofs.During.{quiet_itself, face_here}
 use Rattle.qs_refine.proofs.Reading.{part_known}
-use Rattle.qs_refine.proofs.RestartOwn.{stands_later, own_turn}
+use Rattle.qs_refine.proofs.RestartOwn.{IsFound, knows_more, stands_later, own_turn}
 use Rattle.qs_refine.proofs.SoundAge.{picked, put_all}
 use Rattle.qs_refine.proofs.StartWorlds.{alike_at}
 
 -- ---- nothing of it has to do with the other node
 
-none_shown : (f : Face) (m : ℕ) → f.last m ≡ 0 → SameFace (record f { last = with_at f.last m 0; blocked = f.blocked }) f
+pub none_shown : (f : Face) (m : ℕ) → f.last m ≡ 0 → SameFace (record f { last = with_at f.last m 0; blocked = f.blocked }) f
 none_shown f m none = record { is_home = refl; on = refl; superior = refl; last = λ k. by k (k == m) refl; sent = λ k. refl; covered = λ k. refl; waits = λ s. refl; uncast = λ s. refl; loans = refl; asked = refl; blocked = refl; involved = refl; told = λ k. refl; outcome = refl; tell = λ k. refl }
   where
     by : (k : ℕ) (b : Bool) → (k == m) ≡ b → f.last k ≡ (if b then 0 else f.last k)
@@ -61,11 +61,11 @@ module _ (t : Tid) (scene : Scene) (n m old new : ℕ) (work : Work) (w : World)
   abbrev x : Sight
   x = sight_during t scene n work
 
-  unconcerned : (face_at work.node t).last m ≡ 0 → (face_at work.node t).sent m ≡ 0 → (face_at work.node t).covered m ≡ 0 → GoesOn t (noticed scene n m new) n work w
+  pub unconcerned : (face_at work.node t).last m ≡ 0 → (face_at work.node t).sent m ≡ 0 → (face_at work.node t).covered m ≡ 0 → GoesOn t (noticed scene n m new) n work w
   unconcerned last sent covered = record {
     next = turn.next;
     leads = turn.leads;
-    stands = stands_later t scene n m old new work work w turn.next found.later found.knows is turn.leads turn.shown (leaves_itself (beside t) work) (λ sound. sound) (λ kinds. kinds) is.clear is.superior;
+    stands = stands_later t scene n m old new work work w turn.next (knows_more t scene n m old new found.later found.knows) is turn.leads turn.shown (leaves_itself (beside t) work) (λ sound. sound) (λ kinds. kinds) is.clear is.superior;
   }
     where
       before : x.face n ≡ face_at work.node t
@@ -80,7 +80,7 @@ module _ (t : Tid) (scene : Scene) (n m old new : ℕ) (work : Work) (w : World)
           (λ running free. (free, (here.running running).covered m ∙ (ap (λ (f : Face). f.covered m) before ∙ (covered ∙ sym (ap (λ (f : Face). f.sent m) before ∙ sent)))))
 
   -- it is not known
-  unknown_turn : part_of t work ≡ None → GoesOn t (noticed scene n m new) n work w
+  pub unknown_turn : part_of t work ≡ None → GoesOn t (noticed scene n m new) n work w
   unknown_turn none = unconcerned (ap (λ (e : PeerPart). e.last) nothing) (ap (λ (e : PeerPart). e.sent) nothing) (ap (λ (e : PeerPart). e.covered) nothing)
     where
       picked_at : (b : Bool) (c : Bool) → peer_of (if b then record (participant.new_participant true) { outcome = if c then Some outcomes.Commit else None } else participant.new_participant false).engage (node_no m) ≡ no_peer
@@ -116,10 +116,10 @@ module _ (t : Tid) (scene : Scene) (n m old new : ℕ) (work : Work) (w : World)
 
 -- ---- each has its turn
 
-abbrev is_concerned : ℕ → Entry → Bool
+abbrev pub is_concerned : ℕ → Entry → Bool
 is_concerned m e = is_one (whiches.Concerned (node_no m)) e.0 e.1
 
-same_turns : (m : ℕ) (es : List Entry) → picked (whiches.Concerned (node_no m)) es ≡ turns (is_concerned m) es
+pub same_turns : (m : ℕ) (es : List Entry) → picked (whiches.Concerned (node_no m)) es ≡ turns (is_concerned m) es
 same_turns m [] = refl
 same_turns m (e ∷ es) = by (is_concerned m e) (same_turns m es)
   where
@@ -127,22 +127,33 @@ same_turns m (e ∷ es) = by (is_concerned m e) (same_turns m es)
     by true more = ap (λ (l : List Tid). e.0 ∷ l) more
     by false more = more
 
-module _ (t : Tid) (scene : Scene) (n m old new : ℕ) (small : m < 16) (orphans : OrphansMayInquire t scene n m new) where
+module _ (t : Tid) (scene : Scene) (n m old new : ℕ) (small : m < 16) where
   abbrev turn : Work → Tid → Work
   turn = notice_tid (node_no m) old new
 
-  others_leave : (tids : List Tid) (work : Work) → AllApart t tids → Leaves t work (fold turn work tids)
+  pub others_leave : (tids : List Tid) (work : Work) → AllApart t tids → Leaves t work (fold turn work tids)
   others_leave tids work apart = turns_leave t turn (λ tid off work. notice_leaves (node_no m) old new t tid off work) tids work apart
 
-  others : (some : Scene) (tids : List Tid) (work : Work) (w : World) → AllApart t tids → Stands t some n work w → Stands t some n (fold turn work tids) w
+  pub others : (some : Scene) (tids : List Tid) (work : Work) (w : World) → AllApart t tids → Stands t some n work w → Stands t some n (fold turn work tids) w
   others some tids work w apart is = stands_left t some n work (fold turn work tids) w (others_leave tids work apart)
       (turns_sound turn (λ work tid. notice_sound (node_no m) old new small work tid) tids work is.sound) (fold_kinds turn (notice_kinds (node_no m) old new) tids work is.kinds) is
 
   found_left : (work now : Work) → Leaves t work now → IsNoticed t scene n m old new work → IsNoticed t scene n m old new now
   found_left work now left found = record { in_run = found.in_run; other = found.other; knows = found.knows; some = found.some; later = found.later; begun = found.begun; fresh = found.fresh; silent = left.quiet.sends m ∙ found.silent }
 
-  all_noticed : (work : Work) (w : World) → IsNoticed t scene n m old new work → Stands t scene n work w → GoesOn t (noticed scene n m new) n (fold turn work (turns (is_concerned m) work.node.manager.known)) w
-  all_noticed work w found is = by (turn_of t (is_concerned m) work.node.manager.known (seen work.node is.sound).ordered)
+  -- it is noticed in this turn
+  found_here : (work : Work) (w : World) → Stands t scene n work w → IsNoticed t scene n m old new work → (part : Participant) → part_of t work ≡ Some part → IsFound t scene n m old new work w part
+  found_here work w is found part known = record {
+    other = found.other;
+    in_run = found.in_run;
+    later = omega (arith, found.later);
+    more = knows_more t scene n m old new found.later found.knows;
+    gone = λ undecided. find_gone_goes t scene n m old new work part w is.lawful is.shown is.at found (whole_known t scene n work w is part known) undecided;
+    decided = λ outcome decided. notice_decided_goes t scene n m old new outcome work part w is.lawful is.shown is.at found (whole_known t scene n work w is part known) decided;
+  }
+
+  all_noticed : (work : Work) (w : World) → IsNoticed t scene n m old new work → CanAnswer t work → Stands t scene n work w → GoesOn t (noticed scene n m new) n (fold turn work (turns (is_concerned m) work.node.manager.known)) w
+  all_noticed work w found answers is = by (turn_of t (is_concerned m) work.node.manager.known (seen work.node is.sound).ordered)
     where
       by : Never t (is_concerned m) work.node.manager.known ⊎ Once t (is_concerned m) work.node.manager.known → GoesOn t (noticed scene n m new) n (fold turn work (turns (is_concerned m) work.node.manager.known)) w
       by (inl never) = last (part_of t work) refl
@@ -167,11 +178,12 @@ module _ (t : Tid) (scene : Scene) (n m old new : ℕ) (small : m < 16) (orphans
           left = others_leave once.front work once.before
 
           own : GoesOn t (noticed scene n m new) n (turn (fold turn work once.front) t) w
-          own = own_turn t scene n m old new (fold turn work once.front) w (others scene once.front work w once.before is) (found_left work (fold turn work once.front) left found) small orphans once.part (left.node.part ∙ once.known)
+          own = own_turn t scene n m old new (fold turn work once.front) w (others scene once.front work w once.before is) once.part (left.node.part ∙ once.known)
+              (found_here (fold turn work once.front) w (others scene once.front work w once.before is) (found_left work (fold turn work once.front) left found) once.part (left.node.part ∙ once.known)) small (answers once.part once.known)
 
 pub peer_restarted_goes : PeerRestartedGoes
-peer_restarted_goes t scene n m old new work w found orphans is = subst (λ (tids : List Tid). GoesOn t (noticed scene n m new) n (fold (notice_tid (node_no m) old new) marked tids) w) (sym list_is)
-    (all_noticed t scene n m old new small orphans marked w (record { in_run = found.in_run; other = found.other; knows = found.knows; some = found.some; later = found.later; begun = found.begun; fresh = found.fresh; silent = found.silent })
+peer_restarted_goes t scene n m old new work w found answers is = subst (λ (tids : List Tid). GoesOn t (noticed scene n m new) n (fold (notice_tid (node_no m) old new) marked tids) w) (sym list_is)
+    (all_noticed t scene n m old new small marked w (record { in_run = found.in_run; other = found.other; knows = found.knows; some = found.some; later = found.later; begun = found.begun; fresh = found.fresh; silent = found.silent }) (λ part known. answers part known)
     (stands_left t scene n work marked w (marked_leaves t (node_no m) work) (marked_sound (node_no m) work.node is.sound) is.kinds is))
   where
     marked : Work

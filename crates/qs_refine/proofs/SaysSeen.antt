@@ -84,7 +84,7 @@ said_seen node said sound is tid = by (tm.part_of tid node.manager) refl
 -- ---- to the test
 
 -- what holds of each transaction that is found holds of each entry
-each_found : (q : Tid × Participant → Bool) (es : List (Tid × Participant)) → in_order es ≡ true → ((tid : Tid) (part : Participant) → lookup (is_at (tid_cmp tid)) es ≡ Some part → q (tid, part) ≡ true) → list_all q es ≡ true
+pub each_found : (q : Tid × Participant → Bool) (es : List (Tid × Participant)) → in_order es ≡ true → ((tid : Tid) (part : Participant) → lookup (is_at (tid_cmp tid)) es ≡ Some part → q (tid, part) ≡ true) → list_all q es ≡ true
 each_found q [] ordered each = refl
 each_found q (e ∷ es) ordered each = both_and (q e) (list_all q es) (each e.0 e.1 (rw (self e.0) refl)) (each_found q es (rest_ordered es ordered) (λ tid part found. each tid part (later tid part found)))
   where

@@ -150,18 +150,18 @@ module _ (tid : Tid) (peer : NodeNo) (up_to : ℕ) (told : List NodeNo) (node : 
 pub closer_came_sound : CloserCameSound
 closer_came_sound peer tid up_to told work within home_in named put sound = by (part_of tid work) refl sound
   where
-    counted : (part : Participant) → part_of tid work ≡ Some part → is_sound (count peer tid up_to told work).node ≡ true
-    counted part known =
+    counted : (part : Participant) → part_of tid work ≡ Some part → is_undecided part ≡ true → is_sound (count peer tid up_to told work).node ≡ true
+    counted part known undecided =
         let s = seen work.node sound in
         part_sound tid (participant.counted tid.home peer up_to told) work.node part known refl
         (part_as work.node tid (participant.counted tid.home peer up_to told part)
-        (counted_sound tid peer up_to told work.node (few_nodes work.node s.fits) within home_in named part (put part known).0 (put part known).1
+        (counted_sound tid peer up_to told work.node (few_nodes work.node s.fits) within home_in named part (put part known undecided).0 (put part known undecided).1
         (part_seen work.node tid part (all_found tid (is_sound_part work.node) work.node.manager.known part known s.parts)))) sound
 
-    picked : (part : Participant) → part_of tid work ≡ Some part → (b : Bool) → is_sound (if b then count peer tid up_to told work else work).node ≡ true
-    picked part known true = counted part known
-    picked part known false = sound
+    picked : (part : Participant) → part_of tid work ≡ Some part → (b : Bool) → is_undecided part ≡ b → is_sound (if b then count peer tid up_to told work else work).node ≡ true
+    picked part known true undecided = counted part known undecided
+    picked part known false decided = sound
 
     by : (o : Option Participant) → part_of tid work ≡ o → StaysSound work (elim o [ None ↦ work | Some part ↦ if is_undecided part then count peer tid up_to told work else work ])
     by None none so = so
-    by (Some part) known so = picked part known (is_undecided part)
+    by (Some part) known so = picked part known (is_undecided part) refl

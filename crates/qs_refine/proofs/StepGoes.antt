@@ -31,7 +31,7 @@ picked b x y is = rw is refl
 
 -- ---- it begins
 
-begins : (t : Tid) (scene : Scene) (n free : ℕ) (w : World) → IsLawful w → Shows t scene w → IsReady t scene n → Stands t scene n (work_on (scene.node n) free) w
+pub begins : (t : Tid) (scene : Scene) (n free : ℕ) (w : World) → IsLawful w → Shows t scene w → IsReady t scene n → Stands t scene n (work_on (scene.node n) free) w
 begins t scene n free w lawful shown is = record {
   at = record { in_run = is.in_run; up = is.up; node = is.node; nodes = is.nodes; inc = is.inc };
   home_in = is.home_in;
@@ -72,12 +72,12 @@ module _ (t : Tid) (scene : Scene) (n : ℕ) (work : Work) (log : List Record) (
     superior = λ part m known has. is.superior part m (sym (ap (λ (k : NodeValue). Rattle.qs_tm.specs.Manager.part_of t k.manager) node_is) ∙ known) has;
   }
 
-  ends : Stepped t scene n work log w
+  pub ends : Stepped t scene n work log w
   ends = record { next = w; leads = record { events = []; run = refl }; shown = step_ends t scene n work log w is.shown same; ready = ready }
 
 -- ---- the step
 
-further : (t : Tid) (later : Scene) (n : ℕ) (work : Work) (log : List Record) (w u : World) → Leads w u → Stepped t later n work log u → Stepped t later n work log w
+pub further : (t : Tid) (later : Scene) (n : ℕ) (work : Work) (log : List Record) (w u : World) → Leads w u → Stepped t later n work log u → Stepped t later n work log w
 further t later n work log w u first second = record { next = second.next; leads = leads_on w u second.next first second.leads; shown = second.shown; ready = second.ready }
 
 pub step_goes : StepGoes

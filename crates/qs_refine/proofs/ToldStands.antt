@@ -21,7 +21,7 @@ use Rattle.qs_step.specs.State.{Work, part_of, with_manager}
 use Rattle.qs_step.specs.Step.{message_came}
 use Rattle.qs_step.specs.Telling.{end_told, is_other_node, keep_abort_told, take_names, told_at_home, told_known, told_unknown}
 use Rattle.qs_agree.specs.World.{World}
-use Rattle.qs_refine.specs.DecisionLaws.{GoesTold, GoesEnding}
+use Rattle.qs_refine.specs.DecisionLaws.{ShowsTold, GoesTold, GoesEnding}
 use Rattle.qs_refine.specs.Links.{node_no}
 use Rattle.qs_refine.specs.Shows.{Scene, handed}
 use Rattle.qs_refine.specs.Sound.{same_flag}
@@ -76,6 +76,12 @@ told_away_stands t scene n m i further rest work w next fits elsewhere is =
     differs a b off = grind (arith, nat_tests, off)
 
 -- ---- at the home's node
+
+-- it knows the commit: what stands stands, with what the machine has of acknowledgements then
+pub record Taking (t : Tid) (scene : Scene) (m i : ℕ) (further : List NodeNo) (rest : List Message) (work : Work) (w : World) : Type 0 where
+  pub on : GoesOn t (handed scene m i t.home.0 rest) t.home.0 (message_came (node_no m) (messages.Told t further) work) w
+  pub told : tm.all_acknowledged t (node_no m) work.node.manager ≡ false → ShowsTold t (message_came (node_no m) (messages.Told t further) work) on.next
+  pub ended : tm.all_acknowledged t (node_no m) work.node.manager ≡ true → (k : ℕ) → on.next.commit_list k ≡ true → on.next.acknowledged k ≡ true
 
 module _ (t : Tid) (scene : Scene) (m i : ℕ) (further : List NodeNo) (rest : List Message) (work : Work) (w : World) (next : IsNext scene t.home.0 m i (messages.Told t further) rest) (fits : FitsMessage (node_no m) (messages.Told t further) work)
     (takes : TakesTold t scene m further work w) (is : Stands t scene t.home.0 work w) where
@@ -143,22 +149,22 @@ module _ (t : Tid) (scene : Scene) (m i : ℕ) (further : List NodeNo) (rest : L
       ends_is : (b : Bool) → tm.all_acknowledged t (node_no m) work.node.manager ≡ b → message_came (node_no m) (messages.Told t further) work ≡ end_told b t (with_manager (tm.acknowledged t (node_no m)) work)
       ends_is b at = known_is (Some outcomes.Commit) committed ∙ ap (λ (b : Bool). end_told b t (with_manager (tm.acknowledged t (node_no m)) work)) at
 
-      waits : tm.all_acknowledged t (node_no m) work.node.manager ≡ false → GoesOn t (handed scene m i t.home.0 rest) t.home.0 (message_came (node_no m) (messages.Told t further) work) w
-      waits open_still = keeps outcomes.Commit committed (subst (λ (k : Work). KeepOutcomes t work k) (sym (ends_is false open_still)) acknowledges) (record { next = goes.next; leads = goes.leads; shown = goes.shown })
-        where
-          goes : GoesTold t (handed scene m i t.home.0 rest) t.home.0 (message_came (node_no m) (messages.Told t further) work) w
-          goes = told_commit t scene m i further rest work part w is.lawful is.shown is.at next (record { knows = whole_known t scene t.home.0 work w is part known; home = home; committed = committed }) (takes.acknowledged part known committed) open_still
+      told_goes : tm.all_acknowledged t (node_no m) work.node.manager ≡ false → GoesTold t (handed scene m i t.home.0 rest) t.home.0 (message_came (node_no m) (messages.Told t further) work) w
+      told_goes open_still = told_commit t scene m i further rest work part w is.lawful is.shown is.at next (record { knows = whole_known t scene t.home.0 work w is part known; home = home; committed = committed }) (takes.acknowledged part known committed) open_still
 
+      ending_goes : tm.all_acknowledged t (node_no m) work.node.manager ≡ true → GoesEnding t (handed scene m i t.home.0 rest) t.home.0 (message_came (node_no m) (messages.Told t further) work) w
+      ending_goes all = told_last t scene m i further rest work part w is.lawful is.shown is.at next (record { knows = whole_known t scene t.home.0 work w is part known; home = home; committed = committed }) (takes.acknowledged part known committed)
+          (seen work.node is.sound).ordered all (takes.listed part known committed all) (takes.past part known committed all)
+
+      waits : tm.all_acknowledged t (node_no m) work.node.manager ≡ false → GoesOn t (handed scene m i t.home.0 rest) t.home.0 (message_came (node_no m) (messages.Told t further) work) w
+      waits open_still = keeps outcomes.Commit committed (subst (λ (k : Work). KeepOutcomes t work k) (sym (ends_is false open_still)) acknowledges) (record { next = (told_goes open_still).next; leads = (told_goes open_still).leads; shown = (told_goes open_still).shown })
+        where
           acknowledges : KeepOutcomes t work (with_manager (tm.acknowledged t (node_no m)) work)
           acknowledges p at = record { next = outcome_rules.acknowledged (node_no m) p; known = lookup_changed (is_at (tid_cmp t)) (outcome_rules.acknowledged (node_no m)) work.node.manager.known p at; outcome = refl; superior = λ k has. has }
 
       ends : tm.all_acknowledged t (node_no m) work.node.manager ≡ true → GoesOn t (handed scene m i t.home.0 rest) t.home.0 (message_came (node_no m) (messages.Told t further) work) w
-      ends all = stands_after t scene t.home.0 m i rest work (message_came (node_no m) (messages.Told t further) work) w is (record { next = goes.next; leads = goes.leads; shown = goes.shown }) its_left its_sound its_kinds clears answers
+      ends all = stands_after t scene t.home.0 m i rest work (message_came (node_no m) (messages.Told t further) work) w is (record { next = (ending_goes all).next; leads = (ending_goes all).leads; shown = (ending_goes all).shown }) its_left its_sound its_kinds clears answers
         where
-          goes : GoesEnding t (handed scene m i t.home.0 rest) t.home.0 (message_came (node_no m) (messages.Told t further) work) w
-          goes = told_last t scene m i further rest work part w is.lawful is.shown is.at next (record { knows = whole_known t scene t.home.0 work w is part known; home = home; committed = committed }) (takes.acknowledged part known committed)
-              (seen work.node is.sound).ordered all (takes.listed part known committed all) (takes.past part known committed all)
-
           none : part_of t (message_came (node_no m) (messages.Told t further) work) ≡ None
           none = ap (λ (k : Work). part_of t k) (ends_is true all)
               ∙ forgotten t (log (records.End t) (with_manager (tm.acknowledged t (node_no m)) work)).node.manager (order_changed t (outcome_rules.logged (records.End t)) (tm.acknowledged t (node_no m) work.node.manager) (order_changed t (outcome_rules.acknowledged (node_no m)) work.node.manager (seen work.node is.sound).ordered))
@@ -178,6 +184,15 @@ module _ (t : Tid) (scene : Scene) (m i : ℕ) (further : List NodeNo) (rest : L
           by : (b : Bool) → tm.all_acknowledged t (node_no m) work.node.manager ≡ b → GoesOn t (handed scene m i t.home.0 rest) t.home.0 (message_came (node_no m) (messages.Told t further) work) w
           by true all = ends all
           by false open_still = waits open_still
+
+      -- and the machine has taken what the home's node has of acknowledgements, or all
+      pub taking : Taking t scene m i further rest work w
+      unfolding waits ends keeps stands_after decided_after
+      taking = by (tm.all_acknowledged t (node_no m) work.node.manager) refl
+        where
+          by : (b : Bool) → tm.all_acknowledged t (node_no m) work.node.manager ≡ b → Taking t scene m i further rest work w
+          by true all = record { on = ends all; told = λ still. absurd (cc (still, all)); ended = λ _. (ending_goes all).all_told }
+          by false open_still = record { on = waits open_still; told = λ _. (told_goes open_still).told; ended = λ all. absurd (cc (all, open_still)) }
 
     known_stands : (o : Option Outcome) → part.outcome ≡ o → GoesOn t (handed scene m i t.home.0 rest) t.home.0 (message_came (node_no m) (messages.Told t further) work) w
     known_stands None undecided = same_stands t scene t.home.0 m i further rest work w next fits is (known_is None undecided) (told_running t scene m i further rest work part w is.shown is.at next known undecided)

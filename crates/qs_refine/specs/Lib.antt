@@ -55,3 +55,5 @@ pub mod StartLaws
 pub mod SoundLaws
 pub mod SoundSteps
 pub mod SoundMoves
+pub mod Steady
+pub mod EachMove

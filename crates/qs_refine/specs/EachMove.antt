@@ -1,0 +1,87 @@
+-- The law of each move of the world, for a transaction that has begun: what shows it goes on to show it, with no premise on what happens inside a step.
+use Rattle.std.specs.Prelude.{◌≡◌, ℕ, ◌<◌, ◌≤◌, ⊤, true, Option, Some}
+use Rattle.qs_base.specs.declared.identifiers.Outcome.TheVariants as outcomes
+use Rattle.qs_base.specs.declared.identifiers.Tid.{Tid}
+use Rattle.qs_engage.specs.Nodes.{has_node}
+use Rattle.qs_packet.specs.declared.message.Message.{Message}
+use Rattle.qs_packet.specs.declared.message.Message.TheVariants as messages
+use Rattle.qs_tm.specs.Manager as tm
+use Rattle.qs_tm.specs.declared.participant.Participant.{Participant}
+use Rattle.qs_step.specs.Answering.{was_committed}
+use Rattle.qs_step.specs.declared.event.Event.{Event}
+use Rattle.qs_world.specs.Moves.{Source, Move, event_of, may_move, moved}
+use Rattle.qs_world.specs.Posting.{next_parcel}
+use Rattle.qs_world.specs.World.{Parcel, World}
+use Rattle.qs_agree.specs.World as machine
+use Rattle.qs_agree.specs.World.{Committed}
+use Rattle.qs_agree.specs.Carry.{Leads}
+use Rattle.qs_refine.specs.Links.{node_no}
+use Rattle.qs_refine.specs.MoveLaws.{ShowsWorld}
+use Rattle.qs_refine.specs.SoundSteps.{FitsMessage, MayHappen, begun}
+use Rattle.qs_refine.specs.SaidLaws.{BeginsNew}
+use Rattle.qs_refine.specs.Steady.{IsSteady, CanCountAll, HasBegun}
+
+-- ---- what shows a transaction, with what nodes know of its commit
+
+-- who knows the commit knows what was decided, and whose acknowledgement the home's node has the machine has too
+pub record ShowsOutcome (tid : Tid) (world : World) (w : machine.World) : Type 0 where
+  pub learnt : (n : ℕ) (part : Participant) → n < world.size → world.channels.up n ≡ true → tm.part_of tid (world.hosts n).node.manager ≡ Some part → part.outcome ≡ Some outcomes.Commit → w.cell ≡ Committed
+  pub acknowledged : (part : Participant) → world.channels.up tid.home.0 ≡ true → tm.part_of tid (world.hosts tid.home.0).node.manager ≡ Some part → part.outcome ≡ Some outcomes.Commit
+      → (m : ℕ) → has_node part.acknowledged (node_no m) ≡ true → w.acknowledged m ≡ true
+
+pub record ShowsAll (tid : Tid) (world : World) (w : machine.World) : Type 0 where
+  pub seen : ShowsWorld tid world w
+  pub outcome : ShowsOutcome tid world w
+
+pub record AllGoes (tid : Tid) (world : World) (w : machine.World) : Type 0 where
+  pub next : machine.World
+  pub leads : Leads w next
+  pub shown : ShowsAll tid world next
+
+-- what the home's node keeps as committed was
+abbrev pub KeepsDecided : Tid → World → machine.World → Type 0
+KeepsDecided tid world w = was_committed tid (world.hosts tid.home.0).node ≡ true → w.cell ≡ Committed
+
+-- ---- what comes
+
+-- a message comes to a sound node of which it leaves a sound one
+abbrev pub MessagesFit : World → Type 0
+MessagesFit world = (n m free : ℕ) (parcel : Parcel) → n < world.size → world.channels.up n ≡ true → next_parcel world n m ≡ Some parcel → FitsMessage (node_no m) parcel.message (begun (world.hosts n).node free)
+
+-- a Covered and a VotedYes answer for some request
+abbrev pub AnswersSome : Message → Type 0
+AnswersSome (messages.Covered tid up_to) = 1 ≤ up_to
+AnswersSome (messages.VotedYes tid up_to told) = 1 ≤ up_to
+AnswersSome _ = ⊤
+
+abbrev pub CountsFromOne : World → Type 0
+CountsFromOne world = (n m : ℕ) (parcel : Parcel) → next_parcel world n m ≡ Some parcel → AnswersSome parcel.message
+
+-- the transaction that a message is about
+abbrev pub IsAbout : Tid → Message → Type 0
+IsAbout t messages.Hello = ⊤
+IsAbout t (messages.Request tid label member number issuer op) = t ≡ tid
+IsAbout t (messages.Answered tid member number reply) = t ≡ tid
+IsAbout t (messages.AskVote tid) = t ≡ tid
+IsAbout t (messages.Covered tid up_to) = t ≡ tid
+IsAbout t (messages.VotedYes tid up_to told) = t ≡ tid
+IsAbout t (messages.VotedAbort tid cause) = t ≡ tid
+IsAbout t (messages.Tell tid outcome) = t ≡ tid
+IsAbout t (messages.Told tid further) = t ≡ tid
+IsAbout t (messages.Inquire tid) = t ≡ tid
+
+-- what shows its transaction gives that a message fits
+abbrev pub ShownFits : Type 0
+ShownFits = (tid : Tid) (world : World) (w : machine.World) (n m free : ℕ) (parcel : Parcel) → IsSteady world → CountsFromOne world → tid.home.0 < world.size → ShowsAll tid world w → n < world.size → world.channels.up n ≡ true
+    → next_parcel world n m ≡ Some parcel → IsAbout tid parcel.message → FitsMessage (node_no m) parcel.message (begun (world.hosts n).node free)
+
+-- so what comes may come
+abbrev pub EachMayCome : Type 0
+EachMayCome = (world : World) (n stamp free : ℕ) (source : Source) (event : Event) → IsSteady world → MessagesFit world → n < world.size → world.channels.up n ≡ true → event_of world n stamp source ≡ Some event
+    → MayHappen event (begun (world.hosts n).node free) × BeginsNew event (begun (world.hosts n).node free)
+
+-- ---- each move
+
+abbrev pub EachMoveGoes : Type 0
+EachMoveGoes = (tid : Tid) (world : World) (move : Move) (w : machine.World) → may_move world move ≡ true → IsSteady world → CanCountAll world → CountsFromOne world → MessagesFit world → tid.home.0 < world.size → HasBegun world tid → ShowsAll tid world w
+    → AllGoes tid (moved move world) w
