@@ -223,3 +223,13 @@ pub mod CountDecided
 pub mod CloserStands
 pub mod ToldStands
 pub mod MessageCame
+pub mod WalkRules
+pub mod WalkOutcomes
+pub mod WalkSettles
+pub mod WalkSteps
+pub mod PartsAfter
+pub mod CrossedKept
+pub mod Entries
+pub mod TidyNodes
+pub mod TidyKeeps
+pub mod TidyReads

@@ -55,3 +55,6 @@ pub mod StartLaws
 pub mod SoundLaws
 pub mod SoundSteps
 pub mod SoundMoves
+pub mod Begun
+pub mod Walks
+pub mod Tidy
