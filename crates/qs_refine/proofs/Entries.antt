@@ -182,3 +182,12 @@ apart_mapped f same (e ∷ es) = ap (λ (b : Bool). list_all (is_other_server (f
     others : (xs : IpcValue) → list_all (is_other_server (f e).0) (map f xs) ≡ list_all (is_other_server (f e).0) xs
     others [] = refl
     others (x ∷ xs) = ap (λ (b : Bool). is_other_server (f e).0 (f x) && b) (others xs) ∙ ap (λ (s : ServerNo). not ((f e).0.0 == s.0) && list_all (is_other_server (f e).0) xs) (same x)
+
+-- what is found passes the test by which it was looked for
+pub found_is : {X : Type 0} (p : X → Bool) (xs : List X) (x : X) → find p xs ≡ Some x → p x ≡ true
+found_is p [] x found = absurd (cc (found))
+found_is {X} p (y ∷ ys) x found = by (p y) refl (found_is p ys x)
+  where
+    by : (b : Bool) → p y ≡ b → (find p ys ≡ Some x → p x ≡ true) → p x ≡ true
+    by true is more = let value : Some y ≡ Some x = rw is at found in subst (λ (z : X). p z ≡ true) (cc (value)) is
+    by false is more = more (rw is at found)

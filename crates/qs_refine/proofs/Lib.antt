@@ -233,3 +233,5 @@ pub mod Entries
 pub mod TidyNodes
 pub mod TidyKeeps
 pub mod TidyReads
+pub mod TidyResumes
+pub mod TidyBegins

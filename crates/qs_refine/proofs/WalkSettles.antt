@@ -223,26 +223,22 @@ module _ (P Q : Tid → Bool) (R : NodeNo → Bool) (me : NodeNo) (nodes : ℕ) 
 
   -- ---- the first step of an incarnation: who is committed then is at home
 
-  module _ (committed : (tid : Tid) (part : Participant) (work : Work) → I work → part_of tid work ≡ Some part → part.outcome ≡ Some outcomes.Commit → part.engage.home ≡ true) where
-    resume_home_walk : (tid : Tid) (part : Participant) (outcome : Outcome) (work : Work) → part_of tid work ≡ Some part → part.outcome ≡ Some outcome → I work → I (resume_home tid part outcome work)
-    resume_home_walk tid part outcomes.Commit work known is i = sends_walk P Q R me nodes I reads keeps (listed part.tell) (messages.Tell tid outcomes.Commit) work
-        (λ node. both_and (P tid) _ (reads.known tid part work i known) (sym (reads.home tid part work i known) ∙ committed tid part work i known is)) i
-    resume_home_walk tid part outcomes.Abort work known is i = log_if_walk P Q R me nodes I reads keeps (record_learnt tid outcomes.Abort part) _
-        (λ rec logged. learnt_fits P Q R me nodes I reads keeps tid outcomes.Abort part rec (reads.known tid part work i known) logged) (notices_walk P Q R me nodes I reads keeps tid outcomes.Abort work i)
+  resume_home_walk : (tid : Tid) (part : Participant) (outcome : Outcome) (work : Work) → part_of tid work ≡ Some part → (outcome ≡ outcomes.Commit → part.engage.home ≡ true) → I work → I (resume_home tid part outcome work)
+  resume_home_walk tid part outcomes.Commit work known home i = sends_walk P Q R me nodes I reads keeps (listed part.tell) (messages.Tell tid outcomes.Commit) work
+      (λ node. both_and (P tid) _ (reads.known tid part work i known) (sym (reads.home tid part work i known) ∙ home refl)) i
+  resume_home_walk tid part outcomes.Abort work known home i = log_if_walk P Q R me nodes I reads keeps (record_learnt tid outcomes.Abort part) _
+      (λ rec logged. learnt_fits P Q R me nodes I reads keeps tid outcomes.Abort part rec (reads.known tid part work i known) logged) (notices_walk P Q R me nodes I reads keeps tid outcomes.Abort work i)
 
-    resume_tid_walk : (work : Work) (tid : Tid) → I work → I (resume_tid work tid)
-    resume_tid_walk work tid i = by (part_of tid work) refl
-      where
-        node_itself : (node : NodeNo) → same_node node node ≡ true
-        node_itself node = grind (arith, nat_tests)
+  pub resume_tid_walk : (work : Work) (tid : Tid) → ((part : Participant) → part_of tid work ≡ Some part → part.outcome ≡ Some outcomes.Commit → part.engage.home ≡ true) → I work → I (resume_tid work tid)
+  resume_tid_walk work tid committed i = by (part_of tid work) refl
+    where
+      node_itself : (node : NodeNo) → same_node node node ≡ true
+      node_itself node = grind (arith, nat_tests)
 
-        at : (part : Participant) → part_of tid work ≡ Some part → (o : Option Outcome) → part.outcome ≡ o → I (elim o [ None ↦ send tid.home (messages.Inquire tid) work | Some outcome ↦ resume_home tid part outcome work ])
-        at part known None is = keeps.send tid.home (messages.Inquire tid) work (λ low. both_and (P tid) _ (reads.known tid part work i known) (node_itself tid.home)) i
-        at part known (Some outcome) is = resume_home_walk tid part outcome work known is i
+      at : (part : Participant) → part_of tid work ≡ Some part → (o : Option Outcome) → part.outcome ≡ o → I (elim o [ None ↦ send tid.home (messages.Inquire tid) work | Some outcome ↦ resume_home tid part outcome work ])
+      at part known None is = keeps.send tid.home (messages.Inquire tid) work (λ low. both_and (P tid) _ (reads.known tid part work i known) (node_itself tid.home)) i
+      at part known (Some outcome) is = resume_home_walk tid part outcome work known (λ so. committed part known (is ∙ ap (λ (o : Outcome). Some o) so)) i
 
-        by : (o : Option Participant) → part_of tid work ≡ o → I (elim o [ None ↦ work | Some part ↦ resume_part tid part work ])
-        by None none = i
-        by (Some part) known = at part known part.outcome refl
-
-    pub resumes_walk : (tids : List Tid) (work : Work) → I work → I (fold resume_tid work tids)
-    resumes_walk tids work i = fold_walk P Q R me nodes I reads keeps resume_tid resume_tid_walk tids work i
+      by : (o : Option Participant) → part_of tid work ≡ o → I (elim o [ None ↦ work | Some part ↦ resume_part tid part work ])
+      by None none = i
+      by (Some part) known = at part known part.outcome refl
