@@ -235,3 +235,4 @@ pub mod TidyKeeps
 pub mod TidyReads
 pub mod TidyResumes
 pub mod TidyBegins
+pub mod TidyHappens

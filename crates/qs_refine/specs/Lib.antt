@@ -58,3 +58,4 @@ pub mod SoundMoves
 pub mod Begun
 pub mod Walks
 pub mod Tidy
+pub mod Steadies

@@ -1,5 +1,5 @@
 -- What holds of one node and what it sends, in the middle of its steps too, whatever becomes of a transaction.
-use Rattle.std.specs.Prelude.{◌≡◌, ℕ, ◌≤◌, ◌==◌, Bool, true, false, not, ◌&&◌, ◌||◌, List, [], ◌∷◌, Option, Some, None, is_some, is_none, nat_lt, nat_le}
+use Rattle.std.specs.Prelude.{◌≡◌, ◌⊎◌, ℕ, ◌<◌, ◌≤◌, ◌==◌, Bool, true, false, not, ◌&&◌, ◌||◌, List, [], ◌∷◌, Option, Some, None, is_some, is_none, nat_lt, nat_le}
 use Rattle.std.specs.List.{list_all, list_any}
 use Rattle.qs_base.specs.declared.identifiers.ClientNo.{ClientNo}
 use Rattle.qs_base.specs.declared.identifiers.NodeNo.{NodeNo}
@@ -126,6 +126,7 @@ pub record IsTidy (c : Stage) (work : Work) : Type 0 where
   pub begun : work.node.is_first ≡ false
   pub out : IsTidyOut c work.out
 
--- what the stage has to give: what has begun may be known, and its home is in the run; this node's own began in no later incarnation than this
+-- what the stage has to give: what has begun may be known, and its home is in the run; what began at this node has one of the numbers that it gave
 pub record IsStage (c : Stage) : Type 0 where
   pub inside : (tid : Tid) → c.begun tid ≡ true → (c.past tid ≡ true) × (nat_lt tid.home.0 c.setting.nodes ≡ true)
+  pub own : (tid : Tid) → c.past tid ≡ true → same_node tid.home c.setting.node ≡ true → (names_transaction tid ≡ true) × ((tid.inc < c.setting.inc) ⊎ ((tid.inc ≡ c.setting.inc) × (tid.seq ≤ c.count)))
