@@ -236,3 +236,5 @@ pub mod TidyReads
 pub mod TidyResumes
 pub mod TidyBegins
 pub mod TidyHappens
+pub mod SaidTidy
+pub mod TidyOpened

@@ -33,14 +33,17 @@ use Rattle.qs_refine.specs.Tidy.{Stage, IsTidyNode}
 -- ---- a node between its steps
 
 -- what stays while node n does a step
-abbrev pub stage_of : World → ℕ → Stage
-stage_of world n = record {
-  setting = (world.hosts n).node.setting;
-  count = count_in world n;
+abbrev pub stage_with : World → ℕ → NodeValue → Stage
+stage_with world n node = record {
+  setting = node.setting;
+  count = node.manager.begun;
   past = may_be_known world;
   begun = has_begun world;
   met = λ m. nat_lt 0 (world.channels.peer n m.0);
 }
+
+abbrev pub stage_of : World → ℕ → Stage
+stage_of world n = stage_with world n (world.hosts n).node
 
 -- what it took up from its log and has not looked at yet: nothing went to or came from another node in this incarnation, who is not decided left a Prepare, and
 -- a Commit is of the home
@@ -61,12 +64,12 @@ pub record IsFirst (node : NodeValue) : Type 0 where
 abbrev pub is_steady_record : (Tid → Bool) → NodeNo → Record → Bool
 is_steady_record past me rec = fits_record (λ (tid : Tid). not (names_transaction tid) || past tid) me rec
 
-pub record IsSteadyNode (world : World) (n : ℕ) : Type 0 where
-  pub tidy : IsTidyNode (stage_of world n) (world.hosts n).node
-  pub saved : (world.hosts n).node.kept.saved ≡ (world.hosts n).node.kept.now  -- what it keeps for its clients is what a restart finds
-  pub first : (world.hosts n).node.is_first ≡ true → IsFirst (world.hosts n).node
-  pub records : list_all (is_steady_record (may_be_known world) (world.hosts n).node.setting.node) ((world.hosts n).log ++ (world.hosts n).waiting) ≡ true
-  pub unended : are_unended (recovery (world.hosts n).log) ≡ true
+pub record IsSteadyHost (c : Stage) (host : Host) : Type 0 where
+  pub tidy : IsTidyNode c host.node
+  pub saved : host.node.kept.saved ≡ host.node.kept.now  -- what it keeps for its clients is what a restart finds
+  pub first : host.node.is_first ≡ true → IsFirst host.node
+  pub records : list_all (is_steady_record c.past c.setting.node) (host.log ++ host.waiting) ≡ true
+  pub unended : are_unended (recovery host.log) ≡ true
 
 -- ---- messages: between two nodes of the run
 
@@ -84,7 +87,7 @@ is_steady_line size line = may_command size line.command
 pub record IsSteadyWorld (world : World) : Type 0 where
   pub seated : IsSeated world
   pub sound : AreSoundOver world
-  pub nodes : (n : ℕ) → n < world.size → IsSteadyNode world n
+  pub nodes : (n : ℕ) → n < world.size → IsSteadyHost (stage_of world n) (world.hosts n)
   pub peers : (n m : ℕ) → 1 ≤ world.channels.peer n m → are_two world.size n m ≡ true  -- a node knows other nodes of the run
   pub nobody : (n m j : ℕ) → world.channels.posted n m 0 j ≡ []  -- 0 is no incarnation
   pub posted : (n m i j : ℕ) → list_all (is_steady_parcel world n m) (world.channels.posted n m i j) ≡ true
