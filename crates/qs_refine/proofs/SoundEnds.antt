@@ -176,7 +176,7 @@ module _ (tid : Tid) where
   abbrev here : Tid → Bool
   here = is_at (tid_cmp tid)
 
-  all_removed : {V : Type 0} (p : Tid × V → Bool) (es : List (Tid × V)) → list_all p es ≡ true → list_all p (remove_entry here es) ≡ true
+  pub all_removed : {V : Type 0} (p : Tid × V → Bool) (es : List (Tid × V)) → list_all p es ≡ true → list_all p (remove_entry here es) ≡ true
   all_removed p [] is = is
   all_removed p (e ∷ es) is = by (here e.0) refl (all_removed p es (and_both (p e) (list_all p es) is).1)
     where
@@ -184,7 +184,7 @@ module _ (tid : Tid) where
       by true at rest = rw at (and_both (p e) (list_all p es) is).1
       by false at rest = rw at (both_and (p e) (list_all p (remove_entry here es)) (and_both (p e) (list_all p es) is).0 rest)
 
-  order_removed : (es : List (Tid × Participant)) → in_order es ≡ true → in_order (remove_entry here es) ≡ true
+  pub order_removed : (es : List (Tid × Participant)) → in_order es ≡ true → in_order (remove_entry here es) ≡ true
   order_removed [] is = is
   order_removed (e ∷ []) is = by (here e.0) refl
     where

@@ -57,3 +57,7 @@ pub mod SoundSteps
 pub mod SoundMoves
 pub mod Steady
 pub mod EachMove
+pub mod Begun
+pub mod Walks
+pub mod Tidy
+pub mod Steadies

@@ -1,0 +1,422 @@
+-- A node that opens over a log whose records fit is tidy, and has only taken up what the log left open.
+use Rattle.std.proofs.Common.{◌≡◌, inl, inr, ℕ, ◌+◌, ◌≤◌, ◌<◌, ◌==◌, ◌&&◌, ◌||◌, not, Bool, true, false, List, [], ◌∷◌, ◌++◌, fold, length, Option, Some, None, is_some, is_none, refl, sym, ap, subst, ◌∙◌, arith, nat_le, if◌then◌else◌}
+use Rattle.std.proofs.lemmas.Bool.Decides.{nat_tests}
+use Rattle.std.specs.Prelude.{◌⊎◌, zero, suc}
+use Rattle.std.specs.List.{list_all, list_any, find}
+use Rattle.std.specs.Global.{Global}
+use Rattle.qs_base.specs.Order.{same_tid}
+use Rattle.qs_base.specs.declared.identifiers.NodeNo.{NodeNo}
+use Rattle.qs_base.specs.declared.identifiers.Outcome.{Outcome}
+use Rattle.qs_base.specs.declared.identifiers.Outcome.TheVariants as outcomes
+use Rattle.qs_base.specs.declared.identifiers.ServerNo.{ServerNo}
+use Rattle.qs_base.specs.declared.identifiers.Tid.{Tid}
+use Rattle.qs_engage.specs.Engage.{new_engage}
+use Rattle.qs_engage.specs.Nodes.{same_node}
+use Rattle.qs_kept.specs.Keeping.{is_outcome_of}
+use Rattle.qs_kept.specs.declared.kept.Begun.{Begun}
+use Rattle.qs_kept.specs.declared.kept.Decided.{Decided}
+use Rattle.qs_kept.specs.declared.kept.Kept.{Kept}
+use Rattle.qs_ops.specs.Server.{ServerValue, number_of, is_logged, after_keeping}
+use Rattle.qs_ops.specs.declared.operation.Op.{Op}
+use Rattle.qs_record.specs.declared.record.Record.{Record}
+use Rattle.qs_record.specs.declared.record.Record.TheVariants as records
+use Rattle.qs_restart.specs.Recovery.{Recovery, in_doubt, untold, names_transaction}
+use Rattle.qs_servers.specs.Servers.{ServersValue, server_at, with_server}
+use Rattle.qs_step.specs.Answering.{kept_outcome, was_committed}
+use Rattle.qs_step.specs.Opening.{recovered_as, take_up, new_manager, opened_manager, opened_servers, keep_changes, outcome_in_log, is_left_open, close_tid, close_outcome, closed_kept, opened_node}
+use Rattle.qs_step.specs.State.{NodeValue}
+use Rattle.qs_step.specs.declared.setting.Setting.{Setting}
+use Rattle.qs_tm.specs.Manager as tm
+use Rattle.qs_tm.specs.Outcomes.{voted_before, committed_before}
+use Rattle.qs_tm.specs.Participant.{new_participant}
+use Rattle.qs_tm.specs.declared.manager.Manager.{Manager}
+use Rattle.qs_tm.specs.declared.participant.Participant.{Participant}
+use Rattle.qs_refine.specs.NodeFaces.{began_here}
+use Rattle.qs_refine.specs.PassLaws.{HasKinds}
+use Rattle.qs_refine.specs.Sights.{server_no}
+use Rattle.qs_refine.specs.Sound.{in_order, where_so, same_flag, is_owned, is_owned_label}
+use Rattle.qs_refine.specs.Steadies.{IsTaken, IsFirst}
+use Rattle.qs_refine.specs.Tidy.{Stage, IsStage, IsTidyNode, IsCrossed, is_tidy_part, is_tidy_label, is_tidy_loan, is_tidy_outcome}
+use Rattle.qs_refine.proofs.CrossedKept.{or_left, or_right}
+use Rattle.qs_refine.proofs.Entries.{all_of_tid, all_inserted, none_found}
+use Rattle.qs_refine.proofs.PartsAfter.{IsSame, IsChanged, IsPut, changed_seen, put_seen}
+use Rattle.qs_refine.proofs.SaidTidy.{IsSaidTidy, taken_records, is_taken_record}
+use Rattle.qs_refine.proofs.ServerKinds.{kind_kept}
+use Rattle.qs_refine.proofs.SoundBegin.{all_put, all_last}
+use Rattle.qs_refine.proofs.SoundParts.{and_both, both_and, all_found}
+
+-- ---- servers: each is of its kind
+
+keeping_kind : (value : ServerValue) (tid : Tid) (changes : List Op) → (after_keeping value tid changes).kind ≡ value.kind
+keeping_kind value tid changes = by (is_logged value.kind)
+  where
+    by : (b : Bool) → (if b then record value { table = Rattle.qs_ops.specs.Table.kept value.table (record { tid = tid; changes = changes }) } else value).kind ≡ value.kind
+    by true = refl
+    by false = refl
+
+abbrev OfKinds : ServersValue → Type 0
+OfKinds servers = (s : ℕ) → s < 7 → number_of (server_at servers (server_no s)).kind ≡ s
+
+changes_kinds : (recs : List Record) (servers : ServersValue) → OfKinds servers → OfKinds (fold keep_changes servers recs)
+changes_kinds [] servers has = has
+changes_kinds (records.Prepare tid server covers changes ∷ recs) servers has = changes_kinds recs (with_server server (λ value. after_keeping value tid changes) servers)
+    (λ s low. ap number_of (kind_kept (λ value. after_keeping value tid changes) (λ value. keeping_kind value tid changes) s servers server) ∙ has s low)
+changes_kinds (records.Commit tid told ∷ recs) servers has = changes_kinds recs servers has
+changes_kinds (records.Aborted tid ∷ recs) servers has = changes_kinds recs servers has
+changes_kinds (records.End tid ∷ recs) servers has = changes_kinds recs servers has
+
+opened_kinds : (quota : ℕ) (said : Recovery) → OfKinds (opened_servers quota (recovered_as said))
+opened_kinds quota said zero low = refl
+opened_kinds quota said (suc zero) low = refl
+opened_kinds quota said (suc (suc zero)) low = refl
+opened_kinds quota said (suc (suc (suc zero))) low = refl
+opened_kinds quota said (suc (suc (suc (suc zero)))) low = refl
+opened_kinds quota said (suc (suc (suc (suc (suc zero))))) low = refl
+opened_kinds quota said (suc (suc (suc (suc (suc (suc zero)))))) low = refl
+opened_kinds quota said (suc (suc (suc (suc (suc (suc (suc s))))))) low = absurd (grind (arith, low))
+
+-- ---- what is taken up
+
+module _ (c : Stage) where
+  pub record IsTakenFrom (m : Manager) : Type 0 where
+    pub own : m.node ≡ c.setting.node
+    pub inc : m.inc ≡ c.setting.inc
+    pub none : m.begun ≡ 0
+    pub known : list_all (is_tidy_part c) m.known ≡ true
+    pub parts : (t : Tid) (part : Participant) → tm.part_of t m ≡ Some part → IsTaken part
+    pub homed : (t : Tid) (part : Participant) → tm.part_of t m ≡ Some part → part.engage.home ≡ true → is_some part.outcome ≡ true  -- at its home it is decided
+
+  itself : (b : Bool) → same_flag b b ≡ true
+  itself true = refl
+  itself false = refl
+
+  flag : (m : Manager) (tid : Tid) → m.node ≡ c.setting.node → same_flag (tm.is_home tid m) (same_node tid.home c.setting.node) ≡ true
+  flag m tid own = subst (λ (n : NodeNo). same_flag (same_node tid.home n) (same_node tid.home c.setting.node) ≡ true) (sym own) (itself (same_node tid.home c.setting.node))
+
+  -- what a vote makes of it
+  voted_taken : (h : Bool) (server : ServerNo) (covers : ℕ) (part : Participant) → part.engage ≡ new_engage part.engage.home → part.waiting ≡ [] → part.asked ≡ false → part.blocked ≡ false
+      → (part.outcome ≡ Some outcomes.Commit → part.engage.home ≡ true) → IsTaken (voted_before h server covers part)
+  voted_taken true server covers part engage waiting asked blocked committed = record { engage = engage; waiting = waiting; asked = asked; blocked = blocked; undecided = λ none. absurd (cc (none)); committed = λ is. absurd (cc (is)) }
+  voted_taken false server covers part engage waiting asked blocked committed = record { engage = engage; waiting = waiting; asked = asked; blocked = blocked; undecided = λ none. refl; committed = committed }
+
+  vote_taken : (tid : Tid) (server : ServerNo) (covers : ℕ) (m : Manager) → c.past tid ≡ true → IsTakenFrom m → IsTakenFrom (tm.take_up_vote tid server covers m)
+  vote_taken tid server covers m past is = by (tm.part_of tid m) refl
+    where
+      voted : Participant → Participant
+      voted = voted_before (tm.is_home tid m) server covers
+
+      old : (t : Tid) (part : Participant) → tm.part_of t m ≡ Some part → IsTaken (voted part)
+      old t part known = let it : IsTaken part = is.parts t part known in voted_taken (tm.is_home tid m) server covers part it.engage it.waiting it.asked it.blocked it.committed
+
+      new : IsTaken (voted (new_participant (tm.is_home tid m)))
+      new = voted_taken (tm.is_home tid m) server covers (new_participant (tm.is_home tid m)) refl refl refl refl (λ is. absurd (cc (is)))
+
+      decides : (h : Bool) (part : Participant) → part.engage.home ≡ h → (voted_before h server covers part).engage.home ≡ true → is_some (voted_before h server covers part).outcome ≡ true
+      decides true part at on = refl
+      decides false part at on = absurd (cc (at, on))
+
+      -- its home flag is that of the node
+      home_of : (part : Participant) → is_tidy_part c (tid, part) ≡ true → part.engage.home ≡ tm.is_home tid m
+      home_of part its = flags part.engage.home (same_node tid.home c.setting.node) (and_both (c.past tid) _ (and_both (c.past tid && same_flag part.engage.home (same_node tid.home c.setting.node)) _ its).0).1 ∙ ap (λ (n : NodeNo). same_node tid.home n) (sym is.own)
+        where
+          flags : (a b : Bool) → same_flag a b ≡ true → a ≡ b
+          flags true true is = refl
+          flags true false is = absurd (cc (is))
+          flags false true is = absurd (cc (is))
+          flags false false is = refl
+
+      at_known : (t : Tid) (part : Participant) → (IsSame t tid m (tm.with_part tid voted m) part ⊎ IsChanged t tid voted m part) → IsTaken part
+      at_known t part (inl same) = is.parts t part same.was
+      at_known t part (inr changed) = subst IsTaken (sym changed.now) (old tid changed.before changed.was)
+
+      homed_known : (t : Tid) (part : Participant) → (IsSame t tid m (tm.with_part tid voted m) part ⊎ IsChanged t tid voted m part) → part.engage.home ≡ true → is_some part.outcome ≡ true
+      homed_known t part (inl same) on = is.homed t part same.was on
+      homed_known t part (inr changed) on = subst (λ (p : Participant). is_some p.outcome ≡ true) (sym changed.now)
+          (decides (tm.is_home tid m) changed.before (home_of changed.before (all_found tid (is_tidy_part c) m.known changed.before changed.was is.known)) (subst (λ (p : Participant). p.engage.home ≡ true) changed.now on))
+
+      put : Manager
+      put = tm.put_part tid (new_participant (tm.is_home tid m)) m
+
+      at_put : (t : Tid) (part : Participant) → (IsSame t tid put (tm.with_part tid voted put) part ⊎ IsChanged t tid voted put part) → IsTaken part
+      at_put t part (inl same) = other (put_seen t tid (new_participant (tm.is_home tid m)) m part same.was)
+        where
+          other : (IsSame t tid m put part ⊎ IsPut t tid (new_participant (tm.is_home tid m)) part) → IsTaken part
+          other (inl was) = is.parts t part was.was
+          other (inr here) = absurd (let at : same_tid t tid ≡ true = subst (λ (u : Tid). same_tid u tid ≡ true) (sym here.same) (grind (arith, nat_tests)) in let off : same_tid t tid ≡ false = same.apart in cc (at, off))
+      at_put t part (inr changed) = subst IsTaken (sym changed.now) (before (put_seen tid tid (new_participant (tm.is_home tid m)) m changed.before changed.was))
+        where
+          before : (IsSame tid tid m put changed.before ⊎ IsPut tid tid (new_participant (tm.is_home tid m)) changed.before) → IsTaken (voted changed.before)
+          before (inl was) = old tid changed.before was.was
+          before (inr here) = subst (λ (p : Participant). IsTaken (voted p)) (sym here.now) new
+
+      homed_put : (t : Tid) (part : Participant) → (IsSame t tid put (tm.with_part tid voted put) part ⊎ IsChanged t tid voted put part) → part.engage.home ≡ true → is_some part.outcome ≡ true
+      homed_put t part (inl same) on = other (put_seen t tid (new_participant (tm.is_home tid m)) m part same.was)
+        where
+          other : (IsSame t tid m put part ⊎ IsPut t tid (new_participant (tm.is_home tid m)) part) → is_some part.outcome ≡ true
+          other (inl was) = is.homed t part was.was on
+          other (inr here) = absurd (let at : same_tid t tid ≡ true = subst (λ (u : Tid). same_tid u tid ≡ true) (sym here.same) (grind (arith, nat_tests)) in let off : same_tid t tid ≡ false = same.apart in cc (at, off))
+      homed_put t part (inr changed) on = subst (λ (p : Participant). is_some p.outcome ≡ true) (sym changed.now) (decides (tm.is_home tid m) changed.before (before (put_seen tid tid (new_participant (tm.is_home tid m)) m changed.before changed.was)) (subst (λ (p : Participant). p.engage.home ≡ true) changed.now on))
+        where
+          before : (IsSame tid tid m put changed.before ⊎ IsPut tid tid (new_participant (tm.is_home tid m)) changed.before) → changed.before.engage.home ≡ tm.is_home tid m
+          before (inl was) = home_of changed.before (all_found tid (is_tidy_part c) m.known changed.before was.was is.known)
+          before (inr here) = ap (λ (p : Participant). p.engage.home) here.now
+
+      new_tidy : is_tidy_part c (tid, new_participant (tm.is_home tid m)) ≡ true
+      new_tidy = both_and (c.past tid && same_flag (tm.is_home tid m) (same_node tid.home c.setting.node)) true (both_and (c.past tid) _ past (flag m tid is.own)) refl
+
+      by : (o : Option Participant) → tm.part_of tid m ≡ o → IsTakenFrom (tm.with_part tid voted (if is_some o then m else put))
+      by (Some part) known = record {
+        own = is.own;
+        inc = is.inc;
+        none = is.none;
+        known = all_of_tid tid (is_tidy_part c) voted (λ v its. its) m.known is.known;
+        parts = λ t part now. at_known t part (changed_seen t tid voted m part now);
+        homed = λ t part now. homed_known t part (changed_seen t tid voted m part now);
+      }
+      by None none = record {
+        own = is.own;
+        inc = is.inc;
+        none = is.none;
+        known = all_of_tid tid (is_tidy_part c) voted (λ v its. its) put.known (all_put tid (new_participant (tm.is_home tid m)) (is_tidy_part c) m.known new_tidy is.known);
+        parts = λ t part now. at_put t part (changed_seen t tid voted put part now);
+        homed = λ t part now. homed_put t part (changed_seen t tid voted put part now);
+      }
+
+  commit_taken : (tid : Tid) (told : List NodeNo) (m : Manager) → c.past tid ≡ true → same_node tid.home c.setting.node ≡ true → IsTakenFrom m → IsTakenFrom (tm.take_up_commit tid told m)
+  commit_taken tid told m past home is = by (length told == 0)
+    where
+      at_home : tm.is_home tid m ≡ true
+      at_home = subst (λ (n : NodeNo). same_node tid.home n ≡ true) (sym is.own) home
+
+      part_now : Participant
+      part_now = committed_before (tm.is_home tid m) told
+
+      new_tidy : is_tidy_part c (tid, part_now) ≡ true
+      new_tidy = both_and (c.past tid && same_flag (tm.is_home tid m) (same_node tid.home c.setting.node)) true (both_and (c.past tid) _ past (flag m tid is.own)) refl
+
+      new : IsTaken part_now
+      new = record { engage = refl; waiting = refl; asked = refl; blocked = refl; undecided = λ none. absurd (cc (none)); committed = λ its. at_home }
+
+      after : (t : Tid) (part : Participant) → (IsSame t tid m (tm.put_part tid part_now m) part ⊎ IsPut t tid part_now part) → IsTaken part
+      after t part (inl same) = is.parts t part same.was
+      after t part (inr put) = subst IsTaken (sym put.now) new
+
+      homed : (t : Tid) (part : Participant) → (IsSame t tid m (tm.put_part tid part_now m) part ⊎ IsPut t tid part_now part) → part.engage.home ≡ true → is_some part.outcome ≡ true
+      homed t part (inl same) on = is.homed t part same.was on
+      homed t part (inr put) on = ap (λ (p : Participant). is_some p.outcome) put.now
+
+      by : (b : Bool) → IsTakenFrom (if b then m else tm.put_part tid part_now m)
+      by true = is
+      by false = record {
+        own = is.own;
+        inc = is.inc;
+        none = is.none;
+        known = all_put tid part_now (is_tidy_part c) m.known new_tidy is.known;
+        parts = λ t part now. after t part (put_seen t tid part_now m part now);
+        homed = λ t part now. homed t part (put_seen t tid part_now m part now);
+      }
+
+  taken : (recs : List Record) (m : Manager) → list_all (is_taken_record c.past c.setting.node) recs ≡ true → IsTakenFrom m → IsTakenFrom (fold take_up m recs)
+  taken [] m all is = is
+  taken (rec ∷ recs) m all is =
+      let both : (is_taken_record c.past c.setting.node rec ≡ true) × (list_all (is_taken_record c.past c.setting.node) recs ≡ true) = and_both (is_taken_record c.past c.setting.node rec) _ all in
+      taken recs (take_up m rec) both.1 (one rec both.0)
+    where
+      one : (rec : Record) → is_taken_record c.past c.setting.node rec ≡ true → IsTakenFrom (take_up m rec)
+      one (records.Prepare tid server covers changes) its = vote_taken tid server covers m its is
+      one (records.Commit tid told) its = let both : (c.past tid ≡ true) × (same_node tid.home c.setting.node ≡ true) = and_both (c.past tid) _ its in commit_taken tid told m both.0 both.1 is
+      one (records.Aborted tid) its = is
+      one (records.End tid) its = is
+
+  pub opened_taken : (alloc : Global) (said : Recovery) → IsSaidTidy c.past c.setting.node said → IsTakenFrom (opened_manager alloc c.setting (recovered_as said))
+  opened_taken alloc said is = taken (in_doubt said ++ untold said) (new_manager alloc c.setting) (taken_records c.past c.setting.node said is)
+      (record { own = refl; inc = refl; none = refl; known = refl; parts = λ t part now. absurd (cc (now)); homed = λ t part now on. absurd (cc (now)) })
+
+-- ---- what is kept for clients: what a label names that began here, and is not decided, the log decides
+
+outcome_found : (committed : List Tid) (tid : Tid) → is_outcome_of tid (outcome_in_log committed tid) ≡ true
+outcome_found committed tid = by (list_any (same_tid tid) committed)
+  where
+    by : (b : Bool) → is_outcome_of tid (if b then record { tid = tid; outcome = outcomes.Commit; cause = None } else record { tid = tid; outcome = outcomes.Abort; cause = Some (Rattle.qs_ops.specs.declared.answer.Cause.TheVariants.Home tid.inc) }) ≡ true
+    by true = grind (arith, nat_tests)
+    by false = grind (arith, nat_tests)
+
+outcome_tid : (committed : List Tid) (tid : Tid) → (outcome_in_log committed tid).tid ≡ tid
+outcome_tid committed tid = by (list_any (same_tid tid) committed)
+  where
+    decided : Bool → Decided
+    decided b = if b then record { tid = tid; outcome = outcomes.Commit; cause = None } else record { tid = tid; outcome = outcomes.Abort; cause = Some (Rattle.qs_ops.specs.declared.answer.Cause.TheVariants.Home tid.inc) }
+
+    by : (b : Bool) → (decided b).tid ≡ tid
+    by true = refl
+    by false = refl
+
+some_found : {X : Type 0} (p : X → Bool) (xs ys : List X) → is_some (find p xs) ≡ true → is_some (find p (xs ++ ys)) ≡ true
+some_found p [] ys is = absurd (cc (is))
+some_found p (x ∷ xs) ys is = by (p x) refl (some_found p xs ys)
+  where
+    by : (b : Bool) → p x ≡ b → (is_some (find p xs) ≡ true → is_some (find p (xs ++ ys)) ≡ true) → is_some (find p ((x ∷ xs) ++ ys)) ≡ true
+    by true it more = rw it refl
+    by false it more = rw it (more (rw it at is))
+
+last_found : {X : Type 0} (p : X → Bool) (xs : List X) (x : X) → p x ≡ true → is_some (find p (xs ++ x ∷ [])) ≡ true
+last_found p [] x is = rw is refl
+last_found p (y ∷ xs) x is = by (p y) refl (last_found p xs x is)
+  where
+    by : (b : Bool) → p y ≡ b → is_some (find p (xs ++ x ∷ [])) ≡ true → is_some (find p ((y ∷ xs) ++ x ∷ [])) ≡ true
+    by true it more = rw it refl
+    by false it more = rw it more
+
+module _ (me : NodeNo) (committed : List Tid) where
+  -- what was found is found still
+  one_stays : (t : Tid) (outcomes : List Decided) (begun : Begun) → is_some (find (is_outcome_of t) outcomes) ≡ true → is_some (find (is_outcome_of t) (close_outcome me committed outcomes begun)) ≡ true
+  one_stays t outcomes begun is = by begun.tid
+    where
+      at : (tid : Tid) (b : Bool) → is_some (find (is_outcome_of t) (if b then outcomes ++ outcome_in_log committed tid ∷ [] else outcomes)) ≡ true
+      at tid true = some_found (is_outcome_of t) outcomes (outcome_in_log committed tid ∷ []) is
+      at tid false = is
+
+      by : (o : Option Tid) → is_some (find (is_outcome_of t) (close_tid me committed outcomes o)) ≡ true
+      by None = is
+      by (Some tid) = at tid (is_left_open me outcomes tid)
+
+  pub all_stay : (t : Tid) (labels : List Begun) (outcomes : List Decided) → is_some (find (is_outcome_of t) outcomes) ≡ true → is_some (find (is_outcome_of t) (fold (close_outcome me committed) outcomes labels)) ≡ true
+  all_stay t [] outcomes is = is
+  all_stay t (begun ∷ labels) outcomes is = all_stay t labels (close_outcome me committed outcomes begun) (one_stays t outcomes begun is)
+
+  -- what began here is decided then
+  closed_here : (t : Tid) (outcomes : List Decided) → same_node t.home me ≡ true → is_some (find (is_outcome_of t) (close_tid me committed outcomes (Some t))) ≡ true
+  closed_here t outcomes home = by (find (is_outcome_of t) outcomes) refl
+    where
+      by : (o : Option Decided) → find (is_outcome_of t) outcomes ≡ o → is_some (find (is_outcome_of t) (if same_node t.home me && is_none o then outcomes ++ outcome_in_log committed t ∷ [] else outcomes)) ≡ true
+      by None none = rw home (last_found (is_outcome_of t) outcomes (outcome_in_log committed t) (outcome_found committed t))
+      by (Some d) found = rw home (ap (λ (o : Option Decided). is_some o) found)
+
+module _ (c : Stage) (stage : IsStage c) (committed : List Tid) where
+  abbrev close : List Decided → Begun → List Decided
+  close = close_outcome c.setting.node committed
+
+  -- all that is kept are outcomes of what began here
+  one_tidy : (outcomes : List Decided) (begun : Begun) → is_tidy_label c begun ≡ true → list_all (is_tidy_outcome c) outcomes ≡ true → list_all (is_tidy_outcome c) (close outcomes begun) ≡ true
+  one_tidy outcomes begun label all = by begun.tid label
+    where
+      at : (tid : Tid) → c.begun tid ≡ true → (b : Bool) → is_left_open c.setting.node outcomes tid ≡ b → list_all (is_tidy_outcome c) (if b then outcomes ++ outcome_in_log committed tid ∷ [] else outcomes) ≡ true
+      at tid begun true open_now = all_last (is_tidy_outcome c) outcomes (outcome_in_log committed tid) all
+          (subst (λ (t : Tid). (c.past t && same_node t.home c.setting.node) ≡ true) (sym (outcome_tid committed tid)) (both_and (c.past tid) _ (stage.inside tid begun).0 (and_both (same_node tid.home c.setting.node) _ open_now).0))
+      at tid begun false open_now = all
+
+      by : (o : Option Tid) → elim o [ None ↦ true | Some tid ↦ c.begun tid && where_so (is_some begun.owner) (same_node tid.home c.setting.node) ] ≡ true → list_all (is_tidy_outcome c) (close_tid c.setting.node committed outcomes o) ≡ true
+      by None its = all
+      by (Some tid) its = at tid (and_both (c.begun tid) _ its).0 (is_left_open c.setting.node outcomes tid) refl
+
+  pub outcomes_tidy : (labels : List Begun) (outcomes : List Decided) → list_all (is_tidy_label c) labels ≡ true → list_all (is_tidy_outcome c) outcomes ≡ true → list_all (is_tidy_outcome c) (fold close outcomes labels) ≡ true
+  outcomes_tidy [] outcomes tidy all = all
+  outcomes_tidy (begun ∷ labels) outcomes tidy all = let both : (is_tidy_label c begun ≡ true) × (list_all (is_tidy_label c) labels ≡ true) = and_both (is_tidy_label c begun) _ tidy in outcomes_tidy labels (close outcomes begun) both.1 (one_tidy outcomes begun both.0 all)
+
+  -- what a client owns is decided
+  abbrev is_closed : List Decided → Begun → Bool
+  is_closed outcomes begun = not (is_some begun.owner) || elim begun.tid [ None ↦ true | Some tid ↦ is_some (find (is_outcome_of tid) outcomes) ]
+
+  closed_stays : (labels : List Begun) (outcomes : List Decided) (begun : Begun) → is_closed outcomes begun ≡ true → is_closed (fold close outcomes labels) begun ≡ true
+  closed_stays labels outcomes begun is = by (is_some begun.owner) begun.tid is
+    where
+      by : (b : Bool) (o : Option Tid) → (not b || elim o [ None ↦ true | Some tid ↦ is_some (find (is_outcome_of tid) outcomes) ]) ≡ true → (not b || elim o [ None ↦ true | Some tid ↦ is_some (find (is_outcome_of tid) (fold close outcomes labels)) ]) ≡ true
+      by true None its = refl
+      by true (Some tid) its = all_stay c.setting.node committed tid labels outcomes its
+      by false o its = refl
+
+  closed_now : (outcomes : List Decided) (begun : Begun) → is_tidy_label c begun ≡ true → is_closed (close outcomes begun) begun ≡ true
+  closed_now outcomes begun label = at begun.tid refl (is_some begun.owner) refl label
+    where
+      at : (o : Option Tid) → begun.tid ≡ o → (b : Bool) → is_some begun.owner ≡ b → elim o [ None ↦ true | Some tid ↦ c.begun tid && where_so b (same_node tid.home c.setting.node) ] ≡ true
+          → (not b || elim o [ None ↦ true | Some tid ↦ is_some (find (is_outcome_of tid) (close_tid c.setting.node committed outcomes begun.tid)) ]) ≡ true
+      at None is true owned its = refl
+      at (Some tid) is true owned its = subst (λ (o : Option Tid). is_some (find (is_outcome_of tid) (close_tid c.setting.node committed outcomes o)) ≡ true) (sym is) (closed_here c.setting.node committed tid outcomes (and_both (c.begun tid) _ its).1)
+      at o is false owned its = refl
+
+  pub all_closed : (labels : List Begun) (outcomes : List Decided) → list_all (is_tidy_label c) labels ≡ true → list_all (is_closed (fold close outcomes labels)) labels ≡ true
+  all_closed [] outcomes tidy = refl
+  all_closed (begun ∷ labels) outcomes tidy = let both : (is_tidy_label c begun ≡ true) × (list_all (is_tidy_label c) labels ≡ true) = and_both (is_tidy_label c begun) _ tidy in
+      both_and (is_closed (fold close (close outcomes begun) labels) begun) _ (closed_stays labels (close outcomes begun) begun (closed_now outcomes begun both.0)) (all_closed labels (close outcomes begun) both.1)
+
+-- ---- the node
+
+module _ (c : Stage) (stage : IsStage c) (none : c.count ≡ 0) (alloc : Global) (said : Recovery) (fits : IsSaidTidy c.past c.setting.node said) (kept : Kept)
+    (labels : list_all (is_tidy_label c) kept.labels ≡ true) (loans : list_all (is_tidy_loan c) kept.loans ≡ true) (outcomes : list_all (is_tidy_outcome c) kept.outcomes ≡ true) where
+  abbrev opened : NodeValue
+  opened = opened_node alloc c.setting (recovered_as said) kept
+
+  from : IsTakenFrom c opened.manager
+  from = opened_taken c alloc said fits
+
+  tidy_outcomes : list_all (is_tidy_outcome c) opened.kept.now.outcomes ≡ true
+  tidy_outcomes = outcomes_tidy c stage said.committed kept.labels kept.outcomes labels outcomes
+
+  past_of : (t : Tid) (part : Participant) → tm.part_of t opened.manager ≡ Some part → (c.past t ≡ true) × (same_flag part.engage.home (same_node t.home c.setting.node) ≡ true)
+  past_of t part known = and_both (c.past t) _ (and_both (c.past t && same_flag part.engage.home (same_node t.home c.setting.node)) _ (all_found t (is_tidy_part c) opened.manager.known part known from.known)).0
+
+  -- nothing of this incarnation is known
+  earlier : (t : Tid) → c.past t ≡ true → began_here opened t ≡ true → false ≡ true
+  earlier t past here =
+      let both : (same_node t.home c.setting.node ≡ true) × ((t.inc == c.setting.inc) ≡ true) = and_both (same_node t.home c.setting.node) (t.inc == c.setting.inc) here in
+      let own : (names_transaction t ≡ true) × ((t.inc < c.setting.inc) ⊎ ((t.inc ≡ c.setting.inc) × (t.seq ≤ c.count))) = stage.own t past both.0 in
+      by own.0 both.1 own.1
+    where
+      by : names_transaction t ≡ true → (t.inc == c.setting.inc) ≡ true → (t.inc < c.setting.inc) ⊎ ((t.inc ≡ c.setting.inc) × (t.seq ≤ c.count)) → false ≡ true
+      by names same (inl less) = absurd (grind (arith, nat_tests, same, less))
+      by names same (inr given) = let low : t.seq ≤ c.count = given.1 in absurd (grind (arith, nat_tests, names, low, none))
+
+  owns : (begun : Begun) → is_closed c stage said.committed opened.kept.now.outcomes begun ≡ true → is_owned_label opened begun ≡ true
+  owns begun is = by (is_some begun.owner) begun.tid is
+    where
+      by : (b : Bool) (o : Option Tid) → (not b || elim o [ None ↦ true | Some tid ↦ is_some (find (is_outcome_of tid) opened.kept.now.outcomes) ]) ≡ true → (not b || elim o [ None ↦ true | Some tid ↦ is_owned opened tid ]) ≡ true
+      by true None its = refl
+      by true (Some tid) its = or_left (is_some (kept_outcome tid opened)) _ its
+      by false o its = refl
+
+  off : (d : Decided) (t : Tid) → same_node t.home c.setting.node ≡ false → is_tidy_outcome c d ≡ true → is_outcome_of t d ≡ false
+  off d t away its = let homed : same_node d.tid.home c.setting.node ≡ true = (and_both (c.past d.tid) _ its).1 in grind (arith, nat_tests, homed, away)
+
+  free : (t : Tid) (part : Participant) → tm.part_of t opened.manager ≡ Some part → part.outcome ≡ None → (b : Bool) → same_node t.home c.setting.node ≡ b → kept_outcome t opened ≡ None
+  free t part known open_now true home = absurd (
+      let on : part.engage.home ≡ true = flagged part.engage.home (same_node t.home c.setting.node) (past_of t part known).1 home in
+      let some : is_some part.outcome ≡ true = from.homed t part known on in
+      let no : is_some part.outcome ≡ false = ap (λ (o : Option Outcome). is_some o) open_now in cc (some, no))
+    where
+      flagged : (a b : Bool) → same_flag a b ≡ true → b ≡ true → a ≡ true
+      flagged true b is so = refl
+      flagged false true is so = absurd (cc (is))
+      flagged false false is so = absurd (cc (so))
+  free t part known open_now false away = none_found (is_outcome_of t) (is_tidy_outcome c) (λ d. off d t away) opened.kept.now.outcomes tidy_outcomes
+
+  crossed : IsCrossed opened
+  crossed = record {
+    owned = Rattle.qs_refine.proofs.SoundBegin.all_implied (is_closed c stage said.committed opened.kept.now.outcomes) (is_owned_label opened) owns kept.labels (all_closed c stage said.committed kept.labels kept.outcomes labels);
+    commits = λ t part known here its. absurd (let never : false ≡ true = earlier t (past_of t part known).0 here in cc (never));
+    fresh = λ t part known open_now. free t part known open_now (same_node t.home c.setting.node) refl;
+    pasts = λ t here names low. absurd (let never : false ≡ true = numbered t names (subst (λ (k : ℕ). t.seq ≤ k) from.none low) in cc (never));
+  }
+    where
+      numbered : (t : Tid) → names_transaction t ≡ true → t.seq ≤ 0 → false ≡ true
+      numbered t names low = absurd (grind (arith, nat_tests, names, low))
+
+  pub opened_tidy : in_order opened.manager.known ≡ true → IsTidyNode c opened
+  opened_tidy ordered = record {
+    setting = refl;
+    own = from.own;
+    inc = from.inc;
+    count = from.none ∙ sym none;
+    ordered = ordered;
+    known = from.known;
+    apart = refl;
+    waiting = refl;
+    labels = labels;
+    loans = loans;
+    outcomes = tidy_outcomes;
+    commands = refl;
+    kinds = changes_kinds (in_doubt said) (opened_servers c.setting.quota (recovered_as said)) (opened_kinds c.setting.quota said);
+    crossed = crossed;
+  }
+
+  pub opened_first : IsFirst opened
+  opened_first = record { parts = from.parts; queues = refl }
