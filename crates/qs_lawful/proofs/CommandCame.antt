@@ -87,7 +87,7 @@ module _ (stamp : ℕ) (before : BookValue) (work : Work) (h : HoldsWork stamp b
 
 -- ---- commands that stayed open
 
-by_waits : (stamp : ℕ) (before : BookValue) (work : Work) → HoldsWork stamp before work → (client : ClientNo) → MayWait stamp before work client → HoldsWork stamp before (wait_on work client)
+pub by_waits : (stamp : ℕ) (before : BookValue) (work : Work) → HoldsWork stamp before work → (client : ClientNo) → MayWait stamp before work client → HoldsWork stamp before (wait_on work client)
 by_waits stamp before work h client may = by_wait_on stamp before work h client may.small may.of_now
     (λ command begun tid member op last waiting labelled of unissued is taken stood valid. let its = may.requests command tid member op waiting is (record { loan = last; taken = taken; stands = stood; valid = valid }) in
     by_borrowers_any stamp before work h client command waiting (λ e. no_commit member op (sym is ∙ e)) tid member op its.0 its.1.part its.1.known may.small its.1.open_still last taken stood valid)

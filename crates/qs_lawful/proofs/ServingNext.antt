@@ -91,7 +91,7 @@ by_give_reply stamp before work member delivery reply h comes = by (same_node de
     by false far false = by_send stamp before work delivery.from (messages.Answered delivery.tid member delivery.number reply) h
 
 -- what is served of it waits as before
-served_waiting : (server : ServerNo) (part : Participant) → (participant.served server part).waiting ≡ part.waiting
+pub served_waiting : (server : ServerNo) (part : Participant) → (participant.served server part).waiting ≡ part.waiting
 served_waiting server part = by ((member_of part server).served == last_number)
   where
     by : (b : Bool) → (if b then part else record (participant.with_member server (record (member_of part server) { served = (member_of part server).served + 1; fresh = true }) part) { involved = part.involved || is_told_class (class_here server) }).waiting ≡ part.waiting
@@ -100,12 +100,12 @@ served_waiting server part = by ((member_of part server).served == last_number)
 
 -- serving and lending leave the node's setting, and of its transactions count alone
 module _ (server : ServerNo) (delivery : Delivery) (reply : Reply) (work : Work) where
-  changed_alike : (b : Bool) → ((if b then work else change_server server (λ value. after_serving value delivery.tid delivery.op reply) work).node.setting ≡ work.node.setting)
+  pub changed_alike : (b : Bool) → ((if b then work else change_server server (λ value. after_serving value delivery.tid delivery.op reply) work).node.setting ≡ work.node.setting)
       × ((if b then work else change_server server (λ value. after_serving value delivery.tid delivery.op reply) work).node.manager ≡ work.node.manager)
   changed_alike true = (refl, refl)
   changed_alike false = (refl, refl)
 
-  loan_alike : (o : Option ClientNo) → ((make_loan delivery.tid o (enter_serve server delivery reply work)).node.setting ≡ work.node.setting)
+  pub loan_alike : (o : Option ClientNo) → ((make_loan delivery.tid o (enter_serve server delivery reply work)).node.setting ≡ work.node.setting)
       × ((make_loan delivery.tid o (enter_serve server delivery reply work)).node.manager ≡ tm.served delivery.tid server work.node.manager)
   loan_alike None = ((changed_alike (is_client server)).0, ap (tm.served delivery.tid server) (changed_alike (is_client server)).1)
   loan_alike (Some client) = ((changed_alike (is_client server)).0, ap (tm.served delivery.tid server) (changed_alike (is_client server)).1)

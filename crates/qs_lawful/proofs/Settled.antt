@@ -65,7 +65,7 @@ module _ (stamp : ℕ) (before : BookValue) (tid : Tid) where
         by (Some superior) = by_send stamp before (with_manager (tm.released tid) work) superior.0 (messages.VotedYes tid superior.1 (listed (told_with_own (here work) part)))
             (by_engaged stamp before work h tid engage.released (λ e other. refl))
 
-    by_ready : (part.engage.home ≡ true → may_answer tid part work ≡ true → is_quiet (doings_of tid work) ≡ true → MayCommit stamp before work tid) → HoldsWork stamp before (ready_rule tid part work)
+    pub by_ready : (part.engage.home ≡ true → may_answer tid part work ≡ true → is_quiet (doings_of tid work) ≡ true → MayCommit stamp before work tid) → HoldsWork stamp before (ready_rule tid part work)
     by_ready given = by (may_answer tid part work) refl
       where
         asked : (a b c d e f g : Bool) → (((a && b) && ((c && d) && e)) && (f && g)) ≡ true → a ≡ true
@@ -90,7 +90,7 @@ module _ (stamp : ℕ) (before : BookValue) (tid : Tid) where
     sent_on to [] w k = k
     sent_on to (c ∷ cs) w k = sent_on to cs (send_refusal tid to w c) (by_send stamp before w to (messages.VotedAbort tid c) k)
 
-    by_refuse : ((cause : Cause) (more : List Cause) → part.engage.home ≡ true → part.causes ≡ cause ∷ more → MayDecide stamp before work tid × HasCause stamp before work tid cause) → HoldsWork stamp before (refuse_rule tid part work)
+    pub by_refuse : ((cause : Cause) (more : List Cause) → part.engage.home ≡ true → part.causes ≡ cause ∷ more → MayDecide stamp before work tid × HasCause stamp before work tid cause) → HoldsWork stamp before (refuse_rule tid part work)
     by_refuse given = by part.engage.home refl
       where
         first : part.engage.home ≡ true → (cs : List Cause) → part.causes ≡ cs → HoldsWork stamp before (elim cs [ [] ↦ work | cause ∷ more ↦ decide tid outcomes.Abort (Some cause) work ])

@@ -14,3 +14,13 @@ pub mod Tables
 pub mod Waits
 pub mod TableTests
 pub mod Logged
+pub mod NodeFacts
+pub mod Beside
+pub mod Parcels
+pub mod Scripts
+pub mod Agreed
+pub mod Standing
+pub mod Coming
+pub mod StepStands
+pub mod GivenTests
+pub mod TriedGiven

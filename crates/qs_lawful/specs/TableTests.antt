@@ -36,7 +36,7 @@ alike true b = b
 alike false b = not b
 
 -- of those that the runs have; of others none is the same
-abbrev same_op : Op → Op → Bool
+abbrev pub same_op : Op → Op → Bool
 same_op (Put name text) (Put n t) = same_bytes name n && same_bytes text t
 same_op (Append name text) (Append n t) = same_bytes name n && same_bytes text t
 same_op (Get name) (Get n) = same_bytes name n
