@@ -137,3 +137,4 @@ pub mod LogHappening
 pub mod LogSteps
 pub mod LogCrashes
 pub mod LogOthers
+pub mod TriedWorldRuns

@@ -14,3 +14,8 @@ pub mod Tables
 pub mod Waits
 pub mod TableTests
 pub mod Logged
+pub mod Lasting
+pub mod Said
+pub mod Worlds
+pub mod WorldTests
+pub mod TriedWorlds

@@ -36,7 +36,7 @@ alike true b = b
 alike false b = not b
 
 -- of those that the runs have; of others none is the same
-abbrev same_op : Op → Op → Bool
+abbrev pub same_op : Op → Op → Bool
 same_op (Put name text) (Put n t) = same_bytes name n && same_bytes text t
 same_op (Append name text) (Append n t) = same_bytes name n && same_bytes text t
 same_op (Get name) (Get n) = same_bytes name n
@@ -48,7 +48,7 @@ same_op (Keep name text) (Keep n t) = same_bytes name n && same_bytes text t
 same_op (Lend client) (Lend other) = client.0 == other.0
 same_op op other = false
 
-abbrev same_file : File → File → Bool
+abbrev pub same_file : File → File → Bool
 same_file f g = same_bytes f.name g.name && same_bytes f.content g.content
 
 abbrev same_share : Tid × Share → Tid × Share → Bool

@@ -10,6 +10,7 @@ mod lawful_rules;
 mod lawful_servers;
 mod lawful_steps;
 mod tried;
+mod tried_worlds;
 
 pub use lawful_commands::{
     borrowers_request_is_lawful, coming_abort_is_lawful, coming_begin_is_lawful,
@@ -50,3 +51,4 @@ pub use lawful_steps::{
     settling_is_lawful, step_is_lawful, vote_pass_is_lawful,
 };
 pub use tried::held_in_runs;
+pub use tried_worlds::worlds_held_in_runs;
