@@ -24,3 +24,8 @@ pub mod Coming
 pub mod StepStands
 pub mod GivenTests
 pub mod TriedGiven
+pub mod Lasting
+pub mod Said
+pub mod Worlds
+pub mod WorldTests
+pub mod TriedWorlds

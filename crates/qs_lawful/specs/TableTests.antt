@@ -48,7 +48,7 @@ same_op (Keep name text) (Keep n t) = same_bytes name n && same_bytes text t
 same_op (Lend client) (Lend other) = client.0 == other.0
 same_op op other = false
 
-abbrev same_file : File → File → Bool
+abbrev pub same_file : File → File → Bool
 same_file f g = same_bytes f.name g.name && same_bytes f.content g.content
 
 abbrev same_share : Tid × Share → Tid × Share → Bool

@@ -40,7 +40,7 @@ abbrev alike : Bool → Bool → Bool
 alike true b = b
 alike false b = not b
 
-abbrev implied : Bool → Bool → Bool
+abbrev pub implied : Bool → Bool → Bool
 implied true b = b
 implied false b = true
 
@@ -145,14 +145,14 @@ command_ok book entry = owner_at book entry.0 (λ owner. nat_lt owner.line entry
 abbrev owns : BookValue → Tid → ClientNo → Bool
 owns book tid client = elim (find_transaction book tid) [ None ↦ false | Some tx ↦ (elim tx.owner [ None ↦ false | Some owner ↦ owner.0 == client.0 ]) ]
 
-abbrev label_ok : BookValue → Begun → Bool
+abbrev pub label_ok : BookValue → Begun → Bool
 label_ok book begun = elim begun.tid [ None ↦ true | Some tid ↦ (elim begun.owner [ None ↦ true | Some client ↦ owns book tid client ]) ]
 
 abbrev told_ok : BookValue → Decided → Option ClientNo → Bool
 told_ok book decided None = true
 told_ok book decided (Some client) = owner_at book client (λ owner. is_known owner (outcome_answer decided))
 
-abbrev ended_ok : BookValue → Decided → Bool
+abbrev pub ended_ok : BookValue → Decided → Bool
 ended_ok book decided = elim (find_transaction book decided.tid) [ None ↦ false | Some tx ↦ is_outcome decided.outcome tx.cell && told_ok book decided tx.owner ]
 
 abbrev is_asking : NodeValue → Tid → ClientNo → Bool
