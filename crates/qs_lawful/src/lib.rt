@@ -55,9 +55,5 @@ pub use lawful_steps::{
     event_is_lawful, forgetting_is_lawful, serving_all_is_lawful, settle_is_lawful,
     settling_is_lawful, step_is_lawful, vote_pass_is_lawful,
 };
-<<<<<<< HEAD
 pub use tried::{given_in_runs, held_in_runs};
-=======
-pub use tried::held_in_runs;
 pub use tried_worlds::worlds_held_in_runs;
->>>>>>> 448c7d656fe751c30b887be9f599e2a148c44de1
