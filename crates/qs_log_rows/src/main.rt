@@ -4,20 +4,14 @@
 //! digests that another program reckoned.
 #![tactic(auto)]
 
-ghost use Rattle.std.specs.Prelude.{IfOk, OnOk};
-ghost use Rattle.qs_log.specs.Log.{Stands};
-ghost use Rattle.qs_record.specs.Grammar.{IsRecord};
+mod tried;
 
+use crate::tried::{Slots, Spelled, TriedLog};
 use anyhow::{Error, bail};
 use qs_base::{List, ServerNo};
-use qs_codec::Reader;
 use qs_disk::{Disk, Fused, MemDisk};
-use qs_log::{AppendFault, Log, LogOpen, Lsn};
-use qs_record::{Record, decode};
+use qs_log::{AppendFault, Lsn};
 use std::alloc::Global;
-
-/// Every number of a slot is below it.
-const LIMIT: u64 = 1 << 61;
 
 /// The bytes of each disk.
 const SIZE: u64 = 65_536;
@@ -43,18 +37,8 @@ const TWO_BATCHES: usize = 136;
 /// How many disks each disk call is tried with, whose power cuts differ.
 const SEEDS: u64 = 8;
 
-fn record_of(alloc: Global, bytes: &[u8]) -> Result<Record, Error>
-    ensures { IfOk result IsRecord }
-{
-    let mut reader = Reader::new(bytes);
-    let rec = decode(alloc, &mut reader)?;
-    Ok(rec)
-}
-
 /// A Prepare of six changes with texts of 4,096 bytes and one of 4,004.
-fn long_prepare(alloc: Global) -> Result<Record, Error>
-    ensures { IfOk result IsRecord }
-{
+fn long_prepare(alloc: Global) -> Result<Spelled, Error> {
     let mut bytes = Vec::from_slice(alloc, &PREPARE[..FRONT])?;
     bytes.push(7)?;
     for length in [4_096, 4_096, 4_096, 4_096, 4_096, 4_096, 4_004u32] {
@@ -64,7 +48,7 @@ fn long_prepare(alloc: Global) -> Result<Record, Error>
             bytes.push(b'x')?;
         }
     }
-    record_of(alloc, bytes.as_slice())
+    Spelled::read(alloc, bytes.as_slice())
 }
 
 fn fresh(alloc: Global, seed: u64) -> Result<Fused<MemDisk>, Error> {
@@ -74,74 +58,82 @@ fn fresh(alloc: Global, seed: u64) -> Result<Fused<MemDisk>, Error> {
     Ok(Fused::new(disk))
 }
 
-fn opened(alloc: Global, disk: Fused<MemDisk>) -> Result<Log<Fused<MemDisk>>, Error>
-    ensures { IfOk result (λ log. Stands log log.disk.disk.disk) }
-{
-    match Log::open(alloc, disk, LIMIT) {
-        Ok(log) => Ok(log),
-        Err(LogOpen { disk: _, why }) => Err(why.into()),
-    }
-}
-
-/// Appends the record that the bytes spell.
-fn add(alloc: Global, log: &mut Log<Fused<MemDisk>>, bytes: &[u8]) -> Result<Lsn, Error>
-    requires { Stands log.old log.old.disk.disk.disk }
-    ensures { OnOk result (Stands log.new log.new.disk.disk.disk) }
-{
-    let rec = record_of(alloc, bytes)?;
-    let lsn = log.append(&rec)?;
-    Ok(lsn)
-}
-
 /// A log with the Prepare forced.
-fn prepared(alloc: Global, seed: u64) -> Result<Log<Fused<MemDisk>>, Error>
-    ensures { IfOk result (λ log. Stands log log.disk.disk.disk) }
-{
-    let mut log = opened(alloc, fresh(alloc, seed)?)?;
-    add(alloc, &mut log, &PREPARE)?;
-    log.force()?;
-    Ok(log)
+fn prepared(alloc: Global, seed: u64) -> Result<TriedLog, Error> {
+    let mut log = TriedLog::open(alloc, fresh(alloc, seed)?)?;
+    log.add(alloc, &PREPARE)?;
+    forced(log)
+}
+
+/// The log once what waits is forced.
+fn forced(log: TriedLog) -> Result<TriedLog, Error> {
+    match log.force() {
+        Ok(log) => Ok(log),
+        Err(_) => bail!("a disk call failed"),
+    }
 }
 
 /// And then the Commit.
-fn committed(alloc: Global) -> Result<Log<Fused<MemDisk>>, Error> {
+fn committed(alloc: Global) -> Result<TriedLog, Error> {
     let mut log = prepared(alloc, 1)?;
-    add(alloc, &mut log, &COMMIT)?;
-    log.force()?;
-    Ok(log)
+    log.add(alloc, &COMMIT)?;
+    forced(log)
 }
 
-/// Appends the long Prepare, which is to be refused.
-fn show_refusal<R: AllocGlobal + Print>(rt: &R) -> Result<(), Error> {
-    let mut log = opened(rt.alloc(), fresh(rt.alloc(), 1)?)?;
-    let long = long_prepare(rt.alloc())?;
-    match log.append(&long) {
-        Err(AppendFault::LogFull { need, room }) => {
-            println!(rt; "a record needs {need} bytes of {room}")?;
-            Ok(())
-        }
+/// The bytes that the long Prepare needs, which is to be refused, and those that a fresh log has.
+fn refusal(alloc: Global) -> Result<(u64, u64), Error> {
+    let mut log = TriedLog::open(alloc, fresh(alloc, 1)?)?;
+    match log.append(&long_prepare(alloc)?) {
+        Err(AppendFault::LogFull { need, room }) => Ok((need, room)),
         Ok(_) | Err(AppendFault::NoMemory) => bail!("not refused"),
     }
+}
+
+/// The room of a fresh log.
+fn fresh_room(alloc: Global) -> Result<u64, Error> {
+    let log = TriedLog::open(alloc, fresh(alloc, 1)?)?;
+    Ok(log.room())
+}
+
+/// The number of the last of so many Prepares that wait in the log, and the room that it has then.
+fn room_behind(alloc: Global, log: TriedLog, count: usize) -> Result<(Lsn, u64), Error> {
+    let mut log = log;
+    let mut last = 0;
+    for _prepare in 0..count {
+        last = log.add(alloc, &PREPARE)?;
+    }
+    Ok((last, log.room()))
+}
+
+/// The same of a fresh log with one.
+fn waiting_room(alloc: Global) -> Result<(Lsn, u64), Error> {
+    let log = TriedLog::open(alloc, fresh(alloc, 1)?)?;
+    room_behind(alloc, log, 1)
 }
 
 /// Prints the room of a fresh log, and as records wait and are forced.
 fn show_room<R: AllocGlobal + Print>(rt: &R) -> Result<(), Error> {
     let alloc = rt.alloc();
-    let mut log = opened(alloc, fresh(alloc, 1)?)?;
-    println!(rt; "room {}", log.room())?;
-    let lsn = add(alloc, &mut log, &PREPARE)?;
-    println!(rt; "record {lsn}, room {}", log.room())?;
-    let mut log = prepared(alloc, 1)?;
-    println!(rt; "forced, room {}", log.room())?;
-    add(alloc, &mut log, &PREPARE)?;
-    let lsn = add(alloc, &mut log, &PREPARE)?;
-    println!(rt; "record {lsn}, room {}", log.room())?;
+    let (need, room) = refusal(alloc)?;
+    println!(rt; "a record needs {need} bytes of {room}")?;
+    println!(rt; "room {}", fresh_room(alloc)?)?;
+    let (lsn, room) = waiting_room(alloc)?;
+    println!(rt; "record {lsn}, room {room}")?;
+    let (_, room) = room_behind(alloc, prepared(alloc, 1)?, 0)?;
+    println!(rt; "forced, room {room}")?;
+    let (lsn, room) = room_behind(alloc, prepared(alloc, 1)?, 2)?;
+    println!(rt; "record {lsn}, room {room}")?;
     Ok(())
+}
+
+/// The disk of a log with two batches.
+fn committed_disk(alloc: Global) -> Result<MemDisk, Error> {
+    Ok(committed(alloc)?.into_disk().into_inner())
 }
 
 /// Prints the bytes of two batches, and of the gate behind them.
 fn show_bytes<R: AllocGlobal + Print>(rt: &R) -> Result<(), Error> {
-    let mem = committed(rt.alloc())?.into_disk().into_inner();
+    let mem = committed_disk(rt.alloc())?;
     for byte in mem.bytes().iter().skip(AREA).take(TWO_BATCHES) {
         print!(rt; "{byte:02x}")?;
     }
@@ -149,49 +141,48 @@ fn show_bytes<R: AllocGlobal + Print>(rt: &R) -> Result<(), Error> {
     Ok(())
 }
 
-/// Prints how many records of a server a scan from a place finds.
-fn show_scan<R: Print>(
-    rt: &R,
-    log: &Log<Fused<MemDisk>>,
-    server: u8,
-    from: Lsn,
-) -> Result<(), Error> {
-    let Ok(found) = log.scan(ServerNo(server), from) else {
-        bail!("no memory");
-    };
-    println!(rt; "server {server} from {from}: {}", found.len())?;
-    Ok(())
+/// A log with a Prepare of server 0 forced and a Commit waiting.
+fn scanned(alloc: Global) -> Result<TriedLog, Error> {
+    let mut log = prepared(alloc, 1)?;
+    log.add(alloc, &COMMIT)?;
+    Ok(log)
 }
 
-/// Prints what scans find of a Prepare of server 0 and a Commit.
+/// How many records of a server a scan from a place finds in it.
+fn found(alloc: Global, server: u8, from: Lsn) -> Result<usize, Error> {
+    scanned(alloc)?.count(ServerNo(server), from)
+}
+
+/// Prints how many records scans find.
 fn show_scans<R: AllocGlobal + Print>(rt: &R) -> Result<(), Error> {
-    let mut log = prepared(rt.alloc(), 1)?;
-    add(rt.alloc(), &mut log, &COMMIT)?;
     for (server, from) in [(7, 0), (7, 1), (7, 2), (0, 0), (1, 0)] {
-        show_scan(rt, &log, server, from)?;
+        println!(rt;
+            "server {server} from {from}: {}",
+            found(rt.alloc(), server, from)?
+        )?;
     }
     Ok(())
 }
 
+/// What the slots of a fresh disk say.
+fn fresh_slots(alloc: Global) -> Result<Slots, Error> {
+    Ok(TriedLog::open(alloc, fresh(alloc, 1)?)?.slots())
+}
+
 /// Prints what the slots of a fresh disk say.
 fn show_fresh<R: AllocGlobal + Print>(rt: &R) -> Result<(), Error> {
-    let log = opened(rt.alloc(), fresh(rt.alloc(), 1)?)?;
+    let said = fresh_slots(rt.alloc())?;
     println!(rt;
         "generation {} format {} incarnation {} top {}",
-        log.generation(),
-        log.format(),
-        log.inc(),
-        log.top()
+        said.generation, said.format, said.inc, said.top
     )?;
     Ok(())
 }
 
 /// A disk with the Prepare forced, the Commit waiting, and a disk call to trip at.
-fn armed(alloc: Global, seed: u64, call: u64) -> Result<Log<Fused<MemDisk>>, Error>
-    ensures { IfOk result (λ log. Stands log log.disk.disk.disk) }
-{
+fn armed(alloc: Global, seed: u64, call: u64) -> Result<TriedLog, Error> {
     let mut log = prepared(alloc, seed)?;
-    add(alloc, &mut log, &COMMIT)?;
+    log.add(alloc, &COMMIT)?;
     let mut plan = List::new(alloc);
     if plan.push(call).is_err() {
         bail!("no memory");
@@ -204,29 +195,27 @@ fn armed(alloc: Global, seed: u64, call: u64) -> Result<Log<Fused<MemDisk>>, Err
 type Left = (usize, u64);
 
 /// What stands after a power cut.
-fn after_cut(alloc: Global, log: Log<Fused<MemDisk>>) -> Result<Left, Error> {
-    let mut disk = log.into_disk();
+fn after_cut(alloc: Global, disk: Fused<MemDisk>) -> Result<Left, Error> {
+    let mut disk = disk;
     disk.power_cut()?;
-    let again = opened(alloc, disk)?;
-    Ok((again.records().len(), again.inc()))
+    let again = TriedLog::open(alloc, disk)?;
+    Ok((again.len(), again.slots().inc))
 }
 
 /// The same after a force that tripped.
 fn after_force(alloc: Global, seed: u64, call: u64) -> Result<Left, Error> {
-    let mut log = armed(alloc, seed, call)?;
-    if log.force().is_ok() {
-        bail!("no disk call tripped");
+    match armed(alloc, seed, call)?.force() {
+        Ok(_) => bail!("no disk call tripped"),
+        Err(disk) => after_cut(alloc, disk),
     }
-    after_cut(alloc, log)
 }
 
 /// The same after a raise that tripped.
 fn after_raise(alloc: Global, seed: u64, call: u64) -> Result<Left, Error> {
-    let mut log = armed(alloc, seed, call)?;
-    if log.top() > 0 || log.raise().is_ok() {
-        bail!("no disk call tripped");
+    match armed(alloc, seed, call)?.raise() {
+        Ok(_) => bail!("no disk call tripped"),
+        Err(disk) => after_cut(alloc, disk),
     }
-    after_cut(alloc, log)
 }
 
 /// Which of two outcomes were seen, and whether another one was.
@@ -263,29 +252,33 @@ impl Seen {
     }
 }
 
-/// Cuts the power at each disk call of a force, and of a raise, and prints which outcomes were seen.
-fn show_cuts<R: AllocGlobal + Print>(rt: &R) -> Result<(), Error> {
+/// Which outcomes are seen where the power is cut at each disk call of a force.
+fn force_cuts(alloc: Global) -> Result<Seen, Error> {
     let mut lists = Seen::NONE;
     for call in 1..5 {
         for seed in 0..SEEDS {
-            lists.see(after_force(rt.alloc(), seed, call)?, (1, 0), (2, 0));
+            lists.see(after_force(alloc, seed, call)?, (1, 0), (2, 0));
         }
     }
-    lists.show(rt, "a force")?;
+    Ok(lists)
+}
+
+/// And of a raise.
+fn raise_cuts(alloc: Global) -> Result<Seen, Error> {
     let mut incs = Seen::NONE;
     for call in 1..7 {
         for seed in 0..SEEDS {
-            incs.see(after_raise(rt.alloc(), seed, call)?, (1, 0), (1, 1));
+            incs.see(after_raise(alloc, seed, call)?, (1, 0), (1, 1));
         }
     }
-    incs.show(rt, "a raise")
+    Ok(incs)
 }
 
 fn main(rt: HostRuntime) -> Result<(), Error> {
     show_fresh(&rt)?;
-    show_refusal(&rt)?;
     show_room(&rt)?;
     show_bytes(&rt)?;
     show_scans(&rt)?;
-    show_cuts(&rt)
+    force_cuts(rt.alloc())?.show(&rt, "a force")?;
+    raise_cuts(rt.alloc())?.show(&rt, "a raise")
 }
