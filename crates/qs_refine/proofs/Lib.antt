@@ -238,3 +238,13 @@ pub mod FirstNoticed
 pub mod EachReady
 pub mod LaterWorlds
 pub mod EachHears
+pub mod EachFits
+pub mod EachTold
+pub mod EachCame
+pub mod HomeKnows
+pub mod EachMay
+pub mod EachEvent
+pub mod EachStep
+pub mod EachGoes
+pub mod EachMoves
+pub mod EachMoveGoes
