@@ -1,5 +1,5 @@
 -- A whole step shows the world after it, once records that need not be forced are on the disk too.
-use Rattle.std.proofs.Common.{◌≡◌, ℕ, ◌==◌, ◌&&◌, ◌||◌, not, Bool, true, false, List, [], ◌∷◌, ◌++◌, fold, refl, sym, ap, subst, ◌∙◌, arith, if◌then◌else◌}
+use Rattle.std.proofs.Common.{◌≡◌, ◌<◌, ℕ, ◌==◌, ◌&&◌, ◌||◌, not, Bool, true, false, List, [], ◌∷◌, ◌++◌, fold, refl, sym, ap, subst, ◌∙◌, arith, if◌then◌else◌}
 use Rattle.std.specs.List.{filter, list_any}
 use Rattle.std.proofs.lemmas.Bool.Decides.{nat_tests}
 use Rattle.std.proofs.lemmas.List.Folds.{list_any-append}
@@ -13,10 +13,14 @@ use Rattle.qs_step.specs.Bringing.{is_forced}
 use Rattle.qs_step.specs.State.{Work}
 use Rattle.qs_step.specs.Step.{effects_of, step_work}
 use Rattle.qs_step.specs.declared.event.Effects.{Effects}
+use Rattle.qs_step.specs.declared.event.Event.{Event}
+use Rattle.qs_world.specs.Moves.{Source}
+use Rattle.qs_world.specs.World.{World}
 use Rattle.qs_agree.specs.World as machine
+use Rattle.qs_agree.specs.Carry.{Leads}
 use Rattle.qs_agree.proofs.Carries.{leads_on}
-use Rattle.qs_refine.specs.JoinLaws.{is_loose, is_loose_of, is_forced_of, are_in_turn, StepCloses}
-use Rattle.qs_refine.specs.MoveLaws.{MayClose, AllClose, sight_logged, taken_scene, StepShown, is_record_of}
+use Rattle.qs_refine.specs.JoinLaws.{is_loose, is_loose_of, is_forced_of, are_in_turn, StepForced, StepCloses}
+use Rattle.qs_refine.specs.MoveLaws.{IsSeated, ShowsWorld, MayClose, AllClose, sight_logged, taken_scene, StepShown, is_record_of}
 use Rattle.qs_refine.specs.Places.{place}
 use Rattle.qs_refine.specs.Seen.{SightGoes}
 use Rattle.qs_refine.specs.Shows.{sight, Shows}
@@ -176,8 +180,12 @@ module _ (tid : Tid) (r : Recovery) (waiting recs : List Record) (alone : list_a
 
 -- ---- the step
 
-pub step_closes : StepCloses
-step_closes tid world n free source event w seated home_in n_in on sw force turn step = by out.force refl
+-- and the machine goes on from where the records that must be forced stand
+pub step_closes_after : (tid : Tid) (world : World) (n free : ℕ) (source : Source) (event : Event) (w : machine.World) → IsSeated world → tid.home.0 < world.size → n < world.size → world.channels.up n ≡ true → ShowsWorld tid world w
+    → (effects_of (world.hosts n).node event free).force ≡ list_any is_forced (effects_of (world.hosts n).node event free).records
+    → are_in_turn tid ((world.hosts n).waiting ++ (effects_of (world.hosts n).node event free).records) ≡ true
+    → (step : StepForced tid world n free source event w) → (shown : StepShown tid world n free source event w) × Leads step.next shown.next
+step_closes_after tid world n free source event w seated home_in n_in on sw force turn step = by out.force refl
   where
     out : Effects
     out = effects_of (world.hosts n).node event free
@@ -198,13 +206,16 @@ step_closes tid world n free source event w seated home_in n_in on sw force turn
     all : AllClose tid n q step.next ((world.hosts n).waiting ++ filter is_loose out.records)
     all = all_append tid n q step.next (world.hosts n).waiting (filter is_loose out.records) waiting step.closes
 
-    by : (b : Bool) → out.force ≡ b → StepShown tid world n free source event w
-    by false off = record {
-      next = step.next;
-      leads = step.leads;
-      shown = subst (λ (log : List Record). Shows tid (stepped (taken_scene world n source) n work log) step.next) (ap (λ (l : List Record). (world.hosts n).log ++ l) (none_left out.records (sym force ∙ off)) ∙ (append_nil (world.hosts n).log ∙ sym (ap (λ (b : Bool). if b then (world.hosts n).log ++ ((world.hosts n).waiting ++ out.records) else (world.hosts n).log) off))) step.shown;
-      closes = subst (λ (l : List Record). AllClose tid n q step.next l) (ap (λ (l : List Record). (world.hosts n).waiting ++ l) (all_left out.records (sym force ∙ off)) ∙ sym (ap (λ (b : Bool). if b then [] else (world.hosts n).waiting ++ out.records) off)) all;
-    }
+    by : (b : Bool) → out.force ≡ b → (shown : StepShown tid world n free source event w) × Leads step.next shown.next
+    by false off = (
+      record {
+        next = step.next;
+        leads = step.leads;
+        shown = subst (λ (log : List Record). Shows tid (stepped (taken_scene world n source) n work log) step.next) (ap (λ (l : List Record). (world.hosts n).log ++ l) (none_left out.records (sym force ∙ off)) ∙ (append_nil (world.hosts n).log ∙ sym (ap (λ (b : Bool). if b then (world.hosts n).log ++ ((world.hosts n).waiting ++ out.records) else (world.hosts n).log) off))) step.shown;
+        closes = subst (λ (l : List Record). AllClose tid n q step.next l) (ap (λ (l : List Record). (world.hosts n).waiting ++ l) (all_left out.records (sym force ∙ off)) ∙ sym (ap (λ (b : Bool). if b then [] else (world.hosts n).waiting ++ out.records) off)) all;
+      },
+      record { events = []; run = refl },
+    )
       where
         none_left : (recs : List Record) → list_any is_forced recs ≡ false → filter is_forced recs ≡ []
         none_left [] none = refl
@@ -221,12 +232,15 @@ step_closes tid world n free source event w seated home_in n_in on sw force turn
             at : (b : Bool) → (b || list_any is_forced recs) ≡ false → (list_any is_forced recs ≡ false → filter is_loose recs ≡ recs) → (if not b then rec ∷ filter is_loose recs else filter is_loose recs) ≡ rec ∷ recs
             at true so more = absurd (cc (so))
             at false so more = ap (λ (l : List Record). rec ∷ l) (more so)
-    by true is = record {
-      next = ends.next;
-      leads = leads_on w step.next ends.next step.leads ends.leads;
-      shown = subst (λ (log : List Record). Shows tid (stepped (taken_scene world n source) n work log) ends.next) (sym (ap (λ (b : Bool). if b then (world.hosts n).log ++ ((world.hosts n).waiting ++ out.records) else (world.hosts n).log) is)) whole;
-      closes = subst (λ (l : List Record). AllClose tid n q ends.next l) (sym (ap (λ (b : Bool). if b then [] else (world.hosts n).waiting ++ out.records) is)) tt;
-    }
+    by true is = (
+      record {
+        next = ends.next;
+        leads = leads_on w step.next ends.next step.leads ends.leads;
+        shown = subst (λ (log : List Record). Shows tid (stepped (taken_scene world n source) n work log) ends.next) (sym (ap (λ (b : Bool). if b then (world.hosts n).log ++ ((world.hosts n).waiting ++ out.records) else (world.hosts n).log) is)) whole;
+        closes = subst (λ (l : List Record). AllClose tid n q ends.next l) (sym (ap (λ (b : Bool). if b then [] else (world.hosts n).waiting ++ out.records) is)) tt;
+      },
+      ends.leads,
+    )
       where
         forced : List Record
         forced = (world.hosts n).log ++ filter is_forced out.records
@@ -248,3 +262,6 @@ step_closes tid world n free source event w seated home_in n_in on sw force turn
                 (recovery (if b then (world.hosts n).log ++ ((world.hosts n).waiting ++ out.records) else (world.hosts k).log))
             found k true c is = rw is log_is
             found k false c is = found_itself tid (recovery (world.hosts k).log)
+
+pub step_closes : StepCloses
+step_closes tid world n free source event w seated home_in n_in on sw force turn step = (step_closes_after tid world n free source event w seated home_in n_in on sw force turn step).0

@@ -253,3 +253,13 @@ pub mod TidyBegins
 pub mod TidyHappens
 pub mod SaidTidy
 pub mod TidyOpened
+pub mod EachFits
+pub mod EachTold
+pub mod EachCame
+pub mod HomeKnows
+pub mod EachMay
+pub mod EachEvent
+pub mod EachStep
+pub mod EachGoes
+pub mod EachMoves
+pub mod EachMoveGoes

@@ -117,7 +117,7 @@ module _ (tid : Tid) (world : World) (w : machine.World) (seated : IsSeated worl
 
 -- ---- each move
 
-in_run : (world : World) (n stamp : ℕ) → is_in_order world n stamp ≡ true → n < world.size
+pub in_run : (world : World) (n stamp : ℕ) → is_in_order world n stamp ≡ true → n < world.size
 in_run world n stamp is = grind (arith, nat_tests, (and_both (nat_lt n world.size) _ (and_both (nat_lt n world.size && nat_lt stamp _) _ is).0).0)
 
 pub later_in : (world : World) (n stamp : ℕ) → is_later world n stamp ≡ true → n < world.size

@@ -137,6 +137,11 @@ module _ (tid : Tid) (world : World) (w : machine.World) (seated : IsSeated worl
         closes m m_in runs true same = rw (inc_is, eqb-true m n same) goes.closes
         closes m m_in runs false apart = rw inc_is (closes_on goes.next goes.leads m m_in (ap (λ (f : ℕ → Bool). f m) (sym up_is) ∙ runs) (runs_at m m_in (ap (λ (f : ℕ → Bool). f m) (sym up_is) ∙ runs)))
 
+    -- the machine is as far as the step brings it
+    pub whole_next : (goes : StepShown tid world n free source event w) → (whole goes).next ≡ goes.next
+    unfolding whole
+    whole_next goes = refl
+
     -- cut off with its batch on the disk
     cut_whole : (cause : CrashCause) → StepShown tid world n free source event w → WorldGoes tid (stopped world n stamp cause (log_after (world.hosts n) out)) w
     cut_whole cause goes = crashes n stamp cause (log_after (world.hosts n) out) goes.next goes.leads

@@ -52,6 +52,7 @@ pub record IsBare (home : Bool) (part : Participant) : Type 0 where
   pub uncast : (s : ℕ) → uncast_of (member_of part (server_no s)) ≡ 0
   pub unknown : home ≡ false → part.outcome ≡ None
   pub unlisted : part.log.listed ≡ false
+  pub acknowledged : part.acknowledged ≡ no_nodes
 
 pub record IsVoted (home : Bool) (part : Participant) : Type 0 where
   pub bare : IsBare home part
@@ -60,7 +61,7 @@ pub record IsVoted (home : Bool) (part : Participant) : Type 0 where
   pub aborted : home ≡ true → part.outcome ≡ Some outcomes.Abort
 
 new_bare : (home : Bool) → IsBare home (new_participant home)
-new_bare home = record { engage = refl; asked = refl; told = refl; tell = refl; places = refl; uncast = λ s. ap uncast_of (alike_at 7 s no_member); unknown = λ _. refl; unlisted = refl }
+new_bare home = record { engage = refl; asked = refl; told = refl; tell = refl; places = refl; uncast = λ s. ap uncast_of (alike_at 7 s no_member); unknown = λ _. refl; unlisted = refl; acknowledged = refl }
 
 voted_bare : (home : Bool) (server : ServerNo) (covers : ℕ) (part : Participant) → is_recoverable server.0 ≡ true → IsBare home part → IsVoted home (voted_before home server covers part)
 voted_bare home server covers part recoverable b = record {
@@ -73,6 +74,7 @@ voted_bare home server covers part recoverable b = record {
     uncast = λ s. ap uncast_of (member_put server.0 s _ part low) ∙ by s (s == server.0);
     unknown = λ away. outcome_away home away (b.unknown away);
     unlisted = b.unlisted;
+    acknowledged = b.acknowledged;
   };
   involved = refl;
   prepared = refl;

@@ -19,14 +19,15 @@ use Rattle.qs_refine.specs.Links.{node_no}
 use Rattle.qs_refine.specs.MoveLaws.{ShowsWorld}
 use Rattle.qs_refine.specs.SoundSteps.{FitsMessage, MayHappen, begun}
 use Rattle.qs_refine.specs.SaidLaws.{BeginsNew}
-use Rattle.qs_refine.specs.Steady.{IsSteady, CanCountAll, HasBegun}
+use Rattle.qs_refine.specs.ServeWhole.{CanCount}
+use Rattle.qs_refine.specs.Steady.{IsSteady, HasBegun}
 
 -- ---- what shows a transaction, with what nodes know of its commit
 
 -- who knows the commit knows what was decided, and whose acknowledgement the home's node has the machine has too
 pub record ShowsOutcome (tid : Tid) (world : World) (w : machine.World) : Type 0 where
   pub learnt : (n : ℕ) (part : Participant) → n < world.size → world.channels.up n ≡ true → tm.part_of tid (world.hosts n).node.manager ≡ Some part → part.outcome ≡ Some outcomes.Commit → w.cell ≡ Committed
-  pub acknowledged : (part : Participant) → world.channels.up tid.home.0 ≡ true → tm.part_of tid (world.hosts tid.home.0).node.manager ≡ Some part → part.outcome ≡ Some outcomes.Commit
+  pub acknowledged : (part : Participant) → world.channels.up tid.home.0 ≡ true → tm.part_of tid (world.hosts tid.home.0).node.manager ≡ Some part
       → (m : ℕ) → has_node part.acknowledged (node_no m) ≡ true → w.acknowledged m ≡ true
 
 pub record ShowsAll (tid : Tid) (world : World) (w : machine.World) : Type 0 where
@@ -41,6 +42,10 @@ pub record AllGoes (tid : Tid) (world : World) (w : machine.World) : Type 0 wher
 -- what the home's node keeps as committed was
 abbrev pub KeepsDecided : Tid → World → machine.World → Type 0
 KeepsDecided tid world w = was_committed tid (world.hosts tid.home.0).node ≡ true → w.cell ≡ Committed
+
+-- what no run of the length of a machine's life comes to: as a step begins the requests that wait can be counted
+abbrev pub CanCountAll : World → Type 0
+CanCountAll world = (n free : ℕ) (t : Tid) → n < world.size → CanCount t (begun (world.hosts n).node free)
 
 -- ---- what comes
 
@@ -72,7 +77,7 @@ IsAbout t (messages.Inquire tid) = t ≡ tid
 
 -- what shows its transaction gives that a message fits
 abbrev pub ShownFits : Type 0
-ShownFits = (tid : Tid) (world : World) (w : machine.World) (n m free : ℕ) (parcel : Parcel) → IsSteady world → CountsFromOne world → tid.home.0 < world.size → ShowsAll tid world w → n < world.size → world.channels.up n ≡ true
+ShownFits = (tid : Tid) (world : World) (w : machine.World) (n m free : ℕ) (parcel : Parcel) → IsSteady world → CountsFromOne world → tid.home.0 < world.size → HasBegun world tid → KeepsDecided tid world w → ShowsAll tid world w → n < world.size → world.channels.up n ≡ true
     → next_parcel world n m ≡ Some parcel → IsAbout tid parcel.message → FitsMessage (node_no m) parcel.message (begun (world.hosts n).node free)
 
 -- so what comes may come
@@ -83,5 +88,5 @@ EachMayCome = (world : World) (n stamp free : ℕ) (source : Source) (event : Ev
 -- ---- each move
 
 abbrev pub EachMoveGoes : Type 0
-EachMoveGoes = (tid : Tid) (world : World) (move : Move) (w : machine.World) → may_move world move ≡ true → IsSteady world → CanCountAll world → CountsFromOne world → MessagesFit world → tid.home.0 < world.size → HasBegun world tid → ShowsAll tid world w
+EachMoveGoes = (tid : Tid) (world : World) (move : Move) (w : machine.World) → may_move world move ≡ true → IsSteady world → CanCountAll world → CountsFromOne world → MessagesFit world → tid.home.0 < world.size → HasBegun world tid → KeepsDecided tid world w → ShowsAll tid world w
     → AllGoes tid (moved move world) w

@@ -122,9 +122,3 @@ pub record IsSteady (world : World) : Type 0 where
   pub takes_up : (n : ℕ) → n < world.size → may_take_up (world.hosts n).node.setting.node (recovery (world.hosts n).log) ≡ true  -- a restart can take up the log,
   pub unended : (n : ℕ) → n < world.size → are_unended (recovery (world.hosts n).log) ≡ true
   pub kept : (n inc : ℕ) → n < world.size → world.channels.inc n < inc → kept_before (world.hosts n).node.setting.node inc (world.hosts n).node.kept.saved ≡ true  -- and what is kept for its clients
-
--- ---- what no run of the size of a life of a machine comes to: the requests that wait can be counted
-
-abbrev pub CanCountAll : World → Type 0
-CanCountAll world = (n : ℕ) (t : Tid) (part : Participant) (s : ℕ) → n < world.size → tm.part_of t (world.hosts n).node.manager ≡ Some part → s < 7
-    → (member_of part (server_no s)).served + waiting_at (world.hosts n).node t s < last_number

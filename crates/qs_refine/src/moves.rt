@@ -1,4 +1,5 @@
 //! Moves of the world: a node stops and restarts, and each move as events of the agreement machine.
+ghost use Rattle.qs_refine.specs.EachMove.{ShownFits, EachMayCome, EachMoveGoes};
 ghost use Rattle.qs_refine.specs.JoinLaws.{StepCloses};
 ghost use Rattle.qs_refine.specs.MoveLaws.{StartSeated, MoveSeated, StaysClosed, ClosedGoes, MoveGoes};
 ghost use Rattle.qs_refine.specs.SaidLaws.{SaidSeen, SeenSaid, StepSaid, StepSeated, StepForces, StepOpen, OpenedSaid, RestartSaid, MoveSaid};
@@ -94,4 +95,12 @@ pub fn joins()
     ensures closes { StepCloses }
     ensures handed { HandedTaken }
     ensures noticed { NoticedTaken }
+{}
+
+/// Each move of a world goes on to show a transaction that has begun, whatever happens inside its step: from what holds of all
+/// nodes, logs and channels, and from that messages about other transactions fit. A message about one that is shown fits.
+pub fn each()
+    ensures fits { ShownFits }
+    ensures may { EachMayCome }
+    ensures moves { EachMoveGoes }
 {}

@@ -1,0 +1,228 @@
+-- The law of each move, and of a message about a transaction that is shown.
+use Rattle.std.proofs.Common.{◌≡◌, ◌≢◌, ◌⊎◌, inl, inr, ℕ, ◌+◌, ◌<◌, ◌≤◌, ◌==◌, ◌&&◌, ◌||◌, not, nat_lt, nat_le, Bool, true, false, List, [], ◌∷◌, ◌++◌, fold, Option, Some, None, is_some, refl, sym, ap, subst, ◌∙◌, arith, if◌then◌else◌}
+use Rattle.std.specs.List.{list_any, list_all}
+use Rattle.std.proofs.lemmas.Bool.{eqb-true}
+use Rattle.std.proofs.lemmas.Bool.Decides.{nat_tests}
+use Rattle.qs_base.specs.declared.identifiers.NodeNo.{NodeNo}
+use Rattle.qs_base.specs.declared.identifiers.Outcome.{Outcome}
+use Rattle.qs_base.specs.declared.identifiers.Outcome.TheVariants as outcomes
+use Rattle.qs_base.specs.declared.identifiers.Tid.{Tid}
+use Rattle.qs_engage.specs.Nodes.{same_node, has_node, no_nodes}
+use Rattle.qs_engage.specs.declared.nodes.Nodes.{Nodes}
+use Rattle.qs_machine.specs.Clauses.{is_crash}
+use Rattle.qs_restart.specs.Recovery.{Recovery, Untold, recovery, is_untold_of, nothing_said}
+use Rattle.qs_tm.specs.Manager as tm
+use Rattle.qs_tm.specs.Outcomes.{committed_before}
+use Rattle.qs_tm.specs.declared.manager.Manager.{Manager}
+use Rattle.qs_tm.specs.declared.participant.Participant.{Participant}
+use Rattle.qs_step.specs.Opening.{recovered_of, new_manager, take_up}
+use Rattle.qs_step.specs.State.{NodeValue, Work, part_of}
+use Rattle.qs_step.specs.declared.event.Event.{Event}
+use Rattle.qs_world.specs.Moves.{Source, Move, Step, Cut, Stop, Rise, Meet, event_of, step_with, cut_with, stopped, reopened, risen, risen_host, met, has_begun, is_in_order, is_later, may_move, moved}
+use Rattle.qs_world.specs.Posting.{next_parcel}
+use Rattle.qs_world.specs.World.{Parcel, World, known_of, inc_of}
+use Rattle.qs_agree.specs.World as machine
+use Rattle.qs_agree.specs.World.{Open, Committed, Aborted}
+use Rattle.qs_agree.specs.Carry.{Leads}
+use Rattle.qs_refine.specs.EachMove.{ShowsOutcome, ShowsAll, AllGoes, KeepsDecided, MessagesFit, CanCountAll, CountsFromOne, EachMoveGoes, ShownFits}
+use Rattle.qs_refine.specs.Links.{node_no}
+use Rattle.qs_refine.specs.MoveLaws.{ShowsWorld, WorldGoes}
+use Rattle.qs_refine.specs.Shows.{scene_of}
+use Rattle.qs_refine.specs.Sound.{may_vote, is_list_of, has_doubt}
+use Rattle.qs_refine.specs.Steady.{IsSteady, HasBegun}
+use Rattle.qs_refine.proofs.EachFits.{own_fits}
+use Rattle.qs_refine.proofs.EachHears.{first}
+use Rattle.qs_refine.proofs.EachMay.{is_next, is_fit}
+use Rattle.qs_refine.proofs.EachMoves.{StaysAt, TellsAt, goes_all, halted, step_goes_on, cut_goes_on}
+use Rattle.qs_refine.proofs.Facts.{invariant}
+use Rattle.qs_refine.proofs.LaterWorlds.{commit_stays}
+use Rattle.qs_refine.proofs.MoveGoes.{in_run, later_in, rises, meets}
+use Rattle.qs_refine.proofs.NodeSets.{none_listed}
+use Rattle.qs_refine.proofs.RisenFaces.{lists_from}
+use Rattle.qs_refine.proofs.SoundParts.{and_both}
+use Rattle.qs_refine.proofs.StartWorlds.{alike_at}
+use Rattle.qs_refine.proofs.StepMoves.{stops}
+use Rattle.qs_refine.proofs.TakingUp.{Known, log_taken}
+use Rattle.qs_refine.proofs.TurnOn.{nobody}
+
+-- ---- what a node takes up of a transaction from its log
+
+pub record TakesUp (t : Tid) (said : Recovery) (part : Participant) : Type 0 where
+  pub committed : part.outcome ≡ Some outcomes.Commit → list_any (is_untold_of t) said.untold ≡ true
+  pub nobody : part.acknowledged ≡ no_nodes
+
+taken_part : (t : Tid) (home : Bool) (said : Recovery) (m : Manager) (a b : Bool) → list_any (is_untold_of t) said.untold ≡ a → Known t home a b m → (home ≡ false → a ≡ false) → (part : Participant) → tm.part_of t m ≡ Some part → TakesUp t said part
+taken_part t home said m true b untold found away part known = record {
+  committed = λ _. untold;
+  nobody = ap (λ (p : Participant). p.acknowledged) (one part (committed_before home found.0) (sym known ∙ found.1));
+}
+  where
+    one : (p q : Participant) → Some p ≡ Some q → p ≡ q
+    one p q is = cc (is)
+taken_part t home said m false true untold found away part known = record {
+  committed = λ decided. absurd (by home refl decided);
+  nobody = ap (λ (p : Participant). p.acknowledged) its ∙ found.2.bare.acknowledged;
+}
+  where
+    one : (p q : Participant) → Some p ≡ Some q → p ≡ q
+    one p q is = cc (is)
+
+    its : part ≡ found.0
+    its = one part found.0 (sym known ∙ found.1)
+
+    by : (h : Bool) → home ≡ h → part.outcome ≡ Some outcomes.Commit → ⊥
+    by true at decided = let both : Some outcomes.Abort ≡ Some outcomes.Commit = sym (found.2.aborted at) ∙ (sym (ap (λ (p : Participant). p.outcome) its) ∙ decided) in cc (both)
+    by false off decided = let both : None ≡ Some outcomes.Commit = sym (found.2.bare.unknown off) ∙ (sym (ap (λ (p : Participant). p.outcome) its) ∙ decided) in cc (both)
+taken_part t home said m false false untold none away part known = absurd (let both : None ≡ Some part = sym none ∙ known in cc (both))
+
+module _ (t : Tid) (world : World) (w : machine.World) (steady : IsSteady world) (counts : CanCountAll world) (fits : MessagesFit world) (home_in : t.home.0 < world.size) (began : HasBegun world t) (kept : KeepsDecided t world w) (all : ShowsAll t world w) where
+  -- ---- a restart
+
+  module _ (n stamp inc : ℕ) (n_in : n < world.size) (off : world.channels.up n ≡ false) (later : world.channels.inc n < inc) where
+    abbrev node : NodeValue
+    node = (world.hosts n).node
+
+    abbrev said : Recovery
+    said = recovery (world.hosts n).log
+
+    abbrev after : World
+    after = risen world n stamp inc (recovered_of (world.hosts n).log)
+
+    goes : WorldGoes t after w
+    goes = rises t world w steady.seated home_in all.seen n stamp inc n_in off later (steady.takes_up n n_in) (steady.kept n inc n_in later)
+
+    tests : (list_all may_vote said.prepared ≡ true) × (list_all (is_list_of node.setting.node) said.untold ≡ true)
+    tests = and_both (list_all may_vote said.prepared) (list_all (is_list_of node.setting.node) said.untold) (steady.takes_up n n_in)
+
+    home_is : same_node t.home node.setting.node ≡ (t.home.0 == n)
+    home_is = rw (steady.seated.node n n_in) refl
+
+    -- a Commit that is still to be told is of the home
+    at_home : (untold : List Untold) → list_all (is_list_of node.setting.node) untold ≡ true → list_any (is_untold_of t) untold ≡ true → (t.home.0 == n) ≡ true
+    at_home [] lists some = absurd (cc (some))
+    at_home (c ∷ rest) lists some = by (is_untold_of t c) refl some (at_home rest both.1)
+      where
+        both : (same_node c.tid.home node.setting.node ≡ true) × (list_all (is_list_of node.setting.node) rest ≡ true)
+        both = and_both (same_node c.tid.home node.setting.node) (list_all (is_list_of node.setting.node) rest) lists
+
+        by : (b : Bool) → is_untold_of t c ≡ b → (b || list_any (is_untold_of t) rest) ≡ true → (list_any (is_untold_of t) rest ≡ true → (t.home.0 == n) ≡ true) → (t.home.0 == n) ≡ true
+        by true its so more = sym home_is ∙ subst (λ (u : Tid). same_node u.home node.setting.node ≡ true) (Rattle.qs_refine.proofs.SoundKnown.same_is c.tid t its) both.0
+        by false its so more = more so
+
+    known_then : Known t (t.home.0 == n) (list_any (is_untold_of t) said.untold) (has_doubt t said) (reopened inc (recovered_of (world.hosts n).log) node).manager
+    known_then = log_taken t (t.home.0 == n) all.seen.shown.stage.numbered said (new_manager node.manager.alloc (record node.setting { inc = inc })) tests.0 (lists_from t (world.hosts n).log nothing_said refl) home_is refl
+
+    taken : (part : Participant) → tm.part_of t (reopened inc (recovered_of (world.hosts n).log) node).manager ≡ Some part → TakesUp t said part
+    taken part known = taken_part t (t.home.0 == n) said (reopened inc (recovered_of (world.hosts n).log) node).manager (list_any (is_untold_of t) said.untold) (has_doubt t said) refl known_then (λ away. none (list_any (is_untold_of t) said.untold) refl away) part known
+      where
+        none : (b : Bool) → list_any (is_untold_of t) said.untold ≡ b → (t.home.0 == n) ≡ false → b ≡ false
+        none true some away = absurd (let here = at_home said.untold tests.1 some in cc (here, away))
+        none false some away = refl
+
+    -- a Commit in the home's log was decided
+    logged_cell : list_any (is_untold_of t) said.untold ≡ true → w.cell ≡ Committed
+    logged_cell some = (invariant w all.seen.lawful).outcomes.logged ((invariant w all.seen.lawful).outcomes.stands ((all.seen.shown.logs n n_in).unended (sym at_n) ∙ some))
+      where
+        at_n : t.home.0 ≡ n
+        at_n = eqb-true t.home.0 n (at_home said.untold tests.1 some)
+
+    host_at : (k : ℕ) (b : Bool) → (k == n) ≡ b → (after.hosts k).node.manager ≡ (if b then (reopened inc (recovered_of (world.hosts n).log) node).manager else (world.hosts k).node.manager)
+    host_at k b is = picked (k == n) b is
+      where
+        picked : (c d : Bool) → c ≡ d → (if c then risen_host stamp inc (recovered_of (world.hosts n).log) (world.hosts n) else world.hosts k).node.manager ≡ (if d then (reopened inc (recovered_of (world.hosts n).log) node).manager else (world.hosts k).node.manager)
+        picked true true so = refl
+        picked false false so = refl
+        picked true false so = absurd (cc (so))
+        picked false true so = absurd (cc (so))
+
+    rise_goes_on : AllGoes t after w
+    rise_goes_on = goes_all t world w home_in all after refl goes (λ k k_in up. at k (k == n) refl up)
+      where
+        at : (k : ℕ) (b : Bool) → (k == n) ≡ b → (if b then true else world.channels.up k) ≡ true → StaysAt world after k ⊎ TellsAt t after k goes.next
+        at k false apart up = inl (record { manager = host_at k false apart; up = up; inc = picked (k == n) apart })
+          where
+            picked : (c : Bool) → c ≡ false → (if c then inc else world.channels.inc k) ≡ world.channels.inc k
+            picked c is = rw is refl
+        at k true same up = inr (record {
+          learnt = λ part known decided. commit_stays w goes.next all.seen.lawful goes.leads (logged_cell ((taken part (ap (tm.part_of t) (sym (host_at k true same)) ∙ known)).committed decided));
+          acknowledged = λ home part known m has. absurd (nobody m (subst (λ (s : Nodes). has_node s (node_no m) ≡ true) (taken part (ap (tm.part_of t) (sym (host_at k true same)) ∙ known)).nobody has));
+        })
+
+  -- ---- a first meeting
+
+  module _ (n stamp m first_inc : ℕ) (n_in : n < world.size) (on : world.channels.up n ≡ true) (m_in : m < world.size) (other : m ≢ n) (unknown : world.channels.peer n m ≡ 0) (some : 1 ≤ first_inc) (begun_then : first_inc ≤ world.channels.inc m) where
+    meet_goes_on : AllGoes t (met world n stamp m first_inc) w
+    meet_goes_on = goes_all t world w home_in all (met world n stamp m first_inc) refl (meets t world w steady.seated home_in all.seen n stamp m first_inc n_in on m_in other unknown some begun_then)
+        (λ k k_in up. inl (record { manager = picked k (k == n) refl; up = up; inc = refl }))
+      where
+        picked : (k : ℕ) (b : Bool) → (k == n) ≡ b → (if b then record (world.hosts n) { stamp = stamp } else world.hosts k).node.manager ≡ (world.hosts k).node.manager
+        picked k true is = ap (λ (j : ℕ). (world.hosts j).node.manager) (sym (eqb-true k n is))
+        picked k false is = refl
+
+-- ---- each move
+
+pub each_move_goes : EachMoveGoes
+each_move_goes t world (Step n stamp free source) w may steady counts ones fits home_in began kept all = by (event_of world n stamp source) refl
+  where
+    runs : (world.channels.up n ≡ true) × ((is_later world n stamp && is_some (event_of world n stamp source)) ≡ true)
+    runs = and_both (world.channels.up n) (is_later world n stamp && is_some (event_of world n stamp source)) may
+
+    by : (o : Option Event) → event_of world n stamp source ≡ o → AllGoes t (step_with world n stamp free source o) w
+    by None is = record { next = w; leads = record { events = []; run = refl }; shown = all }
+    by (Some event) is = step_goes_on t world w steady counts fits home_in began kept all n stamp free source event (later_in world n stamp (and_both (is_later world n stamp) _ runs.1).0) runs.0 is
+each_move_goes t world (Cut n stamp free source is_kept cause) w may steady counts ones fits home_in began kept all = by (event_of world n stamp source) refl
+  where
+    runs : (world.channels.up n ≡ true) × ((is_later world n stamp && (is_some (event_of world n stamp source) && is_crash cause)) ≡ true)
+    runs = and_both (world.channels.up n) (is_later world n stamp && (is_some (event_of world n stamp source) && is_crash cause)) may
+
+    by : (o : Option Event) → event_of world n stamp source ≡ o → AllGoes t (cut_with world n stamp free is_kept cause o) w
+    by None is = record { next = w; leads = record { events = []; run = refl }; shown = all }
+    by (Some event) is = cut_goes_on t world w steady counts fits home_in began kept all n stamp free source event (later_in world n stamp (and_both (is_later world n stamp) _ runs.1).0) runs.0 is is_kept cause
+each_move_goes t world (Stop n stamp cause) w may steady counts ones fits home_in began kept all =
+    let runs = and_both (world.channels.up n) _ may in
+    goes_all t world w home_in all (stopped world n stamp cause (world.hosts n).log) refl
+    (stops t world w steady.seated home_in all.seen n stamp cause (world.hosts n).log [] (in_run world n stamp (and_both (is_in_order world n stamp) _ runs.1).0) runs.0 refl tt)
+    (λ k k_in up. inl (halted t world w steady counts fits home_in began kept all n stamp cause (world.hosts n).log k up))
+each_move_goes t world (Rise n stamp inc) w may steady counts ones fits home_in began kept all = rise_goes_on t world w steady counts fits home_in began kept all n stamp inc (in_run world n stamp order.0) (off (world.channels.up n) both.0) (grind (arith, nat_tests, order.1))
+  where
+    off : (b : Bool) → not b ≡ true → b ≡ false
+    off true is = absurd (cc (is))
+    off false is = refl
+
+    both : (not (world.channels.up n) ≡ true) × ((is_in_order world n stamp && nat_lt (world.channels.inc n) inc) ≡ true)
+    both = and_both (not (world.channels.up n)) (is_in_order world n stamp && nat_lt (world.channels.inc n) inc) may
+
+    order : (is_in_order world n stamp ≡ true) × (nat_lt (world.channels.inc n) inc ≡ true)
+    order = and_both (is_in_order world n stamp) (nat_lt (world.channels.inc n) inc) both.1
+each_move_goes t world (Meet n stamp m first_inc) w may steady counts ones fits home_in began kept all = meet_goes_on t world w steady counts fits home_in began kept all n stamp m first_inc (later_in world n stamp order.0) runs.0 (grind (arith, nat_tests, others.1))
+    (λ is. not_same (m == n) others.0 (grind (arith, nat_tests, is))) (eqb-true (known_of world n m) 0 known.0) (grind (arith, nat_tests, begun_then.0)) (grind (arith, nat_tests, (and_both (nat_le first_inc (world.channels.inc m)) _ begun_then.1).0))
+  where
+    runs : (world.channels.up n ≡ true) × ((is_later world n stamp && ((not (m == n) && nat_lt m world.size) && ((known_of world n m == 0) && (nat_lt 0 first_inc && has_begun world stamp m first_inc)))) ≡ true)
+    runs = and_both (world.channels.up n) _ may
+
+    order : (is_later world n stamp ≡ true) × (((not (m == n) && nat_lt m world.size) && ((known_of world n m == 0) && (nat_lt 0 first_inc && has_begun world stamp m first_inc))) ≡ true)
+    order = and_both (is_later world n stamp) _ runs.1
+
+    rest : ((not (m == n) && nat_lt m world.size) ≡ true) × (((known_of world n m == 0) && (nat_lt 0 first_inc && has_begun world stamp m first_inc)) ≡ true)
+    rest = and_both (not (m == n) && nat_lt m world.size) _ order.1
+
+    others : (not (m == n) ≡ true) × (nat_lt m world.size ≡ true)
+    others = and_both (not (m == n)) (nat_lt m world.size) rest.0
+
+    known : ((known_of world n m == 0) ≡ true) × ((nat_lt 0 first_inc && has_begun world stamp m first_inc) ≡ true)
+    known = and_both (known_of world n m == 0) _ rest.1
+
+    begun_then : (nat_lt 0 first_inc ≡ true) × (has_begun world stamp m first_inc ≡ true)
+    begun_then = and_both (nat_lt 0 first_inc) (has_begun world stamp m first_inc) known.1
+
+    not_same : (b : Bool) → not b ≡ true → b ≡ true → ⊥
+    not_same true is so = absurd (cc (is))
+    not_same false is so = absurd (cc (so))
+
+-- ---- a message of a transaction that is shown
+
+pub shown_fits : ShownFits
+shown_fits t world w n m free parcel steady ones home_in began kept all n_in on found about =
+    let stood = first t world w steady home_in all n free n_in on in
+    own_fits t world w steady home_in began all kept n free n_in on stood.next stood.leads (scene_of world) refl refl stood.stands m (world.channels.peer n m) (Rattle.qs_refine.specs.TakenLaws.rest_behind world n m parcel)
+    parcel.message (is_next world n m parcel steady found) (is_fit world n m parcel steady found) (ones n m parcel found) about
