@@ -155,3 +155,4 @@ pub mod FactsRules
 pub mod FactsTold
 pub mod FactsStages
 pub mod FactsOpened
+pub mod HomesStand

@@ -32,14 +32,15 @@ ghost use Rattle.qs_journal.specs.declared.script_line.Command.TheVariants as co
 ghost use Rattle.qs_lawful.specs.Parcels.{HoldsChannels, HoldsWay};
 ghost use Rattle.qs_lawful.specs.Scripts.{HoldsClient};
 ghost use Rattle.qs_lawful.specs.Beside.{IsTrueCause};
-ghost use Rattle.qs_lawful.specs.Entering.{book_at};
+ghost use Rattle.qs_lawful.specs.Entering.{book_at, entries_so_far};
+ghost use Rattle.qs_machine.specs.Lawful.{IsLawful};
 ghost use Rattle.qs_lawful.specs.Given.{HasCause, IsUncommitted, MayCommit, MayDecide, MayForget, MayPass, MayReply, MayServe, MaySettle};
-ghost use Rattle.qs_lawful.specs.Standing.{CanCount, KeepsStanding, Stands, StandsBy};
+ghost use Rattle.qs_lawful.specs.Standing.{CanCount, HoldsHomes, KeepsStanding, Stands, StandsBy};
 ghost use Rattle.qs_step.specs.Settling.{forget_rule, pass_rule, ready_rule, refuse_rule, settle_tid, try};
 ghost use Rattle.qs_machine.specs.Book.{BookValue};
 ghost use Rattle.qs_machine.specs.Nodes as machine;
 ghost use Rattle.qs_ops.specs.declared.answer.Cause.{Cause};
-ghost use Rattle.qs_step.specs.State.{NodeValue, Work};
+ghost use Rattle.qs_step.specs.State.{NodeValue, Work, here};
 ghost use Rattle.qs_tm.specs.Manager as tm;
 ghost use Rattle.qs_tm.specs.Participant.{is_forgotten};
 ghost use Rattle.qs_tm.specs.declared.participant.Participant.{Participant};
@@ -109,4 +110,9 @@ pub fn stages_keep_the_facts()
 pub fn nodes_have_the_facts()
     ensures opened { (alloc : Global) (setting : Setting) (found : Recovered) (kept : Kept) → IsSetIn setting → AreHomed setting.node kept → HasNodeFacts (opened_node alloc setting found kept) }
     ensures stepped { (node : NodeValue) (event : Event) (free : ℕ) → FitsEvent node.setting event → HasNodeFacts node → HasNodeFacts (after_step node event free) }
+{}
+
+/// What a node enters decides nothing that began elsewhere: so what the machine has committed, the other homes have, at each stage of a step.
+pub fn homes_have_what_is_committed()
+    ensures { (stamp : ℕ) (before : BookValue) (size : ℕ) (nodes : ℕ → NodeValue) (n : ℕ) (work : Work) → (here work).0 ≡ n → IsLawful before (entries_so_far stamp work) → HoldsHomes before size nodes n → HoldsHomes (book_at stamp before work) size nodes n }
 {}
