@@ -1,22 +1,19 @@
 -- What a node enters decides no transaction that began at another node: so what the machine has committed, the other homes have.
-use Rattle.std.proofs.Common.{◌≡◌, ℕ, ◌+◌, ◌==◌, Bool, true, false, List, [], ◌∷◌, fold, Option, Some, None, refl, sym, ap, subst, ◌∙◌, nat_lt}
+use Rattle.std.proofs.Common.{◌≡◌, ℕ, ◌==◌, Bool, true, false, List, [], ◌∷◌, fold, Option, Some, None, refl, sym, ap, ◌∙◌}
 use Rattle.std.specs.BTreeMap.{is_at}
-use Rattle.std.specs.Map.{lookup}
 use Rattle.std.specs.Option.{option_map}
-use Rattle.std.specs.Prelude.{not, ◌&&◌, is_some, slice_get, if◌then◌else◌}
+use Rattle.std.specs.Prelude.{is_some, slice_get, if◌then◌else◌}
 use Rattle.qs_base.specs.Order.{tid_cmp}
 use Rattle.qs_base.proofs.TidOrder.{tid_exact}
 use Rattle.qs_base.specs.declared.identifiers.ClientNo.{ClientNo}
-use Rattle.qs_base.specs.declared.identifiers.NodeNo.{NodeNo}
 use Rattle.qs_base.specs.declared.identifiers.Outcome.{Outcome}
 use Rattle.qs_base.specs.declared.identifiers.Outcome.TheVariants as outcomes
 use Rattle.qs_base.specs.declared.identifiers.Tid.{Tid}
 use Rattle.qs_journal.specs.declared.entry.Act.{Act}
 use Rattle.qs_journal.specs.declared.entry.Act.TheVariants as acts
-use Rattle.qs_journal.specs.declared.entry.Entry.{Entry}
 use Rattle.qs_journal.specs.declared.entry.Found.{Found}
 use Rattle.qs_laws.proofs.Acts as of
-use Rattle.qs_laws.proofs.Faces.{Alike, Face, alike_self, alike_then, face, face_at, node_alike, transaction_alike}
+use Rattle.qs_laws.proofs.Faces.{Alike, Face, face, face_at, transaction_alike}
 use Rattle.qs_laws.proofs.Maps.{changed_apart, lookup_put_apart}
 use Rattle.qs_laws.proofs.Outcomes.{next_is}
 use Rattle.qs_laws.proofs.Steps.{begin_may, held}
@@ -27,13 +24,13 @@ use Rattle.qs_machine.specs.Book.{BookValue, begin, decide, find_transaction, in
 use Rattle.qs_machine.specs.Clauses.{broken_decide, broken_outcome, may_decide}
 use Rattle.qs_machine.specs.Lawful.{IsLawful, book_after, broken, broken_act, broken_at, broken_node, effect, effect_act, is_in_order}
 use Rattle.qs_machine.specs.Nodes.{NodeValue}
-use Rattle.qs_machine.specs.Restart.{abort_begun, begun_at, begun_tid, commit_found, count_of, decide_found, is_among, is_open_here, learn_found, member_at, put_new_votes, record_at, reopened, restart, restart_found, restarted_node, up_to, vote_found, with_votes, new_votes}
+use Rattle.qs_machine.specs.Restart.{abort_begun, begun_at, begun_tid, commit_found, count_of, is_among, is_open_here, learn_found, member_at, put_new_votes, record_at, restart, restart_found, up_to, vote_found}
 use Rattle.qs_machine.specs.Transaction.{TransactionValue, found_at, is_commit, is_open, with_learnt}
 use Rattle.qs_step.specs.State as state
 use Rattle.qs_step.specs.State.{Work}
 use Rattle.qs_world.specs.Posting.{entries_of, entry_of}
 use Rattle.qs_lawful.specs.Beside.{is_committed_at}
-use Rattle.qs_lawful.specs.Entering.{HoldsWork, book_at, entries_so_far}
+use Rattle.qs_lawful.specs.Entering.{book_at, entries_so_far}
 use Rattle.qs_lawful.specs.Standing.{HoldsHomes}
 use Rattle.qs_lawful.proofs.Apart.{Apart, apart}
 use Rattle.qs_lawful.proofs.Truths.{clash, left_true, of_some, same_self}

@@ -156,3 +156,5 @@ pub mod FactsTold
 pub mod FactsStages
 pub mod FactsOpened
 pub mod HomesStand
+pub mod StandsOn
+pub mod TriedStageRuns

@@ -24,3 +24,5 @@ pub mod Coming
 pub mod StepStands
 pub mod GivenTests
 pub mod TriedGiven
+pub mod StandingOn
+pub mod TriedStages

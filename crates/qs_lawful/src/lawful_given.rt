@@ -6,6 +6,7 @@ ghost use Rattle.qs_base.specs.declared.identifiers.Tid.{Tid};
 ghost use Rattle.qs_lawful.specs.Agreed.{AgreementGives, AgreesMessage, AreLentUndone, IsSettledAll, IsUndone};
 ghost use Rattle.qs_lawful.specs.Coming.{ComesLine, ComesMessage};
 ghost use Rattle.qs_lawful.specs.GivenStep.{MayCome, MayCommand, MayStep, MayWait, tick_work};
+ghost use Rattle.qs_lawful.specs.StandingOn.{KeepsBeside, StepBeside};
 ghost use Rattle.qs_lawful.specs.StepStands.{StepStands};
 ghost use Rattle.qs_step.specs.declared.event.Event.{Event};
 ghost use Rattle.qs_base.specs.declared.identifiers.ClientNo.{ClientNo};
@@ -115,4 +116,11 @@ pub fn nodes_have_the_facts()
 /// What a node enters decides nothing that began elsewhere: so what the machine has committed, the other homes have, at each stage of a step.
 pub fn homes_have_what_is_committed()
     ensures { (stamp : ℕ) (before : BookValue) (size : ℕ) (nodes : ℕ → NodeValue) (n : ℕ) (work : Work) → (here work).0 ≡ n → IsLawful before (entries_so_far stamp work) → HoldsHomes before size nodes n → HoldsHomes (book_at stamp before work) size nodes n }
+{}
+
+/// So a whole step is given all that it needs by the node's own facts before it, by what the homes have committed, and, of its rules, by
+/// what they keep beside the node alone.
+pub fn step_is_given_beside()
+    ensures rules { (stamp : ℕ) (before : BookValue) (size : ℕ) (nodes : ℕ → NodeValue) (n : ℕ) → HoldsHomes before size nodes n → KeepsBeside stamp before size nodes n → KeepsStanding stamp before size nodes n }
+    ensures step { (stamp : ℕ) (before : BookValue) (size : ℕ) (nodes : ℕ → NodeValue) (n : ℕ) (node : NodeValue) (event : Event) (free : ℕ) → StepBeside stamp before size nodes n node event free → MayStep stamp before node event free }
 {}
