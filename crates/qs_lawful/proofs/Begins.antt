@@ -44,7 +44,7 @@ nothing_to_learn classes.Activity = refl
 
 none_served : (label : List ℕ) (client : ClientNo) (ticks : ℕ) (member : Member) (inc : ℕ) → HoldsMember (begun label client ticks) member inc rules.no_member
 none_served label client ticks member inc = record {
-  covers = refl;
+  covers = λ two. refl;
   voted = grind arith;
   votes = λ two. record { covers = tt; is_due = refl };
   learns = λ told. sym (nothing_to_learn (class_of member.server.0));

@@ -162,11 +162,11 @@ module _ (tx : TransactionValue) (member : Member) (inc : ℕ) (ballot : Vote) (
       by : (b : Bool) → (m.served == (part_of tx member inc).served + (part_of tx member inc).found) ≡ b
           → ((m.served == (part_of tx member inc).served + (part_of tx member inc).found) || list_any (is_start member inc (part_of tx member inc).served m.served) (voted member inc ballot tx).starts) ≡ true
       by true is = rw is refl
-      by false is = rw is (starts_grow ballot (life member inc) (part_of tx member inc).served (is_start member inc (part_of tx member inc).served m.served) tx.starts (rw is at h.covers))
+      by false is = rw is (starts_grow ballot (life member inc) (part_of tx member inc).served (is_start member inc (part_of tx member inc).served m.served) tx.starts (rw is at (h.covers two)))
 
   pub voted_member : HoldsMember (voted member inc ballot tx) member inc (cast ballot m)
   voted_member = record {
-    covers = covers_still;
+    covers = λ both. covers_still;
     voted = rw (part_voted, voted_is ballot (part_of tx member inc), served_is ballot (part_of tx member inc)) (at_most_itself (part_of tx member inc).served);
     votes = λ both. rw part_voted (cast_voter ballot (part_of tx member inc) m);
     learns = λ told. rw part_voted (cast_learns (class_of member.server.0) ballot (part_of tx member inc) m two (fresh_of (class_of member.server.0) (part_of tx member inc) m two due (h.votes two) h.learns));
@@ -228,7 +228,7 @@ module _ (tx : TransactionValue) (member : Member) (inc : ℕ) (outcome : Outcom
 
   pub learnt_member : HoldsMember (learnt member inc outcome tx) member inc (told_all m)
   learnt_member = record {
-    covers = rw (part_learnt, same_starts outcome, (learnt_counts outcome (part_of tx member inc)).0, (learnt_counts outcome (part_of tx member inc)).1.1) h.covers;
+    covers = λ two. rw (part_learnt, same_starts outcome, (learnt_counts outcome (part_of tx member inc)).0, (learnt_counts outcome (part_of tx member inc)).1.1) (h.covers two);
     voted = rw (part_learnt, (learnt_counts outcome (part_of tx member inc)).0, (learnt_counts outcome (part_of tx member inc)).1.0) h.voted;
     votes = λ two. rw part_learnt (voter_on (class_of member.server.0) two (h.votes two));
     learns = λ is. rw (part_learnt, not_learning outcome (part_of tx member inc)) (sym (nothing_to_learn (class_of member.server.0) m));

@@ -162,7 +162,7 @@ module _ (stamp : ℕ) (book : BookValue) (node : NodeValue) (h : Holds stamp bo
             ∙ ((of_tid.members (open_held still) server kept).votes two).is_due ∙ ap not due
 
         covers : is_covering tx (at_server node.setting.node server) h.state.inc (member_of (part_in (face_of node tid)) server).served ≡ true
-        covers = ap (λ inc. is_covering tx (at_server node.setting.node server) inc (member_of (part_in (face_of node tid)) server).served) h.same.inc ∙ (of_tid.members (open_held still) server kept).covers
+        covers = ap (λ inc. is_covering tx (at_server node.setting.node server) inc (member_of (part_in (face_of node tid)) server).served) h.same.inc ∙ (of_tid.members (open_held still) server kept).covers two
 
         allowed : (a b c d e f g : Bool) → a ≡ true → b ≡ true → c ≡ true → d ≡ false → e ≡ true → f ≡ true → g ≡ true
             → (if not ((a && b) && ((c && not d) && e)) then clause 40 else if not f then clause 41 else if not g then clause 42 else None) ≡ None

@@ -1,14 +1,11 @@
 -- What holds of a node by itself through each thing that a rule does to it.
-use Rattle.std.proofs.Common.{◌≡◌, ◌⊎◌, inl, inr, ℕ, ◌+◌, Bool, true, false, List, [], ◌∷◌, ◌++◌, length, Option, Some, None, Less, Equal, Greater, refl, sym, ap, subst, ◌∙◌}
-use Rattle.std.proofs.lemmas.Map.Lookups.{exact_unsigned}
-use Rattle.std.specs.BTreeMap.{insert_entry, is_at}
+use Rattle.std.proofs.Common.{◌≡◌, ◌⊎◌, inl, inr, ℕ, Bool, true, false, List, [], ◌∷◌, length, Option, Some, None, refl, sym, ap, subst, ◌∙◌}
+use Rattle.std.specs.BTreeMap.{is_at}
 use Rattle.std.specs.List.{find}
-use Rattle.std.specs.Map.{lookup, remove_entry, set_value}
-use Rattle.std.specs.Prelude.{not, ◌&&◌, ◌||◌, is_some, if◌then◌else◌}
-use Rattle.std.specs.declared.cmp.Ordering.{Ordering}
-use Rattle.qs_base.proofs.Same.{same_tid-self}
+use Rattle.std.specs.Map.{lookup, remove_entry}
+use Rattle.std.specs.Prelude.{is_some, if◌then◌else◌}
 use Rattle.qs_base.proofs.TidOrder.{tid_total}
-use Rattle.qs_base.specs.Order.{same_tid, tid_cmp}
+use Rattle.qs_base.specs.Order.{tid_cmp}
 use Rattle.qs_base.specs.declared.identifiers.ClientNo.{ClientNo}
 use Rattle.qs_base.specs.declared.identifiers.NodeNo.{NodeNo}
 use Rattle.qs_base.specs.declared.identifiers.Outcome.{Outcome}
@@ -16,21 +13,18 @@ use Rattle.qs_base.specs.declared.identifiers.Tid.{Tid}
 use Rattle.qs_engage.specs.Nodes.{same_node}
 use Rattle.qs_kept.specs.Keeping.{has_label, is_outcome_of}
 use Rattle.qs_kept.specs.declared.kept.Begun.{Begun}
-use Rattle.qs_kept.specs.declared.kept.Decided.{Decided}
 use Rattle.qs_kept.specs.declared.kept.Kept.{Kept}
 use Rattle.qs_laws.proofs.Alikes.{at_exact}
-use Rattle.qs_laws.proofs.Rising.{IsRising, put_rises, remove_rises, removed}
-use Rattle.qs_step.specs.State.{client_cmp}
+use Rattle.qs_laws.proofs.Rising.{put_rises, remove_rises, removed}
 use Rattle.qs_step.specs.declared.setting.Setting.{Setting}
 use Rattle.qs_step.specs.declared.state.OpenCommand.{OpenCommand}
 use Rattle.qs_tm.specs.Manager as tm
 use Rattle.qs_tm.specs.Outcomes as outcome_rules
 use Rattle.qs_tm.specs.Outcomes.{aborted_participant}
-use Rattle.qs_tm.specs.Participant.{begun_participant, new_participant}
+use Rattle.qs_tm.specs.Participant.{new_participant}
 use Rattle.qs_tm.specs.declared.manager.Manager.{Manager}
 use Rattle.qs_tm.specs.declared.participant.Participant.{Participant}
-use Rattle.qs_lawful.specs.Logs.{Every}
-use Rattle.qs_lawful.specs.NodeFacts.{AreLabels, HasFacts, IsCommand, IsOf, IsPart, IsRunning}
+use Rattle.qs_lawful.specs.NodeFacts.{HasFacts, IsOf, IsPart, IsRunning}
 use Rattle.qs_lawful.proofs.Apart.{Apart, same_or_apart}
 use Rattle.qs_lawful.proofs.Faces.{part_apart, part_changed, part_unknown, put_apart}
 use Rattle.qs_lawful.proofs.Marks.{changed_rises, put_there}

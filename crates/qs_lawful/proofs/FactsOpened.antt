@@ -1,12 +1,11 @@
 -- What holds of a node by itself as an incarnation of it begins: with what its log says, and with what was kept for its clients.
 use Rattle.std.proofs.Common.{◌≡◌, ◌⊎◌, inl, inr, ℕ, ◌==◌, Bool, true, false, List, [], ◌∷◌, ◌++◌, length, fold, Option, Some, None, refl, sym, ap, subst, ◌∙◌}
 use Rattle.std.specs.List.{find, list_any}
-use Rattle.std.specs.Prelude.{not, ◌&&◌, is_none, is_some, if◌then◌else◌}
+use Rattle.std.specs.Prelude.{◌&&◌, is_none, is_some, if◌then◌else◌}
 use Rattle.std.specs.Global.{Global}
 use Rattle.qs_base.proofs.Same.{same_tid-self}
 use Rattle.qs_base.proofs.TidOrder.{tid_total}
 use Rattle.qs_base.specs.Order.{same_tid, tid_cmp}
-use Rattle.qs_base.specs.declared.identifiers.ClientNo.{ClientNo}
 use Rattle.qs_base.specs.declared.identifiers.NodeNo.{NodeNo}
 use Rattle.qs_base.specs.declared.identifiers.ServerNo.{ServerNo}
 use Rattle.qs_base.specs.declared.identifiers.Tid.{Tid}
@@ -21,19 +20,19 @@ use Rattle.qs_laws.proofs.Rising.{IsRising, put_rises}
 use Rattle.qs_record.specs.declared.record.Record.{Record}
 use Rattle.qs_record.specs.declared.record.Record.TheVariants as records
 use Rattle.qs_restart.specs.declared.recovered.Recovered.{Recovered}
-use Rattle.qs_step.specs.Opening.{close_outcome, close_tid, closed_kept, is_left_open, new_manager, opened_manager, opened_node, outcome_in_log, take_up}
+use Rattle.qs_step.specs.Opening.{close_outcome, close_tid, is_left_open, new_manager, opened_manager, opened_node, outcome_in_log, take_up}
 use Rattle.qs_step.specs.declared.setting.Setting.{Setting}
 use Rattle.qs_tm.specs.Manager as tm
 use Rattle.qs_tm.specs.Outcomes.{committed_before, voted_before}
 use Rattle.qs_tm.specs.Participant.{new_participant}
 use Rattle.qs_tm.specs.declared.manager.Manager.{Manager}
 use Rattle.qs_tm.specs.declared.participant.Participant.{Participant}
-use Rattle.qs_lawful.specs.NodeFacts.{AreHomed, AreLabels, HasFacts, HasNodeFacts, IsOf, IsPart, IsSetIn}
+use Rattle.qs_lawful.specs.NodeFacts.{AreHomed, HasNodeFacts, IsOf, IsPart, IsSetIn}
 use Rattle.qs_lawful.proofs.Apart.{Apart, same_or_apart}
 use Rattle.qs_lawful.proofs.Faces.{put_apart}
 use Rattle.qs_lawful.proofs.FactsKept.{each_changed, room_on}
 use Rattle.qs_lawful.proofs.Marks.{changed_rises, put_there}
-use Rattle.qs_lawful.proofs.Truths.{clash, left_true, of_some, right_true, same_self}
+use Rattle.qs_lawful.proofs.Truths.{clash, of_some, same_self}
 
 -- ---- what is taken up from the log
 

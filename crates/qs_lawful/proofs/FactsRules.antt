@@ -1,5 +1,5 @@
 -- What holds of a node by itself through its rules: messages, answers, records, requests and replies, serving, notices and decisions.
-use Rattle.std.proofs.Common.{◌≡◌, ℕ, ◌==◌, Bool, true, false, List, [], ◌∷◌, ◌++◌, fold, Option, Some, None, refl, sym, ap, subst, ◌∙◌}
+use Rattle.std.proofs.Common.{◌≡◌, ℕ, Bool, true, false, List, [], ◌∷◌, ◌++◌, fold, Option, Some, None, refl, sym, subst}
 use Rattle.std.specs.BTreeMap.{is_at}
 use Rattle.std.specs.Map.{lookup, remove_entry}
 use Rattle.std.specs.Prelude.{not, ◌&&◌, is_none, if◌then◌else◌}
@@ -30,11 +30,11 @@ use Rattle.qs_packet.specs.declared.message.Message.TheVariants as messages
 use Rattle.qs_record.specs.declared.record.Record.{Record}
 use Rattle.qs_servers.specs.Servers.{client_of, is_client}
 use Rattle.qs_step.specs.Asking.{ask_came, asked_by, become_asked, block, closer_came, count, pass_unknown, refusal_came, where_undecided}
-use Rattle.qs_step.specs.Bringing.{answer, enter, log, log_if, member_here, send, send_each, tid_of}
+use Rattle.qs_step.specs.Bringing.{answer, enter, log_if, member_here, send, send_each, tid_of}
 use Rattle.qs_step.specs.Deciding.{decide, decide_commit, due_endings, end_member, end_members, give_notices, keep_outcome, learn_member, learn_members, learners_at}
 use Rattle.qs_step.specs.Requests as requests
 use Rattle.qs_step.specs.Requests.{answer_issuer, ask_on, enqueue, enter_issue, is_asked, issue, issue_as, issue_away, issue_here, label_of, next_number, reply_came, take_reply, waits_as, with_local}
-use Rattle.qs_step.specs.Serving.{cover_from, engage, enter_serve, give_reply, is_dropped, label_at, learn_label, lent_to, make_loan, may_serve, met, put_label, reply_here, request_came, serve, serve_all, serve_next, serve_or_drop, take_in}
+use Rattle.qs_step.specs.Serving.{cover_from, engage, enter_serve, is_dropped, label_at, learn_label, lent_to, make_loan, may_serve, met, put_label, reply_here, request_came, serve, serve_all, serve_next, serve_or_drop, take_in}
 use Rattle.qs_step.specs.State.{Work, change_server, client_cmp, here, part_of, with_doings, with_manager, with_queues}
 use Rattle.qs_step.specs.declared.state.OpenCommand.{OpenCommand}
 use Rattle.qs_tm.specs.Manager as tm
@@ -47,7 +47,7 @@ use Rattle.qs_tm.specs.declared.participant.Participant.{Participant}
 use Rattle.std.specs.Prelude.{is_none}
 use Rattle.qs_lawful.specs.NodeFacts.{HasFacts, HasNodeFacts, IsCommand}
 use Rattle.qs_lawful.proofs.Asking.{sent_each_node, sent_node}
-use Rattle.qs_lawful.proofs.FactsKept.{IsQuiet, abort_facts, meet_facts, outcome_facts, quiet_facts}
+use Rattle.qs_lawful.proofs.FactsKept.{IsQuiet, meet_facts, quiet_facts}
 use Rattle.qs_lawful.proofs.FactsLabelled.{commands_facts, decide_facts, every_removed, label_facts}
 use Rattle.qs_lawful.proofs.FactsQuiet.{ask_quiet, cause_quiet, counted_quiet, dropped_quiet, issued_quiet, logged_quiet, noted_quiet, refused_quiet, requested_quiet, sent_quiet, served_quiet, settled_quiet}
 

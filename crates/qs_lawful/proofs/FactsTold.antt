@@ -1,73 +1,37 @@
 -- What holds of a node by itself as an outcome is told and taken in, and as nodes restart.
-use Rattle.std.proofs.Common.{nat_lt, ◌≡◌, ℕ, ◌==◌, Bool, true, false, List, [], ◌∷◌, ◌++◌, fold, Option, Some, None, refl, sym, ap, subst, ◌∙◌}
-use Rattle.std.specs.BTreeMap.{insert_entry, is_at}
+use Rattle.std.proofs.Common.{◌≡◌, ℕ, Bool, true, false, List, fold, Option, Some, None, refl, sym, subst, ◌∙◌}
 use Rattle.std.specs.List.{find, list_any}
-use Rattle.std.specs.Map.{lookup}
-use Rattle.std.specs.Prelude.{not, ◌&&◌, is_some, if◌then◌else◌}
+use Rattle.std.specs.Prelude.{not, ◌&&◌, if◌then◌else◌}
 use Rattle.qs_base.specs.declared.identifiers.ClientNo.{ClientNo}
-use Rattle.qs_base.specs.declared.identifiers.Member.{Member}
 use Rattle.qs_base.specs.declared.identifiers.NodeNo.{NodeNo}
 use Rattle.qs_base.specs.declared.identifiers.Outcome.{Outcome}
 use Rattle.qs_base.specs.declared.identifiers.Outcome.TheVariants as outcomes
-use Rattle.qs_base.specs.declared.identifiers.ServerNo.{ServerNo}
 use Rattle.qs_base.specs.declared.identifiers.Tid.{Tid}
-use Rattle.qs_engage.specs.Engage.{release_of}
 use Rattle.qs_engage.specs.Nodes.{listed, same_node}
 use Rattle.qs_ipc.specs.Ipc as ipc
-use Rattle.qs_ipc.specs.Queue.{is_for}
-use Rattle.qs_journal.specs.declared.entry.Act.TheVariants as acts
-use Rattle.qs_journal.specs.declared.script_line.Command.{Command}
-use Rattle.qs_journal.specs.declared.script_line.Command.TheVariants as commands
-use Rattle.qs_journal.specs.declared.script_line.ScriptLine.{ScriptLine}
 use Rattle.qs_kept.specs.Keeping.{has_label, is_outcome_of}
-use Rattle.qs_kept.specs.Loans.{first_untaken, give_back, last_taken, take_first}
 use Rattle.qs_kept.specs.declared.kept.Begun.{Begun}
-use Rattle.qs_ops.specs.Server.{changes_in, vote_of}
-use Rattle.qs_ops.specs.declared.answer.Answer.TheVariants as answers
-use Rattle.qs_ops.specs.declared.answer.Cause.{Cause}
 use Rattle.qs_ops.specs.declared.answer.Cause.TheVariants as causes
-use Rattle.qs_ops.specs.declared.operation.Op.{Op}
-use Rattle.qs_ops.specs.declared.operation.Op.TheVariants.{Note}
-use Rattle.qs_ops.specs.declared.vote.Vote.{Vote}
-use Rattle.qs_ops.specs.declared.vote.Vote.TheVariants as votes
-use Rattle.qs_packet.specs.declared.message.Message.{Message}
 use Rattle.qs_packet.specs.declared.message.Message.TheVariants as messages
 use Rattle.qs_record.specs.declared.record.Record.TheVariants as records
-use Rattle.qs_servers.specs.Servers.{audit_no, client_server, server_at}
-use Rattle.qs_step.specs.Answering.{answer_known, answer_unknown, inquiry_at_home, inquiry_came, kept_outcome, was_committed}
-use Rattle.qs_step.specs.Asking.{become_asked, block, where_undecided}
-use Rattle.qs_step.specs.Borrowing.{borrower_command, is_aborted, is_void, lent_command, loan_command, take, take_command, with_loan}
-use Rattle.qs_step.specs.Bringing.{answer, enter, log, log_if, send, send_each}
-use Rattle.qs_step.specs.Commands.{ask, begin_command, begin_or_refuse, decided_answer, enter_ask, open_command, owner_command, request_as, request_command, with_issued}
-use Rattle.qs_step.specs.Deciding.{decide, decide_commit, end_members, give_notices}
-use Rattle.qs_step.specs.Requests.{issue_as, next_number}
+use Rattle.qs_step.specs.Answering.{answer_known, answer_unknown, inquiry_at_home, inquiry_came, was_committed}
+use Rattle.qs_step.specs.Asking.{block}
+use Rattle.qs_step.specs.Bringing.{log, send}
+use Rattle.qs_step.specs.Deciding.{give_notices}
 use Rattle.qs_step.specs.Restarts.{begin_incarnation, find_gone, inquire, is_orphaned_by, known_tids, name_again, notice_decided, notice_part, notice_tid, peer_restarted, resume_home, resume_part, resume_tid, tell_again}
-use Rattle.qs_step.specs.Serving.{label_at, put_label}
-use Rattle.qs_step.specs.Settling.{answer_superior, due_tids, forget_rule, is_pass_due, is_quiet, may_answer, pass_rule, ready, ready_rule, refusal_goes_to, refuse_elsewhere, refuse_home, refuse_rule, say_yes, send_refusal, settle, settle_tid, try}
-use Rattle.qs_step.specs.State.{NodeValue, Work, client_cmp, doings_of, here, part_of, with_doings, with_kept, with_manager, with_node, with_queues}
-use Rattle.qs_step.specs.Step.{abort_old, age_rule, borrower_waits, command_came, happen, is_owner, labelled, message_came, obey, owner_waits, wait_command, wait_on, waits_at, with_command}
-use Rattle.qs_step.specs.Telling.{end_record, end_told, forget, is_other_node, keep_abort_told, learn, learn_unknown, names_at, record_learnt, take_names, take_outcome, take_told, tell_came, told_at_home, told_came, told_known, told_unknown}
-use Rattle.qs_step.specs.Voting.{change_count, due_votes, enter_vote, issue_note, log_vote, note_text, owes_note, served_count, vote_frame, vote_next, vote_pass, vote_with}
-use Rattle.qs_step.specs.declared.event.Event.{Event}
-use Rattle.qs_step.specs.declared.event.Event.TheVariants as events
-use Rattle.qs_step.specs.declared.state.Issued.{Issued}
-use Rattle.qs_step.specs.declared.state.OpenCommand.{OpenCommand}
+use Rattle.qs_step.specs.State.{Work, here, part_of, with_manager, with_node, with_queues}
+use Rattle.qs_step.specs.Telling.{end_told, is_other_node, keep_abort_told, learn, learn_unknown, names_at, record_learnt, take_names, take_outcome, tell_came, told_at_home, told_came, told_known, told_unknown}
 use Rattle.qs_tm.specs.Manager as tm
-use Rattle.qs_tm.specs.Members as rules
 use Rattle.qs_tm.specs.Outcomes as outcome_rules
 use Rattle.qs_tm.specs.Outcomes.{is_abort, is_told_again, named_by, told_with_own}
 use Rattle.qs_tm.specs.Participant as participant
 use Rattle.qs_tm.specs.Participant.{is_forgotten, is_owed_by, is_undecided}
-use Rattle.qs_tm.specs.declared.manager.BeginFault.{BeginFault}
-use Rattle.qs_tm.specs.declared.manager.BeginFault.TheVariants as faults
 use Rattle.qs_tm.specs.declared.participant.Participant.{Participant}
-use Rattle.qs_lawful.specs.GivenStep.{tick_work}
-use Rattle.qs_lawful.specs.NodeFacts.{HasFacts, HasNodeFacts, IsCommand}
-use Rattle.qs_lawful.proofs.FactsKept.{Commands, IsQuiet, abort_facts, forget_facts, outcome_facts, quiet_facts}
-use Rattle.qs_lawful.proofs.FactsLabelled.{begin_facts, commands_facts, every_put, every_set, label_facts}
-use Rattle.qs_lawful.proofs.FactsQuiet.{acknowledged_quiet, causes_quiet, names_quiet, released_quiet, restarted_quiet, tell_quiet, told_quiet, voted_quiet}
-use Rattle.qs_lawful.proofs.FactsRules.{Keeps, answer_keeps, ask_came_keeps, become_asked_keeps, block_keeps, closer_keeps, commit_keeps, decided_keeps, elim_keeps, ended_keeps, fold_keeps, if_keeps, issue_as_keeps, issue_keeps, log_if_keeps, noticed_keeps, part_keeps, refusal_keeps, reply_keeps, request_keeps, send_each_keeps, send_keeps, serve_all_keeps, undecided_keeps}
-use Rattle.qs_lawful.proofs.Truths.{clash, left_true, not_true, of_some, right_true, same_self}
+use Rattle.qs_lawful.specs.NodeFacts.{HasNodeFacts}
+use Rattle.qs_lawful.proofs.FactsKept.{abort_facts, forget_facts, outcome_facts, quiet_facts}
+use Rattle.qs_lawful.proofs.FactsQuiet.{acknowledged_quiet, names_quiet, restarted_quiet, tell_quiet, told_quiet}
+use Rattle.qs_lawful.proofs.FactsRules.{Keeps, block_keeps, elim_keeps, fold_keeps, if_keeps, log_if_keeps, noticed_keeps, part_keeps, send_each_keeps, send_keeps}
+use Rattle.qs_lawful.proofs.Truths.{of_some}
 
 -- ---- the outcome is told and taken in
 

@@ -1,41 +1,37 @@
 -- What comes to a node comes so from the world: a line from its client, and a message from a channel.
-use Rattle.std.proofs.Common.{◌≡◌, ◌⊎◌, inl, inr, ℕ, ◌+◌, ◌-◌, ◌==◌, ◌≤◌, Bool, true, false, List, [], ◌∷◌, ◌++◌, length, drop, Option, Some, None, zero, suc, refl, sym, ap, subst, ◌∙◌, arith, nat_lt, append_assoc}
+use Rattle.std.proofs.Common.{◌≡◌, inl, inr, ℕ, ◌+◌, ◌-◌, ◌==◌, ◌≤◌, Bool, true, false, List, [], ◌∷◌, ◌++◌, length, drop, Option, Some, None, zero, suc, refl, sym, ap, subst, ◌∙◌, arith, nat_lt, append_assoc}
 use Rattle.std.proofs.lemmas.Bool.Decides.{nat_tests}
 use Rattle.std.specs.BTreeMap.{is_at}
-use Rattle.std.specs.List.{flat_map, list_all}
+use Rattle.std.specs.List.{list_all}
 use Rattle.std.specs.Map.{lookup}
-use Rattle.std.specs.Prelude.{not, ◌&&◌, is_some, slice_get, if◌then◌else◌}
+use Rattle.std.specs.Prelude.{◌&&◌, slice_get, if◌then◌else◌}
 use Rattle.qs_base.proofs.Same.{same_tid-self}
 use Rattle.qs_base.specs.declared.identifiers.ClientNo.{ClientNo}
 use Rattle.qs_base.specs.declared.identifiers.Member.{Member}
 use Rattle.qs_base.specs.declared.identifiers.NodeNo.{NodeNo}
 use Rattle.qs_base.specs.declared.identifiers.ServerNo.{ServerNo}
 use Rattle.qs_base.specs.declared.identifiers.Tid.{Tid}
-use Rattle.qs_channels.specs.Channels.{Channels}
 use Rattle.qs_ipc.specs.Queue.{is_for}
 use Rattle.qs_journal.specs.declared.script_line.Command.{Command}
 use Rattle.qs_journal.specs.declared.script_line.Command.TheVariants as commands
 use Rattle.qs_journal.specs.declared.script_line.ScriptLine.{ScriptLine}
-use Rattle.qs_machine.specs.Book.{BookValue, find_transaction}
+use Rattle.qs_machine.specs.Book.{BookValue}
 use Rattle.qs_machine.specs.Clauses.{is_fresh}
-use Rattle.qs_machine.specs.Transaction.{TransactionValue}
 use Rattle.qs_ops.specs.declared.operation.Op.{Op}
 use Rattle.qs_packet.specs.declared.message.Message.{Message}
 use Rattle.qs_packet.specs.declared.message.Message.TheVariants as messages
-use Rattle.qs_step.specs.State.{NodeValue, client_cmp}
+use Rattle.qs_step.specs.State.{client_cmp}
 use Rattle.qs_step.specs.declared.state.OpenCommand.{OpenCommand}
-use Rattle.qs_world.specs.Moves.{client_count}
-use Rattle.qs_world.specs.Openings.{are_rising, has_label, is_command, is_in_run, is_line, labels_begun}
+use Rattle.qs_world.specs.Openings.{are_rising, is_command, is_in_run, is_line, labels_begun}
 use Rattle.qs_world.specs.Posting.{next_line, next_parcel}
-use Rattle.qs_world.specs.World.{Client, Opening, Parcel, World, inc_of, known_of}
+use Rattle.qs_world.specs.World.{Opening, Parcel, World, inc_of, known_of}
 use Rattle.qs_lawful.specs.Coming.{ComesBehind, ComesLine, ComesMessage}
 use Rattle.qs_lawful.specs.Face.{waiting_at}
-use Rattle.qs_lawful.specs.Holds.{IsBehind}
 use Rattle.qs_lawful.specs.Logs.{Every}
-use Rattle.qs_lawful.specs.Parcels.{GoesTo, HoldsChannels, HoldsWay, IsBetween, IsParcel, on_its_way, ops_of, pending, pending_from, way_between}
-use Rattle.qs_lawful.specs.Scripts.{AreBehind, HoldsClient, HoldsScripts, IsFresh}
+use Rattle.qs_lawful.specs.Parcels.{GoesTo, HoldsChannels, HoldsWay, IsParcel, on_its_way, ops_of, pending, pending_from, way_between}
+use Rattle.qs_lawful.specs.Scripts.{HoldsClient, IsFresh}
 use Rattle.qs_lawful.specs.Waits.{IsWithin, standing_ops, waiting_ops}
-use Rattle.qs_lawful.proofs.Truths.{both_true, clash, left_true, node_is, number_is, of_some, right_true}
+use Rattle.qs_lawful.proofs.Truths.{clash, left_true, node_is, number_is, of_some, right_true}
 
 -- ---- lists
 

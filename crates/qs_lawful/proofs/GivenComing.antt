@@ -1,32 +1,25 @@
 -- What an event is given, from what stands as it comes, from where it comes from, and from what the agreement protocol gives of it.
-use Rattle.std.proofs.Common.{◌≡◌, ℕ, ◌==◌, ◌≤◌, Bool, true, false, List, [], ◌∷◌, ◌++◌, Option, Some, None, refl, sym, ap, subst, ◌∙◌, arith, nat_lt}
+use Rattle.std.proofs.Common.{◌≡◌, ℕ, ◌==◌, true, false, Option, Some, None, refl, sym, ap, subst, ◌∙◌, arith, nat_lt}
 use Rattle.std.proofs.lemmas.Bool.Decides.{nat_tests}
-use Rattle.std.specs.List.{list_any}
 use Rattle.std.specs.Prelude.{is_some}
-use Rattle.qs_base.specs.declared.identifiers.Member.{Member}
 use Rattle.qs_base.specs.declared.identifiers.NodeNo.{NodeNo}
 use Rattle.qs_base.specs.declared.identifiers.Outcome.{Outcome}
 use Rattle.qs_base.specs.declared.identifiers.Outcome.TheVariants as outcomes
-use Rattle.qs_base.specs.declared.identifiers.ServerNo.{ServerNo}
 use Rattle.qs_base.specs.declared.identifiers.Tid.{Tid}
-use Rattle.qs_engage.specs.Engage.{peer_of}
 use Rattle.qs_engage.specs.Nodes.{same_node}
 use Rattle.qs_machine.specs.Book.{BookValue, cell_of_transaction, find_transaction}
 use Rattle.qs_machine.specs.Transaction.{TransactionValue, cell_of, is_abort, is_outcome}
 use Rattle.qs_machine.specs.declared.transaction.Cell.{Cell}
 use Rattle.qs_machine.specs.declared.transaction.Cell.TheVariants as cells
-use Rattle.qs_ops.specs.declared.operation.Op.{Op}
 use Rattle.qs_packet.specs.declared.message.Message.{Message}
 use Rattle.qs_packet.specs.declared.message.Message.TheVariants as messages
 use Rattle.qs_step.specs.Answering.{was_committed}
 use Rattle.qs_step.specs.State.{NodeValue, Work}
-use Rattle.qs_step.specs.Telling.{is_other_node}
 use Rattle.qs_tm.specs.Manager as tm
-use Rattle.qs_tm.specs.declared.participant.Participant.{Participant}
 use Rattle.qs_lawful.specs.Agreed.{AgreesMessage, WasSent}
 use Rattle.qs_lawful.specs.Coming.{ComesMessage}
 use Rattle.qs_lawful.specs.Entering.{IsAborted, book_at}
-use Rattle.qs_lawful.specs.GivenStep.{IsCell, IsGoneAborted, MayArrive, MayBeAsked, MayCome, MayCount}
+use Rattle.qs_lawful.specs.GivenStep.{IsCell, MayArrive, MayCome, MayCount}
 use Rattle.qs_lawful.specs.Logged.{HasAborted, HasOutcome}
 use Rattle.qs_lawful.specs.Standing.{Stands}
 use Rattle.qs_lawful.proofs.GivenServing.{may_reply}

@@ -1,6 +1,5 @@
 -- A reply may come: each note that was served stays noted, or is still waited for, since no two requests wait under one number.
-use Rattle.std.proofs.Common.{◌≡◌, ◌⊎◌, inl, inr, ℕ, ◌==◌, ◌≤◌, Bool, true, false, List, [], ◌∷◌, ◌++◌, Option, Some, None, refl, sym, ap, subst, ◌∙◌, arith}
-use Rattle.std.proofs.lemmas.Bool.Decides.{nat_tests}
+use Rattle.std.proofs.Common.{◌≡◌, ◌⊎◌, inl, inr, ℕ, ◌==◌, Bool, true, false, List, [], ◌∷◌, Some, refl, sym, ap, subst, ◌∙◌}
 use Rattle.std.proofs.lemmas.List.Folds.{list_any-append}
 use Rattle.std.specs.List.{filter, find, list_any}
 use Rattle.std.specs.Prelude.{not, ◌&&◌, ◌||◌, if◌then◌else◌}
@@ -9,8 +8,7 @@ use Rattle.qs_base.specs.Order.{same_member}
 use Rattle.qs_base.specs.declared.identifiers.Member.{Member}
 use Rattle.qs_base.specs.declared.identifiers.NodeNo.{NodeNo}
 use Rattle.qs_base.specs.declared.identifiers.Tid.{Tid}
-use Rattle.qs_machine.specs.Clauses.{note_text}
-use Rattle.qs_machine.specs.Transaction.{TransactionValue, has_note}
+use Rattle.qs_machine.specs.Transaction.{TransactionValue}
 use Rattle.qs_tm.specs.Participant.{awaits_note, drop_waiting, has_noted, is_answered_by, is_by_files, is_count, note_served, waiting_for}
 use Rattle.qs_tm.specs.declared.participant.Outstanding.{Outstanding}
 use Rattle.qs_tm.specs.declared.participant.Participant.{Participant}

@@ -1,10 +1,8 @@
 -- What serving is given: a note that is served is waited for, and so is the reply where it was issued here.
 use Rattle.std.proofs.Common.{◌≡◌, ◌⊎◌, inl, inr, ℕ, ◌+◌, ◌==◌, ◌≤◌, Bool, true, false, List, [], ◌∷◌, ◌++◌, Option, Some, None, refl, sym, ap, subst, ◌∙◌}
 use Rattle.std.specs.List.{list_any}
-use Rattle.std.specs.Map.{lookup}
 use Rattle.std.specs.BTreeMap.{is_at}
-use Rattle.std.specs.Prelude.{◌||◌, nat_lt, slice_get, if◌then◌else◌}
-use Rattle.qs_base.specs.Order.{tid_cmp}
+use Rattle.std.specs.Prelude.{◌||◌, if◌then◌else◌}
 use Rattle.qs_base.specs.declared.identifiers.ClientNo.{ClientNo}
 use Rattle.qs_base.specs.declared.identifiers.Member.{Member}
 use Rattle.qs_base.specs.declared.identifiers.NodeNo.{NodeNo}
@@ -33,10 +31,9 @@ use Rattle.qs_tm.specs.Manager as tm
 use Rattle.qs_tm.specs.Members.{class_here, is_told_class}
 use Rattle.qs_tm.specs.Participant as participant
 use Rattle.qs_tm.specs.Participant.{awaits_note, has_noted, is_count, member_of, waiting_for}
-use Rattle.qs_tm.specs.declared.participant.Outstanding.{Outstanding}
 use Rattle.qs_tm.specs.declared.participant.Participant.{Participant}
-use Rattle.qs_lawful.specs.Beside.{HoldsNotes, HoldsPart, awaits_count, has_issued, has_note_in, is_note_with}
-use Rattle.qs_lawful.specs.Entering.{HoldsWork, book_at}
+use Rattle.qs_lawful.specs.Beside.{HoldsNotes, awaits_count, has_issued, has_note_in, is_note_with}
+use Rattle.qs_lawful.specs.Entering.{book_at}
 use Rattle.qs_lawful.specs.Face.{at_server}
 use Rattle.qs_lawful.specs.Given.{AreNoted, MayReply, MayServe, replied}
 use Rattle.qs_lawful.specs.NodeFacts.{AreApart}

@@ -1,36 +1,34 @@
 -- What settling a transaction is given, from what stands at each of its stages and from what the agreement protocol gives.
-use Rattle.std.proofs.Common.{length-append, ◌≡◌, ◌≢◌, ℕ, ◌==◌, ◌+◌, ◌<◌, ◌≤◌, Bool, true, false, List, [], ◌∷◌, ◌++◌, length, fold, suc, Option, Some, None, refl, sym, ap, subst, ◌∙◌, arith, nat_lt}
+use Rattle.std.proofs.Common.{length-append, ◌≡◌, ℕ, ◌==◌, ◌+◌, ◌<◌, ◌≤◌, Bool, true, false, List, [], ◌∷◌, ◌++◌, length, fold, suc, Option, Some, None, refl, sym, ap, subst, ◌∙◌, arith, nat_lt}
 use Rattle.std.proofs.lemmas.Bool.Decides.{nat_tests}
 use Rattle.std.specs.List.{list_any}
-use Rattle.std.specs.Prelude.{not, ◌&&◌, ◌||◌, is_some, nat_le, slice_get, if◌then◌else◌}
-use Rattle.qs_base.specs.declared.identifiers.ClientNo.{ClientNo}
+use Rattle.std.specs.Prelude.{not, ◌&&◌, ◌||◌, slice_get, if◌then◌else◌}
 use Rattle.qs_base.specs.declared.identifiers.NodeNo.{NodeNo}
 use Rattle.qs_base.specs.declared.identifiers.Tid.{Tid}
 use Rattle.qs_engage.specs.Nodes.{all_nodes, has_node, is_no_node, listed, same_node, with_listed}
 use Rattle.qs_engage.specs.declared.nodes.Nodes.{Nodes}
-use Rattle.qs_machine.specs.Book.{BookValue, find_transaction}
+use Rattle.qs_machine.specs.Book.{BookValue}
 use Rattle.qs_machine.specs.Nodes as machine
 use Rattle.qs_machine.specs.Transaction.{TransactionValue, has_refusal, is_commit, is_unanimous}
 use Rattle.qs_machine.specs.Clauses.{has_no_record, is_gone_cause}
 use Rattle.qs_ops.specs.declared.answer.Cause.{Cause}
 use Rattle.qs_ops.specs.declared.answer.Cause.TheVariants as causes
-use Rattle.qs_step.specs.Settling.{forget_rule, is_pass_due, is_quiet, may_answer, pass_rule, ready_rule, refuse_rule, settle_tid, try}
-use Rattle.qs_step.specs.State.{NodeValue, Work, doings_of}
+use Rattle.qs_step.specs.State.{NodeValue, Work}
 use Rattle.qs_tm.specs.Manager as tm
 use Rattle.qs_tm.specs.Outcomes as outcome_rules
 use Rattle.qs_tm.specs.Participant.{is_forgotten}
 use Rattle.qs_tm.specs.declared.participant.Participant.{Participant}
 use Rattle.qs_world.specs.Openings.{is_audit}
-use Rattle.qs_lawful.specs.Agreed.{AgreementGives, IsSettledAll, IsUndone, node_in}
-use Rattle.qs_lawful.specs.Beside.{HoldsBeside, HoldsPart, IsTrueCause, is_committed_at}
-use Rattle.qs_lawful.specs.Entering.{HoldsWork, book_at}
+use Rattle.qs_lawful.specs.Agreed.{IsSettledAll, IsUndone}
+use Rattle.qs_lawful.specs.Beside.{IsTrueCause, is_committed_at}
+use Rattle.qs_lawful.specs.Entering.{book_at}
 use Rattle.qs_lawful.specs.Face.{face_of, part_or_new}
 use Rattle.qs_lawful.specs.Holds.{HoldsNode, HoldsTid}
 use Rattle.qs_lawful.proofs.Clauses.{of_tid}
 use Rattle.qs_lawful.proofs.Truths.{both_true, clash, left_true, node_is, number_is, not_false, not_true, of_some, right_true}
 use Rattle.qs_lawful.proofs.Unanimity.{unanimous}
-use Rattle.qs_lawful.specs.Given.{HasCause, IsUncommitted, MayCommit, MayDecide, MayForget, MayPass, MaySettle}
-use Rattle.qs_lawful.specs.NodeFacts.{HasNodeFacts, IsPart}
+use Rattle.qs_lawful.specs.Given.{HasCause, IsUncommitted, MayCommit, MayDecide, MayForget, MayPass}
+use Rattle.qs_lawful.specs.NodeFacts.{IsPart}
 use Rattle.qs_lawful.specs.Standing.{Stands, StandsBy}
 
 -- the Commit's need stands between those of a Commit that names nobody and of one that names all nodes

@@ -1,23 +1,22 @@
 -- Each transaction is settled with what it is given, at each stage of the fold: by what stands there, and by what the protocol gives there.
-use Rattle.std.proofs.Common.{◌≡◌, ℕ, Bool, true, false, List, [], ◌∷◌, Option, Some, None, refl, sym, ap, subst, ◌∙◌, fold}
-use Rattle.std.specs.Prelude.{not, ◌&&◌, is_none, slice_get}
+use Rattle.std.proofs.Common.{◌≡◌, ℕ, Bool, true, false, List, [], ◌∷◌, Some, None, refl, subst, fold}
+use Rattle.std.specs.Prelude.{not, ◌&&◌}
 use Rattle.qs_base.specs.declared.identifiers.Tid.{Tid}
 use Rattle.qs_engage.specs.Engage.{is_passive}
-use Rattle.qs_engage.specs.Nodes.{is_no_node}
 use Rattle.qs_machine.specs.Book.{BookValue, find_transaction}
 use Rattle.qs_machine.specs.Transaction.{TransactionValue}
 use Rattle.qs_ops.specs.declared.answer.Cause.{Cause}
-use Rattle.qs_step.specs.Settling.{due_tids, forget_rule, is_busy, is_pass_due, is_quiet, may_answer, pass_rule, ready_rule, refuse_rule, settle_tid, try}
+use Rattle.qs_step.specs.Settling.{forget_rule, is_busy, is_quiet, may_answer, pass_rule, ready_rule, refuse_rule, settle_tid, try}
 use Rattle.qs_step.specs.State.{NodeValue, Work, doings_of}
 use Rattle.qs_tm.specs.Manager as tm
-use Rattle.qs_tm.specs.Participant.{all_agree, is_forgotten, is_undecided, needs_pass, only_read}
+use Rattle.qs_tm.specs.Participant.{all_agree, is_forgotten, is_undecided, needs_pass}
 use Rattle.qs_tm.specs.declared.participant.Participant.{Participant}
 use Rattle.qs_lawful.specs.Agreed.{AgreementGives}
 use Rattle.qs_lawful.specs.Beside.{IsTrueCause}
 use Rattle.qs_lawful.specs.Entering.{HoldsWork, book_at}
 use Rattle.qs_lawful.specs.Given.{AtEach, HasCause, MayCommit, MayDecide, MaySettle}
 use Rattle.qs_lawful.specs.Logs.{Every}
-use Rattle.qs_lawful.specs.Standing.{KeepsStanding, Stands, StandsBy}
+use Rattle.qs_lawful.specs.Standing.{KeepsStanding, Stands}
 use Rattle.qs_lawful.proofs.GivenSettling.{has_cause, may_commit, may_decide, may_forget, may_pass}
 use Rattle.qs_lawful.proofs.LearningAll.{stands}
 use Rattle.qs_lawful.proofs.PassingAll.{by_pass_rule}

@@ -1,13 +1,13 @@
 -- What a client's command is given, as it comes and while it waits: what a client here owns runs here, what is lent here is known and not
 -- committed, and a request fits the run.
-use Rattle.std.proofs.Common.{◌≡◌, ◌⊎◌, inl, inr, ℕ, ◌==◌, ◌<◌, ◌≤◌, Bool, true, false, List, [], ◌∷◌, length, Option, Some, None, Less, Equal, Greater, refl, sym, ap, subst, ◌∙◌, arith, nat_lt}
+use Rattle.std.proofs.Common.{◌≡◌, ℕ, ◌==◌, Bool, true, false, List, [], ◌∷◌, Option, Some, None, Less, Equal, Greater, refl, sym, ap, subst, ◌∙◌, arith, nat_lt}
 use Rattle.std.proofs.lemmas.Bool.Decides.{nat_tests}
 use Rattle.std.proofs.lemmas.Map.Lookups.{exact_unsigned}
 use Rattle.std.specs.BTreeMap.{is_at}
 use Rattle.std.specs.List.{list_any}
 use Rattle.std.specs.Map.{lookup}
 use Rattle.std.specs.Ordering.{nat_cmp}
-use Rattle.std.specs.Prelude.{not, ◌&&◌, ◌||◌, is_some, nat_le, if◌then◌else◌}
+use Rattle.std.specs.Prelude.{not, ◌||◌, is_some, if◌then◌else◌}
 use Rattle.std.specs.declared.cmp.Ordering.{Ordering}
 use Rattle.qs_base.proofs.Same.{same_tid-true, same_tid-self}
 use Rattle.qs_base.specs.Order.{same_tid}
@@ -17,7 +17,6 @@ use Rattle.qs_base.specs.declared.identifiers.NodeNo.{NodeNo}
 use Rattle.qs_base.specs.declared.identifiers.Tid.{Tid}
 use Rattle.qs_engage.specs.Nodes.{same_node}
 use Rattle.qs_ipc.specs.Queue.{is_for}
-use Rattle.qs_journal.specs.declared.script_line.Command.TheVariants as commands
 use Rattle.qs_journal.specs.declared.script_line.ScriptLine.{ScriptLine}
 use Rattle.qs_kept.specs.Loans.{is_loan_of, is_standing_loan, is_taken, last_taken}
 use Rattle.qs_kept.specs.declared.kept.Begun.{Begun}
@@ -25,7 +24,7 @@ use Rattle.qs_kept.specs.declared.kept.Lent.{Lent}
 use Rattle.qs_machine.specs.Book.{BookValue}
 use Rattle.qs_ops.specs.declared.operation.Op.{Op}
 use Rattle.qs_step.specs.Answering.{kept_outcome}
-use Rattle.qs_step.specs.Borrowing.{is_aborted, is_void}
+use Rattle.qs_step.specs.Borrowing.{is_aborted}
 use Rattle.qs_step.specs.Serving.{label_at}
 use Rattle.qs_step.specs.Settling.{is_lent}
 use Rattle.qs_step.specs.State.{NodeValue, Work, client_cmp}
@@ -35,12 +34,12 @@ use Rattle.qs_tm.specs.declared.participant.Participant.{Participant}
 use Rattle.qs_lawful.specs.Agreed.{AreLentUndone}
 use Rattle.qs_lawful.specs.Coming.{ComesLine}
 use Rattle.qs_lawful.specs.Entering.{book_at}
-use Rattle.qs_lawful.specs.GivenStep.{IsLentHere, IsLentTo, IsOfNow, IsUndecidedOfNow, MayCommand, MayRequest, MayWait}
+use Rattle.qs_lawful.specs.GivenStep.{IsLentHere, IsLentTo, IsUndecidedOfNow, MayCommand, MayRequest, MayWait}
 use Rattle.qs_lawful.specs.Logs.{Every}
-use Rattle.qs_lawful.specs.NodeFacts.{IsCommand, IsPart, IsRunning}
+use Rattle.qs_lawful.specs.NodeFacts.{IsCommand, IsRunning}
 use Rattle.qs_lawful.specs.Standing.{StandsBy}
 use Rattle.qs_lawful.proofs.GivenSettling.{uncommitted}
-use Rattle.qs_lawful.proofs.Truths.{both_true, clash, left_true, node_is, not_true, not_false, number_is, of_some, right_true}
+use Rattle.qs_lawful.proofs.Truths.{left_true, of_some, right_true}
 
 -- ---- loans
 

@@ -1,5 +1,5 @@
 -- A whole step is given what it needs, from what stands as its event comes and from what the agreement protocol gives at each stage.
-use Rattle.std.proofs.Common.{◌≡◌, ℕ, true, false, List, [], ◌∷◌, Option, Some, None, refl, map, nat_lt, fold}
+use Rattle.std.proofs.Common.{◌≡◌, ℕ, true, List, [], ◌∷◌, refl, map, nat_lt}
 use Rattle.qs_base.specs.declared.identifiers.ClientNo.{ClientNo}
 use Rattle.qs_base.specs.declared.identifiers.ServerNo.{ServerNo}
 use Rattle.qs_base.specs.declared.identifiers.Tid.{Tid}
@@ -8,15 +8,15 @@ use Rattle.qs_machine.specs.Book.{BookValue}
 use Rattle.qs_step.specs.Serving.{serve_next}
 use Rattle.qs_step.specs.Settling.{due_tids, settle, settle_tid}
 use Rattle.qs_step.specs.State.{NodeValue, Work}
-use Rattle.qs_step.specs.Step.{happen, wait_on, waiting_clients}
+use Rattle.qs_step.specs.Step.{wait_on, waiting_clients}
 use Rattle.qs_step.specs.declared.event.Event.{Event}
 use Rattle.qs_step.specs.declared.event.Event.TheVariants as events
 use Rattle.qs_step.specs.declared.state.OpenCommand.{OpenCommand}
-use Rattle.qs_lawful.specs.Agreed.{AgreementGives, AgreesEvent, AreLentUndone, StepAgrees}
+use Rattle.qs_lawful.specs.Agreed.{AgreementGives, AgreesEvent, AreLentUndone}
 use Rattle.qs_lawful.specs.Coming.{ComesTo}
 use Rattle.qs_lawful.specs.Entering.{HoldsWork, book_at}
 use Rattle.qs_lawful.specs.Given.{AtEach, MayServe, MaySettle}
-use Rattle.qs_lawful.specs.GivenStep.{MayAge, MayHappen, MayStep, MayWait, done_work, first_work, tick_work}
+use Rattle.qs_lawful.specs.GivenStep.{MayHappen, MayStep, MayWait, done_work, first_work}
 use Rattle.qs_lawful.specs.Logs.{Every}
 use Rattle.qs_lawful.specs.NodeFacts.{IsCommand}
 use Rattle.qs_lawful.specs.Standing.{CanCount, Stands}

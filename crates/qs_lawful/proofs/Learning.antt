@@ -203,7 +203,7 @@ module _ (stamp : ℕ) (before : BookValue) (work : Work) (tid : Tid) (server : 
 
     ended_own : HoldsMember ended_tx member inc (told_all (member_of part server))
     ended_own = record {
-      covers = rw ended_is (held.members refl server kept).covers;
+      covers = λ two. rw ended_is ((held.members refl server kept).covers two);
       voted = subst (λ (p : Part). p.voted ≤ p.served) (sym ended_is) (held.members refl server kept).voted;
       votes = λ two. absurd (no_voter (class_of server.0) immediate two);
       learns = λ told. absurd (no_learner (class_of server.0) immediate told);

@@ -156,3 +156,6 @@ pub mod FactsTold
 pub mod FactsStages
 pub mod FactsOpened
 pub mod TriedWorldRuns
+pub mod HomesStand
+pub mod StandsOn
+pub mod TriedStageRuns

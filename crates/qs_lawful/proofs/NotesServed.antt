@@ -1,5 +1,5 @@
 -- Notes of files as requests are served: what was issued stays so, and what counts as served was issued.
-use Rattle.std.proofs.Common.{◌≡◌, ◌⊎◌, inl, inr, ℕ, ◌==◌, ◌≤◌, Bool, true, false, List, [], ◌∷◌, Option, Some, None, Less, Equal, Greater, refl, sym, ap, subst, ◌∙◌, arith}
+use Rattle.std.proofs.Common.{◌≡◌, ◌⊎◌, inl, inr, ℕ, ◌==◌, Bool, true, false, List, [], ◌∷◌, Option, Some, None, Less, Equal, Greater, refl, sym, ap, subst, ◌∙◌, arith}
 use Rattle.std.proofs.lemmas.Bool.Decides.{nat_tests}
 use Rattle.std.proofs.lemmas.Map.Lookups.{exact_bytes, exact_unsigned, exact_pairs}
 use Rattle.std.specs.BTreeMap.{is_at}
@@ -7,13 +7,12 @@ use Rattle.std.specs.BTreeSet.{insert_key}
 use Rattle.std.specs.List.{find, list_any}
 use Rattle.std.specs.Map.{lookup, set_value}
 use Rattle.std.specs.Ordering.{nat_cmp, ordering_then}
-use Rattle.std.specs.Prelude.{not, ◌&&◌, ◌||◌, unwrap_or, if◌then◌else◌}
+use Rattle.std.specs.Prelude.{◌||◌, unwrap_or, if◌then◌else◌}
 use Rattle.std.specs.declared.cmp.Ordering.{Ordering}
 use Rattle.qs_base.proofs.Same.{same_bytes-self}
-use Rattle.qs_base.specs.Order.{bytes_cmp, same_bytes}
+use Rattle.qs_base.specs.Order.{bytes_cmp}
 use Rattle.qs_base.specs.declared.identifiers.Member.{Member}
 use Rattle.qs_base.specs.declared.identifiers.NodeNo.{NodeNo}
-use Rattle.qs_machine.specs.Clauses.{is_note}
 use Rattle.qs_machine.specs.Transaction.{TransactionValue, changed_value, has_note, is_by_files, is_standing, mark_served, note_of, noted_cmp, request_cmp, requests_at, requests_in, served_in, standing_request, with_note, with_note_of}
 use Rattle.qs_machine.specs.declared.transaction.Noted.{Noted}
 use Rattle.qs_machine.specs.declared.transaction.Request.{Request}
@@ -21,7 +20,7 @@ use Rattle.qs_machine.specs.declared.transaction.RequestNo.{RequestNo}
 use Rattle.qs_ops.specs.declared.operation.Op.{Op}
 use Rattle.qs_ops.specs.declared.operation.Op.TheVariants as ops
 use Rattle.qs_lawful.specs.Beside.{has_issued, has_note_in, is_note_by}
-use Rattle.qs_lawful.proofs.Truths.{both_true, of_some}
+use Rattle.qs_lawful.proofs.Truths.{of_some}
 
 -- ---- keys
 

@@ -25,7 +25,7 @@ use Rattle.qs_lawful.proofs.Keys.{KeyApart, same_key_or, life_exact, life_itself
 pub member_like : (tx now : TransactionValue) (member : Member) (inc : ℕ) (m : MemberPart) → part_of now member inc ≡ part_of tx member inc
     → ((served covers : ℕ) → list_any (is_start member inc served covers) now.starts ≡ list_any (is_start member inc served covers) tx.starts) → HoldsMember tx member inc m → HoldsMember now member inc m
 member_like tx now member inc m same starts h = record {
-  covers = rw same (covers_on (part_of tx member inc) h.covers);
+  covers = λ two. rw same (covers_on (part_of tx member inc) (h.covers two));
   voted = subst (λ (p : Part). p.voted ≤ p.served) (sym same) h.voted;
   votes = λ two. subst (λ (p : Part). HoldsVoter p m) (sym same) (h.votes two);
   learns = λ told. ap may_learn_still same ∙ h.learns told;

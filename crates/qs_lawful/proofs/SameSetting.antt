@@ -174,7 +174,7 @@ serve_same server delivery reply work = given ∙ (loan_same delivery.tid (lent_
         (reply_same delivery.tid (member_here work server) delivery.number reply lent)
         (if_same delivery.stale lent (send delivery.from (messages.Answered delivery.tid (member_here work server) delivery.number reply) lent) lent refl (send_same delivery.from (messages.Answered delivery.tid (member_here work server) delivery.number reply) lent))
 
-serve_next_same : (work : Work) (server : ServerNo) → IsSame work (serve_next work server)
+pub serve_next_same : (work : Work) (server : ServerNo) → IsSame work (serve_next work server)
 serve_next_same work server = elim_same (ipc.next server work.node.queues) work (λ delivery. serve_or_drop server delivery left) work refl
     (λ delivery. if_same (may_serve delivery.tid left) (elim (reply_here server delivery.tid delivery.op left.node) [ None ↦ left | Some reply ↦ serve server delivery reply left ]) left left
     (elim_same (reply_here server delivery.tid delivery.op left.node) left (λ reply. serve server delivery reply left) left refl (λ reply. serve_same server delivery reply left)) refl)

@@ -151,17 +151,17 @@ vote_next_same tid work server = if_same (owes_note tid server work) (issue_note
     logged votes.Volatile = refl
     logged votes.Recoverable = refl
 
-pass_same : (tid : Tid) (work : Work) → IsSame work (vote_pass tid work)
+pub pass_same : (tid : Tid) (work : Work) → IsSame work (vote_pass tid work)
 pass_same tid work = fold_same (vote_next tid) (vote_next_same tid) (due_votes tid work) (end_members tid work) ∙ ended_same tid work
 
-ready_same : (tid : Tid) (part : Participant) (work : Work) → IsSame work (ready_rule tid part work)
+pub ready_same : (tid : Tid) (part : Participant) (work : Work) → IsSame work (ready_rule tid part work)
 ready_same tid part work = if_same (may_answer tid part work) (ready tid part work) work work
     (if_same part.engage.home (if is_quiet (doings_of tid work) then decide_commit tid work else work) (answer_superior tid part work) work
     (if_same (is_quiet (doings_of tid work)) (decide_commit tid work) work work (commit_same tid work) refl)
     (elim_same (release_of part.engage) work (λ superior. say_yes tid part superior work) work refl
     (λ superior. send_same superior.0 (messages.VotedYes tid superior.1 (listed (told_with_own (here work) part))) (with_manager (tm.released tid) work)))) refl
 
-refuse_same : (tid : Tid) (part : Participant) (work : Work) → IsSame work (refuse_rule tid part work)
+pub refuse_same : (tid : Tid) (part : Participant) (work : Work) → IsSame work (refuse_rule tid part work)
 refuse_same tid part work = if_same part.engage.home (refuse_home tid part work) (refuse_elsewhere tid part work) work (first part.causes)
     (fold_same (send_refusal tid (refusal_goes_to tid part)) (λ w cause. send_same (refusal_goes_to tid part) (messages.VotedAbort tid cause) w) part.causes (with_manager (tm.take_causes tid) work))
   where
@@ -187,7 +187,7 @@ settle_tid_same work tid =
 
 -- ---- commands that stayed open
 
-wait_same : (work : Work) (client : ClientNo) → IsSame work (wait_on work client)
+pub wait_same : (work : Work) (client : ClientNo) → IsSame work (wait_on work client)
 wait_same work client = elim_same (lookup (is_at (client_cmp client)) work.node.commands) work (λ command. wait_command client command work) work refl
     (λ command. elim_same (label_at command.line.label work.node) work (λ begun. waits_at client command begun work) work refl
     (λ begun. if_same (is_owner client begun.owner) (owner_waits client begun.tid command.line.command work) (borrower_waits client command.issued begun.tid command.line.command work) work
@@ -220,7 +220,7 @@ age_same : (age : Option ℕ) (work : Work) → IsSame work (age_rule age work)
 age_same None work = refl
 age_same (Some age) work = fold_same (abort_old age) (λ w tid. decided_same tid outcomes.Abort (Some (causes.Old age)) w) (tm.aged age work.node.manager) work
 
-happen_same : (event : Event) (work : Work) → IsSame work (happen event work)
+pub happen_same : (event : Event) (work : Work) → IsSame work (happen event work)
 happen_same (events.Command client line label command) work = command_same (record { client = client; line = line; label = label; command = command }) work
 happen_same (events.Received peer message) work = message_same peer message work
 happen_same events.ServeAll work = serve_all_same work

@@ -136,7 +136,7 @@ module _ (at : RequestNo) (tx : TransactionValue) (member : Member) (inc stamp :
 
   pub served_member : (m : MemberPart) → HoldsMember tx member inc m → HoldsMember (served_in at member inc stamp done tx) member inc (one_more m)
   served_member m h = record {
-    covers = serve_covers m.served h.covers;
+    covers = λ two. serve_covers m.served (h.covers two);
     voted = rw (part_served, more_served (class_of member.server.0) stamp done (part_of tx member inc), same_voted (class_of member.server.0) stamp done (part_of tx member inc)) (up (part_of tx member inc) h.voted);
     votes = λ two. rw part_served (serve_votes (class_of member.server.0) stamp done (part_of tx member inc) m h.voted h.votes two);
     learns = λ told. rw part_served (serve_learns (class_of member.server.0) stamp done (part_of tx member inc) m h.voted h.votes told);

@@ -8,7 +8,7 @@ use Rattle.qs_world.specs.Faults.{both}
 use Rattle.qs_lawful.specs.Tried.{rich}
 use Rattle.qs_lawful.specs.TriedGiven.{midways_given, stages_given, timed, timed_ok}
 
-pub timers : (alloc : Global) → timed_ok (timed alloc) 0 50 ≡ false
+pub timers : (alloc : Global) → timed_ok (timed alloc) 0 50 ≡ true
 unfolding all_nodes all_servers digits
 timers alloc = refl
 

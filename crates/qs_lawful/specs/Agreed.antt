@@ -1,6 +1,6 @@
 -- What the agreement protocol gives a step, at each of its stages, in terms of the nodes alone: that something is not committed yet, that
 -- what is counted was sent, and that what is ready at its home is settled at all places.
-use Rattle.std.specs.Prelude.{◌≡◌, ℕ, ◌==◌, ◌≤◌, ⊤, true, false, List, Option, Some, None, nat_lt, if◌then◌else◌}
+use Rattle.std.specs.Prelude.{◌≡◌, ℕ, ◌==◌, ◌≤◌, ⊤, true, false, Some, None, nat_lt, if◌then◌else◌}
 use Rattle.qs_base.specs.declared.identifiers.ClientNo.{ClientNo}
 use Rattle.qs_base.specs.declared.identifiers.NodeNo.{NodeNo}
 use Rattle.qs_base.specs.declared.identifiers.Tid.{Tid}

@@ -1,12 +1,10 @@
 -- What comes to a node, as its client, its channels and its clock have it: a line of a well-formed script in its turn, a message that says
 -- what is so, and ages that no limit has reached.
-use Rattle.std.specs.Prelude.{◌≡◌, ℕ, ◌==◌, ⊤, true, false, ◌++◌, List, [], ◌∷◌, Some, None, nat_lt}
+use Rattle.std.specs.Prelude.{◌≡◌, ◌==◌, ⊤, true, false, ◌++◌, [], ◌∷◌, Some, None, nat_lt}
 use Rattle.std.specs.Map.{lookup}
 use Rattle.std.specs.BTreeMap.{is_at}
 use Rattle.qs_base.specs.declared.identifiers.Member.{Member}
 use Rattle.qs_base.specs.declared.identifiers.NodeNo.{NodeNo}
-use Rattle.qs_base.specs.declared.identifiers.ServerNo.{ServerNo}
-use Rattle.qs_base.specs.declared.identifiers.Tid.{Tid}
 use Rattle.qs_ipc.specs.Ipc as ipc
 use Rattle.qs_ipc.specs.Queue.{is_for}
 use Rattle.qs_journal.specs.declared.script_line.Command.TheVariants as commands
@@ -18,13 +16,10 @@ use Rattle.qs_ops.specs.declared.operation.Op.{Op}
 use Rattle.qs_packet.specs.declared.message.Message.{Message}
 use Rattle.qs_packet.specs.declared.message.Message.TheVariants as messages
 use Rattle.qs_step.specs.Serving.{serve_next}
-use Rattle.qs_step.specs.Settling.{due_tids, settle, settle_tid}
 use Rattle.qs_step.specs.State.{NodeValue, Work, client_cmp}
-use Rattle.qs_step.specs.Step.{wait_on, waiting_clients}
 use Rattle.qs_step.specs.declared.event.Event.{Event}
 use Rattle.qs_step.specs.declared.event.Event.TheVariants as events
 use Rattle.qs_world.specs.Moves.{client_count}
-use Rattle.qs_lawful.specs.Entering.{book_at}
 use Rattle.qs_lawful.specs.Face.{waiting_at}
 use Rattle.qs_lawful.specs.Given.{AtEach}
 use Rattle.qs_lawful.specs.Holds.{IsBehind}

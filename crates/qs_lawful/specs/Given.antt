@@ -16,7 +16,7 @@ use Rattle.qs_machine.specs.Book.{BookValue, find_transaction, is_done}
 use Rattle.qs_machine.specs.Clauses.{is_cause, note_text}
 use Rattle.qs_machine.specs.Nodes as machine
 use Rattle.qs_machine.specs.Transaction.{TransactionValue, has_note, is_commit, is_covering, may_learn_still, part_of, sent_in, sent_on, served_in}
-use Rattle.qs_ops.specs.Members.{class_of}
+use Rattle.qs_ops.specs.Members.{class_of, is_two_phase}
 use Rattle.qs_ops.specs.declared.answer.Cause.{Cause}
 use Rattle.qs_ops.specs.declared.answer.Cause.TheVariants as causes
 use Rattle.qs_ops.specs.declared.reply.Reply.{Reply}
@@ -104,7 +104,7 @@ pub record MayCommit (stamp : ℕ) (before : BookValue) (work : Work) (tid : Tid
 
 -- the machine has nothing due of it here: each count may begin anew, nothing was sent from here, and no note was served
 pub record HasOnlyRead (here : NodeNo) (inc : ℕ) (tid : Tid) (tx : TransactionValue) : Type 0 where
-  pub covers : (server : ServerNo) → is_kept server ≡ true → is_covering tx (at_server here server) inc 0 ≡ true  -- clause 41
+  pub covers : (server : ServerNo) → is_kept server ≡ true → is_two_phase (class_of server.0) ≡ true → is_covering tx (at_server here server) inc 0 ≡ true  -- clause 41
   pub learns : (server : ServerNo) → is_kept server ≡ true → may_learn_still (part_of tx (at_server here server) inc) ≡ false  -- clauses 95 to 97
   pub ends : (server : ServerNo) → is_kept server ≡ true → rules.is_immediate (class_of server.0) ≡ true → (part_of tx (at_server here server) inc).due ≡ false  -- clause 90
   pub sent : (peer : NodeNo) → peer.0 ≢ here.0 → sent_in inc (sent_on tx (record { from = here; to = peer })) ≡ 0

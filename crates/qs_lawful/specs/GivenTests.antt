@@ -1,17 +1,14 @@
 -- What stands beside the relation, as tests: a twin of each part, so that it can be tried on the states of runs.
-use Rattle.std.specs.Prelude.{ℕ, ◌+◌, ◌-◌, ◌==◌, ◌^◌, Bool, true, false, not, ◌&&◌, ◌||◌, List, [], ◌∷◌, ◌++◌, length, drop, Option, Some, None, is_some, slice_get, nat_le, nat_lt, zero, suc, if◌then◌else◌}
+use Rattle.std.specs.Prelude.{ℕ, ◌-◌, ◌==◌, Bool, true, false, not, ◌&&◌, ◌||◌, List, [], ◌∷◌, ◌++◌, length, Option, Some, None, is_some, slice_get, nat_le, nat_lt, suc, if◌then◌else◌}
 use Rattle.std.specs.List.{list_all, list_any}
 use Rattle.std.specs.Map.{lookup}
 use Rattle.std.specs.BTreeMap.{is_at}
 use Rattle.qs_base.specs.declared.identifiers.ClientNo.{ClientNo}
-use Rattle.qs_base.specs.declared.identifiers.NodeNo.{NodeNo}
-use Rattle.qs_base.specs.declared.identifiers.Outcome.{Outcome}
 use Rattle.qs_base.specs.declared.identifiers.Tid.{Tid}
 use Rattle.qs_engage.specs.Nodes.{listed, same_node}
 use Rattle.qs_ipc.specs.Queue.{is_for}
 use Rattle.qs_journal.specs.declared.script_line.Command.{Command}
 use Rattle.qs_journal.specs.declared.script_line.Command.TheVariants as commands
-use Rattle.qs_journal.specs.declared.script_line.ScriptLine.{ScriptLine}
 use Rattle.qs_kept.specs.Loans.{is_standing_loan}
 use Rattle.qs_kept.specs.declared.kept.Begun.{Begun}
 use Rattle.qs_kept.specs.declared.kept.Lent.{Lent}
@@ -19,7 +16,6 @@ use Rattle.qs_machine.specs.Book.{BookValue, find_transaction}
 use Rattle.qs_machine.specs.Clauses.{has_no_record, is_fresh, is_gone_cause, note_text}
 use Rattle.qs_machine.specs.Nodes as machine
 use Rattle.qs_machine.specs.Transaction.{TransactionValue, has_note, has_refusal, is_abort, is_commit, is_outcome}
-use Rattle.qs_machine.specs.declared.state.Owner.{Owner}
 use Rattle.qs_ops.specs.declared.answer.Cause.{Cause}
 use Rattle.qs_ops.specs.declared.answer.Cause.TheVariants as causes
 use Rattle.qs_ops.specs.declared.operation.Op.{Op}
@@ -28,7 +24,6 @@ use Rattle.qs_packet.specs.declared.message.Message.TheVariants as messages
 use Rattle.qs_step.specs.Answering.{kept_outcome, was_committed}
 use Rattle.qs_step.specs.State.{NodeValue, client_cmp}
 use Rattle.qs_step.specs.Telling.{is_other_node}
-use Rattle.qs_step.specs.declared.setting.Setting.{Setting}
 use Rattle.qs_step.specs.declared.state.OpenCommand.{OpenCommand}
 use Rattle.qs_tm.specs.Manager as tm
 use Rattle.qs_tm.specs.Participant.{has_noted, is_answered_by, is_undecided}
@@ -36,7 +31,7 @@ use Rattle.qs_tm.specs.declared.participant.Outstanding.{Outstanding}
 use Rattle.qs_tm.specs.declared.participant.Participant.{Participant}
 use Rattle.qs_world.specs.Driven.{up_to}
 use Rattle.qs_world.specs.Openings.{are_rising, labels_begun}
-use Rattle.qs_world.specs.World.{Client, Host, Parcel, World}
+use Rattle.qs_world.specs.World.{Client, Parcel, World}
 use Rattle.qs_lawful.specs.Beside.{awaits_count, has_issued, is_committed_at}
 use Rattle.qs_lawful.specs.Face.{waiting_at}
 use Rattle.qs_lawful.specs.Parcels.{on_its_way, ops_of, way_between}

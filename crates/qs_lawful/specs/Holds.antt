@@ -52,7 +52,7 @@ pub record HoldsVoter (part : Part) (m : MemberPart) : Type 0 where
 
 -- what the machine has of a member, and what its node has; a member that its node does not know has served nothing
 pub record HoldsMember (tx : TransactionValue) (member : Member) (inc : ℕ) (m : MemberPart) : Type 0 where
-  pub covers : is_covering tx member inc m.served ≡ true  -- clause 41
+  pub covers : is_two_phase (class_of member.server.0) ≡ true → is_covering tx member inc m.served ≡ true  -- clause 41; the others' counts begin anew where they are forgotten
   pub voted : (part_of tx member inc).voted ≤ (part_of tx member inc).served
   pub votes : is_two_phase (class_of member.server.0) ≡ true → HoldsVoter (part_of tx member inc) m
   pub learns : learns_outcome (class_of member.server.0) ≡ true → may_learn_still (part_of tx member inc) ≡ rules.is_to_learn (class_of member.server.0) m  -- clauses 95 to 97

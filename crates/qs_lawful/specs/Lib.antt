@@ -29,3 +29,5 @@ pub mod Said
 pub mod Worlds
 pub mod WorldTests
 pub mod TriedWorlds
+pub mod StandingOn
+pub mod TriedStages

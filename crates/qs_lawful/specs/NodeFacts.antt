@@ -1,5 +1,5 @@
 -- What holds of a node by itself, as it comes to a step and at each stage of one: nothing here speaks of the machine.
-use Rattle.std.specs.Prelude.{◌≡◌, ℕ, ◌-◌, ◌≤◌, ◌<◌, ⊤, true, false, ◌&&◌, List, [], ◌∷◌, length, Some, None, nat_le, nat_lt}
+use Rattle.std.specs.Prelude.{◌≡◌, ℕ, ◌-◌, ◌≤◌, ◌<◌, ⊤, true, false, List, [], ◌∷◌, length, Some, None, nat_le, nat_lt}
 use Rattle.std.specs.List.{find, list_any}
 use Rattle.qs_base.specs.Order.{tid_cmp}
 use Rattle.qs_base.specs.declared.identifiers.ClientNo.{ClientNo}

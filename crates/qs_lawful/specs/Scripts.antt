@@ -1,6 +1,6 @@
 -- Clients and what the machine has of them: their lines come in order, each node has the line in hand that its client handed to it, and
 -- what is still to be begun has a fresh label.
-use Rattle.std.specs.Prelude.{◌≡◌, ⊤, ℕ, ◌==◌, Bool, true, false, ◌&&◌, List, [], ◌∷◌, drop, Option, Some, None, nat_lt, slice_get}
+use Rattle.std.specs.Prelude.{◌≡◌, ⊤, ℕ, true, List, drop, Option, Some, None, nat_lt, slice_get}
 use Rattle.std.specs.Map.{lookup}
 use Rattle.std.specs.BTreeMap.{is_at}
 use Rattle.qs_journal.specs.declared.script_line.ScriptLine.{ScriptLine}
@@ -10,7 +10,7 @@ use Rattle.qs_machine.specs.declared.state.Owner.{Owner}
 use Rattle.qs_step.specs.State.{client_cmp}
 use Rattle.qs_step.specs.declared.state.OpenCommand.{OpenCommand}
 use Rattle.qs_world.specs.Moves.{client_count}
-use Rattle.qs_world.specs.Openings.{all_below, are_apart, are_rising, is_script, labels_begun}
+use Rattle.qs_world.specs.Openings.{all_below, are_apart, are_rising, labels_begun}
 use Rattle.qs_world.specs.World.{Client, Opening, World}
 use Rattle.qs_lawful.specs.Logs.{Every}
 

@@ -1,5 +1,5 @@
 -- What stands at each stage of a step of one node of a run, and what a step is given by it and by the agreement protocol.
-use Rattle.std.specs.Prelude.{◌≡◌, ℕ, ◌==◌, true, false, List, Option, Some, None, nat_lt}
+use Rattle.std.specs.Prelude.{◌≡◌, ℕ, ◌==◌, true, false, Some, nat_lt}
 use Rattle.qs_base.specs.declared.identifiers.ClientNo.{ClientNo}
 use Rattle.qs_base.specs.declared.identifiers.ServerNo.{ServerNo}
 use Rattle.qs_base.specs.declared.identifiers.Tid.{Tid}
@@ -9,7 +9,7 @@ use Rattle.qs_ipc.specs.declared.delivery.Delivery.{Delivery}
 use Rattle.qs_machine.specs.Book.{BookValue, find_transaction}
 use Rattle.qs_machine.specs.Transaction.{TransactionValue, is_commit}
 use Rattle.qs_step.specs.Serving.{serve_next}
-use Rattle.qs_step.specs.Settling.{forget_rule, pass_rule, ready_rule, refuse_rule, settle_tid, try}
+use Rattle.qs_step.specs.Settling.{forget_rule, pass_rule, ready_rule, refuse_rule, try}
 use Rattle.qs_step.specs.State.{NodeValue, Work}
 use Rattle.qs_step.specs.Step.{abort_old, wait_on}
 use Rattle.qs_tm.specs.Manager as tm

@@ -1,11 +1,11 @@
 -- A whole step of a node of a run: what stands as its event comes, what the protocol gives at each stage, and that its rules keep what stands.
 use Rattle.std.specs.Prelude.{◌≡◌, ℕ}
 use Rattle.qs_machine.specs.Book.{BookValue}
-use Rattle.qs_step.specs.State.{NodeValue, Work}
+use Rattle.qs_step.specs.State.{NodeValue}
 use Rattle.qs_step.specs.Step.{happen}
 use Rattle.qs_step.specs.declared.event.Event.{Event}
 use Rattle.qs_step.specs.declared.event.Event.TheVariants as events
-use Rattle.qs_lawful.specs.Agreed.{AgreesEvent, StepAgrees}
+use Rattle.qs_lawful.specs.Agreed.{StepAgrees}
 use Rattle.qs_lawful.specs.Coming.{ComesTo}
 use Rattle.qs_lawful.specs.Entering.{book_at}
 use Rattle.qs_lawful.specs.GivenStep.{MayAge, first_work, tick_work}

@@ -56,7 +56,7 @@ cast_ok served (Some cast) = nat_le cast.covers served
 
 abbrev part_ok : TransactionValue → NodeNo → ℕ → ServerNo → MemberPart → Bool
 part_ok tx here inc server m =
-    (is_covering tx (at_server here server) inc m.served && nat_le (part_of tx (at_server here server) inc).voted (part_of tx (at_server here server) inc).served)
+    (implied (is_two_phase (class_of server.0)) (is_covering tx (at_server here server) inc m.served) && nat_le (part_of tx (at_server here server) inc).voted (part_of tx (at_server here server) inc).served)
     && (implied (is_two_phase (class_of server.0)) (cast_ok m.served m.vote && alike (nat_lt (part_of tx (at_server here server) inc).voted (part_of tx (at_server here server) inc).served) (not (rules.is_covering m)))
     && (implied (learns_outcome (class_of server.0)) (alike (may_learn_still (part_of tx (at_server here server) inc)) (rules.is_to_learn (class_of server.0) m))
     && implied (rules.is_immediate (class_of server.0)) (alike (part_of tx (at_server here server) inc).due m.fresh)))

@@ -58,4 +58,4 @@ pub record TriedGiven (alloc : Global) : Type 0 where
   pub kept : midways_given (rich alloc) 3 true 13 40 30 ≡ true
   pub lost : midways_given (rich alloc) 3 false 21 40 30 ≡ true
   pub two : midways_given (both alloc) 1 true 9 0 40 ≡ true
-  pub timers : timed_ok (timed alloc) 0 50 ≡ false
+  pub timers : timed_ok (timed alloc) 0 50 ≡ true

@@ -6,6 +6,7 @@ ghost use Rattle.qs_base.specs.declared.identifiers.Tid.{Tid};
 ghost use Rattle.qs_lawful.specs.Agreed.{AgreementGives, AgreesMessage, AreLentUndone, IsSettledAll, IsUndone};
 ghost use Rattle.qs_lawful.specs.Coming.{ComesLine, ComesMessage};
 ghost use Rattle.qs_lawful.specs.GivenStep.{MayCome, MayCommand, MayStep, MayWait, tick_work};
+ghost use Rattle.qs_lawful.specs.StandingOn.{KeepsBeside, StepBeside};
 ghost use Rattle.qs_lawful.specs.StepStands.{StepStands};
 ghost use Rattle.qs_step.specs.declared.event.Event.{Event};
 ghost use Rattle.qs_base.specs.declared.identifiers.ClientNo.{ClientNo};
@@ -32,14 +33,15 @@ ghost use Rattle.qs_journal.specs.declared.script_line.Command.TheVariants as co
 ghost use Rattle.qs_lawful.specs.Parcels.{HoldsChannels, HoldsWay};
 ghost use Rattle.qs_lawful.specs.Scripts.{HoldsClient};
 ghost use Rattle.qs_lawful.specs.Beside.{IsTrueCause};
-ghost use Rattle.qs_lawful.specs.Entering.{book_at};
+ghost use Rattle.qs_lawful.specs.Entering.{book_at, entries_so_far};
+ghost use Rattle.qs_machine.specs.Lawful.{IsLawful};
 ghost use Rattle.qs_lawful.specs.Given.{HasCause, IsUncommitted, MayCommit, MayDecide, MayForget, MayPass, MayReply, MayServe, MaySettle};
-ghost use Rattle.qs_lawful.specs.Standing.{CanCount, KeepsStanding, Stands, StandsBy};
+ghost use Rattle.qs_lawful.specs.Standing.{CanCount, HoldsHomes, KeepsStanding, Stands, StandsBy};
 ghost use Rattle.qs_step.specs.Settling.{forget_rule, pass_rule, ready_rule, refuse_rule, settle_tid, try};
 ghost use Rattle.qs_machine.specs.Book.{BookValue};
 ghost use Rattle.qs_machine.specs.Nodes as machine;
 ghost use Rattle.qs_ops.specs.declared.answer.Cause.{Cause};
-ghost use Rattle.qs_step.specs.State.{NodeValue, Work};
+ghost use Rattle.qs_step.specs.State.{NodeValue, Work, here};
 ghost use Rattle.qs_tm.specs.Manager as tm;
 ghost use Rattle.qs_tm.specs.Participant.{is_forgotten};
 ghost use Rattle.qs_tm.specs.declared.participant.Participant.{Participant};
@@ -109,4 +111,16 @@ pub fn stages_keep_the_facts()
 pub fn nodes_have_the_facts()
     ensures opened { (alloc : Global) (setting : Setting) (found : Recovered) (kept : Kept) → IsSetIn setting → AreHomed setting.node kept → HasNodeFacts (opened_node alloc setting found kept) }
     ensures stepped { (node : NodeValue) (event : Event) (free : ℕ) → FitsEvent node.setting event → HasNodeFacts node → HasNodeFacts (after_step node event free) }
+{}
+
+/// What a node enters decides nothing that began elsewhere: so what the machine has committed, the other homes have, at each stage of a step.
+pub fn homes_have_what_is_committed()
+    ensures { (stamp : ℕ) (before : BookValue) (size : ℕ) (nodes : ℕ → NodeValue) (n : ℕ) (work : Work) → (here work).0 ≡ n → IsLawful before (entries_so_far stamp work) → HoldsHomes before size nodes n → HoldsHomes (book_at stamp before work) size nodes n }
+{}
+
+/// So a whole step is given all that it needs by the node's own facts before it, by what the homes have committed, and, of its rules, by
+/// what they keep beside the node alone.
+pub fn step_is_given_beside()
+    ensures rules { (stamp : ℕ) (before : BookValue) (size : ℕ) (nodes : ℕ → NodeValue) (n : ℕ) → HoldsHomes before size nodes n → KeepsBeside stamp before size nodes n → KeepsStanding stamp before size nodes n }
+    ensures step { (stamp : ℕ) (before : BookValue) (size : ℕ) (nodes : ℕ → NodeValue) (n : ℕ) (node : NodeValue) (event : Event) (free : ℕ) → StepBeside stamp before size nodes n node event free → MayStep stamp before node event free }
 {}

@@ -22,8 +22,9 @@ pub use lawful_commands::{
 };
 pub use lawful_entries::{entries_are_lawful, requests_are_lawful, settled_is_unanimous};
 pub use lawful_given::{
-    coming_is_given, nodes_have_the_facts, serving_is_given, settling_is_given,
-    settling_is_given_whole, stages_keep_the_facts, step_is_given, world_gives_what_comes,
+    coming_is_given, homes_have_what_is_committed, nodes_have_the_facts, serving_is_given,
+    settling_is_given, settling_is_given_whole, stages_keep_the_facts, step_is_given,
+    step_is_given_beside, world_gives_what_comes,
 };
 pub use lawful_logs::{
     crash_is_lawful, others_keep_the_log, requests_keep_the_log, step_keeps_the_log,
@@ -55,5 +56,9 @@ pub use lawful_steps::{
     event_is_lawful, forgetting_is_lawful, serving_all_is_lawful, settle_is_lawful,
     settling_is_lawful, step_is_lawful, vote_pass_is_lawful,
 };
+<<<<<<< HEAD
 pub use tried::{given_in_runs, held_in_runs};
 pub use tried_worlds::worlds_held_in_runs;
+=======
+pub use tried::{given_at_stages, given_in_runs, held_in_runs};
+>>>>>>> 0a87375a25b3dd992a9e31171c0105b1e23da298

@@ -1,0 +1,26 @@
+-- What stands at each stage of a step, on the steps of runs, each group by evaluation.
+use Rattle.std.proofs.Common.{◌≡◌, true, refl}
+use Rattle.std.specs.Fmt.{digits}
+use Rattle.std.specs.Global.{Global}
+use Rattle.qs_engage.specs.Nodes.{all_nodes}
+use Rattle.qs_tm.specs.Members.{all_servers}
+use Rattle.qs_world.specs.Faults.{both}
+use Rattle.qs_lawful.specs.Tried.{rich}
+use Rattle.qs_lawful.specs.TriedGiven.{timed}
+use Rattle.qs_lawful.specs.TriedStages.{within_ok}
+
+pub early : (alloc : Global) → within_ok (rich alloc) 3 0 60 ≡ true
+unfolding all_nodes all_servers digits
+early alloc = refl
+
+pub later : (alloc : Global) → within_ok (rich alloc) 3 60 80 ≡ true
+unfolding all_nodes all_servers digits
+later alloc = refl
+
+pub two : (alloc : Global) → within_ok (both alloc) 1 0 40 ≡ true
+unfolding all_nodes all_servers digits
+two alloc = refl
+
+pub timers : (alloc : Global) → within_ok (timed alloc) 1 0 40 ≡ true
+unfolding all_nodes all_servers digits
+timers alloc = refl

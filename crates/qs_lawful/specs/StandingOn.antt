@@ -1,0 +1,52 @@
+-- What is left to show that the rules of a step keep what stands: what the machine has beside the node, and what follows from the invariant
+-- of one node. All else stands by itself.
+use Rattle.std.specs.Prelude.{◌≡◌, ℕ}
+use Rattle.qs_base.specs.declared.identifiers.ClientNo.{ClientNo}
+use Rattle.qs_base.specs.declared.identifiers.ServerNo.{ServerNo}
+use Rattle.qs_base.specs.declared.identifiers.Tid.{Tid}
+use Rattle.qs_machine.specs.Book.{BookValue}
+use Rattle.qs_step.specs.Serving.{serve_next}
+use Rattle.qs_step.specs.Settling.{forget_rule, pass_rule, ready_rule, refuse_rule, try}
+use Rattle.qs_step.specs.State.{NodeValue, Work}
+use Rattle.qs_step.specs.Step.{abort_old, happen, wait_on}
+use Rattle.qs_step.specs.declared.event.Event.{Event}
+use Rattle.qs_step.specs.declared.event.Event.TheVariants as events
+use Rattle.qs_lawful.specs.Agreed.{StepAgrees}
+use Rattle.qs_lawful.specs.Beside.{HoldsBeside}
+use Rattle.qs_lawful.specs.Coming.{ComesTo}
+use Rattle.qs_lawful.specs.Entering.{HoldsWork, book_at}
+use Rattle.qs_lawful.specs.GivenStep.{MayAge, first_work, tick_work}
+use Rattle.qs_lawful.specs.NodeFacts.{FitsEvent, HasNodeFacts, HasSoundFacts}
+use Rattle.qs_lawful.specs.Standing.{HoldsHomes, Stands}
+
+pub record StandsBeside (stamp : ℕ) (before : BookValue) (work : Work) : Type 0 where
+  pub sound : HasSoundFacts work.node
+  pub beside : HoldsBeside (book_at stamp before work) work.node
+
+abbrev pub BesideOn : ℕ → BookValue → ℕ → (ℕ → NodeValue) → ℕ → Work → Work → Type 0
+BesideOn stamp before size nodes n old new = Stands stamp before size nodes n old → HoldsWork stamp before new → StandsBeside stamp before new
+
+pub record KeepsBeside (stamp : ℕ) (before : BookValue) (size : ℕ) (nodes : ℕ → NodeValue) (n : ℕ) : Type 0 where
+  pub passes : (work : Work) (tid : Tid) → BesideOn stamp before size nodes n work (try tid pass_rule work)
+  pub readies : (work : Work) (tid : Tid) → BesideOn stamp before size nodes n work (try tid ready_rule work)
+  pub refuses : (work : Work) (tid : Tid) → BesideOn stamp before size nodes n work (try tid refuse_rule work)
+  pub forgets : (work : Work) (tid : Tid) → BesideOn stamp before size nodes n work (try tid forget_rule work)
+  pub serves : (work : Work) (server : ServerNo) → BesideOn stamp before size nodes n work (serve_next work server)
+  pub waits : (work : Work) (client : ClientNo) → BesideOn stamp before size nodes n work (wait_on work client)
+  pub olds : (work : Work) (age : ℕ) (tid : Tid) → BesideOn stamp before size nodes n work (abort_old age work tid)
+
+-- ---- the whole step: as StepStands, over what stands of the node before it
+
+pub record StepBeside (stamp : ℕ) (before : BookValue) (size : ℕ) (nodes : ℕ → NodeValue) (n : ℕ) (node : NodeValue) (event : Event) (free : ℕ) : Type 0 where
+  pub at : node.setting.node.0 ≡ n
+  pub run : node.setting.nodes ≡ size
+  pub facts : HasNodeFacts node
+  pub fits : FitsEvent node.setting event
+  pub homes : HoldsHomes before size nodes n
+  pub held : HoldsWork stamp before (first_work node free)
+  pub first : StandsBeside stamp before (first_work node free)
+  pub rules : KeepsBeside stamp before size nodes n
+  pub happens : ComesTo (book_at stamp before (first_work node free)) event (first_work node free) → BesideOn stamp before size nodes n (first_work node free) (happen event (first_work node free))
+  pub comes : ComesTo (book_at stamp before (first_work node free)) event (first_work node free)
+  pub ages : event ≡ events.Tick → MayAge stamp before (first_work node free).node.setting.age (tick_work (first_work node free))
+  pub agreed : StepAgrees stamp before size nodes n node event free
