@@ -19,3 +19,6 @@ pub mod Said
 pub mod Worlds
 pub mod WorldTests
 pub mod TriedWorlds
+pub mod Doubtful
+pub mod WorldLaws
+pub mod CoherentOpenings

@@ -9,6 +9,7 @@ mod lawful_restarts;
 mod lawful_rules;
 mod lawful_servers;
 mod lawful_steps;
+mod lawful_worlds;
 mod tried;
 mod tried_worlds;
 
@@ -50,5 +51,6 @@ pub use lawful_steps::{
     event_is_lawful, forgetting_is_lawful, serving_all_is_lawful, settle_is_lawful,
     settling_is_lawful, step_is_lawful, vote_pass_is_lawful,
 };
+pub use lawful_worlds::{meeting_is_held, opening_is_coherent, restart_is_held, stop_is_held};
 pub use tried::held_in_runs;
 pub use tried_worlds::worlds_held_in_runs;

@@ -1,0 +1,40 @@
+-- The laws of moves of the world: from what the machine has of the world, a move's entries are lawful, and the machine after them has
+-- the world after it.
+use Rattle.std.specs.Prelude.{◌≡◌, ℕ, true, [], ◌∷◌}
+use Rattle.qs_journal.specs.declared.entry.Act.TheVariants as acts
+use Rattle.qs_journal.specs.declared.entry.CrashCause.{CrashCause}
+use Rattle.qs_journal.specs.declared.entry.Entry.{Entry}
+use Rattle.qs_machine.specs.Book.{BookValue}
+use Rattle.qs_machine.specs.Clauses.{is_crash}
+use Rattle.qs_machine.specs.Lawful.{IsLawful, book_after}
+use Rattle.qs_restart.specs.Recovery.{recovery}
+use Rattle.qs_world.specs.Moves.{Rise, Meet, is_in_order, may_move, moved, stopped}
+use Rattle.qs_world.specs.Posting.{entry_of}
+use Rattle.qs_world.specs.World.{World}
+use Rattle.qs_lawful.specs.Lasting.{Lasts}
+use Rattle.qs_lawful.specs.Logs.{found_votes}
+use Rattle.qs_lawful.specs.Worlds.{HoldsNodeAt, HoldsWorld}
+
+-- the entry of a node's restart, with what its log says
+abbrev pub rise_entry : World → ℕ → ℕ → ℕ → Entry
+rise_entry world n stamp inc = entry_of n stamp (acts.Restart inc (found_votes (recovery (world.hosts n).log)) (recovery (world.hosts n).log).committed)
+
+-- a node that is down restarts: its entry is lawful, and the machine after it holds the node that begins, and its log
+pub record RisesWell (book : BookValue) (world : World) (n stamp inc : ℕ) : Type 0 where
+  pub lawful : IsLawful book (rise_entry world n stamp inc ∷ [])
+  pub holds : HoldsNodeAt (book_after book (rise_entry world n stamp inc ∷ [])) (moved (Rise n stamp inc) world) n
+
+abbrev pub EachRises : Type 0
+EachRises = (book : BookValue) (world : World) (n stamp inc : ℕ) → Lasts book → HoldsWorld book world → may_move world (Rise n stamp inc) ≡ true → RisesWell book world n stamp inc
+
+-- a node gets to know a first incarnation of another: nothing is entered, and the machine has the world as before
+abbrev pub EachMeets : Type 0
+EachMeets = (book : BookValue) (world : World) (n stamp m inc : ℕ) → HoldsWorld book world → may_move world (Meet n stamp m inc) ≡ true → HoldsWorld book (moved (Meet n stamp m inc) world)
+
+-- a node stops, in place of a step or in one whose batch is lost: its entry is lawful, and the machine after it has what its log says
+pub record StopsWell (book : BookValue) (world : World) (n stamp : ℕ) (cause : CrashCause) : Type 0 where
+  pub lawful : IsLawful book (entry_of n stamp (acts.Crash cause) ∷ [])
+  pub holds : HoldsNodeAt (book_after book (entry_of n stamp (acts.Crash cause) ∷ [])) (stopped world n stamp cause (world.hosts n).log) n
+
+abbrev pub EachStops : Type 0
+EachStops = (book : BookValue) (world : World) (n stamp : ℕ) (cause : CrashCause) → Lasts book → HoldsWorld book world → world.channels.up n ≡ true → is_in_order world n stamp ≡ true → is_crash cause ≡ true → StopsWell book world n stamp cause
