@@ -162,3 +162,5 @@ pub mod RisesWell
 pub mod Meeting
 pub mod CoherentOpenings
 pub mod StopsWell
+pub mod OtherNodes
+pub mod StopsWhole

@@ -44,7 +44,6 @@ use Rattle.qs_lawful.specs.Lasting.{Lasts}
 use Rattle.qs_lawful.specs.Logged.{HasCommitted, HoldsHost, HoldsLogged, IsCommitMade, Later, StandsIn}
 use Rattle.qs_lawful.specs.Logs.{Every, IsApplied, IsVoteLogged, found_of, found_votes}
 use Rattle.qs_lawful.specs.Said.{HoldsLeft, HoldsSaid, IsMadeBy, IsApart, IsAsRecorded, IsRecorded, IsToBeRecorded}
-use Rattle.qs_lawful.specs.WorldLaws.{StopsWell}
 use Rattle.qs_lawful.specs.Worlds.{HoldsDown, HoldsKept, HoldsNodeAt, HoldsNodeOf, HoldsUp, HoldsWorld, IsLeftOpen, IsLoanOf, IsOpenStill}
 use Rattle.qs_lawful.proofs.LogCrashes.{may_crash}
 use Rattle.qs_lawful.proofs.LogCrashes as crashes
@@ -261,8 +260,9 @@ module _ (book : BookValue) (world : World) (n stamp : ℕ) (cause : CrashCause)
     stopped = λ is. down;
   }
 
-  pub stops_well : StopsWell book world n stamp cause
-  stops_well = record { lawful = (lawful, tt); holds = subst (λ (b : Bool). HoldsNodeOf now world.size n (inc_of world n) (if b then false else world.channels.up n) (if b then host else world.hosts n)) (sym (self n)) node_now }
+  -- the entry is lawful, and the machine has what the log of the node says
+  pub stops_own : (broken book entry ≡ None) × HoldsNodeAt now (stopped world n stamp cause (world.hosts n).log) n
+  stops_own = (lawful, subst (λ (b : Bool). HoldsNodeOf now world.size n (inc_of world n) (if b then false else world.channels.up n) (if b then host else world.hosts n)) (sym (self n)) node_now)
     where
       self : (k : ℕ) → (k == k) ≡ true
       self k = grind (arith, nat_tests)

@@ -1,14 +1,13 @@
 -- The laws of moves of the world: from what the machine has of the world, a move's entries are lawful, and the machine after them has
 -- the world after it.
-use Rattle.std.specs.Prelude.{◌≡◌, ℕ, true, [], ◌∷◌}
+use Rattle.std.specs.Prelude.{◌≡◌, ℕ, true, false, [], ◌∷◌}
 use Rattle.qs_journal.specs.declared.entry.Act.TheVariants as acts
 use Rattle.qs_journal.specs.declared.entry.CrashCause.{CrashCause}
 use Rattle.qs_journal.specs.declared.entry.Entry.{Entry}
 use Rattle.qs_machine.specs.Book.{BookValue}
-use Rattle.qs_machine.specs.Clauses.{is_crash}
 use Rattle.qs_machine.specs.Lawful.{IsLawful, book_after}
 use Rattle.qs_restart.specs.Recovery.{recovery}
-use Rattle.qs_world.specs.Moves.{Rise, Meet, is_in_order, may_move, moved, stopped}
+use Rattle.qs_world.specs.Moves.{Cut, Meet, Rise, Source, Stop, may_move, moved}
 use Rattle.qs_world.specs.Posting.{entry_of}
 use Rattle.qs_world.specs.World.{World}
 use Rattle.qs_lawful.specs.Lasting.{Lasts}
@@ -31,10 +30,15 @@ EachRises = (book : BookValue) (world : World) (n stamp inc : ℕ) → Lasts boo
 abbrev pub EachMeets : Type 0
 EachMeets = (book : BookValue) (world : World) (n stamp m inc : ℕ) → HoldsWorld book world → may_move world (Meet n stamp m inc) ≡ true → HoldsWorld book (moved (Meet n stamp m inc) world)
 
--- a node stops, in place of a step or in one whose batch is lost: its entry is lawful, and the machine after it has what its log says
-pub record StopsWell (book : BookValue) (world : World) (n stamp : ℕ) (cause : CrashCause) : Type 0 where
+-- a node stops: its entry is lawful, and the machine after it has the world after it
+pub record StopsWell (book : BookValue) (after : World) (n stamp : ℕ) (cause : CrashCause) : Type 0 where
   pub lawful : IsLawful book (entry_of n stamp (acts.Crash cause) ∷ [])
-  pub holds : HoldsNodeAt (book_after book (entry_of n stamp (acts.Crash cause) ∷ [])) (stopped world n stamp cause (world.hosts n).log) n
+  pub holds : HoldsWorld (book_after book (entry_of n stamp (acts.Crash cause) ∷ [])) after
 
+-- in place of a step, or after one
 abbrev pub EachStops : Type 0
-EachStops = (book : BookValue) (world : World) (n stamp : ℕ) (cause : CrashCause) → Lasts book → HoldsWorld book world → world.channels.up n ≡ true → is_in_order world n stamp ≡ true → is_crash cause ≡ true → StopsWell book world n stamp cause
+EachStops = (book : BookValue) (world : World) (n stamp : ℕ) (cause : CrashCause) → Lasts book → HoldsWorld book world → may_move world (Stop n stamp cause) ≡ true → StopsWell book (moved (Stop n stamp cause) world) n stamp cause
+
+-- in a step whose batch is lost
+abbrev pub EachLosesItsBatch : Type 0
+EachLosesItsBatch = (book : BookValue) (world : World) (n stamp free : ℕ) (source : Source) (cause : CrashCause) → Lasts book → HoldsWorld book world → may_move world (Cut n stamp free source false cause) ≡ true → StopsWell book (moved (Cut n stamp free source false cause) world) n stamp cause

@@ -1,7 +1,7 @@
 //! Moves of the world against the machine: what the machine has of a whole world is had on through a move.
 ghost use Rattle.std.specs.Global.{Global};
 ghost use Rattle.qs_lawful.specs.CoherentOpenings.{EachOpensSoundly, VotesAgain};
-ghost use Rattle.qs_lawful.specs.WorldLaws.{EachMeets, EachRises, EachStops};
+ghost use Rattle.qs_lawful.specs.WorldLaws.{EachLosesItsBatch, EachMeets, EachRises, EachStops};
 
 /// A node that is down restarts, and begins an incarnation with what its log says: the entry is lawful, what it finds in its log with it;
 /// and the machine after it has all that the node keeps then. What the log has committed is applied once, in order, and committed; what
@@ -16,10 +16,12 @@ pub fn meeting_is_held()
     ensures meets { EachMeets }
 {}
 
-/// A node stops, in place of a step or in one whose batch is lost: the entry is lawful, and what its log says on the disk is what a restart
-/// of it will find: each vote is on record or was applied, each Commit was applied, and nothing is new.
+/// A node stops, in place of a step or in one whose batch is lost: the entry is lawful, and the machine after it has the whole world. What the
+/// node's log says on the disk is what a restart of it will find: each vote is on record or was applied, each Commit was applied, and
+/// nothing is new.
 pub fn stop_is_held()
     ensures stops { EachStops }
+    ensures cut { EachLosesItsBatch }
 {}
 
 /// What the logs of an opening hold is what the laws want of an opening, where no log has a vote in doubt of a transaction that it has
