@@ -164,3 +164,6 @@ pub mod CoherentOpenings
 pub mod StopsWell
 pub mod OtherNodes
 pub mod StopsWhole
+pub mod OthersTid
+pub mod OthersRise
+pub mod RiseKeeps

@@ -44,7 +44,7 @@ shut_on here P tid old new on shut = by (find_transaction old tid) refl shut
         let p = on.goes tid tx found in
         rw (p.1) (at p.0 p.2)
       where
-        at : (later : TransactionValue) → Goes here P tid tx later → ((tid.home.0 == here) && is_open later.cell) ≡ false
+        at : (later : TransactionValue) → Goes here P old.place tid tx later → ((tid.home.0 == here) && is_open later.cell) ≡ false
         at later g = home (tid.home.0 == here) refl is
           where
             home : (b : Bool) → (tid.home.0 == here) ≡ b → (b && is_open tx.cell) ≡ false → (b && is_open later.cell) ≡ false

@@ -37,39 +37,48 @@ use Rattle.qs_lawful.proofs.Keys.{same_key_or, life_exact, life_itself}
 abbrev pub IsElsewhere : ℕ → ℕ → Member → ℕ → Type 0
 IsElsewhere here inc member i = ((member.node.0 == here) && ((i == inc) && is_recoverable member.server.0)) ≡ false
 
-pub record Goes (here : ℕ) (P : Member → ℕ → Type 0) (tid : Tid) (tx later : TransactionValue) : Type 0 where
+pub record Goes (here : ℕ) (P : Member → ℕ → Type 0) (place : ℕ) (tid : Tid) (tx later : TransactionValue) : Type 0 where
   pub requests : later.requests ≡ tx.requests
   pub sent : later.sent ≡ tx.sent
   pub noted : later.noted ≡ tx.noted
   pub crossed : later.crossed ≡ tx.crossed
   pub asked : later.asked ≡ tx.asked
   pub owner : later.owner ≡ tx.owner
+  pub starts : later.starts ≡ tx.starts
+  pub when : (later.decided ≡ tx.decided) ⊎ (later.decided ≡ Some place)
   pub parts : (member : Member) (i : ℕ) → P member i → part_of later member i ≡ part_of tx member i
   pub decided : is_open tx.cell ≡ false → later.cell ≡ tx.cell
   pub away : (tid.home.0 == here) ≡ false → later.cell ≡ tx.cell
   pub learnt : (member : Member) → has_learnt tx member ≡ true → has_learnt later member ≡ true
 
-pub goes_self : (here : ℕ) (P : Member → ℕ → Type 0) (tid : Tid) (tx : TransactionValue) → Goes here P tid tx tx
-goes_self here P tid tx = record { requests = refl; sent = refl; noted = refl; crossed = refl; asked = refl; owner = refl; parts = λ member i far. refl; decided = λ shut. refl; away = λ far. refl; learnt = λ member is. is }
+pub goes_self : (here : ℕ) (P : Member → ℕ → Type 0) (place : ℕ) (tid : Tid) (tx : TransactionValue) → Goes here P place tid tx tx
+goes_self here P place tid tx = record { requests = refl; sent = refl; noted = refl; crossed = refl; asked = refl; owner = refl; starts = refl; when = inl refl; parts = λ member i far. refl; decided = λ shut. refl; away = λ far. refl; learnt = λ member is. is }
 
-pub goes_then : (here : ℕ) (P : Member → ℕ → Type 0) (tid : Tid) (tx mid later : TransactionValue) → Goes here P tid tx mid → Goes here P tid mid later → Goes here P tid tx later
-goes_then here P tid tx mid later a b = record {
+pub goes_then : (here : ℕ) (P : Member → ℕ → Type 0) (place : ℕ) (tid : Tid) (tx mid later : TransactionValue) → Goes here P place tid tx mid → Goes here P place tid mid later → Goes here P place tid tx later
+goes_then here P place tid tx mid later a b = record {
   requests = b.requests ∙ a.requests;
   sent = b.sent ∙ a.sent;
   noted = b.noted ∙ a.noted;
   crossed = b.crossed ∙ a.crossed;
   asked = b.asked ∙ a.asked;
   owner = b.owner ∙ a.owner;
+  starts = b.starts ∙ a.starts;
+  when = of a.when b.when;
   parts = λ member i far. b.parts member i far ∙ a.parts member i far;
   decided = λ shut. b.decided (ap is_open (a.decided shut) ∙ shut) ∙ a.decided shut;
   away = λ far. b.away far ∙ a.away far;
   learnt = λ member is. b.learnt member (a.learnt member is);
 }
+  where
+    of : (mid.decided ≡ tx.decided) ⊎ (mid.decided ≡ Some place) → (later.decided ≡ mid.decided) ⊎ (later.decided ≡ Some place) → (later.decided ≡ tx.decided) ⊎ (later.decided ≡ Some place)
+    of a (inr q) = inr q
+    of (inl p) (inl q) = inl (q ∙ p)
+    of (inr p) (inl q) = inr (q ∙ p)
 
-goes_learnt : (here : ℕ) (P : Member → ℕ → Type 0) (tid : Tid) (m : Member) (tx : TransactionValue) → Goes here P tid tx (with_learnt m tx)
-goes_learnt here P tid m tx = record { requests = refl; sent = refl; noted = refl; crossed = refl; asked = refl; owner = refl; parts = λ member i far. refl; decided = λ shut. refl; away = λ far. refl; learnt = λ member is. more_learnt m tx member is }
+goes_learnt : (here : ℕ) (P : Member → ℕ → Type 0) (place : ℕ) (tid : Tid) (m : Member) (tx : TransactionValue) → Goes here P place tid tx (with_learnt m tx)
+goes_learnt here P place tid m tx = record { requests = refl; sent = refl; noted = refl; crossed = refl; asked = refl; owner = refl; starts = refl; when = inl refl; parts = λ member i far. refl; decided = λ shut. refl; away = λ far. refl; learnt = λ member is. more_learnt m tx member is }
 
-goes_decided : (here : ℕ) (P : Member → ℕ → Type 0) (tid : Tid) (place : ℕ) (outcome : Outcome) (cause : Option Cause) (tx : TransactionValue) → ((tid.home.0 == here) && is_open tx.cell) ≡ true → Goes here P tid tx (decided_at place outcome cause tx)
+goes_decided : (here : ℕ) (P : Member → ℕ → Type 0) (tid : Tid) (place : ℕ) (outcome : Outcome) (cause : Option Cause) (tx : TransactionValue) → ((tid.home.0 == here) && is_open tx.cell) ≡ true → Goes here P place tid tx (decided_at place outcome cause tx)
 goes_decided here P tid place outcome cause tx is = record {
   requests = refl;
   sent = refl;
@@ -77,6 +86,8 @@ goes_decided here P tid place outcome cause tx is = record {
   crossed = refl;
   asked = refl;
   owner = refl;
+  starts = refl;
+  when = inr refl;
   parts = λ member i far. refl;
   decided = λ shut. absurd (clash (tid.home.0 == here) (is_open tx.cell) is (inr shut));
   away = λ far. absurd (clash (tid.home.0 == here) (is_open tx.cell) is (inl far));
@@ -89,8 +100,8 @@ goes_decided here P tid place outcome cause tx is = record {
     clash true false e f = cc e
     clash false b e f = cc e
 
-goes_found : (here : ℕ) (P : Member → ℕ → Type 0) (inc : ℕ) → ((member : Member) (i : ℕ) → P member i → IsElsewhere here inc member i) → (tid : Tid) (server covers changes : ℕ) → is_recoverable server ≡ true → (tx : TransactionValue) → Goes here P tid tx (found_at (member_at here server) inc covers changes tx)
-goes_found here P inc apart tid server covers changes kept tx = record { requests = refl; sent = refl; noted = refl; crossed = refl; asked = refl; owner = refl; parts = λ member i far. part member i (apart member i far); decided = λ shut. refl; away = λ far. refl; learnt = λ member is. is }
+goes_found : (here : ℕ) (P : Member → ℕ → Type 0) (inc place : ℕ) → ((member : Member) (i : ℕ) → P member i → IsElsewhere here inc member i) → (tid : Tid) (server covers changes : ℕ) → is_recoverable server ≡ true → (tx : TransactionValue) → Goes here P place tid tx (found_at (member_at here server) inc covers changes tx)
+goes_found here P inc place apart tid server covers changes kept tx = record { requests = refl; sent = refl; noted = refl; crossed = refl; asked = refl; owner = refl; starts = refl; when = inl refl; parts = λ member i far. part member i (apart member i far); decided = λ shut. refl; away = λ far. refl; learnt = λ member is. is }
   where
     part : (member : Member) (i : ℕ) → IsElsewhere here inc member i → part_of (found_at (member_at here server) inc covers changes tx) member i ≡ part_of tx member i
     part member i far = by (same_key_or transaction.life_cmp life_exact life_itself (life (member_at here server) inc) (life member i))
@@ -121,20 +132,22 @@ goes_found here P inc apart tid server covers changes kept tx = record { request
 
 pub record Onward (here : ℕ) (P : Member → ℕ → Type 0) (old new : BookValue) : Type 0 where
   pub nodes : new.nodes ≡ old.nodes
+  pub place : new.place ≡ old.place
   pub none : (tid : Tid) → find_transaction old tid ≡ None → find_transaction new tid ≡ None
-  pub goes : (tid : Tid) (tx : TransactionValue) → find_transaction old tid ≡ Some tx → (later : TransactionValue) × (find_transaction new tid ≡ Some later) × Goes here P tid tx later
+  pub goes : (tid : Tid) (tx : TransactionValue) → find_transaction old tid ≡ Some tx → (later : TransactionValue) × (find_transaction new tid ≡ Some later) × Goes here P old.place tid tx later
 
 pub on_self : (here : ℕ) (P : Member → ℕ → Type 0) (book : BookValue) → Onward here P book book
-on_self here P book = record { nodes = refl; none = λ tid is. is; goes = λ tid tx found. (tx, found, goes_self here P tid tx) }
+on_self here P book = record { nodes = refl; place = refl; none = λ tid is. is; goes = λ tid tx found. (tx, found, goes_self here P book.place tid tx) }
 
 pub on_then : (here : ℕ) (P : Member → ℕ → Type 0) (old mid new : BookValue) → Onward here P old mid → Onward here P mid new → Onward here P old new
 on_then here P old mid new a b = record {
   nodes = b.nodes ∙ a.nodes;
+  place = b.place ∙ a.place;
   none = λ tid is. b.none tid (a.none tid is);
   goes = λ tid tx found.
       let p = a.goes tid tx found in
       let q = b.goes tid p.0 p.1 in
-      (q.0, q.1, goes_then here P tid tx p.0 q.0 p.2 q.2);
+      (q.0, q.1, goes_then here P old.place tid tx p.0 q.0 p.2 (subst (λ (k : ℕ). Goes here P k tid p.0 q.0) a.place q.2));
 }
 
 pub on_if : (b : Bool) (here : ℕ) (P : Member → ℕ → Type 0) (old x y : BookValue) → (b ≡ true → Onward here P old x) → Onward here P old y → Onward here P old (if b then x else y)
@@ -145,9 +158,9 @@ pub on_fold : {A : Type 0} (here : ℕ) (P : Member → ℕ → Type 0) (Q : A �
 on_fold here P Q f each [] all book = on_self here P book
 on_fold here P Q f each (x ∷ xs) all book = on_then here P book (f book x) (fold f (f book x) xs) (each book x all.0) (on_fold here P Q f each xs all.1 (f book x))
 
-on_changed : (here : ℕ) (P : Member → ℕ → Type 0) (t : Tid) (f : TransactionValue → TransactionValue) (book new : BookValue) → new.nodes ≡ book.nodes → new.transactions ≡ transaction.changed_value (is_at (tid_cmp t)) f book.transactions
-    → ((tx : TransactionValue) → find_transaction book t ≡ Some tx → Goes here P t tx (f tx)) → Onward here P book new
-on_changed here P t f book new nodes txs each = record { nodes = nodes; none = none; goes = goes }
+on_changed : (here : ℕ) (P : Member → ℕ → Type 0) (t : Tid) (f : TransactionValue → TransactionValue) (book new : BookValue) → new.nodes ≡ book.nodes → new.place ≡ book.place → new.transactions ≡ transaction.changed_value (is_at (tid_cmp t)) f book.transactions
+    → ((tx : TransactionValue) → find_transaction book t ≡ Some tx → Goes here P book.place t tx (f tx)) → Onward here P book new
+on_changed here P t f book new nodes place txs each = record { nodes = nodes; place = place; none = none; goes = goes }
   where
     there : (tid : Tid) → find_transaction new tid ≡ lookup (is_at (tid_cmp tid)) (transaction.changed_value (is_at (tid_cmp t)) f book.transactions)
     there tid = ap (λ (es : List (Tid × TransactionValue)). lookup (is_at (tid_cmp tid)) es) txs
@@ -159,25 +172,25 @@ on_changed here P t f book new nodes txs each = record { nodes = nodes; none = n
         by (inl same) = subst (λ (u : Tid). lookup (is_at (tid_cmp tid)) (transaction.changed_value (is_at (tid_cmp u)) f book.transactions) ≡ None) (sym same) (changed_none (is_at (tid_cmp tid)) f book.transactions is)
         by (inr far) = changed_apart (is_at (tid_cmp t)) (is_at (tid_cmp tid)) far.keys f book.transactions ∙ is
 
-    goes : (tid : Tid) (tx : TransactionValue) → find_transaction book tid ≡ Some tx → (later : TransactionValue) × (find_transaction new tid ≡ Some later) × Goes here P tid tx later
+    goes : (tid : Tid) (tx : TransactionValue) → find_transaction book tid ≡ Some tx → (later : TransactionValue) × (find_transaction new tid ≡ Some later) × Goes here P book.place tid tx later
     goes tid tx found = by (same_or_apart t tid)
       where
-        own : (u : Tid) → u ≡ tid → ((tx : TransactionValue) → find_transaction book u ≡ Some tx → Goes here P u tx (f tx)) → lookup (is_at (tid_cmp tid)) (transaction.changed_value (is_at (tid_cmp u)) f book.transactions) ≡ Some (f tx)
+        own : (u : Tid) → u ≡ tid → ((tx : TransactionValue) → find_transaction book u ≡ Some tx → Goes here P book.place u tx (f tx)) → lookup (is_at (tid_cmp tid)) (transaction.changed_value (is_at (tid_cmp u)) f book.transactions) ≡ Some (f tx)
         own u same _ = subst (λ (x : Tid). lookup (is_at (tid_cmp tid)) (transaction.changed_value (is_at (tid_cmp x)) f book.transactions) ≡ Some (f tx)) (sym same) (lookup_changed (is_at (tid_cmp tid)) f book.transactions tx found)
 
-        by : (t ≡ tid) ⊎ Apart t tid → (later : TransactionValue) × (find_transaction new tid ≡ Some later) × Goes here P tid tx later
-        by (inl same) = (f tx, there tid ∙ own t same each, subst (λ (u : Tid). Goes here P u tx (f tx)) same (each tx (ap (find_transaction book) same ∙ found)))
-        by (inr far) = (tx, there tid ∙ (changed_apart (is_at (tid_cmp t)) (is_at (tid_cmp tid)) far.keys f book.transactions ∙ found), goes_self here P tid tx)
+        by : (t ≡ tid) ⊎ Apart t tid → (later : TransactionValue) × (find_transaction new tid ≡ Some later) × Goes here P book.place tid tx later
+        by (inl same) = (f tx, there tid ∙ own t same each, subst (λ (u : Tid). Goes here P book.place u tx (f tx)) same (each tx (ap (find_transaction book) same ∙ found)))
+        by (inr far) = (tx, there tid ∙ (changed_apart (is_at (tid_cmp t)) (is_at (tid_cmp tid)) far.keys f book.transactions ∙ found), goes_self here P book.place tid tx)
 
 -- ---- each step of it
 
 module _ (here : ℕ) (P : Member → ℕ → Type 0) where
   pub learn_on : (tid : Tid) (server : ℕ) (book : BookValue) → Onward here P book (learn_found here tid server book)
   learn_on tid server book = on_if (is_some (record_at here book tid server)) here P book (with_transaction tid (with_learnt (member_at here server)) book) book
-      (λ is. on_changed here P tid (with_learnt (member_at here server)) book _ refl refl (λ tx found. goes_learnt here P tid (member_at here server) tx)) (on_self here P book)
+      (λ is. on_changed here P tid (with_learnt (member_at here server)) book _ refl refl refl (λ tx found. goes_learnt here P book.place tid (member_at here server) tx)) (on_self here P book)
 
   pub decide_on : (tid : Tid) (outcome : Outcome) (cause : Option Cause) (book : BookValue) → is_open_here here tid (find_transaction book tid) ≡ true → Onward here P book (decide tid outcome cause book)
-  decide_on tid outcome cause book is = on_changed here P tid (decided_at book.place outcome cause) book (decide tid outcome cause book) refl refl
+  decide_on tid outcome cause book is = on_changed here P tid (decided_at book.place outcome cause) book (decide tid outcome cause book) refl refl refl
       (λ tx found. goes_decided here P tid book.place outcome cause tx (subst (λ (o : Option TransactionValue). is_open_here here tid o ≡ true) found is))
 
   pub commit_on : (book : BookValue) (tid : Tid) → Onward here P book (commit_found here book tid)
@@ -195,7 +208,7 @@ module _ (here : ℕ) (P : Member → ℕ → Type 0) where
     where
       by : (b : Bool) → Onward here P book (if b then book else with_transaction found.tid (found_at (member_at here found.server.0) inc found.covers (count_of (record_at here book found.tid found.server.0))) book)
       by true = on_self here P book
-      by false = on_changed here P found.tid _ book _ refl refl (λ tx is. goes_found here P inc apart found.tid found.server.0 found.covers (count_of (record_at here book found.tid found.server.0)) kept tx)
+      by false = on_changed here P found.tid _ book _ refl refl refl (λ tx is. goes_found here P inc book.place apart found.tid found.server.0 found.covers (count_of (record_at here book found.tid found.server.0)) kept tx)
 
   pub abort_on : (old_inc : ℕ) (book : BookValue) (seq : ℕ) → Onward here P book (abort_begun here old_inc book seq)
   abort_on old_inc book seq = on_if (is_open_here here (begun_tid here old_inc seq) (find_transaction book (begun_tid here old_inc seq))) here P book _ book (decide_on (begun_tid here old_inc seq) outcomes.Abort _ book) (on_self here P book)

@@ -26,7 +26,7 @@ use Rattle.qs_lawful.proofs.Told.{known_now, known_still}
 some_same : {X : Type 0} (x y : X) → Some x ≡ Some y → x ≡ y
 some_same x y e = ap (λ (o : Option _). elim o [ None ↦ x | Some z ↦ z ]) e
 
-told_still : (o : Option ClientNo) (outcome : Outcome) (cause : Option Cause) (owners : List Owner) (client : ℕ) (owner : Owner) → slice_get owners client ≡ Some owner
+pub told_still : (o : Option ClientNo) (outcome : Outcome) (cause : Option Cause) (owners : List Owner) (client : ℕ) (owner : Owner) → slice_get owners client ≡ Some owner
     → (now : Owner) × (slice_get (told_owner o outcome cause owners) client ≡ Some now) × ((now ≡ owner) ⊎ (now ≡ told outcome cause owner))
 told_still None outcome cause owners client owner there = (owner, there, inl refl)
 told_still (Some c) outcome cause owners client owner there = by (slice_get owners c.0) refl

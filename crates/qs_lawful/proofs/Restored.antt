@@ -154,7 +154,7 @@ module _ (book : BookValue) (n stamp inc : ℕ) (log : Recovery) (state : machin
     pub none_new : (tid : Tid) → find_transaction book tid ≡ None → find_transaction new_book tid ≡ None
     none_new tid is = found_new tid ∙ onward.none tid is
 
-    pub goes_new : (tid : Tid) (tx : TransactionValue) → find_transaction book tid ≡ Some tx → (later : TransactionValue) × (find_transaction new_book tid ≡ Some later) × Goes n Away tid tx later
+    pub goes_new : (tid : Tid) (tx : TransactionValue) → find_transaction book tid ≡ Some tx → (later : TransactionValue) × (find_transaction new_book tid ≡ Some later) × Goes n Away book.place tid tx later
     goes_new tid tx found =
         let p = onward.goes tid tx found in
         (p.0, found_new tid ∙ p.1, p.2)

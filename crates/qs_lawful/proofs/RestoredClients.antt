@@ -101,7 +101,7 @@ module _ (book : BookValue) (here : NodeNo) (stamp inc : ℕ) (log : Recovery) (
   outcome_is : (tid : Tid) → tid.home ≡ here → (o : IsOpenStill book tid) → HasEnded now tid (outcome_in_log log.committed tid)
   outcome_is tid home o = by (is_among log.committed tid) refl
     where
-      p : (later : TransactionValue) × (find_transaction now tid ≡ Some later) × Goes here.0 (IsElsewhere here.0 inc) tid o.tx later
+      p : (later : TransactionValue) × (find_transaction now tid ≡ Some later) × Goes here.0 (IsElsewhere here.0 inc) book.place tid o.tx later
       p = goes book here stamp inc log state r tid o.tx o.found
 
       cell_is : (c : Cell) → cell_of_transaction (find_transaction now tid) ≡ Some c → p.0.cell ≡ c
@@ -154,7 +154,7 @@ module _ (book : BookValue) (here : NodeNo) (stamp inc : ℕ) (log : Recovery) (
 
   -- ---- what was ended
 
-  ended_still : (tid : Tid) (d : Decided) → HasEnded book tid d → HasEnded now tid d
+  pub ended_still : (tid : Tid) (d : Decided) → HasEnded book tid d → HasEnded now tid d
   ended_still tid d h =
       let p = goes book here stamp inc log state r tid h.tx h.found in
       record {

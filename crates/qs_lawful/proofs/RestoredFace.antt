@@ -69,7 +69,7 @@ module _ (alloc : Global) (setting : Setting) (saved : Kept) (book : BookValue) 
   -- ---- a transaction that the machine has
 
   module _ (tid : Tid) (later : TransactionValue) (found : find_transaction after tid ≡ Some later) where
-    abbrev prior : (tx : TransactionValue) × (find_transaction book tid ≡ Some tx) × Goes setting.node.0 (IsElsewhere setting.node.0 setting.inc) tid tx later
+    abbrev prior : (tx : TransactionValue) × (find_transaction book tid ≡ Some tx) × Goes setting.node.0 (IsElsewhere setting.node.0 setting.inc) book.place tid tx later
     prior = was book setting.node stamp setting.inc log state r tid later found
 
     abbrev tx : TransactionValue
@@ -78,7 +78,7 @@ module _ (alloc : Global) (setting : Setting) (saved : Kept) (book : BookValue) 
     had : find_transaction book tid ≡ Some tx
     had = prior.1
 
-    g : Goes setting.node.0 (IsElsewhere setting.node.0 setting.inc) tid tx later
+    g : Goes setting.node.0 (IsElsewhere setting.node.0 setting.inc) book.place tid tx later
     g = prior.2
 
     nothing_sent : (peer : NodeNo) → sent_in setting.inc (sent_on later (record { from = setting.node; to = peer })) ≡ 0

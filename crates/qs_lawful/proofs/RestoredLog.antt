@@ -116,7 +116,7 @@ module _ (book : BookValue) (here : NodeNo) (stamp inc : ℕ) (log : Recovery) (
           let p = goes book here stamp inc log state r v.tid a.0 a.1 in
           applied among p.0 p.1 (of p.2 a.2.1)
         where
-          of : {later : TransactionValue} → Goes here.0 (IsElsewhere here.0 inc) v.tid a.0 later → (has_learnt a.0 (member_at here.0 v.server.0) ≡ true) ⊎ (is_among state.committed v.tid ≡ true) → (has_learnt later (member_at here.0 v.server.0) ≡ true) ⊎ (is_among reborn.committed v.tid ≡ true)
+          of : {later : TransactionValue} → Goes here.0 (IsElsewhere here.0 inc) book.place v.tid a.0 later → (has_learnt a.0 (member_at here.0 v.server.0) ≡ true) ⊎ (is_among state.committed v.tid ≡ true) → (has_learnt later (member_at here.0 v.server.0) ≡ true) ⊎ (is_among reborn.committed v.tid ≡ true)
           of g (inl is) = inl (g.learnt (member_at here.0 v.server.0) is)
           of g (inr is) = inr (ap (λ (tids : List Tid). is_among tids v.tid) same_committed ∙ is)
       by true among (inl is) = at (find_transaction book v.tid) refl

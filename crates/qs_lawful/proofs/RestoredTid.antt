@@ -80,21 +80,21 @@ module _ (book : BookValue) (here : NodeNo) (stamp inc : ℕ) (log : Recovery) (
   pub at_node : LastsAt book here state
   at_node = r.lasts.nodes here state r.there
 
-  pub goes : (tid : Tid) (tx : TransactionValue) → find_transaction book tid ≡ Some tx → (later : TransactionValue) × (find_transaction new tid ≡ Some later) × Goes here.0 (IsElsewhere here.0 inc) tid tx later
+  pub goes : (tid : Tid) (tx : TransactionValue) → find_transaction book tid ≡ Some tx → (later : TransactionValue) × (find_transaction new tid ≡ Some later) × Goes here.0 (IsElsewhere here.0 inc) book.place tid tx later
   goes = goes_new book here.0 stamp inc log state r.there r.stopped.kinds sorted
 
   pub none : (tid : Tid) → find_transaction book tid ≡ None → find_transaction new tid ≡ None
   none = none_new book here.0 stamp inc log state r.there r.stopped.kinds sorted
 
   -- what is found was there
-  pub was : (tid : Tid) (later : TransactionValue) → find_transaction new tid ≡ Some later → (tx : TransactionValue) × (find_transaction book tid ≡ Some tx) × Goes here.0 (IsElsewhere here.0 inc) tid tx later
+  pub was : (tid : Tid) (later : TransactionValue) → find_transaction new tid ≡ Some later → (tx : TransactionValue) × (find_transaction book tid ≡ Some tx) × Goes here.0 (IsElsewhere here.0 inc) book.place tid tx later
   was tid later found = by (find_transaction book tid) refl
     where
-      by : (o : Option TransactionValue) → find_transaction book tid ≡ o → (tx : TransactionValue) × (find_transaction book tid ≡ Some tx) × Goes here.0 (IsElsewhere here.0 inc) tid tx later
+      by : (o : Option TransactionValue) → find_transaction book tid ≡ o → (tx : TransactionValue) × (find_transaction book tid ≡ Some tx) × Goes here.0 (IsElsewhere here.0 inc) book.place tid tx later
       by None nothing = absurd (cc (sym (none tid nothing) ∙ found))
       by (Some tx) had =
           let p = goes tid tx had in
-          (tx, had, subst (Goes here.0 (IsElsewhere here.0 inc) tid tx) (ap (λ (o : Option TransactionValue). elim o [ None ↦ p.0 | Some x ↦ x ]) (sym p.1 ∙ found)) p.2)
+          (tx, had, subst (Goes here.0 (IsElsewhere here.0 inc) book.place tid tx) (ap (λ (o : Option TransactionValue). elim o [ None ↦ p.0 | Some x ↦ x ]) (sym p.1 ∙ found)) p.2)
 
   -- ---- outcomes
 
@@ -238,7 +238,7 @@ module _ (book : BookValue) (here : NodeNo) (stamp inc : ℕ) (log : Recovery) (
     pub found_whole : is_commit later.cell ≡ true → is_open tx.cell ≡ true → is_empty tx.crossed ≡ true
     found_whole is undecided = by (tid.home.0 == here.0) (is_among log.committed tid) refl refl
       where
-        g : Goes here.0 (IsElsewhere here.0 inc) tid tx later
+        g : Goes here.0 (IsElsewhere here.0 inc) book.place tid tx later
         g = (was tid later found).2
 
         open_commit : (c : Cell) → is_open c ≡ true → is_commit c ≡ true → ⊥

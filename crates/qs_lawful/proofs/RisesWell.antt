@@ -146,13 +146,13 @@ module _ (book : BookValue) (world : World) (n stamp inc : ℕ) (lasts : Lasts b
       less : (a b : ℕ) → nat_lt a b ≡ true → a < b
       less a b e = grind (arith, nat_tests, e)
 
-  at : HoldsNodeAt book world n
+  pub at : HoldsNodeAt book world n
   at = h.nodes n in_run
 
-  abbrev log : Recovery
+  abbrev pub log : Recovery
   log = recovery (world.hosts n).log
 
-  abbrev setting : Setting
+  abbrev pub setting : Setting
   setting = record (world.hosts n).node.setting { inc = inc }
 
   d : HoldsDown n book at.state (world.hosts n)
@@ -173,15 +173,15 @@ module _ (book : BookValue) (world : World) (n stamp inc : ℕ) (lasts : Lasts b
   at_own : At (world.hosts n).node.setting.node.0
   at_own = subst At (sym at.node) (record { there = at.there; stopped = d.log; left = d.left })
 
-  r : Restarts book setting.node setting.inc log at.state
+  pub r : Restarts book setting.node setting.inc log at.state
   r = record { there = at_own.there; stopped = at_own.stopped; stands = d.stands; marked = d.marked; left = at_own.left; lasts = lasts; listed = untold_listed (world.hosts n).log; rises = rises }
 
-  once : votes_once (found_votes log) ≡ true
+  pub once : votes_once (found_votes log) ≡ true
   once = found_once (world.hosts n).log
 
   -- ---- its entry
 
-  abbrev entry : Entry
+  abbrev pub entry : Entry
   entry = rise_entry world n stamp inc
 
   entry_lawful : broken book entry ≡ None
@@ -190,7 +190,7 @@ module _ (book : BookValue) (world : World) (n stamp inc : ℕ) (lasts : Lasts b
       order : is_in_order book entry ≡ true
       order = h.order n stamp ordered
 
-  kept_before : HoldsKept setting.node at.state.inc book (world.hosts n).node.kept.saved
+  pub kept_before : HoldsKept setting.node at.state.inc book (world.hosts n).node.kept.saved
   kept_before = subst (λ (i : ℕ). HoldsKept setting.node i book (world.hosts n).node.kept.saved) (sym at.inc_is) at.kept
 
   -- ---- what is held then
@@ -198,7 +198,7 @@ module _ (book : BookValue) (world : World) (n stamp inc : ℕ) (lasts : Lasts b
   abbrev risen : Host
   risen = risen_host stamp inc (recovered_of (world.hosts n).log) (world.hosts n)
 
-  abbrev book_now : BookValue
+  abbrev pub book_now : BookValue
   book_now = now (world.hosts n).node.manager.alloc setting (world.hosts n).node.kept.saved book stamp log at.state r kept_before once
 
   abbrev new_state : machine.NodeValue
@@ -222,7 +222,7 @@ module _ (book : BookValue) (world : World) (n stamp inc : ℕ) (lasts : Lasts b
   held_now : Held n
   held_now = subst Held at.node held_own
 
-  same_book : effect book entry ≡ book_now
+  pub same_book : effect book entry ≡ book_now
   same_book = ap (λ (k : ℕ). effect book (entry_of k stamp (acts.Restart inc (found_votes log) log.committed))) (sym at.node)
 
   up_to_date : HoldsUp n book_now new_state risen

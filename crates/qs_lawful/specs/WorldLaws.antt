@@ -1,6 +1,6 @@
 -- The laws of moves of the world: from what the machine has of the world, a move's entries are lawful, and the machine after them has
 -- the world after it.
-use Rattle.std.specs.Prelude.{◌≡◌, ℕ, true, false, [], ◌∷◌}
+use Rattle.std.specs.Prelude.{◌≡◌, ℕ, ◌==◌, true, false, [], ◌∷◌}
 use Rattle.qs_journal.specs.declared.entry.Act.TheVariants as acts
 use Rattle.qs_journal.specs.declared.entry.CrashCause.{CrashCause}
 use Rattle.qs_journal.specs.declared.entry.Entry.{Entry}
@@ -10,6 +10,8 @@ use Rattle.qs_restart.specs.Recovery.{recovery}
 use Rattle.qs_world.specs.Moves.{Cut, Meet, Rise, Source, Stop, may_move, moved}
 use Rattle.qs_world.specs.Posting.{entry_of}
 use Rattle.qs_world.specs.World.{World}
+use Rattle.qs_step.specs.State.{NodeValue}
+use Rattle.qs_lawful.specs.Holds.{Holds, is_next}
 use Rattle.qs_lawful.specs.Lasting.{Lasts}
 use Rattle.qs_lawful.specs.Logs.{found_votes}
 use Rattle.qs_lawful.specs.Worlds.{HoldsNodeAt, HoldsWorld}
@@ -25,6 +27,12 @@ pub record RisesWell (book : BookValue) (world : World) (n stamp inc : ℕ) : Ty
 
 abbrev pub EachRises : Type 0
 EachRises = (book : BookValue) (world : World) (n stamp inc : ℕ) → Lasts book → HoldsWorld book world → may_move world (Rise n stamp inc) ≡ true → RisesWell book world n stamp inc
+
+-- and what the machine has of every other node that runs it has then too
+abbrev pub EachRiseKeepsOthers : Type 0
+EachRiseKeepsOthers = (book : BookValue) (world : World) (n stamp inc : ℕ) → Lasts book → HoldsWorld book world → may_move world (Rise n stamp inc) ≡ true
+    → (k next : ℕ) (node : NodeValue) → (k == n) ≡ false → node.setting.node.0 ≡ k → is_next next k (book_after book (rise_entry world n stamp inc ∷ [])) ≡ true → Holds next book node
+    → Holds next (book_after book (rise_entry world n stamp inc ∷ [])) node
 
 -- a node gets to know a first incarnation of another: nothing is entered, and the machine has the world as before
 abbrev pub EachMeets : Type 0

@@ -1,14 +1,15 @@
 //! Moves of the world against the machine: what the machine has of a whole world is had on through a move.
 ghost use Rattle.std.specs.Global.{Global};
 ghost use Rattle.qs_lawful.specs.CoherentOpenings.{EachOpensSoundly, VotesAgain};
-ghost use Rattle.qs_lawful.specs.WorldLaws.{EachLosesItsBatch, EachMeets, EachRises, EachStops};
+ghost use Rattle.qs_lawful.specs.WorldLaws.{EachLosesItsBatch, EachMeets, EachRiseKeepsOthers, EachRises, EachStops};
 
 /// A node that is down restarts, and begins an incarnation with what its log says: the entry is lawful, what it finds in its log with it;
 /// and the machine after it has all that the node keeps then. What the log has committed is applied once, in order, and committed; what
 /// is in doubt is pending again; what is volatile is empty; and of what began in the incarnation that ended, and was not decided, the machine
-/// and what is kept for clients have the same outcome.
+/// and what is kept for clients have the same outcome. What the machine has of every other node that runs it has then too.
 pub fn restart_is_held()
     ensures rises { EachRises }
+    ensures others { EachRiseKeepsOthers }
 {}
 
 /// A node gets to know a first incarnation of another: nothing is entered, and the machine has the world as before.
