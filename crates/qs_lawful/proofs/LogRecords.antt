@@ -127,7 +127,7 @@ module _ (here : ℕ) (book : BookValue) (state : machine.NodeValue) (log : Reco
 
 -- ---- a Commit
 
-among_more : (tids more : List Tid) (tid : Tid) → is_among tids tid ≡ true → is_among (tids ++ more) tid ≡ true
+pub among_more : (tids more : List Tid) (tid : Tid) → is_among tids tid ≡ true → is_among (tids ++ more) tid ≡ true
 among_more [] more tid h = absurd (cc h)
 among_more (t ∷ tids) more tid h = by (same_tid tid t) refl (among_more tids more tid)
   where
@@ -135,7 +135,7 @@ among_more (t ∷ tids) more tid h = by (same_tid tid t) refl (among_more tids m
     by true is on = rw is refl
     by false is on = rw is (on (rw is at h))
 
-among_last : (tids : List Tid) (tid : Tid) → is_among (tids ++ tid ∷ []) tid ≡ true
+pub among_last : (tids : List Tid) (tid : Tid) → is_among (tids ++ tid ∷ []) tid ≡ true
 among_last [] tid = ap (λ (b : Bool). b || false) (same_tid-self tid)
 among_last (t ∷ tids) tid = by (same_tid tid t) (among_last tids tid)
   where

@@ -6,6 +6,7 @@ use Rattle.qs_base.specs.declared.identifiers.Member.{Member}
 use Rattle.qs_base.specs.declared.identifiers.NodeNo.{NodeNo}
 use Rattle.qs_base.specs.declared.identifiers.ServerNo.{ServerNo}
 use Rattle.qs_base.specs.declared.identifiers.Tid.{Tid}
+use Rattle.qs_laws.proofs.Rising.{IsRising}
 use Rattle.qs_machine.specs.Book.{BookValue, find_transaction}
 use Rattle.qs_machine.specs.Nodes as machine
 use Rattle.qs_machine.specs.Restart.{is_among}
@@ -37,8 +38,10 @@ pub record LastsAt (book : BookValue) (here : NodeNo) (state : machine.NodeValue
   pub begun : (tid : Tid) (tx : TransactionValue) → find_transaction book tid ≡ Some tx → tid.home ≡ here → tid.inc ≤ state.inc
   pub open_now : (tid : Tid) (tx : TransactionValue) → find_transaction book tid ≡ Some tx → tid.home ≡ here → is_open tx.cell ≡ true → IsOfNow state tid
   pub committed : (tid : Tid) → is_among state.committed tid ≡ true → HasCommitted book tid
+  pub tidy : IsRising machine.voter_cmp state.records
 
 pub record Lasts (book : BookValue) : Type 0 where
   pub named : IsNamed book
+  pub past : (tid : Tid) (tx : TransactionValue) (place : ℕ) → find_transaction book tid ≡ Some tx → tx.decided ≡ Some place → place < book.place
   pub waits : (tid : Tid) (tx : TransactionValue) → find_transaction book tid ≡ Some tx → StandsOnce tx
   pub nodes : (here : NodeNo) (state : machine.NodeValue) → slice_get book.nodes here.0 ≡ Some state → LastsAt book here state

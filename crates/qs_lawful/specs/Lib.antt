@@ -31,3 +31,6 @@ pub mod WorldTests
 pub mod TriedWorlds
 pub mod StandingOn
 pub mod TriedStages
+pub mod Doubtful
+pub mod WorldLaws
+pub mod CoherentOpenings

@@ -39,6 +39,10 @@ IsAsRecorded here book state vote = (rec : OnRecord) → machine.record_of state
 abbrev pub IsApart : Recovery → Prepared → Type 0
 IsApart log vote = names_transaction vote.tid ≡ true → vote.committed ≡ false → is_among log.committed vote.tid ≡ false
 
+-- what is in doubt at its home is not committed
+abbrev pub IsUndone : ℕ → BookValue → Prepared → Type 0
+IsUndone here book vote = vote.tid.home.0 ≡ here → names_transaction vote.tid ≡ true → vote.committed ≡ false → HasCommitted book vote.tid → ⊥
+
 -- ---- a node that runs, after a whole step
 
 pub record HoldsSaid (here : ℕ) (book : BookValue) (state : machine.NodeValue) (log : Recovery) : Type 0 where
@@ -46,7 +50,8 @@ pub record HoldsSaid (here : ℕ) (book : BookValue) (state : machine.NodeValue)
   pub audit : IsMadeBy state.audit log.audit
   pub recorded : Every (IsAsRecorded here book state) log.prepared
   pub apart : Every (IsApart log) log.prepared
-  pub gone : (tid : Tid) (server : ℕ) → is_among log.committed tid ≡ true → machine.record_of state tid server ≡ None  -- it was applied
+  pub gone : (tid : Tid) (server : ℕ) → machine.is_recoverable server ≡ true → is_among log.committed tid ≡ true → machine.record_of state tid server ≡ None  -- it was applied
+  pub undone : Every (IsUndone here book) log.prepared
 
 -- ---- a node that is down: what its log has that was not applied is applied as it restarts
 
@@ -57,10 +62,6 @@ book_found here book log = put_new_votes here (found_votes log) book
 -- a Prepare in doubt will be on record then
 abbrev pub IsToBeRecorded : ℕ → BookValue → Recovery → Prepared → Type 0
 IsToBeRecorded here book log vote = names_transaction vote.tid ≡ true → vote.committed ≡ false → IsRecorded here book (record_at here (book_found here book log) vote.tid vote.server.0) vote
-
--- what is in doubt at its home is not committed
-abbrev pub IsUndone : ℕ → BookValue → Prepared → Type 0
-IsUndone here book vote = vote.tid.home.0 ≡ here → names_transaction vote.tid ≡ true → vote.committed ≡ false → HasCommitted book vote.tid → ⊥
 
 pub record HoldsLeft (here : ℕ) (book : BookValue) (state : machine.NodeValue) (log : Recovery) : Type 0 where
   pub files : IsMadeBy (applied state.files (reopened here 0 (found_votes log) log.committed (book_found here book log)).files) log.files

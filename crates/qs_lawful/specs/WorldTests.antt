@@ -1,5 +1,5 @@
 -- What the machine has of a world, as tests: a twin of each conjunct, so that it can be tried on the states of runs.
-use Rattle.std.specs.Prelude.{ℕ, ◌==◌, Bool, true, false, not, ◌&&◌, ◌||◌, List, [], ◌∷◌, ◌++◌, length, Option, Some, None, is_some, is_none, slice_get, nat_le, if◌then◌else◌}
+use Rattle.std.specs.Prelude.{ℕ, ◌+◌, ◌==◌, Bool, true, false, not, ◌&&◌, ◌||◌, List, [], ◌∷◌, ◌++◌, length, Option, Some, None, is_some, is_none, slice_get, nat_le, if◌then◌else◌}
 use Rattle.std.specs.List.{list_all, list_any, filter, find}
 use Rattle.std.specs.Ordering.{is_lt}
 use Rattle.qs_base.specs.Order.{same_bytes, same_tid, tid_cmp}
@@ -124,16 +124,16 @@ apart_ok log vote = implied (names_transaction vote.tid && not vote.committed) (
 abbrev gone_ok : Recovery → Voter × OnRecord → Bool
 gone_ok log entry = not (is_among log.committed entry.0.tid)
 
+abbrev undone_ok : ℕ → BookValue → Prepared → Bool
+undone_ok here book vote = implied ((vote.tid.home.0 == here) && (names_transaction vote.tid && not vote.committed)) (not (has_committed book vote.tid))
+
 abbrev pub said_ok : ℕ → BookValue → machine.NodeValue → Recovery → Bool
 said_ok n book state log =
     (made_ok state.files log.files && made_ok state.audit log.audit)
-    && (list_all (as_recorded_ok n book state) log.prepared && (list_all (apart_ok log) log.prepared && list_all (gone_ok log) state.records))
+    && (list_all (as_recorded_ok n book state) log.prepared && (list_all (apart_ok log) log.prepared && (list_all (gone_ok log) state.records && list_all (undone_ok n book) log.prepared)))
 
 abbrev to_be_recorded_ok : ℕ → BookValue → Recovery → Prepared → Bool
 to_be_recorded_ok here book log vote = implied (names_transaction vote.tid && not vote.committed) (recorded_ok here book (record_at here (book_found here book log) vote.tid vote.server.0) vote)
-
-abbrev undone_ok : ℕ → BookValue → Prepared → Bool
-undone_ok here book vote = implied ((vote.tid.home.0 == here) && (names_transaction vote.tid && not vote.committed)) (not (has_committed book vote.tid))
 
 abbrev left_ok : ℕ → BookValue → machine.NodeValue → Recovery → Bool
 left_ok n book state log =
@@ -158,10 +158,14 @@ stopped_ok here book state log =
 
 -- ---- what is kept for clients
 
+abbrev has_owner : BookValue → Option ClientNo → Bool
+has_owner book None = true
+has_owner book (Some client) = is_some (slice_get book.owners client.0)
+
 abbrev left_open_ok : ℕ → BookValue → List Decided → Begun → Bool
 left_open_ok here book outcomes begun = elim begun.tid [
   | None ↦ true
-  | Some tid ↦ implied ((tid.home.0 == here) && is_none (find (is_outcome_of tid) outcomes)) (tx_at book tid (λ tx. is_open tx.cell))
+  | Some tid ↦ implied ((tid.home.0 == here) && is_none (find (is_outcome_of tid) outcomes)) (tx_at book tid (λ tx. is_open tx.cell && has_owner book tx.owner))
 ]
 
 abbrev loan_ok : BookValue → ℕ → Lent → Bool
@@ -183,9 +187,13 @@ home_ok book tid tx = elim (slice_get book.nodes tid.home.0) [
   | Some state ↦ nat_le tid.inc state.inc && implied (is_open tx.cell) ((tid.inc == state.inc) && nat_le tid.seq state.begun)
 ]
 
+abbrev is_past : ℕ → Option ℕ → Bool
+is_past place None = true
+is_past place (Some at) = nat_le (at + 1) place
+
 abbrev lasts_tx_ok : BookValue → Tid × TransactionValue → Bool
 lasts_tx_ok book entry =
-    (names_transaction entry.0 && home_ok book entry.0 entry.1)
+    (names_transaction entry.0 && (home_ok book entry.0 entry.1 && is_past book.place entry.1.decided))
     && ((list_all (λ (e : Life × Part). inc_up_to book e.0.member.node e.0.inc) entry.1.parts && list_all (λ (e : Link × Sent). inc_up_to book e.0.from e.1.inc) entry.1.sent)
     && (list_all (λ (e : Noted). inc_up_to book e.node e.inc) entry.1.noted && implied (is_commit entry.1.cell) (is_empty entry.1.crossed)))
 

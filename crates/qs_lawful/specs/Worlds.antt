@@ -1,6 +1,6 @@
 -- What the reference machine has of a whole world: of each node that runs all that the node keeps and its log says, and of each that is
 -- down what its log says; and of both what is kept for clients.
-use Rattle.std.specs.Prelude.{◌≡◌, ◌≤◌, ◌<◌, ℕ, true, false, List, [], ◌++◌, length, Some, None, is_some, slice_get}
+use Rattle.std.specs.Prelude.{◌≡◌, ◌≤◌, ◌<◌, ℕ, Bool, true, false, List, [], ◌++◌, length, Some, None, is_some, slice_get}
 use Rattle.std.specs.List.{find}
 use Rattle.qs_base.specs.declared.identifiers.ClientNo.{ClientNo}
 use Rattle.qs_base.specs.declared.identifiers.NodeNo.{NodeNo}
@@ -23,11 +23,12 @@ use Rattle.qs_lawful.specs.Said.{HoldsLeft, HoldsSaid}
 
 -- ---- what is kept for clients, through crashes
 
--- the machine has it undecided
+-- the machine has it undecided, of a client of the run
 pub record IsOpenStill (book : BookValue) (tid : Tid) : Type 0 where
   pub tx : TransactionValue
   pub found : find_transaction book tid ≡ Some tx
   pub undecided : is_open tx.cell ≡ true
+  pub owned : (client : ClientNo) → tx.owner ≡ Some client → is_some (slice_get book.owners client.0) ≡ true
 
 -- what began here under a label, and of which no outcome is kept, is undecided
 abbrev pub IsLeftOpen : NodeNo → BookValue → List Decided → Begun → Type 0
@@ -65,18 +66,22 @@ pub record HoldsDown (n : ℕ) (book : BookValue) (state : machine.NodeValue) (h
   pub left : HoldsLeft n book state (recovery host.log)
   pub nothing_waits : host.waiting ≡ []
 
-pub record HoldsNodeAt (book : BookValue) (world : World) (n : ℕ) : Type 0 where
+-- a node of a run of so many, in that incarnation, that runs or not
+pub record HoldsNodeOf (book : BookValue) (size n inc : ℕ) (up : Bool) (host : Host) : Type 0 where
   pub state : machine.NodeValue
   pub there : slice_get book.nodes n ≡ Some state
-  pub up : state.up ≡ world.channels.up n
-  pub inc : state.inc ≡ inc_of world n
-  pub node : (world.hosts n).node.setting.node.0 ≡ n
-  pub run : (world.hosts n).node.setting.nodes ≡ world.size
-  pub format : (machine.extra_of state.format ≡ (world.hosts n).node.setting.extra) × (machine.keep_of state.format ≡ (world.hosts n).node.setting.keep)
-  pub accepted : (world.hosts n).node.kept.saved ≡ (world.hosts n).node.kept.now
-  pub kept : HoldsKept (world.hosts n).node.setting.node (inc_of world n) book (world.hosts n).node.kept.saved
-  pub runs : world.channels.up n ≡ true → HoldsUp n book state (world.hosts n)
-  pub stopped : world.channels.up n ≡ false → HoldsDown n book state (world.hosts n)
+  pub up_is : state.up ≡ up
+  pub inc_is : state.inc ≡ inc
+  pub node : host.node.setting.node.0 ≡ n
+  pub run : host.node.setting.nodes ≡ size
+  pub format : (machine.extra_of state.format ≡ host.node.setting.extra) × (machine.keep_of state.format ≡ host.node.setting.keep)
+  pub accepted : host.node.kept.saved ≡ host.node.kept.now
+  pub kept : HoldsKept host.node.setting.node inc book host.node.kept.saved
+  pub runs : up ≡ true → HoldsUp n book state host
+  pub stopped : up ≡ false → HoldsDown n book state host
+
+abbrev pub HoldsNodeAt : BookValue → World → ℕ → Type 0
+HoldsNodeAt book world n = HoldsNodeOf book world.size n (inc_of world n) (world.channels.up n) (world.hosts n)
 
 -- ---- the world
 

@@ -10,6 +10,7 @@ mod lawful_restarts;
 mod lawful_rules;
 mod lawful_servers;
 mod lawful_steps;
+mod lawful_worlds;
 mod tried;
 mod tried_worlds;
 
@@ -57,7 +58,12 @@ pub use lawful_steps::{
     settling_is_lawful, step_is_lawful, vote_pass_is_lawful,
 };
 <<<<<<< HEAD
+<<<<<<< HEAD
 pub use tried::{given_in_runs, held_in_runs};
+=======
+pub use lawful_worlds::{meeting_is_held, opening_is_coherent, restart_is_held, stop_is_held};
+pub use tried::held_in_runs;
+>>>>>>> 0da43f2ede211272c16a91f27becc08639ff42c9
 pub use tried_worlds::worlds_held_in_runs;
 =======
 pub use tried::{given_at_stages, given_in_runs, held_in_runs};

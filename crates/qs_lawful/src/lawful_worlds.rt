@@ -1,0 +1,33 @@
+//! Moves of the world against the machine: what the machine has of a whole world is had on through a move.
+ghost use Rattle.std.specs.Global.{Global};
+ghost use Rattle.qs_lawful.specs.CoherentOpenings.{EachOpensSoundly, VotesAgain};
+ghost use Rattle.qs_lawful.specs.WorldLaws.{EachLosesItsBatch, EachMeets, EachRiseKeepsOthers, EachRises, EachStops};
+
+/// A node that is down restarts, and begins an incarnation with what its log says: the entry is lawful, what it finds in its log with it;
+/// and the machine after it has all that the node keeps then. What the log has committed is applied once, in order, and committed; what
+/// is in doubt is pending again; what is volatile is empty; and of what began in the incarnation that ended, and was not decided, the machine
+/// and what is kept for clients have the same outcome. What the machine has of every other node that runs it has then too.
+pub fn restart_is_held()
+    ensures rises { EachRises }
+    ensures others { EachRiseKeepsOthers }
+{}
+
+/// A node gets to know a first incarnation of another: nothing is entered, and the machine has the world as before.
+pub fn meeting_is_held()
+    ensures meets { EachMeets }
+{}
+
+/// A node stops, in place of a step or in one whose batch is lost: the entry is lawful, and the machine after it has the whole world. What the
+/// node's log says on the disk is what a restart of it will find: each vote is on record or was applied, each Commit was applied, and
+/// nothing is new.
+pub fn stop_is_held()
+    ensures stops { EachStops }
+    ensures cut { EachLosesItsBatch }
+{}
+
+/// What the logs of an opening hold is what the laws want of an opening, where no log has a vote in doubt of a transaction that it has
+/// committed. That is asked for besides: a run may begin with such a log.
+pub fn opening_is_coherent()
+    ensures sound { EachOpensSoundly }
+    ensures needed { (alloc : Global) → VotesAgain alloc }
+{}
