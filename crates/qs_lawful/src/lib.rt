@@ -57,14 +57,6 @@ pub use lawful_steps::{
     event_is_lawful, forgetting_is_lawful, serving_all_is_lawful, settle_is_lawful,
     settling_is_lawful, step_is_lawful, vote_pass_is_lawful,
 };
-<<<<<<< HEAD
-<<<<<<< HEAD
-pub use tried::{given_in_runs, held_in_runs};
-=======
 pub use lawful_worlds::{meeting_is_held, opening_is_coherent, restart_is_held, stop_is_held};
-pub use tried::held_in_runs;
->>>>>>> 0da43f2ede211272c16a91f27becc08639ff42c9
-pub use tried_worlds::worlds_held_in_runs;
-=======
 pub use tried::{given_at_stages, given_in_runs, held_in_runs};
->>>>>>> 0a87375a25b3dd992a9e31171c0105b1e23da298
+pub use tried_worlds::worlds_held_in_runs;
