@@ -51,10 +51,11 @@ use Rattle.qs_refine.proofs.SettleStands.{whole_known}
 use Rattle.qs_refine.proofs.SoundHolds.{known_sound}
 use Rattle.qs_refine.proofs.SoundKnown.{same_is}
 use Rattle.qs_refine.proofs.ToldStands.{Taking, taking}
-use Rattle.qs_refine.proofs.TurnOn.{Case, MayTake}
-use Rattle.qs_refine.proofs.TurnOutcomes.{MayTold}
-use Rattle.qs_refine.proofs.TurnStep as turn
-use Rattle.qs_refine.proofs.TurnStep.{MayHear}
+use Rattle.qs_refine.proofs.TurnOn.{Case}
+use Rattle.qs_refine.proofs.TurnRecords.{MayTake}
+use Rattle.qs_refine.proofs.TurnTold.{MayTold}
+use Rattle.qs_refine.proofs.TurnEvents as turn
+use Rattle.qs_refine.proofs.TurnEvents.{MayHear}
 
 -- what is followed through the step, with the machine as it is at the end
 abbrev pub case_of : Tid → World → ℕ → Bool → machine.World → Case

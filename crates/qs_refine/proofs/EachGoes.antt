@@ -52,7 +52,7 @@ use Rattle.qs_refine.proofs.SettleGoes.{settle_goes}
 use Rattle.qs_refine.proofs.SoundKnown.{same_is}
 use Rattle.qs_refine.proofs.StepEdges.{step_ends}
 use Rattle.qs_refine.proofs.TurnOn.{Case, Fate, became, fate_of, fate_found, fate_at, Turned, is_aborted_of, is_end_of, same_outcome}
-use Rattle.qs_refine.proofs.TurnStep.{step_on}
+use Rattle.qs_refine.proofs.TurnEvents.{step_on}
 use Rattle.qs_refine.proofs.WaitStands.{answer_waiting_goes}
 
 module _ (t : Tid) (world : World) (w : machine.World) (steady : IsSteady world) (home_in : t.home.0 < world.size) (began : HasBegun world t) (all : ShowsAll t world w) (kept : KeepsDecided t world w) (fits : MessagesFit world) (counts : CanCountAll world)

@@ -43,7 +43,7 @@ use Rattle.qs_refine.proofs.SoundParts.{and_both}
 use Rattle.qs_refine.proofs.StartWorlds.{alike_at}
 use Rattle.qs_refine.proofs.StepMoves.{stops}
 use Rattle.qs_refine.proofs.TakingUp.{Known, log_taken}
-use Rattle.qs_refine.proofs.TurnOn.{nobody}
+use Rattle.qs_refine.proofs.TurnRecords.{nobody}
 
 -- ---- what a node takes up of a transaction from its log
 

@@ -60,7 +60,7 @@ use Rattle.qs_refine.proofs.SoundKnown.{same_is}
 use Rattle.qs_refine.proofs.SoundParts.{and_both}
 use Rattle.qs_refine.proofs.StepGoes.{ends}
 use Rattle.qs_refine.proofs.TurnOn.{Case, Fate, became, fate_of, fate_found, fate_at, Turned, TurnedAs, is_aborted_of, is_end_of, same_outcome, same_acks, open_apart}
-use Rattle.qs_refine.proofs.TurnStep.{step_on}
+use Rattle.qs_refine.proofs.TurnEvents.{step_on}
 use Rattle.qs_refine.proofs.WaitStands.{answer_waiting_goes}
 
 -- ---- as the step begins the records that wait stand in turn

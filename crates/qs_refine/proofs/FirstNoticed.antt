@@ -40,7 +40,7 @@ use Rattle.qs_refine.proofs.Alike.{SameFace, same_itself, found_itself, face_on,
 use Rattle.qs_refine.proofs.During.{Leaves, quiet_itself}
 use Rattle.qs_refine.proofs.Keeping.{Keeps, keeps_goes}
 use Rattle.qs_refine.proofs.Reading.{part_known}
-use Rattle.qs_refine.proofs.RestartOwn.{IsFound, own_turn}
+use Rattle.qs_refine.proofs.RestartTurn.{IsFound, own_turn}
 use Rattle.qs_refine.proofs.RestartStands.{unconcerned, unknown_turn, others, others_leave, is_concerned, same_turns}
 use Rattle.qs_refine.proofs.Maps.{lookup_changed}
 use Rattle.qs_refine.proofs.Moving.{knows_as}

@@ -35,8 +35,10 @@ use Rattle.qs_step.specs.State.{Work, here, part_of, doings_of, with_node, with_
 use Rattle.qs_step.specs.Telling.{record_learnt, end_record}
 use Rattle.qs_step.specs.Voting.{owes_note, issue_note, note_text, change_count, served_count, enter_vote, vote_with, vote_frame, vote_next, due_votes, vote_pass}
 use Rattle.qs_refine.specs.Sound.{is_sound, where_so, same_flag}
-use Rattle.qs_refine.proofs.TurnOn.{Case, Fate, became, open_apart, fate_of, fate_found, fate_at, Turned, TurnedAs, TurnsOn, SameTurn, NoLoose, MayEnter, on_itself, on_then, same_on, same_then, fold_on, if_on, rest_on, enter_on, enter_same, send_on, sends_on, queues_on, doings_on, server_on, server_same, part_on, part_same, rest_same, log_on_turned, log_if_on, open_loose, open_fate, fate_known}
-use Rattle.qs_refine.proofs.TurnOutcomes.{end_members_same, notices_same, setting_logged, decide_on, decide_commit_on, forget_on}
+use Rattle.qs_refine.proofs.TurnOn.{Case, Fate, became, open_apart, fate_of, fate_found, fate_at, Turned, TurnedAs, TurnsOn, SameTurn, NoLoose, on_itself, on_then, same_on, same_then, fold_on, if_on, rest_on, enter_on, enter_same, send_on, sends_on, queues_on, doings_on, server_on, server_same, part_on, part_same, rest_same, open_loose}
+use Rattle.qs_refine.proofs.TurnRecords.{MayEnter, log_on_turned, log_if_on, open_fate, fate_known}
+use Rattle.qs_refine.proofs.TurnOutcomes.{end_members_same, notices_same, setting_logged, decide_on, decide_commit_on}
+use Rattle.qs_refine.proofs.TurnTold.{forget_on}
 use Rattle.qs_refine.proofs.TurnRules.{issue_on, block_on, undecided_on}
 use Rattle.qs_refine.proofs.SoundHolds.{Holds, known_sound, is_open, open_held, told_part}
 use Rattle.qs_refine.proofs.SoundKnown.{same_is}

@@ -57,3 +57,4 @@ pub mod SoundSteps
 pub mod SoundMoves
 pub mod Steady
 pub mod EachMove
+pub mod EachRun
