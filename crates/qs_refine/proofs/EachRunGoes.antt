@@ -1,10 +1,7 @@
 -- What shows a transaction goes on to show it over a run, move by move.
-use Rattle.std.proofs.Common.{◌≡◌, List, [], ◌∷◌, refl, sym, subst}
-use Rattle.qs_base.specs.declared.identifiers.Tid.{Tid}
-use Rattle.qs_world.specs.Moves.{Move, moved}
+use Rattle.std.proofs.Common.{[], ◌∷◌, refl, sym, subst}
+use Rattle.qs_world.specs.Moves.{moved}
 use Rattle.qs_world.specs.World.{World}
-use Rattle.qs_agree.specs.World as machine
-use Rattle.qs_agree.specs.Carry.{Leads}
 use Rattle.qs_agree.proofs.Carries.{leads_on}
 use Rattle.qs_refine.specs.EachMove.{AllGoes}
 use Rattle.qs_refine.specs.EachRun.{EachRunGoes}

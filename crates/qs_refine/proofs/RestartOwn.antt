@@ -1,63 +1,37 @@
 -- What stands of a transaction as its node finds that another one restarted, at the scene where that is known.
-use Rattle.std.proofs.Common.{◌≡◌, ◌≢◌, ◌⊎◌, ℕ, ◌<◌, ◌≤◌, ◌==◌, ◌&&◌, not, nat_lt, Bool, true, false, List, [], ◌∷◌, Option, Some, None, is_some, fold, refl, sym, subst, ap, ◌∙◌, arith, if◌then◌else◌}
-use Rattle.std.specs.BTreeMap.{is_at}
+use Rattle.std.proofs.Common.{◌≡◌, ℕ, ◌<◌, ◌≤◌, ◌==◌, ◌&&◌, nat_lt, Bool, true, false, List, [], ◌∷◌, fold, refl, sym, ap, ◌∙◌, arith, if◌then◌else◌}
 use Rattle.std.proofs.lemmas.Bool.{eqb-true}
-use Rattle.std.proofs.lemmas.Bool.Decides.{nat_tests}
-use Rattle.qs_base.specs.Order.{tid_cmp}
 use Rattle.qs_base.specs.declared.identifiers.NodeNo.{NodeNo}
-use Rattle.qs_base.specs.declared.identifiers.Outcome.{Outcome}
-use Rattle.qs_base.specs.declared.identifiers.Outcome.TheVariants as outcomes
 use Rattle.qs_base.specs.declared.identifiers.Tid.{Tid}
 use Rattle.qs_engage.specs.Engage.{peer_of}
 use Rattle.qs_engage.specs.Nodes.{same_node}
-use Rattle.qs_tm.specs.Manager as tm
-use Rattle.qs_tm.specs.Manager.{is_one}
 use Rattle.qs_tm.specs.Participant as participant
 use Rattle.qs_tm.specs.declared.participant.Participant.{Participant}
-use Rattle.qs_step.specs.Restarts.{find_gone, is_orphaned_by, inquire, notice_decided, notice_part, notice_tid}
-use Rattle.qs_step.specs.State.{Work, part_of, with_manager}
+use Rattle.qs_step.specs.State.{Work}
 use Rattle.qs_agree.specs.World.{World}
-use Rattle.qs_agree.specs.Carry.{IsLawful, Leads}
+use Rattle.qs_agree.specs.Carry.{Leads}
 use Rattle.qs_refine.specs.Links.{node_no}
-use Rattle.qs_refine.specs.RestartLaws.{noticed, IsNoticed}
+use Rattle.qs_refine.specs.RestartLaws.{noticed}
 use Rattle.qs_refine.specs.Shows.{Scene, ShowsWork}
-use Rattle.qs_refine.specs.Sound.{same_flag, is_superior}
 use Rattle.qs_refine.specs.SoundLaws.{StaysSound}
-use Rattle.qs_refine.specs.Stands.{Stands, GoesOn}
-use Rattle.qs_refine.specs.Steps.{IsAt, Knows, Goes}
-use Rattle.qs_refine.proofs.DecidedStands.{KeepOutcomes}
+use Rattle.qs_refine.specs.Stands.{Stands}
+use Rattle.qs_refine.specs.Steps.{IsAt}
 use Rattle.qs_refine.proofs.During.{Leaves}
 use Rattle.qs_refine.proofs.Facts.{lawful_on}
-use Rattle.qs_refine.proofs.InquireSent.{inquire_goes}
-use Rattle.qs_refine.proofs.Keeping.{nothing_goes}
 use Rattle.qs_refine.proofs.KindsKept.{KeepsKinds}
-use Rattle.qs_refine.proofs.PassCarried.{Carries}
-use Rattle.qs_refine.proofs.RestartFrames.{notice_leaves, notice_kinds, undecided_carries, decided_outcomes}
-use Rattle.qs_refine.proofs.Resuming.{tell_again_goes, name_home, name_other}
-use Rattle.qs_refine.proofs.SendGoes.{goes_on}
-use Rattle.qs_refine.proofs.SettleRules.{beside, beside_apart, IsClear, Answers, clear_carried, answers_carried}
-use Rattle.qs_refine.proofs.SettleStands.{at_same, whole_known}
-use Rattle.qs_refine.proofs.SoundHolds.{known_sound}
-use Rattle.qs_refine.proofs.SoundRestart.{notice_sound}
-use Rattle.std.proofs.lemmas.List.{length-set}
+use Rattle.qs_refine.proofs.SettleRules.{beside, IsClear, Answers}
+use Rattle.qs_refine.proofs.SettleStands.{at_same}
 use Rattle.qs_engage.specs.Engage.{has_sent}
 use Rattle.qs_engage.specs.Nodes.{listed, all_nodes, no_nodes, put_node, put_where, drop_node, union}
 use Rattle.qs_engage.specs.declared.engage.PeerPart.{PeerPart}
 use Rattle.qs_engage.specs.declared.nodes.Nodes.{Nodes}
 use Rattle.qs_refine.proofs.Arrays.{peer_put}
-use Rattle.qs_ops.specs.declared.answer.Cause.TheVariants as causes
 use Rattle.qs_packet.specs.declared.message.Message.TheVariants as messages
-use Rattle.qs_tm.specs.Outcomes.{is_abort, named_by}
+use Rattle.qs_tm.specs.Outcomes.{is_abort}
 use Rattle.qs_tm.specs.Participant.{is_owed_by}
-use Rattle.qs_step.specs.Asking.{block}
 use Rattle.qs_step.specs.Bringing.{send}
-use Rattle.qs_step.specs.Restarts.{tell_again, name_again}
+use Rattle.qs_step.specs.Restarts.{name_again}
 use Rattle.qs_refine.specs.Steps.{IsWhole}
-use Rattle.qs_refine.proofs.DecidedStands.{decided_clear, decided_answers}
-use Rattle.qs_refine.proofs.Maps.{lookup_changed}
-use Rattle.qs_refine.proofs.SoundParts.{and_both}
-use Rattle.qs_refine.proofs.Orphaned.{IsOrphan, orphan_inquires}
-use Rattle.qs_refine.proofs.SettleStands.{at_home}
 
 module _ (t : Tid) (scene : Scene) (n m old new : ℕ) where
   abbrev later : Scene

@@ -1,5 +1,5 @@
 -- A node finds that another one restarted: the turn of one transaction, in which its machine comes to know it.
-use Rattle.std.proofs.Common.{◌≡◌, ◌≢◌, ◌⊎◌, ℕ, ◌<◌, ◌≤◌, ◌==◌, ◌&&◌, not, nat_lt, Bool, true, false, List, [], ◌∷◌, Option, Some, None, is_some, fold, refl, sym, subst, ap, ◌∙◌, arith, if◌then◌else◌}
+use Rattle.std.proofs.Common.{◌≡◌, ◌≢◌, ◌⊎◌, ℕ, ◌<◌, ◌≤◌, ◌==◌, ◌&&◌, not, nat_lt, Bool, true, false, Option, Some, None, is_some, refl, sym, subst, ap, ◌∙◌, arith, if◌then◌else◌}
 use Rattle.std.specs.BTreeMap.{is_at}
 use Rattle.std.proofs.lemmas.Bool.{eqb-true}
 use Rattle.std.proofs.lemmas.Bool.Decides.{nat_tests}
@@ -17,9 +17,9 @@ use Rattle.qs_tm.specs.declared.participant.Participant.{Participant}
 use Rattle.qs_step.specs.Restarts.{find_gone, is_orphaned_by, inquire, notice_decided, notice_part, notice_tid}
 use Rattle.qs_step.specs.State.{Work, part_of, with_manager}
 use Rattle.qs_agree.specs.World.{World}
-use Rattle.qs_agree.specs.Carry.{IsLawful, Leads}
+use Rattle.qs_agree.specs.Carry.{IsLawful}
 use Rattle.qs_refine.specs.Links.{node_no}
-use Rattle.qs_refine.specs.RestartLaws.{noticed, IsNoticed}
+use Rattle.qs_refine.specs.RestartLaws.{noticed}
 use Rattle.qs_refine.specs.Shows.{Scene, ShowsWork}
 use Rattle.qs_refine.specs.Sound.{same_flag, is_superior}
 use Rattle.qs_refine.specs.SoundLaws.{StaysSound}
@@ -35,15 +35,13 @@ use Rattle.qs_refine.proofs.PassCarried.{Carries}
 use Rattle.qs_refine.proofs.RestartFrames.{notice_leaves, notice_kinds, undecided_carries, decided_outcomes}
 use Rattle.qs_refine.proofs.Resuming.{tell_again_goes, name_home, name_other}
 use Rattle.qs_refine.proofs.SendGoes.{goes_on}
-use Rattle.qs_refine.proofs.SettleRules.{beside, beside_apart, IsClear, Answers, clear_carried, answers_carried}
-use Rattle.qs_refine.proofs.SettleStands.{at_same, whole_known}
+use Rattle.qs_refine.proofs.SettleRules.{beside, beside_apart, clear_carried, answers_carried}
+use Rattle.qs_refine.proofs.SettleStands.{whole_known}
 use Rattle.qs_refine.proofs.SoundHolds.{known_sound}
 use Rattle.qs_refine.proofs.SoundRestart.{notice_sound}
 use Rattle.std.proofs.lemmas.List.{length-set}
-use Rattle.qs_engage.specs.Engage.{has_sent}
-use Rattle.qs_engage.specs.Nodes.{listed, all_nodes, no_nodes, put_node, put_where, drop_node, union}
+use Rattle.qs_engage.specs.Nodes.{listed}
 use Rattle.qs_engage.specs.declared.engage.PeerPart.{PeerPart}
-use Rattle.qs_engage.specs.declared.nodes.Nodes.{Nodes}
 use Rattle.qs_refine.proofs.Arrays.{peer_put}
 use Rattle.qs_ops.specs.declared.answer.Cause.TheVariants as causes
 use Rattle.qs_packet.specs.declared.message.Message.TheVariants as messages

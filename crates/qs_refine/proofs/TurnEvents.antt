@@ -1,64 +1,48 @@
 -- Messages, time and whole steps leave the records of a transaction in turn.
-use Rattle.std.proofs.Common.{◌≡◌, ℕ, ◌+◌, ◌&&◌, ◌||◌, Bool, true, false, List, [], ◌∷◌, ◌++◌, fold, Option, Some, None, is_none, refl, sym, ap, subst, ◌∙◌, if◌then◌else◌}
-use Rattle.std.specs.List.{list_all, list_any}
+use Rattle.std.proofs.Common.{◌≡◌, ℕ, ◌&&◌, Bool, true, false, List, [], ◌∷◌, fold, Option, Some, None, is_none, refl, sym, subst, if◌then◌else◌}
+use Rattle.std.specs.List.{list_all}
 use Rattle.std.specs.Map.{lookup}
 use Rattle.std.specs.BTreeMap.{is_at}
-use Rattle.qs_base.specs.Order.{same_tid}
 use Rattle.qs_base.specs.declared.identifiers.ClientNo.{ClientNo}
-use Rattle.qs_base.specs.declared.identifiers.Member.{Member}
 use Rattle.qs_base.specs.declared.identifiers.NodeNo.{NodeNo}
 use Rattle.qs_base.specs.declared.identifiers.Outcome.{Outcome}
 use Rattle.qs_base.specs.declared.identifiers.Outcome.TheVariants as outcomes
 use Rattle.qs_base.specs.declared.identifiers.Tid.{Tid}
-use Rattle.qs_engage.specs.Nodes.{has_node, no_nodes}
-use Rattle.qs_engage.specs.declared.nodes.Nodes.{Nodes}
 use Rattle.qs_journal.specs.declared.entry.Act.TheVariants as acts
 use Rattle.qs_journal.specs.declared.script_line.Command.{Command}
 use Rattle.qs_journal.specs.declared.script_line.Command.TheVariants as commands
-use Rattle.qs_journal.specs.declared.script_line.ScriptLine.{ScriptLine}
-use Rattle.qs_kept.specs.Loans.{first_untaken, last_taken, take_first, give_back}
 use Rattle.qs_kept.specs.declared.kept.Begun.{Begun}
 use Rattle.qs_kept.specs.declared.kept.Decided.{Decided}
-use Rattle.qs_kept.specs.declared.kept.Lent.{Lent}
 use Rattle.qs_ops.specs.Timers.{ticked}
 use Rattle.qs_ops.specs.declared.answer.Answer.TheVariants as answers
 use Rattle.qs_ops.specs.declared.answer.Cause.TheVariants as causes
-use Rattle.qs_ops.specs.declared.operation.Op.{Op}
 use Rattle.qs_packet.specs.declared.message.Message.{Message}
 use Rattle.qs_packet.specs.declared.message.Message.TheVariants as messages
-use Rattle.qs_record.specs.declared.record.Record.{Record}
-use Rattle.qs_record.specs.declared.record.Record.TheVariants as records
 use Rattle.qs_servers.specs.Servers.{timers_no}
 use Rattle.qs_tm.specs.Manager as tm
 use Rattle.qs_tm.specs.Manager.{is_one}
-use Rattle.qs_tm.specs.Participant.{begun_participant, is_undecided}
+use Rattle.qs_tm.specs.Participant.{is_undecided}
 use Rattle.qs_tm.specs.declared.manager.Which.{Which}
 use Rattle.qs_tm.specs.declared.manager.Which.TheVariants as whiches
-use Rattle.qs_tm.specs.declared.manager.BeginFault.{BeginFault}
-use Rattle.qs_tm.specs.declared.manager.BeginFault.TheVariants as faults
 use Rattle.qs_tm.specs.declared.participant.Participant.{Participant}
 use Rattle.qs_step.specs.Answering.{kept_outcome}
-use Rattle.qs_step.specs.Borrowing.{is_aborted, is_void, take, take_command, yield, lent_command, with_loan, loan_command, borrower_command}
-use Rattle.qs_step.specs.Commands.{begin_as, begin_or_refuse, begin_command, request_as, request_command, with_issued, enter_ask, ask, open_command, decided_answer, owner_command}
+use Rattle.qs_step.specs.Borrowing.{is_aborted}
+use Rattle.qs_step.specs.Commands.{decided_answer}
 use Rattle.qs_step.specs.Bringing.{enter}
-use Rattle.qs_step.specs.Deciding.{decide}
-use Rattle.qs_step.specs.Requests.{next_number}
-use Rattle.qs_step.specs.Serving.{label_at, put_label}
-use Rattle.qs_step.specs.State.{NodeValue, Work, part_of, work_on, with_manager, change_server, client_cmp}
-use Rattle.qs_step.specs.Step.{is_owner, labelled, obey, with_command, command_came, message_came, abort_old, age_rule, tick, happen, step_work, owner_waits, borrower_waits, waits_at, wait_command, wait_on, waiting_clients, answer_waiting}
+use Rattle.qs_step.specs.Serving.{label_at}
+use Rattle.qs_step.specs.State.{NodeValue, Work, work_on, with_manager, change_server, client_cmp}
+use Rattle.qs_step.specs.Step.{is_owner, message_came, abort_old, age_rule, tick, happen, step_work, owner_waits, borrower_waits, waits_at, wait_command, wait_on, waiting_clients, answer_waiting}
 use Rattle.qs_step.specs.declared.event.Event.{Event}
 use Rattle.qs_step.specs.declared.event.Event.TheVariants as events
 use Rattle.qs_step.specs.declared.state.Issued.{Issued}
 use Rattle.qs_step.specs.declared.state.OpenCommand.{OpenCommand}
-use Rattle.qs_refine.specs.JoinLaws.{is_loose_of}
-use Rattle.qs_refine.specs.Links.{node_no}
 use Rattle.qs_refine.specs.Sound.{in_order, where_so, is_sound}
 use Rattle.qs_refine.specs.SoundSteps.{MayHappen, begun, settled}
-use Rattle.qs_refine.proofs.TurnOn.{Case, became, same_acks, open_apart, is_aborted_of, is_end_of, fate_at, Turned, TurnedAs, TurnsOn, NoLoose, on_itself, on_then, fold_on, if_on, rest_on, enter_on, answer_on, kept_on, doings_on}
-use Rattle.qs_refine.proofs.TurnRecords.{MayTake, nobody, put_on, fate_unknown}
+use Rattle.qs_refine.proofs.TurnOn.{Case, TurnsOn, on_itself, on_then, fold_on, if_on, rest_on, answer_on}
+use Rattle.qs_refine.proofs.TurnRecords.{MayTake}
 use Rattle.qs_refine.proofs.TurnOutcomes.{IsOpenAt, decide_on, tell_came_on}
 use Rattle.qs_refine.proofs.TurnTold.{MayTold, told_came_on, inquiry_came_on}
-use Rattle.qs_refine.proofs.TurnRules.{issue_as_on, reply_came_on, request_came_on, serve_all_on, become_asked_on, undecided_on, ask_came_on, closer_came_on, refusal_came_on}
+use Rattle.qs_refine.proofs.TurnRules.{reply_came_on, request_came_on, serve_all_on, ask_came_on, closer_came_on, refusal_came_on}
 use Rattle.qs_refine.proofs.TurnSettles.{peer_restarted_on, settle_on, begin_incarnation_on}
 use Rattle.qs_refine.proofs.SoundAge.{picked, put_all, all_fit, is_home_open, is_open_at, still_fits, fits_on}
 use Rattle.qs_refine.proofs.SoundFrames.{behind, order_tail}

@@ -1,10 +1,8 @@
 -- In a step no record of a transaction that must be forced comes behind one that need not: once one of these stands the node has decided. Pieces of a step keep to that, one after another.
-use Rattle.std.proofs.Common.{◌≡◌, ℕ, ◌&&◌, ◌||◌, ◌⊎◌, inl, inr, not, Bool, true, false, List, [], ◌∷◌, ◌++◌, fold, Option, Some, None, refl, sym, ap, subst, ◌∙◌, arith, if◌then◌else◌}
+use Rattle.std.proofs.Common.{◌≡◌, ℕ, ◌&&◌, ◌||◌, Bool, true, false, List, [], ◌∷◌, ◌++◌, fold, Option, Some, None, refl, sym, ap, subst, ◌∙◌, if◌then◌else◌}
 use Rattle.std.specs.Map.{lookup}
 use Rattle.std.specs.BTreeMap.{is_at}
 use Rattle.std.specs.List.{list_any}
-use Rattle.std.proofs.lemmas.Bool.Decides.{nat_tests}
-use Rattle.std.proofs.lemmas.List.Folds.{list_any-append}
 use Rattle.qs_base.specs.Order.{same_tid, tid_cmp}
 use Rattle.qs_base.specs.declared.identifiers.ClientNo.{ClientNo}
 use Rattle.qs_base.specs.declared.identifiers.NodeNo.{NodeNo}
@@ -12,7 +10,7 @@ use Rattle.qs_base.specs.declared.identifiers.Outcome.{Outcome}
 use Rattle.qs_base.specs.declared.identifiers.Outcome.TheVariants as outcomes
 use Rattle.qs_base.specs.declared.identifiers.ServerNo.{ServerNo}
 use Rattle.qs_base.specs.declared.identifiers.Tid.{Tid}
-use Rattle.qs_engage.specs.Nodes.{same_node, has_node, no_nodes}
+use Rattle.qs_engage.specs.Nodes.{same_node, has_node}
 use Rattle.qs_engage.specs.declared.nodes.Nodes.{Nodes}
 use Rattle.qs_ipc.specs.Ipc.{IpcValue}
 use Rattle.qs_journal.specs.declared.entry.Act.{Act}
@@ -24,22 +22,14 @@ use Rattle.qs_record.specs.declared.record.Record.{Record}
 use Rattle.qs_record.specs.declared.record.Record.TheVariants as records
 use Rattle.qs_tm.specs.Manager as tm
 use Rattle.qs_tm.specs.declared.participant.Participant.{Participant}
-use Rattle.qs_step.specs.Bringing.{enter, send, send_next, send_each, answer, is_other, log, log_if, tid_of, is_forced}
-use Rattle.qs_step.specs.State.{NodeValue, Work, here, part_of, with_manager, with_queues, with_kept, with_doings, change_server, client_cmp}
+use Rattle.qs_step.specs.Bringing.{enter, send, send_next, send_each, answer, is_other}
+use Rattle.qs_step.specs.State.{NodeValue, Work, with_manager, with_queues, with_kept, with_doings, change_server, client_cmp}
 use Rattle.qs_step.specs.declared.state.Doings.{Doings}
 use Rattle.qs_step.specs.declared.state.OpenCommand.{OpenCommand}
-use Rattle.qs_refine.specs.JoinLaws.{is_loose, is_loose_of, is_forced_of, are_in_turn}
+use Rattle.qs_refine.specs.JoinLaws.{is_loose_of, are_in_turn}
 use Rattle.qs_refine.specs.Links.{node_no}
-use Rattle.qs_refine.specs.MoveLaws.{is_record_of}
-use Rattle.qs_refine.proofs.Maps.{lookup_put, lookup_changed}
-use Rattle.qs_refine.proofs.Others.{put_apart, forget_apart}
 use Rattle.qs_refine.proofs.Frames.{part_apart}
-use Rattle.qs_refine.proofs.Forgetting.{forgotten}
-use Rattle.qs_refine.proofs.SaysOn.{append_three, told_changed}
-use Rattle.qs_refine.proofs.SoundKnown.{same_is}
-use Rattle.qs_refine.proofs.SoundParts.{and_both}
-use Rattle.qs_refine.proofs.StartWorlds.{alike_at}
-use Rattle.qs_refine.specs.Sound.{in_order}
+use Rattle.qs_refine.proofs.SaysOn.{told_changed}
 
 -- ---- what is followed: a transaction, the records that waited before the step, whether the step may learn its commit from the home and end it, and whose acknowledgement it may know
 pub record Case : Type 0 where

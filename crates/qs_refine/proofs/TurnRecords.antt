@@ -1,45 +1,30 @@
 -- Records that a step appends stand in turn, as transactions become known, decided and forgotten.
-use Rattle.std.proofs.Common.{◌≡◌, ℕ, ◌&&◌, ◌||◌, ◌⊎◌, inl, inr, not, Bool, true, false, List, [], ◌∷◌, ◌++◌, fold, Option, Some, None, refl, sym, ap, subst, ◌∙◌, arith, if◌then◌else◌}
-use Rattle.std.specs.Map.{lookup}
+use Rattle.std.proofs.Common.{◌≡◌, ℕ, ◌&&◌, ◌||◌, ◌⊎◌, inl, inr, not, Bool, true, false, List, [], ◌∷◌, ◌++◌, Option, Some, None, refl, sym, ap, subst, ◌∙◌, arith}
 use Rattle.std.specs.BTreeMap.{is_at}
 use Rattle.std.specs.List.{list_any}
 use Rattle.std.proofs.lemmas.Bool.Decides.{nat_tests}
 use Rattle.std.proofs.lemmas.List.Folds.{list_any-append}
 use Rattle.qs_base.specs.Order.{same_tid, tid_cmp}
-use Rattle.qs_base.specs.declared.identifiers.ClientNo.{ClientNo}
 use Rattle.qs_base.specs.declared.identifiers.NodeNo.{NodeNo}
 use Rattle.qs_base.specs.declared.identifiers.Outcome.{Outcome}
 use Rattle.qs_base.specs.declared.identifiers.Outcome.TheVariants as outcomes
-use Rattle.qs_base.specs.declared.identifiers.ServerNo.{ServerNo}
 use Rattle.qs_base.specs.declared.identifiers.Tid.{Tid}
 use Rattle.qs_engage.specs.Nodes.{same_node, has_node, no_nodes}
 use Rattle.qs_engage.specs.declared.nodes.Nodes.{Nodes}
-use Rattle.qs_ipc.specs.Ipc.{IpcValue}
-use Rattle.qs_journal.specs.declared.entry.Act.{Act}
-use Rattle.qs_kept.specs.declared.kept.Kept.{Kept}
-use Rattle.qs_ops.specs.Server.{ServerValue}
-use Rattle.qs_ops.specs.declared.answer.Answer.{Answer}
-use Rattle.qs_packet.specs.declared.message.Message.{Message}
 use Rattle.qs_record.specs.declared.record.Record.{Record}
 use Rattle.qs_record.specs.declared.record.Record.TheVariants as records
 use Rattle.qs_tm.specs.Manager as tm
 use Rattle.qs_tm.specs.declared.participant.Participant.{Participant}
-use Rattle.qs_step.specs.Bringing.{enter, send, send_next, send_each, answer, is_other, log, log_if, tid_of, is_forced}
-use Rattle.qs_step.specs.State.{NodeValue, Work, here, part_of, with_manager, with_queues, with_kept, with_doings, change_server, client_cmp}
-use Rattle.qs_step.specs.declared.state.Doings.{Doings}
-use Rattle.qs_step.specs.declared.state.OpenCommand.{OpenCommand}
-use Rattle.qs_refine.specs.JoinLaws.{is_loose, is_loose_of, is_forced_of, are_in_turn}
+use Rattle.qs_step.specs.Bringing.{log, log_if, tid_of}
+use Rattle.qs_step.specs.State.{Work, part_of, with_manager}
+use Rattle.qs_refine.specs.JoinLaws.{is_loose_of, is_forced_of, are_in_turn}
 use Rattle.qs_refine.specs.Links.{node_no}
-use Rattle.qs_refine.specs.MoveLaws.{is_record_of}
 use Rattle.qs_refine.proofs.Maps.{lookup_put, lookup_changed}
-use Rattle.qs_refine.proofs.Others.{put_apart, forget_apart}
-use Rattle.qs_refine.proofs.Frames.{part_apart}
-use Rattle.qs_refine.proofs.Forgetting.{forgotten}
+use Rattle.qs_refine.proofs.Others.{put_apart}
 use Rattle.qs_refine.proofs.SaysOn.{append_three, told_changed}
 use Rattle.qs_refine.proofs.SoundKnown.{same_is}
 use Rattle.qs_refine.proofs.SoundParts.{and_both}
 use Rattle.qs_refine.proofs.StartWorlds.{alike_at}
-use Rattle.qs_refine.specs.Sound.{in_order}
 use Rattle.qs_refine.proofs.TurnOn.{Case, Fate, NoLoose, Turned, TurnedAs, TurnsOn, abort_apart, apart_same, became, fate_at, fate_found, fate_of, is_aborted_of, is_end_of, on_itself, open_apart, same_acks, same_on, same_outcome}
 
 -- ---- a record is appended

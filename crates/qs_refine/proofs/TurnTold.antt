@@ -1,5 +1,5 @@
 -- That an outcome was taken in, and inquiries, leave the records of a transaction in turn.
-use Rattle.std.proofs.Common.{◌≡◌, ℕ, ◌==◌, ◌&&◌, ◌||◌, not, Bool, true, false, List, [], ◌∷◌, fold, Option, Some, None, is_some, refl, sym, ap, subst, ◌∙◌, arith, if◌then◌else◌}
+use Rattle.std.proofs.Common.{◌≡◌, ℕ, ◌==◌, Bool, true, false, List, Option, Some, None, refl, sym, ap, subst, ◌∙◌, arith, if◌then◌else◌}
 use Rattle.std.specs.List.{list_any}
 use Rattle.std.proofs.lemmas.Bool.{eqb-true}
 use Rattle.std.proofs.lemmas.Bool.Decides.{nat_tests}
@@ -9,14 +9,9 @@ use Rattle.qs_base.specs.Order.{same_tid, tid_cmp}
 use Rattle.qs_base.specs.declared.identifiers.NodeNo.{NodeNo}
 use Rattle.qs_base.specs.declared.identifiers.Outcome.{Outcome}
 use Rattle.qs_base.specs.declared.identifiers.Outcome.TheVariants as outcomes
-use Rattle.qs_base.specs.declared.identifiers.ServerNo.{ServerNo}
 use Rattle.qs_base.specs.declared.identifiers.Tid.{Tid}
 use Rattle.qs_engage.specs.Nodes.{listed, same_node, has_node, put_node}
 use Rattle.qs_engage.specs.declared.nodes.Nodes.{Nodes}
-use Rattle.qs_ops.specs.Server.{after_notice}
-use Rattle.qs_ops.specs.declared.answer.Cause.{Cause}
-use Rattle.qs_ops.specs.declared.answer.Cause.TheVariants as causes
-use Rattle.qs_ops.specs.declared.vote.Notice.{Notice}
 use Rattle.qs_packet.specs.declared.message.Message.TheVariants as messages
 use Rattle.qs_record.specs.declared.record.Record.{Record}
 use Rattle.qs_record.specs.declared.record.Record.TheVariants as records
@@ -25,21 +20,19 @@ use Rattle.qs_tm.specs.Outcomes as outcome_rules
 use Rattle.qs_tm.specs.Outcomes.{aborted_participant, record_of, writes_commit}
 use Rattle.qs_tm.specs.Participant as participant
 use Rattle.qs_tm.specs.Participant.{is_undecided}
-use Rattle.qs_tm.specs.declared.manager.Decision.{Decision}
 use Rattle.qs_tm.specs.declared.participant.Participant.{Participant}
 use Rattle.qs_step.specs.Answering.{was_committed, answer_unknown, answer_known, inquiry_came}
-use Rattle.qs_step.specs.Bringing.{log, log_if, tid_of}
-use Rattle.qs_step.specs.Deciding.{notice_of, notify, end_member, due_endings, end_members, learn_member, learners_at, learn_members, give_notices, keep_outcome, decide, decide_commit}
-use Rattle.qs_step.specs.State.{Work, here, part_of, with_manager, change_server}
+use Rattle.qs_step.specs.Bringing.{log}
+use Rattle.qs_step.specs.State.{Work, here, part_of, with_manager}
 use Rattle.qs_step.specs.Telling.{names_at, end_record, record_learnt, learn, learn_unknown, take_outcome, tell_came, forget, end_told, take_told, take_names, keep_abort_told, is_other_node, told_unknown, told_known, told_at_home, told_came}
 use Rattle.qs_refine.specs.Links.{node_no}
 use Rattle.qs_refine.specs.Sound.{in_order}
 use Rattle.qs_refine.proofs.Forgetting.{forgotten, order_changed}
-use Rattle.qs_refine.proofs.Maps.{lookup_changed, changed_none}
+use Rattle.qs_refine.proofs.Maps.{lookup_changed}
 use Rattle.qs_refine.proofs.Others.{forget_apart}
 use Rattle.qs_refine.proofs.SaysOn.{told_changed}
-use Rattle.qs_refine.proofs.TurnOn.{Case, Fate, became, same_outcome, same_acks, open_apart, abort_apart, fate_of, fate_found, fate_at, Turned, TurnedAs, TurnsOn, SameTurn, NoLoose, on_itself, on_then, same_on, same_then, fold_on, fold_same, if_on, rest_on, enter_on, enter_same, send_on, sends_on, queues_on, server_on, server_same, part_on, part_same, apart_same, open_loose}
-use Rattle.qs_refine.proofs.TurnRecords.{MayEnter, MayTake, put_on, log_on, log_on_turned, log_if_on, fated_on, aborted_now, forgotten_now, fate_known, fate_unknown, open_fate, open_decided, take_on}
+use Rattle.qs_refine.proofs.TurnOn.{Case, Fate, became, same_outcome, same_acks, open_apart, abort_apart, fate_of, fate_found, fate_at, TurnedAs, TurnsOn, on_itself, on_then, same_on, if_on, send_on, sends_on, queues_on, part_on, apart_same}
+use Rattle.qs_refine.proofs.TurnRecords.{log_on, fated_on, forgotten_now, fate_known}
 use Rattle.qs_refine.proofs.SoundKnown.{same_is}
 use Rattle.qs_refine.proofs.TurnOutcomes.{keep_abort_on}
 
