@@ -1,8 +1,7 @@
 -- The first step of an incarnation keeps what its node keeps for its clients, and of each transaction all but what its log has and its servers are still to learn.
-use Rattle.std.proofs.Common.{◌≡◌, ◌==◌, ◌&&◌, ◌||◌, not, Bool, true, false, List, [], ◌∷◌, ◌++◌, fold, Option, Some, None, refl, sym, ap, subst, ◌∙◌, if◌then◌else◌}
+use Rattle.std.proofs.Common.{◌≡◌, ◌||◌, Bool, true, false, List, [], ◌∷◌, ◌++◌, fold, Option, Some, None, refl, subst, ◌∙◌, if◌then◌else◌}
 use Rattle.std.specs.List.{list_any}
 use Rattle.std.proofs.lemmas.List.Folds.{list_any-append}
-use Rattle.std.specs.Map.{lookup}
 use Rattle.std.specs.BTreeMap.{is_at}
 use Rattle.qs_base.specs.Order.{tid_cmp}
 use Rattle.qs_base.specs.declared.identifiers.NodeNo.{NodeNo}
@@ -20,8 +19,8 @@ use Rattle.qs_record.specs.declared.record.Record.TheVariants as records
 use Rattle.qs_tm.specs.Manager as tm
 use Rattle.qs_tm.specs.Outcomes as outcome_rules
 use Rattle.qs_tm.specs.declared.participant.Participant.{Participant}
-use Rattle.qs_step.specs.Bringing.{send, send_next, send_each, is_other, log, log_if, tid_of, is_forced}
-use Rattle.qs_step.specs.Deciding.{notice_of, notify, end_member, due_endings, end_members, learn_member, learners_at, learn_members, give_notices}
+use Rattle.qs_step.specs.Bringing.{send, send_next, is_other, log_if, tid_of, is_forced}
+use Rattle.qs_step.specs.Deciding.{notice_of, notify, end_member, due_endings, end_members, learn_member, learners_at, give_notices}
 use Rattle.qs_step.specs.Restarts.{resume_home, resume_part, resume_tid, known_tids, begin_incarnation}
 use Rattle.qs_step.specs.State.{NodeValue, Work, part_of, with_node}
 use Rattle.qs_step.specs.Telling.{record_learnt}

@@ -1,30 +1,26 @@
 -- What holds of a node between its steps holds of it once its first step began.
 use Rattle.std.proofs.Common.{◌≡◌, ◌≤◌, ◌==◌, ◌&&◌, ◌||◌, not, Bool, true, false, List, [], ◌∷◌, Option, Some, None, is_some, is_none, refl, sym, ap, subst, ◌∙◌, if◌then◌else◌}
-use Rattle.std.specs.List.{list_all, list_any}
+use Rattle.std.specs.List.{list_all}
 use Rattle.std.specs.Map.{lookup}
 use Rattle.std.specs.BTreeMap.{is_at}
-use Rattle.qs_base.specs.Order.{same_tid, tid_cmp}
-use Rattle.qs_base.specs.declared.identifiers.Outcome.{Outcome}
+use Rattle.qs_base.specs.Order.{tid_cmp}
 use Rattle.qs_base.specs.declared.identifiers.Outcome.TheVariants as outcomes
 use Rattle.qs_base.specs.declared.identifiers.Tid.{Tid}
-use Rattle.qs_engage.specs.Nodes.{same_node}
 use Rattle.qs_engage.specs.declared.engage.Engage.{Engage}
-use Rattle.qs_engage.specs.declared.nodes.Nodes.{Nodes}
 use Rattle.qs_kept.specs.declared.kept.Begun.{Begun}
 use Rattle.qs_kept.specs.Keeping.{KeepingValue}
 use Rattle.qs_restart.specs.Recovery.{names_transaction}
 use Rattle.qs_tm.specs.Manager as tm
-use Rattle.qs_tm.specs.Outcomes.{is_abort}
 use Rattle.qs_tm.specs.Participant.{is_undecided}
 use Rattle.qs_tm.specs.declared.participant.Participant.{Participant}
-use Rattle.qs_step.specs.Answering.{kept_outcome, is_kept_commit, was_committed}
+use Rattle.qs_step.specs.Answering.{was_committed}
 use Rattle.qs_step.specs.State.{NodeValue, Work, part_of, work_on}
 use Rattle.qs_refine.specs.SaidLaws.{no_flags}
 use Rattle.qs_refine.specs.NodeFaces.{began_here, is_past_commit}
-use Rattle.qs_refine.specs.Sound.{is_sound, is_past, is_kept_part, keeps_commits, is_owned, is_owned_label, keeps_owned, where_so, in_order}
+use Rattle.qs_refine.specs.Sound.{is_sound, is_past, is_kept_part, keeps_commits, is_owned, is_owned_label, keeps_owned, in_order}
 use Rattle.qs_refine.specs.SoundSteps.{begun}
 use Rattle.qs_refine.specs.Steady.{IsSteadyNode, are_queues_apart}
-use Rattle.qs_refine.proofs.BeginKeeps.{KeptOn, begin_keeps, core_of, core_found, core_at}
+use Rattle.qs_refine.proofs.BeginKeeps.{KeptOn, begin_keeps, core_of, core_found}
 use Rattle.qs_refine.proofs.SaysSeen.{each_found}
 use Rattle.qs_refine.proofs.SoundRestart.{begin_incarnation_sound}
 use Rattle.qs_refine.proofs.SoundParts.{and_both, all_found}

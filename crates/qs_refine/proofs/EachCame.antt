@@ -1,5 +1,5 @@
 -- What comes in a step of a node: what stands of a transaction that is shown goes on to stand, and its records may stand in turn.
-use Rattle.std.proofs.Common.{◌≡◌, ◌≢◌, ◌⊎◌, inl, inr, ℕ, ◌+◌, ◌<◌, ◌≤◌, ◌==◌, ◌&&◌, ◌||◌, not, Bool, true, false, List, [], ◌∷◌, ◌++◌, Option, Some, None, is_some, refl, sym, ap, subst, ◌∙◌, arith, if◌then◌else◌}
+use Rattle.std.proofs.Common.{◌≡◌, ℕ, ◌<◌, ◌≤◌, ◌==◌, ◌||◌, not, Bool, true, false, List, Option, Some, None, refl, sym, ap, subst, ◌∙◌, arith, if◌then◌else◌}
 use Rattle.std.specs.Prelude.{unwrap_or}
 use Rattle.std.proofs.lemmas.Bool.{eqb-true}
 use Rattle.std.proofs.lemmas.Bool.Decides.{nat_tests}
@@ -9,13 +9,13 @@ use Rattle.qs_base.specs.declared.identifiers.NodeNo.{NodeNo}
 use Rattle.qs_base.specs.declared.identifiers.Outcome.{Outcome}
 use Rattle.qs_base.specs.declared.identifiers.Outcome.TheVariants as outcomes
 use Rattle.qs_base.specs.declared.identifiers.Tid.{Tid}
-use Rattle.qs_engage.specs.Nodes.{same_node, has_node, put_node}
+use Rattle.qs_engage.specs.Nodes.{same_node, has_node}
 use Rattle.qs_packet.specs.declared.message.Message.{Message}
 use Rattle.qs_packet.specs.declared.message.Message.TheVariants as messages
 use Rattle.qs_tm.specs.Manager as tm
 use Rattle.qs_tm.specs.Outcomes as outcome_rules
 use Rattle.qs_tm.specs.declared.participant.Participant.{Participant}
-use Rattle.qs_step.specs.State.{NodeValue, Work, part_of, work_on, with_manager}
+use Rattle.qs_step.specs.State.{Work, part_of, with_manager}
 use Rattle.qs_step.specs.Step.{happen, message_came}
 use Rattle.qs_step.specs.Telling.{told_at_home, told_unknown, told_known, end_told}
 use Rattle.qs_step.specs.declared.event.Event.{Event}
@@ -23,38 +23,37 @@ use Rattle.qs_step.specs.declared.event.Event.TheVariants as events
 use Rattle.qs_world.specs.World.{World}
 use Rattle.qs_agree.specs.World as machine
 use Rattle.qs_agree.specs.World.{Open, Committed, Aborted}
-use Rattle.qs_agree.specs.Carry.{Leads, IsLawful}
+use Rattle.qs_agree.specs.Carry.{Leads}
 use Rattle.qs_agree.proofs.Carries.{leads_on}
 use Rattle.qs_refine.specs.DecisionLaws.{ShowsTold}
 use Rattle.qs_refine.specs.EachMove.{ShowsAll, KeepsDecided}
-use Rattle.qs_refine.specs.Faces.{Face, ShowsFace}
+use Rattle.qs_refine.specs.Faces.{Face}
 use Rattle.qs_refine.specs.Links.{node_no}
-use Rattle.qs_refine.specs.NodeFaces.{face, face_at, outcome_seen, unknown}
+use Rattle.qs_refine.specs.NodeFaces.{face_at, outcome_seen, unknown}
 use Rattle.qs_refine.specs.Places.{place}
 use Rattle.qs_refine.specs.Shows.{Scene, scene_of, handed, sight_during, ShowsWork}
 use Rattle.qs_refine.specs.Sound.{same_flag}
 use Rattle.qs_refine.specs.SoundSteps.{FitsMessage, begun}
-use Rattle.qs_refine.specs.Stands.{Stands, GoesOn}
+use Rattle.qs_refine.specs.Stands.{GoesOn}
 use Rattle.qs_refine.specs.Steady.{IsSteady, HasBegun, is_fit_message}
 use Rattle.qs_refine.specs.Steps.{IsNext}
 use Rattle.qs_refine.proofs.HomeKnows.{knows_on}
 use Rattle.qs_refine.proofs.Arrays.{node_put}
 use Rattle.qs_refine.proofs.EachFits.{own_comes}
-use Rattle.qs_refine.proofs.EachHears.{first, learnt}
+use Rattle.qs_refine.proofs.EachHears.{first}
 use Rattle.qs_refine.proofs.EachTold.{takes_told}
 use Rattle.qs_refine.proofs.Heads.{shown_here, face_is, node_is, told_commit}
 use Rattle.qs_refine.proofs.LaterWorlds.{commit_stays, acks_on, is_committed, is_committed_cell}
 use Rattle.qs_refine.proofs.Maps.{lookup_changed}
 use Rattle.qs_refine.proofs.MessageCame.{message_stands}
-use Rattle.qs_refine.proofs.Same.{tid_same}
 use Rattle.qs_refine.proofs.SettleStands.{whole_known}
 use Rattle.qs_refine.proofs.SoundHolds.{known_sound}
 use Rattle.qs_refine.proofs.SoundKnown.{same_is}
 use Rattle.qs_refine.proofs.ToldStands.{Taking, taking}
-use Rattle.qs_refine.proofs.TurnOn.{Case, MayTake}
-use Rattle.qs_refine.proofs.TurnOutcomes.{MayTold}
-use Rattle.qs_refine.proofs.TurnStep as turn
-use Rattle.qs_refine.proofs.TurnStep.{MayHear}
+use Rattle.qs_refine.proofs.TurnOn.{Case}
+use Rattle.qs_refine.proofs.TurnRecords.{MayTake}
+use Rattle.qs_refine.proofs.TurnEvents as turn
+use Rattle.qs_refine.proofs.TurnEvents.{MayHear}
 
 -- what is followed through the step, with the machine as it is at the end
 abbrev pub case_of : Tid → World → ℕ → Bool → machine.World → Case

@@ -1,29 +1,22 @@
 -- Whatever comes in a step of a node: what stands of a transaction that is shown goes on to stand, over the channels as the event leaves them.
 use Rattle.std.proofs.Common.{◌≡◌, ◌≢◌, ◌⊎◌, inl, inr, ℕ, ◌+◌, ◌<◌, ◌≤◌, ◌==◌, ◌&&◌, ◌||◌, not, Bool, true, false, List, [], ◌∷◌, ◌++◌, drop, length, map, Option, Some, None, is_some, refl, sym, ap, subst, ◌∙◌, arith, if◌then◌else◌}
 use Rattle.std.proofs.lemmas.Bool.{eqb-true}
-use Rattle.std.proofs.lemmas.Bool.Decides.{nat_tests}
 use Rattle.qs_base.specs.Order.{same_tid}
 use Rattle.qs_base.specs.declared.identifiers.NodeNo.{NodeNo}
-use Rattle.qs_base.specs.declared.identifiers.Outcome.{Outcome}
 use Rattle.qs_base.specs.declared.identifiers.Tid.{Tid}
 use Rattle.qs_engage.specs.Engage.{peer_of}
 use Rattle.qs_engage.specs.declared.engage.Engage.{Engage}
-use Rattle.qs_journal.specs.declared.script_line.Command.TheVariants as commands
 use Rattle.qs_journal.specs.declared.script_line.ScriptLine.{ScriptLine}
-use Rattle.qs_packet.specs.declared.message.Message.{Message}
 use Rattle.qs_record.specs.declared.record.Record.{Record}
 use Rattle.qs_tm.specs.Manager as tm
-use Rattle.qs_tm.specs.declared.participant.Outstanding.{Outstanding}
 use Rattle.qs_tm.specs.declared.participant.Participant.{Participant}
 use Rattle.qs_step.specs.Restarts.{begin_incarnation}
 use Rattle.qs_step.specs.State.{NodeValue, Work, part_of, work_on}
-use Rattle.qs_step.specs.Step.{happen}
 use Rattle.qs_step.specs.declared.event.Event.{Event}
 use Rattle.qs_step.specs.declared.event.Event.TheVariants as events
 use Rattle.qs_world.specs.Moves.{Source, Commanded, Handed, Queues, Clock, Noticed, event_of, command_of}
 use Rattle.qs_world.specs.World.{Parcel, World}
 use Rattle.qs_agree.specs.World as machine
-use Rattle.qs_agree.specs.Carry.{Leads}
 use Rattle.qs_agree.proofs.Carries.{leads_on}
 use Rattle.qs_refine.specs.EachMove.{ShowsAll, KeepsDecided, MessagesFit, CanCountAll}
 use Rattle.qs_refine.specs.Links.{node_no}
@@ -33,11 +26,10 @@ use Rattle.qs_refine.specs.RestartFound.{CanAnswer}
 use Rattle.qs_refine.specs.RestartLaws.{noticed, IsNoticed}
 use Rattle.qs_refine.specs.Shows.{message_of, Scene, scene_of, sent_to, handed, Shows}
 use Rattle.qs_refine.specs.SoundSteps.{begun}
-use Rattle.qs_refine.specs.Stands.{Stands, GoesOn}
+use Rattle.qs_refine.specs.Stands.{GoesOn}
 use Rattle.qs_refine.specs.Steady.{IsSteady, HasBegun, IsEarly}
 use Rattle.qs_refine.specs.StepLaws.{stepped}
 use Rattle.qs_refine.specs.TakenLaws.{rest_behind}
-use Rattle.qs_refine.proofs.BeginKeeps.{KeptOn, begin_keeps}
 use Rattle.qs_refine.proofs.BeginStands.{begin_incarnation_goes}
 use Rattle.qs_refine.proofs.Calm.{SameCore, IsCalm}
 use Rattle.qs_refine.proofs.CommandStands.{command_goes}
@@ -45,7 +37,7 @@ use Rattle.qs_refine.proofs.EachCame.{Came, message_arrives}
 use Rattle.qs_refine.proofs.EachHears.{opened, first, is_calm, keeps, was}
 use Rattle.qs_refine.proofs.EachMay.{from_client, from_node, from_notice, FromNotice, is_next, is_fit}
 use Rattle.qs_refine.proofs.EachReady.{taken_up}
-use Rattle.qs_refine.proofs.FirstNoticed.{HasNothing, noticed_first, noticed_then}
+use Rattle.qs_refine.proofs.FirstNoticed.{noticed_first, noticed_then}
 use Rattle.qs_refine.proofs.Moving.{drop_none}
 use Rattle.qs_refine.proofs.RestartStands.{peer_restarted_goes}
 use Rattle.qs_refine.proofs.ServeStands.{serve_all_goes}

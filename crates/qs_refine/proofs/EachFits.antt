@@ -1,29 +1,25 @@
 -- A message about a transaction that is shown fits, and what its coming asks of the machine holds.
-use Rattle.std.proofs.Common.{◌≡◌, ◌≢◌, ◌⊎◌, inl, inr, ℕ, ◌+◌, ◌<◌, ◌≤◌, ◌==◌, ◌&&◌, ◌||◌, not, nat_lt, Bool, true, false, List, [], ◌∷◌, ◌++◌, fold, Option, Some, None, is_some, refl, sym, ap, subst, ◌∙◌, arith, if◌then◌else◌}
+use Rattle.std.proofs.Common.{◌≡◌, ℕ, ◌+◌, ◌<◌, ◌≤◌, ◌==◌, ◌||◌, nat_lt, Bool, true, false, List, [], ◌∷◌, ◌++◌, Option, Some, None, refl, sym, ap, subst, ◌∙◌, arith, if◌then◌else◌}
 use Rattle.std.specs.List.{list_any, list_all, filter}
 use Rattle.std.proofs.lemmas.Bool.{eqb-true}
 use Rattle.std.proofs.lemmas.Bool.Decides.{nat_tests}
-use Rattle.std.proofs.lemmas.List.Sums.{fold-append}
-use Rattle.qs_base.specs.Order.{same_tid}
 use Rattle.qs_base.specs.declared.identifiers.Member.{Member}
 use Rattle.qs_base.specs.declared.identifiers.NodeNo.{NodeNo}
 use Rattle.qs_base.specs.declared.identifiers.Outcome.{Outcome}
 use Rattle.qs_base.specs.declared.identifiers.Outcome.TheVariants as outcomes
 use Rattle.qs_base.specs.declared.identifiers.ServerNo.{ServerNo}
 use Rattle.qs_base.specs.declared.identifiers.Tid.{Tid}
-use Rattle.qs_engage.specs.Nodes.{same_node, has_node}
+use Rattle.qs_engage.specs.Nodes.{same_node}
 use Rattle.qs_ipc.specs.Queue.{is_for}
 use Rattle.qs_ops.specs.declared.operation.Op.{Op}
 use Rattle.qs_packet.specs.declared.message.Message.{Message}
 use Rattle.qs_packet.specs.declared.message.Message.TheVariants as messages
-use Rattle.qs_restart.specs.Recovery.{names_transaction}
-use Rattle.qs_tm.specs.Manager as tm
 use Rattle.qs_tm.specs.declared.participant.Participant.{Participant}
-use Rattle.qs_step.specs.State.{NodeValue, Work, part_of, work_on}
+use Rattle.qs_step.specs.State.{Work, part_of}
 use Rattle.qs_world.specs.World.{World}
 use Rattle.qs_agree.specs.World as machine
 use Rattle.qs_agree.specs.World.{Open, Committed, Aborted}
-use Rattle.qs_agree.specs.Carry.{Leads, IsLawful}
+use Rattle.qs_agree.specs.Carry.{Leads}
 use Rattle.qs_refine.specs.CameWhole.{MayCome}
 use Rattle.qs_refine.specs.EachMove.{ShowsAll, KeepsDecided, AnswersSome, IsAbout}
 use Rattle.qs_refine.specs.Faces.{Face}
@@ -38,14 +34,13 @@ use Rattle.qs_refine.specs.Stands.{Stands}
 use Rattle.qs_refine.specs.Steady.{IsSteady, HasBegun, is_fit_message, is_of_run, is_node_of_run}
 use Rattle.qs_refine.specs.Steps.{IsNext}
 use Rattle.qs_refine.specs.ToldWhole.{TakesTold}
-use Rattle.qs_refine.proofs.EachHears.{wk, is_calm, learnt, past_here, counts_no_more, keeps_past}
+use Rattle.qs_refine.proofs.EachHears.{is_calm, learnt, past_here, counts_no_more, keeps_past}
 use Rattle.qs_refine.proofs.Facts.{invariant}
 use Rattle.qs_refine.proofs.Heads.{shown_here, node_is, sender_is, peer_is, head_link, told_commit, told_abort, no_request, below_sent, names_no_home, taken_names}
 use Rattle.qs_refine.proofs.LaterWorlds.{commit_stays}
 use Rattle.qs_refine.proofs.MessageFits.{nothing_open, agrees_commit, agrees_abort, may_take, answers_for}
 use Rattle.qs_refine.proofs.Same.{tid_same}
 use Rattle.qs_refine.proofs.SoundParts.{and_both}
-use Rattle.qs_refine.proofs.Streams.{within}
 
 -- a node that a list of nodes of the run names is one
 named_in : (size k : ℕ) (told : List NodeNo) → list_all (is_node_of_run size) told ≡ true → names_node told (node_no k) ≡ true → nat_lt k size ≡ true

@@ -1,58 +1,48 @@
 -- A whole step, joined: from what shows a transaction before it to what shows it after, whatever its event is.
-use Rattle.std.proofs.Common.{◌≡◌, ◌≢◌, ◌⊎◌, inl, inr, ℕ, ◌+◌, ◌<◌, ◌≤◌, ◌==◌, ◌&&◌, ◌||◌, not, Bool, true, false, List, [], ◌∷◌, ◌++◌, length, Option, Some, None, is_some, refl, sym, ap, subst, ◌∙◌, arith, if◌then◌else◌}
-use Rattle.std.specs.Prelude.{unwrap_or}
+use Rattle.std.proofs.Common.{◌≡◌, ℕ, ◌<◌, ◌||◌, Bool, true, false, List, [], ◌∷◌, ◌++◌, Option, Some, None, refl, sym, ap, subst, ◌∙◌, if◌then◌else◌}
 use Rattle.std.specs.List.{list_any, filter}
-use Rattle.std.proofs.lemmas.Bool.{eqb-true}
-use Rattle.std.proofs.lemmas.Bool.Decides.{nat_tests}
-use Rattle.qs_base.specs.Order.{same_tid}
-use Rattle.qs_base.specs.declared.identifiers.NodeNo.{NodeNo}
 use Rattle.qs_base.specs.declared.identifiers.Outcome.{Outcome}
 use Rattle.qs_base.specs.declared.identifiers.Outcome.TheVariants as outcomes
 use Rattle.qs_base.specs.declared.identifiers.Tid.{Tid}
-use Rattle.qs_engage.specs.Nodes.{same_node, has_node}
 use Rattle.qs_engage.specs.declared.nodes.Nodes.{Nodes}
 use Rattle.qs_record.specs.declared.record.Record.{Record}
 use Rattle.qs_record.specs.declared.record.Record.TheVariants as records
 use Rattle.qs_restart.specs.Recovery.{recovery}
-use Rattle.qs_tm.specs.Manager as tm
 use Rattle.qs_tm.specs.declared.participant.Participant.{Participant}
 use Rattle.qs_step.specs.Bringing.{is_forced}
-use Rattle.qs_step.specs.State.{NodeValue, Work, part_of, work_on}
+use Rattle.qs_step.specs.State.{NodeValue, Work, part_of}
 use Rattle.qs_step.specs.Step.{happen, step_work, effects_of}
 use Rattle.qs_step.specs.declared.event.Event.{Event}
 use Rattle.qs_world.specs.Moves.{Source, event_of}
 use Rattle.qs_world.specs.World.{World}
 use Rattle.qs_agree.specs.World as machine
 use Rattle.qs_agree.specs.World.{Open, Committed, Aborted}
-use Rattle.qs_agree.specs.Carry.{Leads, IsLawful}
+use Rattle.qs_agree.specs.Carry.{Leads}
 use Rattle.qs_agree.proofs.Carries.{leads_on}
 use Rattle.qs_refine.specs.EachMove.{ShowsAll, KeepsDecided, MessagesFit, CanCountAll}
 use Rattle.qs_refine.specs.Faces.{Face, ShowsFace}
 use Rattle.qs_refine.specs.JoinLaws.{is_loose, StepForced}
-use Rattle.qs_refine.specs.Links.{node_no}
-use Rattle.qs_refine.specs.MoveLaws.{MayClose, AllClose, StepShown, taken_scene}
-use Rattle.qs_refine.specs.NodeFaces.{face, face_at, outcome_seen, outcome_of}
+use Rattle.qs_refine.specs.MoveLaws.{AllClose, StepShown, taken_scene}
+use Rattle.qs_refine.specs.NodeFaces.{face_at, outcome_seen}
 use Rattle.qs_refine.specs.Places.{place}
 use Rattle.qs_refine.specs.SaidLaws.{BeginsNew}
-use Rattle.qs_refine.specs.Shows.{Scene, scene_of, sight, sight_during, ShowsWork, Shows}
+use Rattle.qs_refine.specs.Shows.{Scene, sight_during, Shows}
 use Rattle.qs_refine.specs.SoundSteps.{MayHappen, begun, settled}
 use Rattle.qs_refine.specs.Stands.{Stands, GoesOn}
 use Rattle.qs_refine.specs.Steady.{IsSteady, HasBegun}
 use Rattle.qs_refine.specs.StepLaws.{stepped}
 use Rattle.qs_refine.proofs.ClosingAll.{stays_closed}
-use Rattle.qs_refine.proofs.EachCame.{Came, case_of, IsEnding}
+use Rattle.qs_refine.proofs.EachCame.{case_of, IsEnding}
 use Rattle.qs_refine.proofs.EachEvent.{StepCame, step_came}
 use Rattle.qs_refine.proofs.EachMay.{each_may_come}
 use Rattle.qs_refine.proofs.EachStep.{turned_first}
 use Rattle.qs_refine.proofs.Heads.{shown_here, face_is, node_is}
 use Rattle.qs_refine.proofs.Joining.{step_closes_after}
-use Rattle.qs_refine.proofs.LaterWorlds.{committed_is}
 use Rattle.qs_refine.proofs.SaidSteps.{step_forces, step_open}
 use Rattle.qs_refine.proofs.SettleGoes.{settle_goes}
-use Rattle.qs_refine.proofs.SoundKnown.{same_is}
 use Rattle.qs_refine.proofs.StepEdges.{step_ends}
-use Rattle.qs_refine.proofs.TurnOn.{Case, Fate, became, fate_of, fate_found, fate_at, Turned, is_aborted_of, is_end_of, same_outcome}
-use Rattle.qs_refine.proofs.TurnStep.{step_on}
+use Rattle.qs_refine.proofs.TurnOn.{became, fate_found, fate_at, Turned, is_aborted_of, is_end_of, same_outcome}
+use Rattle.qs_refine.proofs.TurnEvents.{step_on}
 use Rattle.qs_refine.proofs.WaitStands.{answer_waiting_goes}
 
 module _ (t : Tid) (world : World) (w : machine.World) (steady : IsSteady world) (home_in : t.home.0 < world.size) (began : HasBegun world t) (all : ShowsAll t world w) (kept : KeepsDecided t world w) (fits : MessagesFit world) (counts : CanCountAll world)

@@ -1,56 +1,34 @@
 -- A message that comes to a node: what stands of a transaction that is shown goes on to stand, whatever the message is about.
-use Rattle.std.proofs.Common.{◌≡◌, ◌≢◌, ◌⊎◌, inl, inr, ℕ, ◌+◌, ◌<◌, ◌≤◌, ◌==◌, ◌&&◌, ◌||◌, not, nat_lt, Bool, true, false, List, [], ◌∷◌, ◌++◌, fold, length, Option, Some, None, is_some, refl, sym, ap, subst, ◌∙◌, arith, if◌then◌else◌}
-use Rattle.std.specs.List.{list_any, list_all, filter}
+use Rattle.std.proofs.Common.{◌≡◌, ℕ, ◌<◌, ◌≤◌, ◌==◌, ◌&&◌, ◌||◌, not, Bool, true, false, Option, Some, None, is_some, refl, sym, ap, subst, ◌∙◌, if◌then◌else◌}
+use Rattle.std.specs.List.{list_any}
 use Rattle.std.proofs.lemmas.Bool.{eqb-true}
-use Rattle.std.proofs.lemmas.Bool.Decides.{nat_tests}
-use Rattle.std.proofs.lemmas.List.Sums.{fold-append}
 use Rattle.qs_base.specs.Order.{same_tid}
 use Rattle.qs_base.specs.declared.identifiers.NodeNo.{NodeNo}
-use Rattle.qs_base.specs.declared.identifiers.Outcome.{Outcome}
-use Rattle.qs_base.specs.declared.identifiers.Outcome.TheVariants as outcomes
 use Rattle.qs_base.specs.declared.identifiers.Tid.{Tid}
-use Rattle.qs_engage.specs.Nodes.{same_node, has_node}
-use Rattle.qs_packet.specs.declared.message.Message.{Message}
-use Rattle.qs_packet.specs.declared.message.Message.TheVariants as messages
-use Rattle.qs_record.specs.declared.record.Record.{Record}
-use Rattle.qs_restart.specs.Recovery.{Recovery, recovery, found_record, nothing_said, is_untold_of}
+use Rattle.qs_engage.specs.Nodes.{same_node}
 use Rattle.qs_tm.specs.Manager as tm
 use Rattle.qs_tm.specs.declared.participant.Participant.{Participant}
 use Rattle.qs_step.specs.Answering.{was_committed}
-use Rattle.qs_step.specs.Bringing.{is_forced}
 use Rattle.qs_step.specs.State.{NodeValue, Work, part_of, work_on}
-use Rattle.qs_step.specs.Step.{message_came}
-use Rattle.qs_step.specs.Telling.{is_other_node}
 use Rattle.qs_world.specs.World.{World}
 use Rattle.qs_agree.specs.World as machine
 use Rattle.qs_agree.specs.World.{Open, Committed, Aborted}
-use Rattle.qs_agree.specs.Carry.{Leads, IsLawful}
-use Rattle.qs_agree.proofs.Carries.{leads_on}
-use Rattle.qs_refine.specs.CameWhole.{MayCome}
+use Rattle.qs_agree.specs.Carry.{Leads}
 use Rattle.qs_refine.specs.CloserWhole.{CountsNoMore}
-use Rattle.qs_refine.specs.DecisionLaws.{ShowsTold, IsListed}
 use Rattle.qs_refine.specs.EachMove.{ShowsAll, KeepsDecided}
-use Rattle.qs_refine.specs.Faces.{Face}
-use Rattle.qs_refine.specs.Links.{names_node, node_no}
-use Rattle.qs_refine.specs.NodeFaces.{began_here, face_at, is_past_commit, unknown, unknown_at_home, outcome_of}
+use Rattle.qs_refine.specs.NodeFaces.{began_here, is_past_commit}
 use Rattle.qs_refine.specs.OutcomeWhole.{KeepsPast}
-use Rattle.qs_refine.specs.Places.{place}
-use Rattle.qs_refine.specs.Shows.{Scene, scene_of, handed, sight_during}
-use Rattle.qs_refine.specs.Sights.{list_of}
-use Rattle.qs_refine.specs.Sound.{is_past, is_sound}
-use Rattle.qs_refine.specs.SoundSteps.{FitsMessage, begun}
+use Rattle.qs_refine.specs.Shows.{Scene, scene_of}
+use Rattle.qs_refine.specs.Sound.{is_past}
+use Rattle.qs_refine.specs.SoundSteps.{begun}
 use Rattle.qs_refine.specs.Stands.{Stands, GoesOn}
-use Rattle.qs_refine.specs.Steady.{IsSteady, HasBegun, HaveBegun, is_fit_message, is_of_run}
-use Rattle.qs_refine.specs.Steps.{IsNext}
-use Rattle.qs_refine.specs.ToldWhole.{TakesTold}
+use Rattle.qs_refine.specs.Steady.{IsSteady, HasBegun}
 use Rattle.qs_refine.proofs.BeginKeeps.{KeptOn, begin_keeps}
 use Rattle.qs_refine.proofs.BeginStands.{begin_incarnation_goes}
 use Rattle.qs_refine.proofs.Calm.{SameCore, IsCalm, calm, known_before}
 use Rattle.qs_refine.proofs.EachReady.{ready, taken_up}
-use Rattle.qs_refine.proofs.Heads.{Learnt, shown_here, released, told_commit, told_abort, no_request, below_sent, names_no_home, taken_names}
-use Rattle.qs_refine.proofs.LaterWorlds.{commit_stays, acks_on}
-use Rattle.qs_refine.proofs.MessageFits.{nothing_open, agrees_commit, agrees_abort, may_take, answers_for}
-use Rattle.qs_refine.proofs.SoundKnown.{same_is}
+use Rattle.qs_refine.proofs.Heads.{Learnt, released}
+use Rattle.qs_refine.proofs.LaterWorlds.{commit_stays}
 use Rattle.qs_refine.proofs.SoundParts.{and_both}
 use Rattle.qs_refine.proofs.StepGoes.{begins}
 

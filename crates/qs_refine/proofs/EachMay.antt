@@ -1,25 +1,20 @@
 -- What comes to a node in a step may come, as far as its node is to stay sound.
-use Rattle.std.proofs.Common.{◌≡◌, ◌≢◌, ℕ, ◌+◌, ◌<◌, ◌≤◌, ◌==◌, ◌&&◌, not, nat_lt, nat_le, Bool, true, false, List, [], ◌∷◌, ◌++◌, length, drop, map, zero, suc, Option, Some, None, is_some, refl, sym, ap, subst, ◌∙◌, arith, if◌then◌else◌}
+use Rattle.std.proofs.Common.{◌≡◌, ◌≢◌, ℕ, ◌+◌, ◌<◌, ◌≤◌, ◌==◌, ◌&&◌, nat_lt, nat_le, Bool, true, false, List, [], ◌∷◌, ◌++◌, length, drop, map, zero, suc, Option, Some, None, refl, sym, ap, subst, ◌∙◌, arith, if◌then◌else◌}
 use Rattle.std.specs.Prelude.{slice_get}
 use Rattle.std.specs.List.{list_all}
-use Rattle.std.proofs.lemmas.Bool.{eqb-true}
 use Rattle.std.proofs.lemmas.Option.{slice_get_within}
 use Rattle.qs_channels.proofs.Lists.{tail_from}
 use Rattle.std.proofs.lemmas.Bool.Decides.{nat_tests}
-use Rattle.qs_base.specs.declared.identifiers.NodeNo.{NodeNo}
-use Rattle.qs_base.specs.declared.identifiers.Tid.{Tid}
 use Rattle.qs_engage.specs.Nodes.{same_node}
 use Rattle.qs_journal.specs.declared.script_line.Command.{Command}
 use Rattle.qs_journal.specs.declared.script_line.Command.TheVariants as commands
 use Rattle.qs_journal.specs.declared.script_line.ScriptLine.{ScriptLine}
-use Rattle.qs_packet.specs.declared.message.Message.{Message}
-use Rattle.qs_tm.specs.Manager as tm
-use Rattle.qs_step.specs.State.{NodeValue, Work, part_of, work_on}
+use Rattle.qs_step.specs.State.{Work, work_on}
 use Rattle.qs_step.specs.declared.event.Event.{Event}
 use Rattle.qs_step.specs.declared.event.Event.TheVariants as events
 use Rattle.qs_world.specs.Moves.{Source, Commanded, Handed, Queues, Clock, Noticed, event_of, command_of, command_from, client_count, message_from, notice_of, has_begun}
 use Rattle.qs_world.specs.Posting.{next_parcel, next_line}
-use Rattle.qs_world.specs.World.{Parcel, Client, World, known_of, inc_of}
+use Rattle.qs_world.specs.World.{Parcel, World, known_of, inc_of}
 use Rattle.qs_refine.specs.EachMove.{MessagesFit, EachMayCome}
 use Rattle.qs_refine.specs.Links.{node_no}
 use Rattle.qs_refine.specs.SaidLaws.{BeginsNew}
@@ -27,9 +22,9 @@ use Rattle.qs_refine.specs.Shows.{message_of, scene_of}
 use Rattle.qs_refine.specs.Sound.{goes_in_run}
 use Rattle.qs_refine.specs.SoundSteps.{MayHappen, begun}
 use Rattle.qs_refine.specs.Steady.{IsSteady, is_line_in_run, is_fit_message, is_fit_parcel}
-use Rattle.qs_refine.specs.Steps.{IsKnown, IsNext}
+use Rattle.qs_refine.specs.Steps.{IsNext}
 use Rattle.qs_refine.specs.TakenLaws.{rest_behind}
-use Rattle.qs_refine.proofs.BeginKeeps.{KeptOn, begin_keeps}
+use Rattle.qs_refine.proofs.BeginKeeps.{begin_keeps}
 use Rattle.qs_refine.proofs.Calm.{IsCalm, calm}
 use Rattle.qs_refine.proofs.SoundParts.{and_both}
 

@@ -1,10 +1,8 @@
 -- The law of each move, and of a message about a transaction that is shown.
-use Rattle.std.proofs.Common.{◌≡◌, ◌≢◌, ◌⊎◌, inl, inr, ℕ, ◌+◌, ◌<◌, ◌≤◌, ◌==◌, ◌&&◌, ◌||◌, not, nat_lt, nat_le, Bool, true, false, List, [], ◌∷◌, ◌++◌, fold, Option, Some, None, is_some, refl, sym, ap, subst, ◌∙◌, arith, if◌then◌else◌}
+use Rattle.std.proofs.Common.{◌≡◌, ◌≢◌, ◌⊎◌, inl, inr, ℕ, ◌<◌, ◌≤◌, ◌==◌, ◌&&◌, ◌||◌, not, nat_lt, nat_le, Bool, true, false, List, [], ◌∷◌, Option, Some, None, is_some, refl, sym, ap, subst, ◌∙◌, arith, if◌then◌else◌}
 use Rattle.std.specs.List.{list_any, list_all}
 use Rattle.std.proofs.lemmas.Bool.{eqb-true}
 use Rattle.std.proofs.lemmas.Bool.Decides.{nat_tests}
-use Rattle.qs_base.specs.declared.identifiers.NodeNo.{NodeNo}
-use Rattle.qs_base.specs.declared.identifiers.Outcome.{Outcome}
 use Rattle.qs_base.specs.declared.identifiers.Outcome.TheVariants as outcomes
 use Rattle.qs_base.specs.declared.identifiers.Tid.{Tid}
 use Rattle.qs_engage.specs.Nodes.{same_node, has_node, no_nodes}
@@ -15,18 +13,16 @@ use Rattle.qs_tm.specs.Manager as tm
 use Rattle.qs_tm.specs.Outcomes.{committed_before}
 use Rattle.qs_tm.specs.declared.manager.Manager.{Manager}
 use Rattle.qs_tm.specs.declared.participant.Participant.{Participant}
-use Rattle.qs_step.specs.Opening.{recovered_of, new_manager, take_up}
-use Rattle.qs_step.specs.State.{NodeValue, Work, part_of}
+use Rattle.qs_step.specs.Opening.{recovered_of, new_manager}
+use Rattle.qs_step.specs.State.{NodeValue}
 use Rattle.qs_step.specs.declared.event.Event.{Event}
-use Rattle.qs_world.specs.Moves.{Source, Move, Step, Cut, Stop, Rise, Meet, event_of, step_with, cut_with, stopped, reopened, risen, risen_host, met, has_begun, is_in_order, is_later, may_move, moved}
-use Rattle.qs_world.specs.Posting.{next_parcel}
-use Rattle.qs_world.specs.World.{Parcel, World, known_of, inc_of}
+use Rattle.qs_world.specs.Moves.{Step, Cut, Stop, Rise, Meet, event_of, step_with, cut_with, stopped, reopened, risen, risen_host, met, has_begun, is_in_order, is_later}
+use Rattle.qs_world.specs.World.{World, known_of}
 use Rattle.qs_agree.specs.World as machine
 use Rattle.qs_agree.specs.World.{Open, Committed, Aborted}
-use Rattle.qs_agree.specs.Carry.{Leads}
-use Rattle.qs_refine.specs.EachMove.{ShowsOutcome, ShowsAll, AllGoes, KeepsDecided, MessagesFit, CanCountAll, CountsFromOne, EachMoveGoes, ShownFits}
+use Rattle.qs_refine.specs.EachMove.{ShowsAll, AllGoes, KeepsDecided, MessagesFit, CanCountAll, EachMoveGoes, ShownFits}
 use Rattle.qs_refine.specs.Links.{node_no}
-use Rattle.qs_refine.specs.MoveLaws.{ShowsWorld, WorldGoes}
+use Rattle.qs_refine.specs.MoveLaws.{WorldGoes}
 use Rattle.qs_refine.specs.Shows.{scene_of}
 use Rattle.qs_refine.specs.Sound.{may_vote, is_list_of, has_doubt}
 use Rattle.qs_refine.specs.Steady.{IsSteady, HasBegun}
@@ -37,13 +33,11 @@ use Rattle.qs_refine.proofs.EachMoves.{StaysAt, TellsAt, goes_all, halted, step_
 use Rattle.qs_refine.proofs.Facts.{invariant}
 use Rattle.qs_refine.proofs.LaterWorlds.{commit_stays}
 use Rattle.qs_refine.proofs.MoveGoes.{in_run, later_in, rises, meets}
-use Rattle.qs_refine.proofs.NodeSets.{none_listed}
 use Rattle.qs_refine.proofs.RisenFaces.{lists_from}
 use Rattle.qs_refine.proofs.SoundParts.{and_both}
-use Rattle.qs_refine.proofs.StartWorlds.{alike_at}
 use Rattle.qs_refine.proofs.StepMoves.{stops}
 use Rattle.qs_refine.proofs.TakingUp.{Known, log_taken}
-use Rattle.qs_refine.proofs.TurnOn.{nobody}
+use Rattle.qs_refine.proofs.TurnRecords.{nobody}
 
 -- ---- what a node takes up of a transaction from its log
 

@@ -1,53 +1,36 @@
 -- Each move of the world, for a transaction that has begun: what shows it before shows it after.
-use Rattle.std.proofs.Common.{◌≡◌, ◌≢◌, ◌⊎◌, inl, inr, ℕ, ◌+◌, ◌<◌, ◌≤◌, ◌==◌, ◌&&◌, ◌||◌, not, nat_lt, nat_le, Bool, true, false, List, [], ◌∷◌, ◌++◌, fold, Option, Some, None, is_some, refl, sym, ap, subst, ◌∙◌, arith, if◌then◌else◌}
-use Rattle.std.specs.List.{list_any, list_all}
-use Rattle.std.proofs.lemmas.Bool.{eqb-true}
-use Rattle.std.proofs.lemmas.Bool.Decides.{nat_tests}
-use Rattle.qs_base.specs.declared.identifiers.NodeNo.{NodeNo}
+use Rattle.std.proofs.Common.{◌≡◌, ◌⊎◌, inl, inr, ℕ, ◌<◌, ◌==◌, ◌||◌, not, Bool, true, false, List, Option, Some, refl, sym, ap, subst, ◌∙◌, if◌then◌else◌}
 use Rattle.qs_base.specs.declared.identifiers.Outcome.{Outcome}
 use Rattle.qs_base.specs.declared.identifiers.Outcome.TheVariants as outcomes
 use Rattle.qs_base.specs.declared.identifiers.Tid.{Tid}
-use Rattle.qs_engage.specs.Nodes.{same_node, has_node, no_nodes}
-use Rattle.qs_engage.specs.declared.nodes.Nodes.{Nodes}
+use Rattle.qs_engage.specs.Nodes.{same_node, has_node}
 use Rattle.qs_journal.specs.declared.entry.CrashCause.{CrashCause}
-use Rattle.qs_machine.specs.Clauses.{is_crash}
-use Rattle.qs_restart.specs.Recovery.{recovery, is_untold_of, nothing_said}
 use Rattle.qs_tm.specs.Manager as tm
-use Rattle.qs_tm.specs.Outcomes.{committed_before}
-use Rattle.qs_tm.specs.declared.manager.Manager.{Manager}
 use Rattle.qs_tm.specs.declared.participant.Participant.{Participant}
-use Rattle.qs_step.specs.Opening.{recovered_of, new_manager}
-use Rattle.qs_step.specs.State.{NodeValue, Work, part_of}
+use Rattle.qs_step.specs.State.{Work, part_of}
 use Rattle.qs_step.specs.Step.{step_work, after_step, effects_of}
 use Rattle.qs_step.specs.declared.event.Event.{Event}
 use Rattle.qs_world.specs.Moves.{Source, Move, Step, Cut, Stop, Rise, Meet, event_of, taken_by, step_with, cut_with, stopped, reopened, risen, met, has_begun, is_in_order, is_later, may_move, moved}
-use Rattle.qs_world.specs.World.{World, known_of, inc_of}
+use Rattle.qs_world.specs.World.{World}
 use Rattle.qs_agree.specs.World as machine
 use Rattle.qs_agree.specs.World.{Open, Committed, Aborted}
 use Rattle.qs_agree.specs.Carry.{Leads}
-use Rattle.qs_agree.proofs.Carries.{leads_on}
-use Rattle.qs_refine.specs.EachMove.{ShowsOutcome, ShowsAll, AllGoes, KeepsDecided, MessagesFit, CanCountAll, CountsFromOne, EachMoveGoes}
-use Rattle.qs_refine.specs.Faces.{Face, ShowsFace}
-use Rattle.qs_refine.specs.JoinLaws.{StepForced}
+use Rattle.qs_refine.specs.EachMove.{ShowsOutcome, ShowsAll, AllGoes, KeepsDecided, MessagesFit, CanCountAll}
+use Rattle.qs_refine.specs.Faces.{Face}
 use Rattle.qs_refine.specs.Links.{node_no}
-use Rattle.qs_refine.specs.MoveLaws.{ShowsWorld, WorldGoes, StepShown, is_cut_with}
-use Rattle.qs_refine.specs.NodeFaces.{face_at, outcome_seen}
+use Rattle.qs_refine.specs.MoveLaws.{ShowsWorld, WorldGoes, StepShown}
+use Rattle.qs_refine.specs.NodeFaces.{outcome_seen}
 use Rattle.qs_refine.specs.Places.{place}
 use Rattle.qs_refine.specs.Shows.{scene_of, sight}
-use Rattle.qs_refine.specs.Sound.{same_flag, may_vote, is_list_of, has_doubt}
+use Rattle.qs_refine.specs.Sound.{same_flag}
 use Rattle.qs_refine.specs.Steady.{IsSteady, HasBegun}
 use Rattle.qs_refine.proofs.EachGoes as each
-use Rattle.qs_refine.proofs.Facts.{invariant}
 use Rattle.qs_refine.proofs.Heads.{face_is}
 use Rattle.qs_refine.proofs.LaterWorlds.{commit_stays, acks_on, committed_is}
-use Rattle.qs_refine.proofs.MoveGoes.{in_run, later_in, rises, meets}
 use Rattle.qs_refine.proofs.Posted.{inc_all, up_all}
-use Rattle.qs_refine.proofs.RisenFaces.{lists_from}
 use Rattle.qs_refine.proofs.SoundHolds.{known_sound}
-use Rattle.qs_refine.proofs.SoundParts.{and_both}
-use Rattle.qs_refine.proofs.StepMoves.{stops, whole, whole_next, cut}
+use Rattle.qs_refine.proofs.StepMoves.{whole, whole_next, cut}
 use Rattle.qs_refine.proofs.Moving.{inc_taken, up_taken}
-use Rattle.qs_refine.proofs.TakingUp.{Known, log_taken}
 use Rattle.qs_refine.proofs.TurnOn.{became, fate_of, fate_found, fate_at}
 
 -- ---- what nodes know of the commit, after a move

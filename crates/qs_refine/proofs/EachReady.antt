@@ -1,26 +1,23 @@
 -- A node that runs is ready for a step, as far as what holds of all nodes and what shows a transaction say of it.
-use Rattle.std.proofs.Common.{◌≡◌, ◌≢◌, ℕ, ◌<◌, ◌≤◌, ◌==◌, ◌&&◌, ◌||◌, not, Bool, true, false, List, [], ◌∷◌, ◌++◌, fold, Option, Some, None, is_some, refl, sym, ap, subst, ◌∙◌, arith, if◌then◌else◌}
+use Rattle.std.proofs.Common.{◌≡◌, ◌≢◌, ℕ, ◌<◌, ◌==◌, ◌&&◌, ◌||◌, not, Bool, true, false, List, [], ◌∷◌, ◌++◌, fold, Option, Some, None, is_some, refl, sym, ap, ◌∙◌, arith, if◌then◌else◌}
 use Rattle.std.specs.List.{list_any}
-use Rattle.std.proofs.lemmas.Bool.{eqb-true}
 use Rattle.std.proofs.lemmas.Bool.Decides.{nat_tests}
 use Rattle.std.proofs.lemmas.List.Sums.{fold-append}
 use Rattle.qs_base.specs.Order.{same_tid}
 use Rattle.qs_base.specs.declared.identifiers.Outcome.{Outcome}
-use Rattle.qs_base.specs.declared.identifiers.Outcome.TheVariants as outcomes
 use Rattle.qs_base.specs.declared.identifiers.Tid.{Tid}
 use Rattle.qs_record.specs.declared.record.Record.{Record}
 use Rattle.qs_record.specs.declared.record.Record.TheVariants as records
-use Rattle.qs_restart.specs.Recovery.{Recovery, Prepared, recovery, found_record, nothing_said, is_of, is_vote_of}
+use Rattle.qs_restart.specs.Recovery.{Prepared, recovery, found_record, nothing_said, is_of, is_vote_of}
 use Rattle.qs_tm.specs.Manager as tm
 use Rattle.qs_tm.specs.declared.participant.InLog.{InLog}
 use Rattle.qs_tm.specs.declared.participant.Participant.{Participant}
-use Rattle.qs_step.specs.State.{NodeValue, Work, part_of, work_on}
+use Rattle.qs_step.specs.State.{NodeValue, work_on}
 use Rattle.qs_world.specs.World.{World}
 use Rattle.qs_agree.specs.World as machine
 use Rattle.qs_agree.specs.World.{Open, Committed, Aborted}
 use Rattle.qs_refine.specs.EachMove.{ShowsAll}
-use Rattle.qs_refine.specs.Faces.{Face, ShowsFace}
-use Rattle.qs_refine.specs.Links.{node_no}
+use Rattle.qs_refine.specs.Faces.{ShowsFace}
 use Rattle.qs_refine.specs.MoveLaws.{is_record_of, MayClose, AllClose}
 use Rattle.qs_refine.specs.NodeFaces.{face, face_at, part_at, outcome_seen}
 use Rattle.qs_refine.specs.Places.{place}
@@ -28,14 +25,12 @@ use Rattle.qs_refine.specs.RestartWhole.{IsTakenUp}
 use Rattle.qs_refine.specs.SaidLaws.{no_flags, flags_at, IsSaid}
 use Rattle.qs_refine.specs.Shows.{scene_of}
 use Rattle.qs_refine.specs.Sights.{server_no, is_in_doubt}
-use Rattle.qs_refine.specs.Sound.{has_doubt}
 use Rattle.qs_refine.specs.Stands.{may_doubt}
 use Rattle.qs_refine.specs.Steady.{IsSteady}
 use Rattle.qs_refine.specs.StepWhole.{IsReady}
 use Rattle.qs_refine.proofs.InTurn.{others_say}
 use Rattle.qs_refine.proofs.Reading.{part_known}
 use Rattle.qs_refine.proofs.SaysSeen.{said_seen}
-use Rattle.qs_refine.proofs.SoundParts.{and_both}
 
 -- a vote in doubt at some server is one in doubt
 no_doubt : (t : Tid) (s : ℕ) (votes : List Prepared) → list_any (λ (vote : Prepared). is_of t vote && not vote.committed) votes ≡ false → list_any (λ (vote : Prepared). is_vote_of t (server_no s) vote && not vote.committed) votes ≡ false

@@ -1,7 +1,7 @@
 -- A whole step of a node: what shows a transaction goes on to show it as the step's messages are put and its records stand or wait.
-use Rattle.std.proofs.Common.{◌≡◌, ◌≢◌, ◌⊎◌, inl, inr, ℕ, ◌+◌, ◌<◌, ◌≤◌, ◌==◌, ◌&&◌, ◌||◌, not, Bool, true, false, List, [], ◌∷◌, ◌++◌, length, Option, Some, None, is_some, refl, sym, ap, subst, ◌∙◌, arith, if◌then◌else◌}
+use Rattle.std.proofs.Common.{◌≡◌, ℕ, ◌<◌, ◌==◌, ◌&&◌, ◌||◌, not, Bool, true, false, List, [], ◌∷◌, ◌++◌, length, Option, Some, None, refl, sym, ap, subst, ◌∙◌, arith, if◌then◌else◌}
 use Rattle.std.specs.Prelude.{unwrap_or}
-use Rattle.std.specs.List.{list_any, filter}
+use Rattle.std.specs.List.{list_any}
 use Rattle.std.proofs.lemmas.Bool.{eqb-true}
 use Rattle.std.proofs.lemmas.Bool.Decides.{nat_tests}
 use Rattle.qs_base.specs.Order.{same_tid}
@@ -13,55 +13,30 @@ use Rattle.qs_engage.specs.Nodes.{same_node, has_node, is_no_node}
 use Rattle.qs_engage.specs.declared.nodes.Nodes.{Nodes}
 use Rattle.qs_record.specs.declared.record.Record.{Record}
 use Rattle.qs_record.specs.declared.record.Record.TheVariants as records
-use Rattle.qs_restart.specs.Recovery.{recovery}
 use Rattle.qs_tm.specs.Manager as tm
 use Rattle.qs_tm.specs.declared.participant.Participant.{Participant}
-use Rattle.qs_step.specs.Bringing.{is_forced}
-use Rattle.qs_step.specs.Settling.{settle}
-use Rattle.qs_step.specs.State.{NodeValue, Work, part_of, work_on}
-use Rattle.qs_step.specs.Step.{happen, step_work, effects_of}
-use Rattle.qs_step.specs.declared.event.Event.{Event}
-use Rattle.qs_world.specs.Moves.{Source, event_of}
+use Rattle.qs_step.specs.State.{NodeValue, work_on}
 use Rattle.qs_world.specs.World.{World}
 use Rattle.qs_agree.specs.World as machine
 use Rattle.qs_agree.specs.World.{Open, Committed, Aborted}
-use Rattle.qs_agree.specs.Carry.{Leads, IsLawful}
-use Rattle.qs_agree.proofs.Carries.{leads_on}
-use Rattle.qs_refine.specs.EachMove.{ShowsAll, KeepsDecided, MessagesFit, CanCountAll}
-use Rattle.qs_refine.specs.Faces.{Face, ShowsFace}
-use Rattle.qs_refine.specs.JoinLaws.{is_loose, is_loose_of, is_forced_of, are_in_turn, StepForced}
+use Rattle.qs_agree.specs.Carry.{Leads}
+use Rattle.qs_refine.specs.EachMove.{ShowsAll}
+use Rattle.qs_refine.specs.JoinLaws.{is_loose_of, is_forced_of, are_in_turn}
 use Rattle.qs_refine.specs.Links.{node_no}
-use Rattle.qs_refine.specs.MoveLaws.{is_record_of, MayClose, AllClose, ShowsWorld, StepShown}
+use Rattle.qs_refine.specs.MoveLaws.{MayClose, AllClose}
 use Rattle.qs_refine.specs.NodeFaces.{face, face_at, outcome_seen, outcome_of, unknown, unknown_at_home}
 use Rattle.qs_refine.specs.Places.{place}
-use Rattle.qs_refine.specs.SaidLaws.{BeginsNew}
-use Rattle.qs_refine.specs.Shows.{Scene, scene_of, sight, sight_during, ShowsWork, Shows}
-use Rattle.qs_refine.specs.Sound.{is_sound, same_flag, where_so}
-use Rattle.qs_refine.specs.SoundSteps.{MayHappen, begun, settled}
-use Rattle.qs_refine.specs.Stands.{Stands, GoesOn}
-use Rattle.qs_refine.specs.Steady.{IsSteady, HasBegun}
-use Rattle.qs_refine.specs.StepLaws.{stepped, SaysSame}
-use Rattle.qs_refine.specs.StepWhole.{Stepped}
-use Rattle.qs_refine.proofs.ClosingAll.{stays_closed}
-use Rattle.qs_refine.proofs.EachCame.{Came, case_of, IsEnding}
-use Rattle.qs_refine.proofs.EachEvent.{StepCame, step_came}
-use Rattle.qs_refine.proofs.EachMay.{each_may_come}
+use Rattle.qs_refine.specs.Shows.{scene_of, sight}
+use Rattle.qs_refine.specs.Sound.{same_flag, where_so}
+use Rattle.qs_refine.specs.Steady.{IsSteady}
+use Rattle.qs_refine.proofs.EachCame.{case_of}
 use Rattle.qs_refine.proofs.EachReady.{face_shown}
-use Rattle.qs_refine.proofs.Facts.{lawful_on}
-use Rattle.qs_refine.proofs.Heads.{shown_here, face_is}
-use Rattle.qs_refine.proofs.Joining.{step_closes}
-use Rattle.qs_refine.proofs.LaterWorlds.{commit_stays, acks_on, is_committed, committed_is, is_committed_cell}
+use Rattle.qs_refine.proofs.LaterWorlds.{commit_stays, acks_on, is_committed_cell}
 use Rattle.qs_refine.proofs.NodeSets.{none_listed}
 use Rattle.qs_refine.proofs.Reading.{part_known}
-use Rattle.qs_refine.proofs.SaidSteps.{step_forces, step_open}
-use Rattle.qs_refine.proofs.SettleGoes.{settle_goes}
 use Rattle.qs_refine.proofs.SoundHolds.{known_sound}
-use Rattle.qs_refine.proofs.SoundKnown.{same_is}
 use Rattle.qs_refine.proofs.SoundParts.{and_both}
-use Rattle.qs_refine.proofs.StepGoes.{ends}
-use Rattle.qs_refine.proofs.TurnOn.{Case, Fate, became, fate_of, fate_found, fate_at, Turned, TurnedAs, is_aborted_of, is_end_of, same_outcome, same_acks, open_apart}
-use Rattle.qs_refine.proofs.TurnStep.{step_on}
-use Rattle.qs_refine.proofs.WaitStands.{answer_waiting_goes}
+use Rattle.qs_refine.proofs.TurnOn.{Fate, became, fate_found, fate_at, Turned, is_aborted_of, is_end_of, same_outcome, same_acks}
 
 -- ---- as the step begins the records that wait stand in turn
 

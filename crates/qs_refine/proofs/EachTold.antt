@@ -1,10 +1,9 @@
 -- A Told that comes to the home's node finds what its coming asks.
-use Rattle.std.proofs.Common.{◌≡◌, ◌≢◌, ◌⊎◌, inl, inr, ℕ, ◌+◌, ◌<◌, ◌≤◌, ◌==◌, ◌&&◌, ◌||◌, not, Bool, true, false, List, [], ◌∷◌, ◌++◌, fold, Option, Some, None, is_some, refl, sym, ap, subst, ◌∙◌, arith, if◌then◌else◌}
+use Rattle.std.proofs.Common.{◌≡◌, ◌≢◌, ◌⊎◌, inl, inr, ℕ, ◌<◌, ◌==◌, ◌&&◌, ◌||◌, not, Bool, true, false, List, [], ◌∷◌, ◌++◌, fold, Option, Some, None, refl, sym, ap, subst, ◌∙◌, arith, if◌then◌else◌}
 use Rattle.std.specs.List.{list_any, filter}
 use Rattle.std.proofs.lemmas.Bool.Decides.{nat_tests}
 use Rattle.qs_base.specs.Order.{same_tid}
 use Rattle.qs_base.specs.declared.identifiers.NodeNo.{NodeNo}
-use Rattle.qs_base.specs.declared.identifiers.Outcome.{Outcome}
 use Rattle.qs_base.specs.declared.identifiers.Outcome.TheVariants as outcomes
 use Rattle.qs_base.specs.declared.identifiers.Tid.{Tid}
 use Rattle.qs_engage.specs.Nodes.{same_node, has_node, has_all}
@@ -24,14 +23,14 @@ use Rattle.qs_agree.specs.World as machine
 use Rattle.qs_agree.specs.World.{Open, Committed, Aborted}
 use Rattle.qs_agree.specs.Carry.{Leads}
 use Rattle.qs_refine.specs.DecisionLaws.{ShowsTold, IsListed}
-use Rattle.qs_refine.specs.EachMove.{ShowsAll, KeepsDecided}
+use Rattle.qs_refine.specs.EachMove.{ShowsAll}
 use Rattle.qs_refine.specs.Faces.{Face}
-use Rattle.qs_refine.specs.JoinLaws.{is_loose, is_forced_of}
+use Rattle.qs_refine.specs.JoinLaws.{is_forced_of}
 use Rattle.qs_refine.specs.Links.{names_node, node_no}
 use Rattle.qs_refine.specs.MoveLaws.{is_record_of, MayClose, AllClose}
-use Rattle.qs_refine.specs.NodeFaces.{began_here, face, face_at, is_past_commit, unknown, unknown_at_home, outcome_of}
+use Rattle.qs_refine.specs.NodeFaces.{began_here, unknown, unknown_at_home, outcome_of}
 use Rattle.qs_refine.specs.Places.{place}
-use Rattle.qs_refine.specs.SaidLaws.{no_flags, flags_at, IsSaid, AreSaid, SaysOn}
+use Rattle.qs_refine.specs.SaidLaws.{no_flags, AreSaid, SaysOn}
 use Rattle.qs_refine.specs.Shows.{Scene, scene_of, sight, sight_during}
 use Rattle.qs_refine.specs.Sights.{list_of}
 use Rattle.qs_refine.specs.Sound.{same_flag}

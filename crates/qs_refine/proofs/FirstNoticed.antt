@@ -1,15 +1,10 @@
 -- A node finds in the first step of an incarnation that another one restarted: its machine comes to know that before the node looks at what its log left open.
-use Rattle.std.proofs.Common.{◌≡◌, ◌≢◌, ◌⊎◌, inl, inr, ℕ, ◌<◌, ◌≤◌, ◌==◌, ◌&&◌, ◌||◌, not, Bool, true, false, List, [], ◌∷◌, ◌++◌, Option, Some, None, is_some, fold, refl, sym, ap, subst, ◌∙◌, arith, if◌then◌else◌}
+use Rattle.std.proofs.Common.{◌≡◌, ◌≢◌, ◌⊎◌, inl, inr, ℕ, ◌<◌, ◌≤◌, ◌==◌, ◌&&◌, ◌||◌, not, Bool, true, false, List, [], ◌++◌, Option, Some, None, is_some, fold, refl, sym, ap, subst, ◌∙◌, arith, if◌then◌else◌}
 use Rattle.std.specs.Prelude.{slice_set}
-use Rattle.std.specs.Map.{lookup}
 use Rattle.std.proofs.lemmas.List.{set-get_or}
 use Rattle.std.specs.BTreeMap.{is_at}
 use Rattle.std.specs.List.{list_any}
-use Rattle.std.proofs.lemmas.Bool.{eqb-true}
-use Rattle.std.proofs.lemmas.Bool.Decides.{nat_tests}
 use Rattle.qs_base.specs.Order.{tid_cmp}
-use Rattle.qs_base.specs.declared.identifiers.Outcome.{Outcome}
-use Rattle.qs_base.specs.declared.identifiers.Outcome.TheVariants as outcomes
 use Rattle.qs_base.specs.declared.identifiers.Tid.{Tid}
 use Rattle.qs_engage.specs.Engage.{peer_of, no_peer, is_open_to, is_covered}
 use Rattle.qs_engage.specs.declared.engage.PeerPart.{PeerPart}
@@ -23,10 +18,9 @@ use Rattle.qs_tm.specs.declared.participant.Outstanding.{Outstanding}
 use Rattle.qs_tm.specs.declared.manager.Which.TheVariants as whiches
 use Rattle.qs_tm.specs.declared.participant.Participant.{Participant}
 use Rattle.qs_step.specs.Asking.{block}
-use Rattle.qs_step.specs.Restarts.{find_gone, notice_tid, peer_restarted}
+use Rattle.qs_step.specs.Restarts.{notice_tid, peer_restarted}
 use Rattle.qs_step.specs.State.{Work, part_of, with_manager, with_queues}
-use Rattle.qs_agree.specs.World.{World, with_at}
-use Rattle.qs_agree.specs.Carry.{IsLawful}
+use Rattle.qs_agree.specs.World.{World}
 use Rattle.qs_refine.specs.Faces.{Face}
 use Rattle.qs_refine.specs.Links.{node_no}
 use Rattle.qs_refine.specs.NodeFaces.{face, face_at, part_at}
@@ -36,20 +30,20 @@ use Rattle.qs_refine.specs.Messages.{all_said}
 use Rattle.qs_refine.specs.Shows.{Scene, sent_to, ShowsWork, sight_during}
 use Rattle.qs_refine.specs.Stands.{Stands, GoesOn}
 use Rattle.qs_refine.specs.Steps.{Goes}
-use Rattle.qs_refine.proofs.Alike.{SameFace, same_itself, found_itself, face_on, sight_alike}
+use Rattle.qs_refine.proofs.Alike.{SameFace, same_itself, found_itself, sight_alike}
 use Rattle.qs_refine.proofs.During.{Leaves, quiet_itself}
 use Rattle.qs_refine.proofs.Keeping.{Keeps, keeps_goes}
 use Rattle.qs_refine.proofs.Reading.{part_known}
-use Rattle.qs_refine.proofs.RestartOwn.{IsFound, own_turn}
+use Rattle.qs_refine.proofs.RestartTurn.{IsFound, own_turn}
 use Rattle.qs_refine.proofs.RestartStands.{unconcerned, unknown_turn, others, others_leave, is_concerned, same_turns}
 use Rattle.qs_refine.proofs.Maps.{lookup_changed}
 use Rattle.qs_refine.proofs.Moving.{knows_as}
 use Rattle.qs_refine.proofs.RestartFrames.{marked_leaves}
-use Rattle.qs_refine.proofs.SettleStands.{stands_left, goes_further, stands_itself, whole_known}
+use Rattle.qs_refine.proofs.SettleStands.{stands_left, goes_further, stands_itself}
 use Rattle.qs_refine.proofs.SoundAge.{put_all}
 use Rattle.qs_refine.proofs.SoundQueued.{marked_sound}
 use Rattle.qs_refine.proofs.SoundViews.{seen}
-use Rattle.qs_refine.proofs.Turns.{Entry, turns, AllApart, fold_split, Never, Once, turn_of}
+use Rattle.qs_refine.proofs.Turns.{turns, fold_split, Never, Once, turn_of}
 
 -- ---- what it took up has nothing to do with the other node
 

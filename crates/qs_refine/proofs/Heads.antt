@@ -1,28 +1,24 @@
 -- What the agreement machine says of a message that comes first on its link, and of a node that knows the commit.
-use Rattle.std.proofs.Common.{◌≡◌, ◌≢◌, ◌⊎◌, inl, inr, ℕ, ◌+◌, ◌<◌, ◌≤◌, ◌==◌, ◌&&◌, ◌||◌, not, Bool, true, false, List, [], ◌∷◌, ◌++◌, length, Option, Some, None, is_some, refl, sym, ap, subst, ◌∙◌, arith, if◌then◌else◌}
-use Rattle.std.specs.List.{list_any, list_all, filter}
+use Rattle.std.proofs.Common.{◌≡◌, ◌≢◌, ◌⊎◌, inl, inr, ℕ, ◌+◌, ◌<◌, ◌≤◌, ◌==◌, ◌&&◌, ◌||◌, not, Bool, true, false, List, [], ◌∷◌, ◌++◌, Option, Some, None, is_some, refl, sym, ap, subst, ◌∙◌, arith, if◌then◌else◌}
 use Rattle.std.proofs.lemmas.Bool.Decides.{nat_tests}
 use Rattle.qs_base.specs.Order.{same_tid}
 use Rattle.qs_base.specs.declared.identifiers.NodeNo.{NodeNo}
 use Rattle.qs_base.specs.declared.identifiers.Outcome.{Outcome}
 use Rattle.qs_base.specs.declared.identifiers.Outcome.TheVariants as outcomes
 use Rattle.qs_base.specs.declared.identifiers.Tid.{Tid}
-use Rattle.qs_engage.specs.Engage.{peer_of}
 use Rattle.qs_engage.specs.Nodes.{same_node}
 use Rattle.qs_packet.specs.declared.message.Message.{Message}
 use Rattle.qs_tm.specs.declared.participant.Participant.{Participant}
 use Rattle.qs_step.specs.State.{Work, part_of}
 use Rattle.qs_agree.specs.World as machine
 use Rattle.qs_agree.specs.World.{World, Open, Committed, Aborted}
-use Rattle.qs_agree.specs.Laws.{IsSettled}
-use Rattle.qs_agree.proofs.Whole.{Inv, Whole}
+use Rattle.qs_agree.proofs.Whole.{Inv}
 use Rattle.qs_refine.specs.Faces.{Face, ShowsFace}
-use Rattle.qs_refine.specs.Links.{Said, Requested, Closed, Outcome_told, Taken_in, Inquired, Link, link, IsLink, IsTold, IsTaken, is_aborted, names_node, node_no}
+use Rattle.qs_refine.specs.Links.{Said, Requested, Closed, Outcome_told, Taken_in, link, IsLink, IsTold, IsTaken, names_node, node_no}
 use Rattle.qs_refine.specs.Messages.{said, all_said}
 use Rattle.qs_refine.specs.NodeFaces.{began_here, face, face_at, part_at, outcome_of}
 use Rattle.qs_refine.specs.Places.{place, known_place}
-use Rattle.qs_refine.specs.Shows.{Scene, sight_during}
-use Rattle.qs_refine.specs.Sights.{Sight}
+use Rattle.qs_refine.specs.Shows.{Scene}
 use Rattle.qs_refine.specs.Sound.{is_superior, same_flag}
 use Rattle.qs_refine.specs.Stands.{Stands}
 use Rattle.qs_refine.specs.Steps.{IsNext}

@@ -228,7 +228,7 @@ pub mod TurnRules
 pub mod TurnOutcomes
 pub mod TurnSettles
 pub mod Heads
-pub mod TurnStep
+pub mod TurnCommands
 pub mod BeginKeeps
 pub mod MessageFits
 pub mod Calm
@@ -263,3 +263,8 @@ pub mod EachStep
 pub mod EachGoes
 pub mod EachMoves
 pub mod EachMoveGoes
+pub mod EachRunGoes
+pub mod TurnRecords
+pub mod TurnTold
+pub mod TurnEvents
+pub mod RestartTurn

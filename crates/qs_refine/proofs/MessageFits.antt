@@ -1,35 +1,30 @@
 -- What comes to a node about a transaction may come: what holds of all nodes and channels, and what shows the transaction, give all that its coming asks.
-use Rattle.std.proofs.Common.{◌≡◌, ◌≢◌, ◌⊎◌, inl, inr, ℕ, ◌+◌, ◌<◌, ◌≤◌, ◌==◌, ◌&&◌, ◌||◌, not, Bool, true, false, List, [], ◌∷◌, ◌++◌, length, Option, Some, None, is_some, refl, sym, ap, subst, ◌∙◌, arith, if◌then◌else◌}
+use Rattle.std.proofs.Common.{◌≡◌, ◌≢◌, ℕ, ◌+◌, ◌≤◌, ◌==◌, ◌||◌, not, Bool, true, false, List, [], ◌∷◌, length, Option, Some, None, refl, sym, ap, subst, ◌∙◌, arith, if◌then◌else◌}
 use Rattle.std.specs.Prelude.{unwrap_or}
 use Rattle.std.specs.List.{list_any, list_all, filter}
 use Rattle.std.specs.Map.{lookup}
 use Rattle.std.specs.BTreeMap.{is_at}
 use Rattle.std.proofs.lemmas.Bool.Decides.{nat_tests}
-use Rattle.qs_base.specs.declared.identifiers.NodeNo.{NodeNo}
 use Rattle.qs_base.specs.declared.identifiers.Outcome.{Outcome}
 use Rattle.qs_base.specs.declared.identifiers.Outcome.TheVariants as outcomes
 use Rattle.qs_base.specs.declared.identifiers.ServerNo.{ServerNo}
 use Rattle.qs_base.specs.declared.identifiers.Tid.{Tid}
-use Rattle.qs_engage.specs.Engage.{peer_of}
-use Rattle.qs_engage.specs.Nodes.{same_node}
 use Rattle.qs_ipc.specs.Ipc as ipc
 use Rattle.qs_ipc.specs.Ipc.{IpcValue, queue_at, server_cmp, waits_in}
 use Rattle.qs_ipc.specs.Queue.{QueueValue, no_queue, count_of, is_of}
 use Rattle.qs_ipc.specs.declared.delivery.Delivery.{Delivery}
 use Rattle.qs_kept.specs.Loans.{is_standing_loan}
 use Rattle.qs_kept.specs.declared.kept.Lent.{Lent}
-use Rattle.qs_packet.specs.declared.message.Message.{Message}
 use Rattle.qs_tm.specs.Manager as tm
 use Rattle.qs_tm.specs.Outcomes.{is_abort}
 use Rattle.qs_tm.specs.Participant.{is_undecided}
 use Rattle.qs_tm.specs.declared.participant.Participant.{Participant}
 use Rattle.qs_step.specs.Settling.{is_lent}
-use Rattle.qs_step.specs.State.{NodeValue, Work, part_of}
+use Rattle.qs_step.specs.State.{Work, part_of}
 use Rattle.qs_agree.specs.World.{World, Open, Committed, Aborted}
-use Rattle.qs_refine.specs.CloserWhole.{CountsNoMore}
 use Rattle.qs_refine.specs.Faces.{Face, ShowsFace}
-use Rattle.qs_refine.specs.Links.{names_node, node_no}
-use Rattle.qs_refine.specs.NodeFaces.{face, face_at, part_at, waiting_at, loans_at, outcome_seen}
+use Rattle.qs_refine.specs.Links.{node_no}
+use Rattle.qs_refine.specs.NodeFaces.{face, face_at, waiting_at, outcome_seen}
 use Rattle.qs_refine.specs.OutcomeWhole.{AgreesWith}
 use Rattle.qs_refine.specs.Shows.{Scene}
 use Rattle.qs_refine.specs.Sights.{server_no}
@@ -37,7 +32,7 @@ use Rattle.qs_refine.specs.Sound.{may_be_served}
 use Rattle.qs_refine.specs.SoundSteps.{AnswersFor}
 use Rattle.qs_refine.specs.Stands.{Stands}
 use Rattle.qs_refine.specs.Steady.{is_other_server, are_queues_apart}
-use Rattle.qs_refine.proofs.Heads.{Learnt, shown_here, none_engaged, released, aborted_cell, face_is}
+use Rattle.qs_refine.proofs.Heads.{Learnt, shown_here, aborted_cell, face_is}
 use Rattle.qs_refine.proofs.SoundKnown.{nothing_waits, nothing_lent}
 use Rattle.qs_refine.proofs.SoundParts.{and_both}
 

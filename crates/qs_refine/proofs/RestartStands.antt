@@ -44,7 +44,8 @@ use Rattle.qs_agree.specs.World.{with_at}
 use Rattle.qs_refine.proofs.Alike.{SameFace}
 use Rattle.qs_refine.proofs.During.{quiet_itself, face_here}
 use Rattle.qs_refine.proofs.Reading.{part_known}
-use Rattle.qs_refine.proofs.RestartOwn.{IsFound, knows_more, stands_later, own_turn}
+use Rattle.qs_refine.proofs.RestartOwn.{knows_more, stands_later}
+use Rattle.qs_refine.proofs.RestartTurn.{IsFound, own_turn}
 use Rattle.qs_refine.proofs.SoundAge.{picked, put_all}
 use Rattle.qs_refine.proofs.StartWorlds.{alike_at}
 

@@ -33,7 +33,8 @@ use Rattle.qs_step.specs.Requests.{enqueue, enter_issue, with_local, issue_here,
 use Rattle.qs_step.specs.Serving.{label_at, put_label, learn_label, met, cover_from, engage, is_dropped, take_in, request_came, change_served, enter_serve, lent_to, make_loan, give_reply, serve, reply_here, may_serve, serve_or_drop, serve_next, serve_all}
 use Rattle.qs_step.specs.State.{Work, here, part_of, with_manager, client_cmp}
 use Rattle.qs_refine.proofs.SoundKnown.{same_is}
-use Rattle.qs_refine.proofs.TurnOn.{Case, TurnsOn, fate_of, fate_found, heard, put_on, on_itself, on_then, fold_on, if_on, rest_on, enter_on, send_on, sends_on, answer_on, queues_on, doings_on, server_on, part_on}
+use Rattle.qs_refine.proofs.TurnOn.{Case, TurnsOn, fate_of, fate_found, on_itself, on_then, fold_on, if_on, rest_on, enter_on, send_on, sends_on, answer_on, queues_on, doings_on, server_on, part_on}
+use Rattle.qs_refine.proofs.TurnRecords.{heard, put_on}
 
 -- ---- requests that are issued, and their replies
 

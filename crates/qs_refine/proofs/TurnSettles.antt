@@ -1,5 +1,5 @@
 -- What a node does of itself at the end of a step, and as another one or itself restarted, leaves the records of a transaction in turn.
-use Rattle.std.proofs.Common.{◌≡◌, ℕ, ◌==◌, ◌&&◌, ◌||◌, not, Bool, true, false, List, [], ◌∷◌, fold, Option, Some, None, is_none, refl, sym, ap, subst, ◌∙◌, if◌then◌else◌}
+use Rattle.std.proofs.Common.{◌≡◌, ℕ, Bool, true, false, List, [], ◌∷◌, fold, Option, Some, None, is_none, refl, sym, ap, subst, ◌∙◌, if◌then◌else◌}
 use Rattle.qs_base.specs.Order.{same_tid}
 use Rattle.qs_base.specs.declared.identifiers.NodeNo.{NodeNo}
 use Rattle.qs_base.specs.declared.identifiers.Outcome.{Outcome}
@@ -22,10 +22,8 @@ use Rattle.qs_record.specs.declared.record.Record.TheVariants as records
 use Rattle.qs_servers.specs.Servers.{server_at, audit_no}
 use Rattle.qs_tm.specs.Manager as tm
 use Rattle.qs_tm.specs.Members.{files_no}
-use Rattle.qs_tm.specs.Outcomes.{is_abort}
 use Rattle.qs_tm.specs.Participant as participant
 use Rattle.qs_tm.specs.Participant.{is_undecided, is_forgotten}
-use Rattle.qs_tm.specs.declared.participant.InLog.{InLog}
 use Rattle.qs_tm.specs.declared.participant.Participant.{Participant}
 use Rattle.qs_step.specs.Bringing.{member_here, tid_of}
 use Rattle.qs_step.specs.Deciding.{decide, end_members}
@@ -34,9 +32,11 @@ use Rattle.qs_step.specs.Settling.{is_pass_due, pass_rule, may_answer, is_quiet,
 use Rattle.qs_step.specs.State.{Work, here, part_of, doings_of, with_node, with_manager, with_queues, with_doings, change_server}
 use Rattle.qs_step.specs.Telling.{record_learnt, end_record}
 use Rattle.qs_step.specs.Voting.{owes_note, issue_note, note_text, change_count, served_count, enter_vote, vote_with, vote_frame, vote_next, due_votes, vote_pass}
-use Rattle.qs_refine.specs.Sound.{is_sound, where_so, same_flag}
-use Rattle.qs_refine.proofs.TurnOn.{Case, Fate, became, open_apart, fate_of, fate_found, fate_at, Turned, TurnedAs, TurnsOn, SameTurn, NoLoose, MayEnter, on_itself, on_then, same_on, same_then, fold_on, if_on, rest_on, enter_on, enter_same, send_on, sends_on, queues_on, doings_on, server_on, server_same, part_on, part_same, rest_same, log_on_turned, log_if_on, open_loose, open_fate, fate_known}
-use Rattle.qs_refine.proofs.TurnOutcomes.{end_members_same, notices_same, setting_logged, decide_on, decide_commit_on, forget_on}
+use Rattle.qs_refine.specs.Sound.{is_sound, same_flag}
+use Rattle.qs_refine.proofs.TurnOn.{Case, became, open_apart, fate_at, TurnsOn, SameTurn, on_itself, on_then, same_on, same_then, fold_on, if_on, rest_on, enter_same, send_on, sends_on, queues_on, server_same, part_on, part_same, rest_same, open_loose}
+use Rattle.qs_refine.proofs.TurnRecords.{MayEnter, log_on_turned, log_if_on, open_fate, fate_known}
+use Rattle.qs_refine.proofs.TurnOutcomes.{end_members_same, notices_same, decide_on, decide_commit_on}
+use Rattle.qs_refine.proofs.TurnTold.{forget_on}
 use Rattle.qs_refine.proofs.TurnRules.{issue_on, block_on, undecided_on}
 use Rattle.qs_refine.proofs.SoundHolds.{Holds, known_sound, is_open, open_held, told_part}
 use Rattle.qs_refine.proofs.SoundKnown.{same_is}

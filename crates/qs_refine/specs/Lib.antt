@@ -61,3 +61,4 @@ pub mod Begun
 pub mod Walks
 pub mod Tidy
 pub mod Steadies
+pub mod EachRun

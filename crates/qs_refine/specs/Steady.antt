@@ -1,12 +1,12 @@
 -- What holds of all nodes, logs and channels of a world, where it begins and after each move, whatever becomes of a transaction.
-use Rattle.std.specs.Prelude.{◌≡◌, ◌≢◌, ℕ, ◌+◌, ◌<◌, ◌≤◌, ◌==◌, ⊤, Bool, true, false, not, ◌&&◌, List, [], ◌∷◌, ◌++◌, Some, None, nat_lt}
-use Rattle.std.specs.List.{list_all, list_any}
+use Rattle.std.specs.Prelude.{◌≡◌, ◌≢◌, ℕ, ◌<◌, ◌≤◌, ◌==◌, ⊤, Bool, true, false, not, ◌&&◌, List, [], ◌∷◌, ◌++◌, Some, None, nat_lt}
+use Rattle.std.specs.List.{list_all}
 use Rattle.qs_base.specs.declared.identifiers.NodeNo.{NodeNo}
 use Rattle.qs_base.specs.declared.identifiers.ServerNo.{ServerNo}
 use Rattle.qs_base.specs.declared.identifiers.Outcome.TheVariants as outcomes
 use Rattle.qs_base.specs.declared.identifiers.Tid.{Tid}
-use Rattle.qs_engage.specs.Engage.{peer_of, no_peer, last_number}
-use Rattle.qs_engage.specs.Nodes.{same_node, has_node}
+use Rattle.qs_engage.specs.Engage.{peer_of, no_peer}
+use Rattle.qs_engage.specs.Nodes.{has_node}
 use Rattle.qs_ipc.specs.Ipc.{IpcValue}
 use Rattle.qs_ipc.specs.Queue.{QueueValue, is_for}
 use Rattle.qs_journal.specs.declared.script_line.ScriptLine.{ScriptLine}
@@ -16,7 +16,6 @@ use Rattle.qs_restart.specs.Recovery.{recovery, names_transaction}
 use Rattle.qs_step.specs.Answering.{was_committed}
 use Rattle.qs_step.specs.State.{NodeValue}
 use Rattle.qs_tm.specs.Manager as tm
-use Rattle.qs_tm.specs.Participant.{member_of}
 use Rattle.qs_tm.specs.declared.participant.Participant.{Participant}
 use Rattle.qs_world.specs.Openings.{are_unended}
 use Rattle.qs_world.specs.World.{Parcel, World}
@@ -26,7 +25,7 @@ use Rattle.qs_refine.specs.NodeFaces.{began_here, is_past_commit, waiting_at}
 use Rattle.qs_refine.specs.OpenLaws.{AreOpenInRun}
 use Rattle.qs_refine.specs.PassLaws.{HasKinds}
 use Rattle.qs_refine.specs.SaidLaws.{AreSoundOver}
-use Rattle.qs_refine.specs.Sights.{list_of, server_no}
+use Rattle.qs_refine.specs.Sights.{list_of}
 use Rattle.qs_refine.specs.Sound.{is_past, keeps_commits, keeps_owned, goes_in_run, may_take_up, kept_before}
 
 -- ---- a node between its steps

@@ -1,5 +1,6 @@
 //! Moves of the world: a node stops and restarts, and each move as events of the agreement machine.
 ghost use Rattle.qs_refine.specs.EachMove.{ShownFits, EachMayCome, EachMoveGoes};
+ghost use Rattle.qs_refine.specs.EachRun.{EachRunGoes};
 ghost use Rattle.qs_refine.specs.JoinLaws.{StepCloses};
 ghost use Rattle.qs_refine.specs.MoveLaws.{StartSeated, MoveSeated, StaysClosed, ClosedGoes, MoveGoes};
 ghost use Rattle.qs_refine.specs.SaidLaws.{SaidSeen, SeenSaid, StepSaid, StepSeated, StepForces, StepOpen, OpenedSaid, RestartSaid, MoveSaid};
@@ -98,9 +99,11 @@ pub fn joins()
 {}
 
 /// Each move of a world goes on to show a transaction that has begun, whatever happens inside its step: from what holds of all
-/// nodes, logs and channels, and from that messages about other transactions fit. A message about one that is shown fits.
+/// nodes, logs and channels, and from that messages about other transactions fit. A message about one that is shown fits. So it is
+/// shown from any moment of a run on.
 pub fn each()
     ensures fits { ShownFits }
     ensures may { EachMayCome }
     ensures moves { EachMoveGoes }
+    ensures runs { EachRunGoes }
 {}

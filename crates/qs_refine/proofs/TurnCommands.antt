@@ -1,18 +1,13 @@
--- Commands, messages and whole steps leave the records of a transaction in turn.
-use Rattle.std.proofs.Common.{◌≡◌, ℕ, ◌+◌, ◌&&◌, ◌||◌, Bool, true, false, List, [], ◌∷◌, ◌++◌, fold, Option, Some, None, is_none, refl, sym, ap, subst, ◌∙◌, if◌then◌else◌}
-use Rattle.std.specs.List.{list_all, list_any}
-use Rattle.std.specs.Map.{lookup}
-use Rattle.std.specs.BTreeMap.{is_at}
+-- What clients command leaves the records of a transaction in turn.
+use Rattle.std.proofs.Common.{◌≡◌, ℕ, ◌+◌, ◌||◌, Bool, true, false, List, [], ◌∷◌, ◌++◌, Option, Some, None, refl, sym, subst, ◌∙◌}
+use Rattle.std.specs.List.{list_any}
 use Rattle.qs_base.specs.Order.{same_tid}
 use Rattle.qs_base.specs.declared.identifiers.ClientNo.{ClientNo}
 use Rattle.qs_base.specs.declared.identifiers.Member.{Member}
-use Rattle.qs_base.specs.declared.identifiers.NodeNo.{NodeNo}
-use Rattle.qs_base.specs.declared.identifiers.Outcome.{Outcome}
 use Rattle.qs_base.specs.declared.identifiers.Outcome.TheVariants as outcomes
 use Rattle.qs_base.specs.declared.identifiers.Tid.{Tid}
 use Rattle.qs_engage.specs.Nodes.{has_node, no_nodes}
 use Rattle.qs_engage.specs.declared.nodes.Nodes.{Nodes}
-use Rattle.qs_journal.specs.declared.entry.Act.TheVariants as acts
 use Rattle.qs_journal.specs.declared.script_line.Command.{Command}
 use Rattle.qs_journal.specs.declared.script_line.Command.TheVariants as commands
 use Rattle.qs_journal.specs.declared.script_line.ScriptLine.{ScriptLine}
@@ -20,51 +15,34 @@ use Rattle.qs_kept.specs.Loans.{first_untaken, last_taken, take_first, give_back
 use Rattle.qs_kept.specs.declared.kept.Begun.{Begun}
 use Rattle.qs_kept.specs.declared.kept.Decided.{Decided}
 use Rattle.qs_kept.specs.declared.kept.Lent.{Lent}
-use Rattle.qs_ops.specs.Timers.{ticked}
 use Rattle.qs_ops.specs.declared.answer.Answer.TheVariants as answers
 use Rattle.qs_ops.specs.declared.answer.Cause.TheVariants as causes
 use Rattle.qs_ops.specs.declared.operation.Op.{Op}
-use Rattle.qs_packet.specs.declared.message.Message.{Message}
-use Rattle.qs_packet.specs.declared.message.Message.TheVariants as messages
 use Rattle.qs_record.specs.declared.record.Record.{Record}
 use Rattle.qs_record.specs.declared.record.Record.TheVariants as records
-use Rattle.qs_servers.specs.Servers.{timers_no}
 use Rattle.qs_tm.specs.Manager as tm
 use Rattle.qs_tm.specs.Manager.{is_one}
-use Rattle.qs_tm.specs.Participant.{begun_participant, is_undecided}
-use Rattle.qs_tm.specs.declared.manager.Which.{Which}
-use Rattle.qs_tm.specs.declared.manager.Which.TheVariants as whiches
+use Rattle.qs_tm.specs.Participant.{begun_participant}
 use Rattle.qs_tm.specs.declared.manager.BeginFault.{BeginFault}
 use Rattle.qs_tm.specs.declared.manager.BeginFault.TheVariants as faults
 use Rattle.qs_tm.specs.declared.participant.Participant.{Participant}
 use Rattle.qs_step.specs.Answering.{kept_outcome}
-use Rattle.qs_step.specs.Borrowing.{is_aborted, is_void, take, take_command, yield, lent_command, with_loan, loan_command, borrower_command}
+use Rattle.qs_step.specs.Borrowing.{is_void, take, take_command, yield, lent_command, with_loan, loan_command, borrower_command}
 use Rattle.qs_step.specs.Commands.{begin_as, begin_or_refuse, begin_command, request_as, request_command, with_issued, enter_ask, ask, open_command, decided_answer, owner_command}
 use Rattle.qs_step.specs.Bringing.{enter}
 use Rattle.qs_step.specs.Deciding.{decide}
 use Rattle.qs_step.specs.Requests.{next_number}
 use Rattle.qs_step.specs.Serving.{label_at, put_label}
-use Rattle.qs_step.specs.State.{NodeValue, Work, part_of, work_on, with_manager, change_server, client_cmp}
-use Rattle.qs_step.specs.Step.{is_owner, labelled, obey, with_command, command_came, message_came, abort_old, age_rule, tick, happen, step_work, owner_waits, borrower_waits, waits_at, wait_command, wait_on, waiting_clients, answer_waiting}
-use Rattle.qs_step.specs.declared.event.Event.{Event}
-use Rattle.qs_step.specs.declared.event.Event.TheVariants as events
+use Rattle.qs_step.specs.State.{Work, part_of, with_manager}
+use Rattle.qs_step.specs.Step.{is_owner, labelled, obey, with_command, command_came}
 use Rattle.qs_step.specs.declared.state.Issued.{Issued}
-use Rattle.qs_step.specs.declared.state.OpenCommand.{OpenCommand}
 use Rattle.qs_refine.specs.JoinLaws.{is_loose_of}
 use Rattle.qs_refine.specs.Links.{node_no}
-use Rattle.qs_refine.specs.Sound.{in_order, where_so, is_sound}
-use Rattle.qs_refine.specs.SoundSteps.{MayHappen, begun, settled}
-use Rattle.qs_refine.proofs.TurnOn.{Case, became, same_acks, open_apart, is_aborted_of, is_end_of, fate_at, Turned, TurnedAs, TurnsOn, NoLoose, MayTake, nobody, on_itself, on_then, fold_on, if_on, rest_on, enter_on, answer_on, kept_on, doings_on, put_on, fate_unknown}
-use Rattle.qs_refine.proofs.TurnOutcomes.{IsOpenAt, MayTold, decide_on, tell_came_on, told_came_on, inquiry_came_on}
-use Rattle.qs_refine.proofs.TurnRules.{issue_as_on, reply_came_on, request_came_on, serve_all_on, become_asked_on, undecided_on, ask_came_on, closer_came_on, refusal_came_on}
-use Rattle.qs_refine.proofs.TurnSettles.{peer_restarted_on, settle_on, begin_incarnation_on}
-use Rattle.qs_refine.proofs.SoundAge.{picked, put_all, all_fit, is_home_open, is_open_at, still_fits, fits_on}
-use Rattle.qs_refine.proofs.SoundFrames.{behind, order_tail}
-use Rattle.qs_refine.proofs.SoundHappen.{happen_sound}
-use Rattle.qs_refine.proofs.SoundHolds.{told_part}
-use Rattle.qs_refine.proofs.SoundParts.{and_both}
-use Rattle.qs_refine.proofs.SoundRestart.{begin_incarnation_sound}
-use Rattle.qs_refine.proofs.SoundViews.{seen}
+use Rattle.qs_refine.specs.SoundSteps.{begun}
+use Rattle.qs_refine.proofs.TurnOn.{Case, became, same_acks, open_apart, is_aborted_of, is_end_of, Turned, TurnedAs, TurnsOn, NoLoose, on_itself, on_then, if_on, rest_on, enter_on, answer_on, kept_on, doings_on}
+use Rattle.qs_refine.proofs.TurnRecords.{nobody, put_on}
+use Rattle.qs_refine.proofs.TurnOutcomes.{IsOpenAt, decide_on}
+use Rattle.qs_refine.proofs.TurnRules.{issue_as_on, become_asked_on, undecided_on}
 
 -- what ends a transaction need not be forced
 aborted_loose : (t : Tid) (rec : Record) → is_aborted_of t rec ≡ true → is_loose_of t rec ≡ true
@@ -201,7 +179,7 @@ loan_command_on {k} client tid command work = by (last_taken client tid work.nod
     by None = on_itself work
     by (Some loan) = if_on loan.yielded (answer_on client answers.NotYours work) (if_on (is_void tid loan work.node) (answer_on client answers.Ended work) (lent_command_on client tid command work))
 
-borrower_command_on : {k : Case} (client : ClientNo) (tid : Tid) (command : Command) (work : Work) → TurnsOn k work (borrower_command client tid command work)
+pub borrower_command_on : {k : Case} (client : ClientNo) (tid : Tid) (command : Command) (work : Work) → TurnsOn k work (borrower_command client tid command work)
 borrower_command_on {k} client tid commands.Take work = take_command_on client tid work
 borrower_command_on {k} client tid commands.Yield work = loan_command_on client tid commands.Yield work
 borrower_command_on {k} client tid (commands.Request member op) work = loan_command_on client tid (commands.Request member op) work
@@ -223,7 +201,7 @@ obey_on {k} line command work = by (label_at line.label work.node)
     by None = on_itself work
     by (Some begun) = labelled_on line.client begun command work
 
-command_came_on : {k : Case} (line : ScriptLine) (work : Work) → (line.command ≡ commands.Begin → MayBeginIn k work) → TurnsOn k work (command_came line work)
+pub command_came_on : {k : Case} (line : ScriptLine) (work : Work) → (line.command ≡ commands.Begin → MayBeginIn k work) → TurnsOn k work (command_came line work)
 command_came_on {k} line work may = on_then (rest_on work (with_command line work) refl refl refl) (by line.command may)
   where
     by : (command : Command) → (command ≡ commands.Begin → MayBeginIn k work) → TurnsOn k (with_command line work) (obey line command (with_command line work))
@@ -233,123 +211,3 @@ command_came_on {k} line work may = on_then (rest_on work (with_command line wor
     by commands.Take new = obey_on line commands.Take (with_command line work)
     by commands.Yield new = obey_on line commands.Yield (with_command line work)
     by (commands.Request member op) new = obey_on line (commands.Request member op) (with_command line work)
-
--- ---- messages
-
--- what a message asks of the step: where it tells a commit, that this may be learnt; where it acknowledges one, that this may be known
-abbrev pub MayHear : Case → NodeNo → Message → Work → Type 0
-MayHear k peer (messages.Tell tid outcome) work = MayTake k tid outcome work
-MayHear k peer (messages.Told tid further) work = MayTold k peer tid work
-MayHear k peer _ work = Unit {0}
-
-message_came_on : {k : Case} (peer : NodeNo) (message : Message) (work : Work) → in_order work.node.manager.known ≡ true → MayHear k peer message work → TurnsOn k work (message_came peer message work)
-message_came_on {k} peer messages.Hello work ordered may = on_itself work
-message_came_on {k} peer (messages.Request tid label member number issuer op) work ordered may = request_came_on peer tid label member number op work
-message_came_on {k} peer (messages.Answered tid member number reply) work ordered may = reply_came_on tid member number reply work
-message_came_on {k} peer (messages.AskVote tid) work ordered may = ask_came_on peer tid work
-message_came_on {k} peer (messages.Covered tid up_to) work ordered may = closer_came_on peer tid up_to [] work
-message_came_on {k} peer (messages.VotedYes tid up_to told) work ordered may = closer_came_on peer tid up_to told work
-message_came_on {k} peer (messages.VotedAbort tid cause) work ordered may = refusal_came_on tid cause work
-message_came_on {k} peer (messages.Tell tid outcome) work ordered may = tell_came_on peer tid outcome work may
-message_came_on {k} peer (messages.Told tid further) work ordered may = told_came_on peer tid further work ordered may
-message_came_on {k} peer (messages.Inquire tid) work ordered may = inquiry_came_on peer tid work
-
--- ---- time goes on: what is old is undecided, and each has its turn once
-
-one_old_on : {k : Case} (age : ℕ) (tid : Tid) (work : Work) → is_open_at work tid ≡ true → TurnsOn k work (abort_old age work tid)
-one_old_on {k} age tid work opened = decide_on tid outcomes.Abort (Some (causes.Old age)) work (λ same. undecided) (λ same away commit. absurd (cc (commit)))
-  where
-    none_is : (o : Option Outcome) → is_none o ≡ true → o ≡ None
-    none_is None is = refl
-    none_is (Some outcome) is = absurd (cc (is))
-
-    undecided : IsOpenAt tid work
-    undecided part known = none_is part.outcome (and_both part.engage.home (is_undecided part) (told_part is_home_open tid work.node.manager part known opened)).1
-
-all_old_on : {k : Case} (which : Which) (age : ℕ) (es : List (Tid × Participant)) (work : Work) → in_order es ≡ true → list_all (still_fits which age work) es ≡ true → TurnsOn k work (fold (abort_old age) work (picked which es))
-all_old_on {k} which age [] work ordered all = on_itself work
-all_old_on {k} which age (e ∷ es) work ordered all = by (is_one which e.0 e.1) both.0 (λ (new : Work) (left : list_all (still_fits which age new) es ≡ true). all_old_on {k = k} which age es new (order_tail e es ordered) left)
-  where
-    both : (still_fits which age work e ≡ true) × (list_all (still_fits which age work) es ≡ true)
-    both = and_both (still_fits which age work e) (list_all (still_fits which age work) es) all
-
-    by : (b : Bool) → where_so b (is_open_at work e.0) ≡ true → ((new : Work) → list_all (still_fits which age new) es ≡ true → TurnsOn k new (fold (abort_old age) new (picked which es)))
-        → TurnsOn k work (fold (abort_old age) work (if b then e.0 ∷ picked which es else picked which es))
-    by true opened more = on_then (one_old_on age e.0 work opened) (more (abort_old age work e.0) (fits_on which age e.0 work es (behind e es ordered) both.1))
-    by false opened more = more work both.1
-
-tick_on : {k : Case} (work : Work) → in_order work.node.manager.known ≡ true → TurnsOn k work (tick work)
-tick_on {k} work ordered = on_then (rest_on work counted refl refl refl) (aged work.node.setting.age)
-  where
-    counted : Work
-    counted = with_manager tm.tick (change_server timers_no (λ value. record value { timers = ticked value.timers }) (enter acts.Tick work))
-
-    opens : (age : ℕ) (tid : Tid) (part : Participant) → is_one (whiches.Aged counted.node.manager.ticks age) tid part ≡ true → is_home_open part ≡ true
-    opens age tid part so = by (is_undecided part) part.engage.home _ so
-      where
-        by : (u h b : Bool) → (u && (h && b)) ≡ true → (h && u) ≡ true
-        by true true b so = refl
-        by true false b so = absurd (cc so)
-        by false h b so = absurd (cc so)
-
-    aged : (o : Option ℕ) → TurnsOn k counted (age_rule o counted)
-    aged None = on_itself counted
-    aged (Some age) = subst (λ (tids : List Tid). TurnsOn k counted (fold (abort_old age) counted tids)) (sym (put_all (whiches.Aged counted.node.manager.ticks age) counted.node.manager.known []))
-        (all_old_on (whiches.Aged counted.node.manager.ticks age) age counted.node.manager.known counted ordered (all_fit (whiches.Aged counted.node.manager.ticks age) (opens age) counted.node.manager.known ordered))
-
--- ---- messages
-
-abbrev pub MayCome : Case → Event → Work → Type 0
-MayCome k (events.Command client line label command) work = command ≡ commands.Begin → MayBeginIn k work
-MayCome k (events.Received peer message) work = MayHear k peer message work
-MayCome k events.ServeAll work = Unit {0}
-MayCome k (events.PeerRestarted peer old new) work = Unit {0}
-MayCome k events.Tick work = Unit {0}
-
-pub happen_on : {k : Case} (event : Event) (work : Work) → MayCome k event work → in_order work.node.manager.known ≡ true → TurnsOn k work (happen event work)
-happen_on {k} (events.Command client line label command) work may ordered = command_came_on (record { client = client; line = line; label = label; command = command }) work may
-happen_on {k} (events.Received peer message) work may ordered = message_came_on peer message work ordered may
-happen_on {k} events.ServeAll work may ordered = serve_all_on work
-happen_on {k} (events.PeerRestarted peer old now) work may ordered = peer_restarted_on peer old now work
-happen_on {k} events.Tick work may ordered = tick_on work ordered
-
--- ---- commands that stay open
-
-owner_waits_on : {k : Case} (client : ClientNo) (tid : Option Tid) (command : Command) (work : Work) → TurnsOn k work (owner_waits client tid command work)
-owner_waits_on {k} client None command work = on_itself work
-owner_waits_on {k} client (Some tid) command work = by (kept_outcome tid work.node)
-  where
-    by : (o : Option Decided) → TurnsOn k work (elim o [ None ↦ work | Some decided ↦ Rattle.qs_step.specs.Bringing.answer client (decided_answer decided command) work ])
-    by None = on_itself work
-    by (Some decided) = answer_on client (decided_answer decided command) work
-
-borrower_waits_on : {k : Case} (client : ClientNo) (issued : Option Issued) (tid : Option Tid) (command : Command) (work : Work) → TurnsOn k work (borrower_waits client issued tid command work)
-borrower_waits_on {k} client (Some issued) tid command work = if_on (is_aborted issued.tid work.node) (answer_on client answers.Ended work) (on_itself work)
-borrower_waits_on {k} client None None command work = on_itself work
-borrower_waits_on {k} client None (Some tid) command work = borrower_command_on client tid command work
-
-wait_on_on : {k : Case} (work : Work) (client : ClientNo) → TurnsOn k work (wait_on work client)
-wait_on_on {k} work client = by (lookup (is_at (client_cmp client)) work.node.commands)
-  where
-    at : (command : OpenCommand) (o : Option Begun) → TurnsOn k work (elim o [ None ↦ work | Some begun ↦ waits_at client command begun work ])
-    at command None = on_itself work
-    at command (Some begun) = if_on (is_owner client begun.owner) (owner_waits_on client begun.tid command.line.command work) (borrower_waits_on client command.issued begun.tid command.line.command work)
-
-    by : (o : Option OpenCommand) → TurnsOn k work (elim o [ None ↦ work | Some command ↦ wait_command client command work ])
-    by None = on_itself work
-    by (Some command) = at command (label_at command.line.label work.node)
-
-pub answer_waiting_on : {k : Case} (work : Work) → TurnsOn k work (answer_waiting work)
-answer_waiting_on {k} work = fold_on wait_on wait_on_on (waiting_clients work) work
-
--- ---- a whole step
-
-pub step_on : {k : Case} (node : NodeValue) (event : Event) (free : ℕ) → MayHappen event (begun node free) → MayCome k event (begun node free) → is_sound node ≡ true → TurnsOn k (work_on node free) (step_work node event free)
-step_on {k} node event free may come sound =
-    on_then (begin_incarnation_on (work_on node free))
-    (on_then (happen_on event (begun node free) come (seen (begun node free).node begun_sound).ordered)
-    (on_then (settle_on (happen event (begun node free)) (happen_sound event (begun node free) may begun_sound))
-    (answer_waiting_on (settled node event free))))
-  where
-    begun_sound : is_sound (begun node free).node ≡ true
-    begun_sound = begin_incarnation_sound (work_on node free) sound
