@@ -71,14 +71,14 @@ module _ (tid : Tid) (scene : Scene) (n : ℕ) (work : Work) (part : Participant
   not_here : began_here work.node tid ≡ false
   not_here = rw not_home refl
 
-  parts : ((is_undecided part && not part.engage.home) ≡ true) × (((is_none part.engage.superior && not part.involved) && only_read part) ≡ true)
-  parts = both (is_undecided part && not part.engage.home) ((is_none part.engage.superior && not part.involved) && only_read part) over
+  parts : ((is_undecided part && not part.engage.home) ≡ true) × (((is_none part.engage.superior && not part.involved) && (is_no_node part.told && only_read part)) ≡ true)
+  parts = both (is_undecided part && not part.engage.home) ((is_none part.engage.superior && not part.involved) && (is_no_node part.told && only_read part)) over
 
   undecided : part.outcome ≡ None
   undecided = none_of part.outcome (both (is_undecided part) (not part.engage.home) parts.0).0
 
   idle : (is_none part.engage.superior && not part.involved) ≡ true
-  idle = (both (is_none part.engage.superior && not part.involved) (only_read part) parts.1).0
+  idle = (both (is_none part.engage.superior && not part.involved) (is_no_node part.told && only_read part) parts.1).0
 
   alone : part.engage.superior ≡ None
   alone = none_of part.engage.superior (both (is_none part.engage.superior) (not part.involved) idle).0

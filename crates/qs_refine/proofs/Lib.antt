@@ -238,3 +238,11 @@ pub mod TidyBegins
 pub mod TidyHappens
 pub mod SaidTidy
 pub mod TidyOpened
+pub mod SteadyGrows
+pub mod SteadyStarts
+pub mod SteadyMays
+pub mod SaidNames
+pub mod SteadySteps
+pub mod SteadyPosts
+pub mod SteadyMoves
+pub mod SteadyRises

@@ -6,7 +6,7 @@ use Rattle.qs_base.specs.declared.identifiers.Outcome.TheVariants as outcomes
 use Rattle.qs_base.specs.declared.identifiers.ServerNo.{ServerNo}
 use Rattle.qs_base.specs.declared.identifiers.Tid.{Tid}
 use Rattle.qs_engage.specs.Engage.{release_of}
-use Rattle.qs_engage.specs.Nodes.{listed}
+use Rattle.qs_engage.specs.Nodes.{listed, is_no_node}
 use Rattle.qs_ipc.specs.Ipc as ipc
 use Rattle.qs_ops.specs.Server.{after_vote, changes_in, vote_of}
 use Rattle.qs_ops.specs.declared.answer.Cause.{Cause}
@@ -130,9 +130,9 @@ module _ (tid : Tid) (part : Participant) (work : Work) (known : part_of tid wor
 
       clear : is_forgotten part ≡ true → (part.log.prepared ≡ false) × (part.log.listed ≡ false)
       clear is =
-          let both : ((is_undecided part && not part.engage.home) ≡ true) × (((is_none part.engage.superior && not part.involved) && participant.only_read part) ≡ true) = and_both (is_undecided part && not part.engage.home) _ is in
+          let both : ((is_undecided part && not part.engage.home) ≡ true) × (((is_none part.engage.superior && not part.involved) && (is_no_node part.told && participant.only_read part)) ≡ true) = and_both (is_undecided part && not part.engage.home) _ is in
           let away : not part.engage.home ≡ true = (and_both (is_undecided part) (not part.engage.home) both.0).1 in
-          let idle : not part.involved ≡ true = (and_both (is_none part.engage.superior) (not part.involved) (and_both (is_none part.engage.superior && not part.involved) (participant.only_read part) both.1).0).1 in
+          let idle : not part.involved ≡ true = (and_both (is_none part.engage.superior) (not part.involved) (and_both (is_none part.engage.superior && not part.involved) (is_no_node part.told && participant.only_read part) both.1).0).1 in
           let rest = (and_both (where_so (part.log.prepared || part.log.listed) part.log.unended) _ s.logged).1 in
           let drawn : (where_so part.log.prepared part.involved ≡ true) × _ = and_both (where_so part.log.prepared part.involved) _ rest in
           let lists : (where_so part.log.listed (part.engage.home && (Rattle.std.proofs.Common.is_some part.outcome && not (is_abort part.outcome))) ≡ true) × _ = and_both (where_so part.log.listed (part.engage.home && (Rattle.std.proofs.Common.is_some part.outcome && not (is_abort part.outcome)))) _ drawn.1 in

@@ -9,7 +9,7 @@ use Rattle.qs_base.specs.declared.identifiers.NodeNo.{NodeNo}
 use Rattle.qs_base.specs.declared.identifiers.Outcome.{Outcome}
 use Rattle.qs_base.specs.declared.identifiers.Tid.{Tid}
 use Rattle.qs_engage.specs.Engage.{release_of}
-use Rattle.qs_engage.specs.Nodes.{listed}
+use Rattle.qs_engage.specs.Nodes.{listed, is_no_node}
 use Rattle.qs_packet.specs.declared.message.Message.TheVariants as messages
 use Rattle.qs_record.specs.declared.record.Record.{Record}
 use Rattle.qs_restart.specs.Recovery.{recovery}
@@ -194,8 +194,8 @@ module _ (tid : Tid) (scene : Scene) (n : ℕ) where
 
     uninvolved : is_forgotten part ≡ true → part.involved ≡ false
     uninvolved so =
-        let parts : ((is_undecided part && not part.engage.home) ≡ true) × (((is_none part.engage.superior && not part.involved) && only_read part) ≡ true) = and_both (is_undecided part && not part.engage.home) ((is_none part.engage.superior && not part.involved) && only_read part) so in
-        let idle : ((is_none part.engage.superior && not part.involved) ≡ true) × (only_read part ≡ true) = and_both (is_none part.engage.superior && not part.involved) (only_read part) parts.1 in
+        let parts : ((is_undecided part && not part.engage.home) ≡ true) × (((is_none part.engage.superior && not part.involved) && (is_no_node part.told && only_read part)) ≡ true) = and_both (is_undecided part && not part.engage.home) ((is_none part.engage.superior && not part.involved) && (is_no_node part.told && only_read part)) so in
+        let idle : ((is_none part.engage.superior && not part.involved) ≡ true) × ((is_no_node part.told && only_read part) ≡ true) = and_both (is_none part.engage.superior && not part.involved) (is_no_node part.told && only_read part) parts.1 in
         off part.involved (and_both (is_none part.engage.superior) (not part.involved) idle.0).1
       where
         off : (a : Bool) → not a ≡ true → a ≡ false

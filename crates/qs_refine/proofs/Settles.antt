@@ -2,6 +2,7 @@
 use Rattle.std.proofs.Common.{◌≡◌, ℕ, ◌&&◌, not, Bool, true, false, List, [], ◌∷◌, Option, Some, None, refl, sym, subst, ap, if◌then◌else◌}
 use Rattle.std.specs.Prelude.{is_none}
 use Rattle.qs_base.specs.declared.identifiers.NodeNo.{NodeNo}
+use Rattle.qs_engage.specs.Nodes.{is_no_node}
 use Rattle.qs_base.specs.declared.identifiers.Outcome.TheVariants as outcomes
 use Rattle.qs_base.specs.declared.identifiers.Tid.{Tid}
 use Rattle.qs_engage.specs.Engage.{peer_of}
@@ -98,8 +99,8 @@ forget_rule_goes tid scene n work part w lawful shown away ordered untold = by (
   where
     uninvolved : participant.is_forgotten part ≡ true → part.involved ≡ false
     uninvolved is =
-        let parts = both (is_undecided part && not part.engage.home) ((is_none part.engage.superior && not part.involved) && only_read part) is in
-        let idle = both (is_none part.engage.superior && not part.involved) (only_read part) parts.1 in
+        let parts = both (is_undecided part && not part.engage.home) ((is_none part.engage.superior && not part.involved) && (is_no_node part.told && only_read part)) is in
+        let idle = both (is_none part.engage.superior && not part.involved) (is_no_node part.told && only_read part) parts.1 in
         off part.involved (both (is_none part.engage.superior) (not part.involved) idle.0).1
       where
         off : (a : Bool) → not a ≡ true → a ≡ false

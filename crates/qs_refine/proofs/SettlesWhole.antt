@@ -8,7 +8,7 @@ use Rattle.qs_base.specs.declared.identifiers.Outcome.{Outcome}
 use Rattle.qs_base.specs.declared.identifiers.Outcome.TheVariants as outcomes
 use Rattle.qs_base.specs.declared.identifiers.ServerNo.{ServerNo}
 use Rattle.qs_base.specs.declared.identifiers.Tid.{Tid}
-use Rattle.qs_engage.specs.Nodes.{listed}
+use Rattle.qs_engage.specs.Nodes.{listed, is_no_node}
 use Rattle.qs_ops.specs.declared.answer.Cause.{Cause}
 use Rattle.qs_ops.specs.declared.answer.Cause.TheVariants as causes
 use Rattle.qs_packet.specs.declared.message.Message.{Message}
@@ -99,7 +99,7 @@ module _ (tid : Tid) (scene : Scene) (work : Work) (part : Participant) (is_home
 
       -- nothing is forgotten at the home
       kept_home : forget_rule tid part work ≡ work
-      kept_home = ap (λ (b : Bool). if b then forget tid work else work) (off (is_undecided part) part.engage.home is_home.home ((is_none part.engage.superior && not part.involved) && only_read part))
+      kept_home = ap (λ (b : Bool). if b then forget tid work else work) (off (is_undecided part) part.engage.home is_home.home ((is_none part.engage.superior && not part.involved) && (is_no_node part.told && only_read part)))
         where
           off : (a b : Bool) → b ≡ true → (c : Bool) → ((a && not b) && c) ≡ false
           off true b is c = rw is refl

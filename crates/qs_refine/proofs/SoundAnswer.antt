@@ -3,7 +3,7 @@ use Rattle.std.proofs.Common.{◌≡◌, ℕ, ◌&&◌, ◌||◌, not, Bool, tru
 use Rattle.qs_base.specs.declared.identifiers.NodeNo.{NodeNo}
 use Rattle.qs_base.specs.declared.identifiers.Tid.{Tid}
 use Rattle.qs_engage.specs.Engage.{is_passive, release_of}
-use Rattle.qs_engage.specs.Nodes.{listed, same_node}
+use Rattle.qs_engage.specs.Nodes.{listed, same_node, is_no_node}
 use Rattle.qs_ipc.specs.Ipc as ipc
 use Rattle.qs_ops.specs.declared.answer.Cause.{Cause}
 use Rattle.qs_packet.specs.declared.message.Message.TheVariants as messages
@@ -107,8 +107,8 @@ forget_rule_sound tid part work known sound = by (is_forgotten part) refl
 
     module_parts : is_forgotten part ≡ true → ((is_undecided part ≡ true) × (not part.engage.home ≡ true)) × (is_none part.engage.superior ≡ true)
     module_parts is =
-        let both : ((is_undecided part && not part.engage.home) ≡ true) × (((is_none part.engage.superior && not part.involved) && only_read part) ≡ true) = and_both (is_undecided part && not part.engage.home) _ is in
-        (and_both (is_undecided part) (not part.engage.home) both.0, (and_both (is_none part.engage.superior) (not part.involved) (and_both (is_none part.engage.superior && not part.involved) (only_read part) both.1).0).0)
+        let both : ((is_undecided part && not part.engage.home) ≡ true) × (((is_none part.engage.superior && not part.involved) && (is_no_node part.told && only_read part)) ≡ true) = and_both (is_undecided part && not part.engage.home) _ is in
+        (and_both (is_undecided part) (not part.engage.home) both.0, (and_both (is_none part.engage.superior) (not part.involved) (and_both (is_none part.engage.superior && not part.involved) (is_no_node part.told && only_read part) both.1).0).0)
 
     apart_is : is_forgotten part ≡ true → is_apart part ≡ true
     apart_is is = let m = module_parts is in both (part.engage.home) (is_undecided part) (Rattle.std.proofs.Common.is_some part.engage.superior) (not_is part.engage.home m.0.1) m.0.0 (none_is part.engage.superior m.1)
