@@ -1,18 +1,16 @@
 -- What a client owns is decided or runs here, what is committed is kept so, and what began here is known or committed: so it stays through each change.
-use Rattle.std.proofs.Common.{◌≡◌, inl, inr, ℕ, ◌≤◌, ◌+◌, ◌==◌, ◌&&◌, ◌||◌, not, Bool, true, false, List, [], ◌∷◌, ◌++◌, Option, Some, None, is_some, is_none, refl, sym, ap, subst, ◌∙◌, arith, if◌then◌else◌}
+use Rattle.std.proofs.Common.{◌≡◌, inl, inr, ℕ, ◌≤◌, ◌||◌, not, Bool, true, false, List, [], ◌∷◌, ◌++◌, Option, Some, None, is_some, refl, sym, ap, subst, ◌∙◌, arith, if◌then◌else◌}
 use Rattle.std.proofs.lemmas.Bool.Decides.{nat_tests}
 use Rattle.std.specs.Prelude.{◌⊎◌}
 use Rattle.std.specs.List.{find, list_all, list_any}
-use Rattle.qs_base.specs.Order.{same_tid, tid_cmp}
+use Rattle.qs_base.specs.Order.{same_tid}
 use Rattle.qs_base.specs.declared.identifiers.Outcome.{Outcome}
 use Rattle.qs_base.specs.declared.identifiers.Outcome.TheVariants as outcomes
 use Rattle.qs_base.specs.declared.identifiers.Tid.{Tid}
-use Rattle.qs_engage.specs.Nodes.{same_node}
 use Rattle.qs_kept.specs.Keeping.{is_outcome_of}
 use Rattle.qs_kept.specs.declared.kept.Begun.{Begun}
 use Rattle.qs_kept.specs.declared.kept.Decided.{Decided}
 use Rattle.qs_ops.specs.declared.answer.Cause.{Cause}
-use Rattle.qs_restart.specs.Recovery.{names_transaction}
 use Rattle.qs_step.specs.Answering.{kept_outcome, was_committed, is_kept_commit}
 use Rattle.qs_step.specs.State.{NodeValue}
 use Rattle.qs_tm.specs.Manager as tm
@@ -20,10 +18,9 @@ use Rattle.qs_tm.specs.declared.manager.Manager.{Manager}
 use Rattle.qs_tm.specs.declared.participant.Participant.{Participant}
 use Rattle.qs_refine.specs.NodeFaces.{began_here}
 use Rattle.qs_refine.specs.Sound.{is_owned, is_owned_label}
-use Rattle.qs_refine.specs.Tidy.{IsCrossed, KeepsPasts}
+use Rattle.qs_refine.specs.Tidy.{IsCrossed}
 use Rattle.qs_refine.specs.Walks.{is_run}
-use Rattle.qs_refine.proofs.SoundBegin.{all_implied, all_last}
-use Rattle.qs_refine.proofs.SoundParts.{and_both, both_and}
+use Rattle.qs_refine.proofs.SoundBegin.{all_implied}
 
 pub or_left : (a b : Bool) → a ≡ true → (a || b) ≡ true
 or_left a b is = rw is refl

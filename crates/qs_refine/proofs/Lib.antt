@@ -268,3 +268,11 @@ pub mod TurnRecords
 pub mod TurnTold
 pub mod TurnEvents
 pub mod RestartTurn
+pub mod SteadyGrows
+pub mod SteadyStarts
+pub mod SteadyMays
+pub mod SaidNames
+pub mod SteadySteps
+pub mod SteadyPosts
+pub mod SteadyMoves
+pub mod SteadyRises

@@ -102,7 +102,7 @@ module _ (world : World) (n : ℕ) where
   up_taken Clock = refl
   up_taken (Noticed m new) = refl
 
-  waits_taken : (source : Source) → (taken_by world n source).waits ≡ world.channels.waits
+  pub waits_taken : (source : Source) → (taken_by world n source).waits ≡ world.channels.waits
   waits_taken (Commanded k) = refl
   waits_taken (Handed m) = by (next_parcel world n m)
     where
@@ -113,7 +113,7 @@ module _ (world : World) (n : ℕ) where
   waits_taken Clock = refl
   waits_taken (Noticed m new) = refl
 
-  posted_taken : (source : Source) → (taken_by world n source).posted ≡ world.channels.posted
+  pub posted_taken : (source : Source) → (taken_by world n source).posted ≡ world.channels.posted
   posted_taken (Commanded k) = refl
   posted_taken (Handed m) = by (next_parcel world n m)
     where
@@ -138,7 +138,7 @@ module _ (world : World) (n : ℕ) where
   handed_taken (Noticed m new) a b i j other = refl
 
   -- and other nodes know what they knew
-  peer_taken : (source : Source) (a b : ℕ) → a ≢ n → (taken_by world n source).peer a b ≡ world.channels.peer a b
+  pub peer_taken : (source : Source) (a b : ℕ) → a ≢ n → (taken_by world n source).peer a b ≡ world.channels.peer a b
   peer_taken (Commanded k) a b other = refl
   peer_taken (Handed m) a b other = by (next_parcel world n m)
     where

@@ -166,7 +166,7 @@ over_with world n host up all others its m low = by (m == n) refl
     by false apart = let stays : up m ≡ world.channels.up m = others m (λ is. grind (arith, nat_tests, apart, is)) in (λ on. (all m low).runs (sym stays ∙ on), λ off. (all m low).stopped (sym stays ∙ off))
 
 -- with or without a force the records of a step come behind all others
-log_same : (b : Bool) (log waiting more : List Record) → (if b then log ++ (waiting ++ more) else log) ++ (if b then [] else waiting ++ more) ≡ (log ++ waiting) ++ more
+pub log_same : (b : Bool) (log waiting more : List Record) → (if b then log ++ (waiting ++ more) else log) ++ (if b then [] else waiting ++ more) ≡ (log ++ waiting) ++ more
 log_same true log waiting more = append_nil (log ++ (waiting ++ more)) ∙ sym (append_three log waiting more)
 log_same false log waiting more = sym (append_three log waiting more)
 

@@ -54,7 +54,7 @@ pub well_seated : (world : World) → IsSeated world → IsWell world.channels
 well_seated world seated = record { known = seated.known; ordered = seated.ordered; unborn = seated.unborn; unknown = seated.unknown }
 
 -- an incarnation that is noticed is a later one, and began
-noticed_is : (world : World) (n stamp m new : ℕ) (event : Event) → notice_of world n stamp m new ≡ Some event → (world.channels.peer n m < new) × (new ≤ world.channels.inc m)
+pub noticed_is : (world : World) (n stamp m new : ℕ) (event : Event) → notice_of world n stamp m new ≡ Some event → (world.channels.peer n m < new) × (new ≤ world.channels.inc m)
 noticed_is world n stamp m new event is = by (nat_lt 0 (known_of world n m)) (nat_lt (known_of world n m) new) (nat_le new (world.channels.inc m)) _ refl refl is
   where
     by : (a b c d : Bool) → nat_lt (known_of world n m) new ≡ b → nat_le new (world.channels.inc m) ≡ c → (if a && (b && (c && d)) then Some (Rattle.qs_step.specs.declared.event.Event.TheVariants.PeerRestarted (Rattle.qs_world.specs.Moves.node_no m) (known_of world n m) new) else None) ≡ Some event

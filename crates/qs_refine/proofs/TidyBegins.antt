@@ -1,8 +1,8 @@
 -- A tidy node stays tidy where a client begins a transaction, of which nothing was known, and where more is known to have begun.
-use Rattle.std.proofs.Common.{◌≡◌, inl, inr, ℕ, ◌+◌, ◌≤◌, ◌<◌, ◌==◌, ◌&&◌, ◌||◌, not, Bool, true, false, List, [], ◌∷◌, ◌++◌, Option, Some, None, is_some, is_none, refl, sym, ap, subst, ◌∙◌, arith, nat_le, if◌then◌else◌}
+use Rattle.std.proofs.Common.{◌≡◌, inl, inr, ℕ, ◌+◌, ◌≤◌, ◌==◌, ◌&&◌, ◌||◌, Bool, true, false, Option, Some, None, is_some, refl, sym, ap, subst, ◌∙◌, arith, nat_le}
 use Rattle.std.proofs.lemmas.Bool.Decides.{nat_tests}
 use Rattle.std.specs.Prelude.{◌⊎◌}
-use Rattle.std.specs.List.{list_all, find}
+use Rattle.std.specs.List.{list_all}
 use Rattle.qs_base.specs.Order.{same_tid}
 use Rattle.qs_base.specs.declared.identifiers.ClientNo.{ClientNo}
 use Rattle.qs_base.specs.declared.identifiers.NodeNo.{NodeNo}
@@ -11,13 +11,10 @@ use Rattle.qs_base.specs.declared.identifiers.ServerNo.{ServerNo}
 use Rattle.qs_base.specs.declared.identifiers.Tid.{Tid}
 use Rattle.qs_engage.specs.Nodes.{same_node}
 use Rattle.qs_ipc.specs.Queue.{QueueValue}
-use Rattle.qs_ipc.specs.declared.delivery.Delivery.{Delivery}
-use Rattle.qs_journal.specs.declared.script_line.ScriptLine.{ScriptLine}
 use Rattle.qs_kept.specs.Keeping.{is_outcome_of}
 use Rattle.qs_kept.specs.declared.kept.Begun.{Begun}
 use Rattle.qs_kept.specs.declared.kept.Decided.{Decided}
 use Rattle.qs_kept.specs.declared.kept.Lent.{Lent}
-use Rattle.qs_ops.specs.declared.answer.Answer.TheVariants as answers
 use Rattle.qs_packet.specs.declared.message.Message.{Message}
 use Rattle.qs_packet.specs.declared.message.Message.TheVariants as messages
 use Rattle.qs_record.specs.declared.record.Record.{Record}
@@ -25,24 +22,20 @@ use Rattle.qs_record.specs.declared.record.Record.TheVariants as records
 use Rattle.qs_restart.specs.Recovery.{names_transaction}
 use Rattle.qs_step.specs.Answering.{kept_outcome, was_committed}
 use Rattle.qs_step.specs.Bringing.{is_other}
-use Rattle.qs_step.specs.Commands.{begin_as, begin_or_refuse, begin_command}
-use Rattle.qs_step.specs.Serving.{put_label}
-use Rattle.qs_step.specs.State.{NodeValue, Work, with_manager}
+use Rattle.qs_step.specs.State.{NodeValue, Work}
 use Rattle.qs_step.specs.declared.event.Sending.{Sending}
 use Rattle.qs_tm.specs.Manager as tm
 use Rattle.qs_tm.specs.Participant.{begun_participant}
-use Rattle.qs_tm.specs.declared.manager.BeginFault.{BeginFault}
-use Rattle.qs_tm.specs.declared.manager.BeginFault.TheVariants as faults
 use Rattle.qs_tm.specs.declared.manager.Manager.{Manager}
 use Rattle.qs_tm.specs.declared.participant.Participant.{Participant}
 use Rattle.qs_refine.specs.Begun.{fits, fits_record, is_drawn, is_list_at}
 use Rattle.qs_refine.specs.NodeFaces.{began_here}
-use Rattle.qs_refine.specs.Sound.{where_so, same_flag, is_owned, is_owned_label}
-use Rattle.qs_refine.specs.Tidy.{Stage, IsStage, IsTidyNode, IsTidyOut, IsTidy, IsCrossed, is_tidy_part, is_tidy_superior, is_tidy_label, is_tidy_loan, is_tidy_outcome, is_tidy_sending, is_tidy_record, is_begun_delivery, is_begun_queue}
-use Rattle.qs_refine.specs.Walks.{Reads, Keeps, is_run, is_homed}
+use Rattle.qs_refine.specs.Sound.{where_so, same_flag, is_owned}
+use Rattle.qs_refine.specs.Tidy.{Stage, IsTidyNode, IsTidyOut, IsTidy, IsCrossed, is_tidy_part, is_tidy_superior, is_tidy_label, is_tidy_loan, is_tidy_outcome, is_tidy_sending, is_tidy_record, is_begun_delivery, is_begun_queue}
+use Rattle.qs_refine.specs.Walks.{is_run}
 use Rattle.qs_refine.proofs.CrossedKept.{or_left, or_right, or_both, owned_on}
 use Rattle.qs_refine.proofs.PartsAfter.{IsSame, IsPut, put_seen, told_is, as_told, is_known, as_known, put_known}
-use Rattle.qs_refine.proofs.SoundBegin.{all_put, order_put, all_last, all_implied}
+use Rattle.qs_refine.proofs.SoundBegin.{all_put, order_put, all_implied}
 use Rattle.qs_refine.proofs.SoundParts.{and_both, both_and, all_found}
 
 -- ---- more has begun

@@ -1,5 +1,5 @@
 -- A tidy node stays tidy through a whole step.
-use Rattle.std.proofs.Common.{◌≡◌, inl, inr, ℕ, ◌+◌, ◌≤◌, ◌<◌, ◌==◌, ◌&&◌, ◌||◌, not, Bool, true, false, List, [], ◌∷◌, ◌++◌, Option, Some, None, is_some, refl, sym, ap, subst, ◌∙◌, arith, nat_lt, if◌then◌else◌}
+use Rattle.std.proofs.Common.{◌≡◌, inl, inr, ℕ, ◌+◌, ◌≤◌, ◌<◌, ◌||◌, Bool, true, false, Option, Some, None, is_some, refl, sym, ap, subst, ◌∙◌, arith}
 use Rattle.std.proofs.lemmas.Bool.Decides.{nat_tests}
 use Rattle.std.specs.Prelude.{◌⊎◌}
 use Rattle.std.specs.List.{list_all}
@@ -11,10 +11,7 @@ use Rattle.qs_journal.specs.declared.script_line.Command.TheVariants as commands
 use Rattle.qs_journal.specs.declared.script_line.ScriptLine.{ScriptLine}
 use Rattle.qs_kept.specs.declared.kept.Begun.{Begun}
 use Rattle.qs_ops.specs.declared.answer.Answer.TheVariants as answers
-use Rattle.qs_journal.specs.declared.entry.Act.TheVariants as acts
-use Rattle.qs_restart.specs.Recovery.{names_transaction}
-use Rattle.qs_step.specs.Bringing.{enter, answer}
-use Rattle.qs_step.specs.Commands.{begin_as, refuse_begin, begin_or_refuse, begin_command}
+use Rattle.qs_step.specs.Commands.{begin_as, begin_or_refuse, begin_command}
 use Rattle.qs_step.specs.Serving.{put_label}
 use Rattle.qs_step.specs.Settling.{settle}
 use Rattle.qs_step.specs.State.{NodeValue, Work, with_manager}
@@ -26,11 +23,11 @@ use Rattle.qs_tm.specs.Manager as tm
 use Rattle.qs_tm.specs.declared.manager.BeginFault.{BeginFault}
 use Rattle.qs_tm.specs.declared.manager.BeginFault.TheVariants as faults
 use Rattle.qs_refine.specs.Begun.{fits, may_command}
-use Rattle.qs_refine.specs.Sound.{is_sound, is_owned_label, where_so}
-use Rattle.qs_refine.specs.Tidy.{Stage, IsStage, IsTidyNode, IsTidy, IsCrossed, is_tidy_label}
-use Rattle.qs_refine.specs.Walks.{MayStepOn, begins_one, is_run}
+use Rattle.qs_refine.specs.Sound.{is_sound, is_owned_label}
+use Rattle.qs_refine.specs.Tidy.{Stage, IsStage, IsTidyNode, IsTidy, is_tidy_label}
+use Rattle.qs_refine.specs.Walks.{begins_one, is_run}
 use Rattle.qs_refine.proofs.SoundBegin.{all_last}
-use Rattle.qs_refine.proofs.SoundParts.{and_both, both_and}
+use Rattle.qs_refine.proofs.SoundParts.{both_and}
 use Rattle.qs_refine.proofs.TidyBegins.{Widens, begun_tidy, begun_runs, out_wide}
 use Rattle.qs_refine.proofs.TidyKeeps.{tidy_keeps}
 use Rattle.qs_refine.proofs.TidyReads.{tidy_reads}

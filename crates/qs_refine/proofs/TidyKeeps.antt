@@ -1,16 +1,13 @@
 -- A node in the middle of a step stays tidy through each thing that a rule does.
-use Rattle.std.proofs.Common.{◌≡◌, inl, inr, ℕ, ◌==◌, ◌&&◌, ◌||◌, not, Bool, true, false, List, [], ◌∷◌, ◌++◌, map, drop, Option, Some, None, is_some, refl, sym, ap, subst, ◌∙◌, arith, nat_lt, nat_le, if◌then◌else◌}
+use Rattle.std.proofs.Common.{◌≡◌, ℕ, ◌==◌, ◌&&◌, not, Bool, true, false, List, [], ◌∷◌, ◌++◌, drop, Option, Some, None, is_some, refl, sym, ap, subst, ◌∙◌, arith, nat_lt, nat_le, if◌then◌else◌}
 use Rattle.std.proofs.lemmas.Bool.Decides.{nat_tests}
-use Rattle.std.specs.Prelude.{◌⊎◌}
 use Rattle.std.specs.List.{list_all}
 use Rattle.std.specs.BTreeMap.{is_at, insert_entry}
 use Rattle.std.specs.Map.{lookup, set_value, remove_entry}
 use Rattle.qs_base.specs.declared.identifiers.ClientNo.{ClientNo}
 use Rattle.qs_base.specs.declared.identifiers.NodeNo.{NodeNo}
-use Rattle.qs_base.specs.declared.identifiers.Outcome.{Outcome}
 use Rattle.qs_base.specs.declared.identifiers.ServerNo.{ServerNo}
 use Rattle.qs_base.specs.declared.identifiers.Tid.{Tid}
-use Rattle.qs_engage.specs.Nodes.{same_node}
 use Rattle.qs_ipc.specs.Ipc as ipc
 use Rattle.qs_ipc.specs.Ipc.{IpcValue, server_cmp}
 use Rattle.qs_ipc.specs.Queue as queue
@@ -20,7 +17,6 @@ use Rattle.qs_journal.specs.declared.entry.Act.TheVariants as acts
 use Rattle.qs_journal.specs.declared.script_line.ScriptLine.{ScriptLine}
 use Rattle.qs_kept.specs.Loans.{take_first, give_back, last_taken, is_taken, is_untaken}
 use Rattle.qs_kept.specs.declared.kept.Begun.{Begun}
-use Rattle.qs_kept.specs.declared.kept.Kept.{Kept}
 use Rattle.qs_kept.specs.declared.kept.Lent.{Lent}
 use Rattle.qs_ops.specs.Server.{ServerValue, number_of}
 use Rattle.qs_ops.specs.declared.answer.Answer.{Answer}
@@ -36,10 +32,9 @@ use Rattle.qs_step.specs.declared.state.Issued.{Issued}
 use Rattle.qs_step.specs.declared.state.OpenCommand.{OpenCommand}
 use Rattle.qs_tm.specs.Manager as tm
 use Rattle.qs_tm.specs.Outcomes as outcome_rules
-use Rattle.qs_tm.specs.declared.manager.Manager.{Manager}
 use Rattle.qs_refine.specs.Begun.{fits, fits_record, may_command}
 use Rattle.qs_refine.specs.Sound.{is_owned_label}
-use Rattle.qs_refine.specs.Tidy.{Stage, IsStage, IsTidy, IsTidyNode, IsTidyOut, IsCrossed, is_tidy_part, is_tidy_label, is_tidy_loan, is_tidy_command, is_tidy_sending, is_tidy_record, is_begun_delivery, is_begun_queue, is_other_server, are_servers_apart}
+use Rattle.qs_refine.specs.Tidy.{Stage, IsStage, IsTidy, IsTidyNode, is_tidy_label, is_tidy_loan, is_tidy_command, is_tidy_sending, is_tidy_record, is_begun_delivery, is_begun_queue, are_servers_apart}
 use Rattle.qs_refine.specs.Walks.{Keeps, IsPlain, same_kind}
 use Rattle.qs_refine.proofs.Entries.{found_passes, all_changed_value, all_inserted, all_but_removed, all_mapped, all_set_value, apart_set, apart_put, apart_mapped}
 use Rattle.qs_refine.proofs.ServerKinds.{kind_kept}

@@ -1,8 +1,8 @@
 -- A node stays tidy through each change of what it keeps of transactions.
-use Rattle.std.proofs.Common.{◌≡◌, inl, inr, ℕ, ◌&&◌, ◌||◌, not, Bool, true, false, List, [], ◌∷◌, ◌++◌, Option, Some, None, is_some, is_none, refl, sym, ap, subst, ◌∙◌, arith, if◌then◌else◌}
+use Rattle.std.proofs.Common.{◌≡◌, inl, inr, ℕ, ◌&&◌, ◌||◌, Bool, true, false, [], ◌∷◌, ◌++◌, Option, Some, None, is_some, is_none, refl, sym, ap, subst, ◌∙◌, arith, if◌then◌else◌}
 use Rattle.std.proofs.lemmas.Bool.Decides.{nat_tests}
 use Rattle.std.specs.Prelude.{◌⊎◌}
-use Rattle.std.specs.List.{list_all, find}
+use Rattle.std.specs.List.{list_all}
 use Rattle.std.specs.BTreeMap.{is_at}
 use Rattle.qs_base.specs.Order.{same_tid, tid_cmp}
 use Rattle.qs_base.specs.declared.identifiers.NodeNo.{NodeNo}
@@ -25,7 +25,7 @@ use Rattle.qs_tm.specs.declared.manager.Manager.{Manager}
 use Rattle.qs_tm.specs.declared.participant.Participant.{Participant}
 use Rattle.qs_refine.specs.NodeFaces.{began_here}
 use Rattle.qs_refine.specs.Sound.{where_so, same_flag}
-use Rattle.qs_refine.specs.Tidy.{Stage, IsStage, IsTidyNode, IsCrossed, is_tidy_part, is_tidy_superior, is_tidy_outcome}
+use Rattle.qs_refine.specs.Tidy.{Stage, IsTidyNode, IsCrossed, is_tidy_part, is_tidy_superior, is_tidy_outcome}
 use Rattle.qs_refine.specs.Walks.{is_run, is_homed}
 use Rattle.qs_refine.proofs.CrossedKept.{Crosses, crossed_manager, Decides, crossed_decided, or_left, or_right}
 use Rattle.qs_refine.proofs.Entries.{all_of_tid, none_found}

@@ -1,5 +1,5 @@
 -- A node that opens over a log whose records fit is tidy, and has only taken up what the log left open.
-use Rattle.std.proofs.Common.{◌≡◌, inl, inr, ℕ, ◌+◌, ◌≤◌, ◌<◌, ◌==◌, ◌&&◌, ◌||◌, not, Bool, true, false, List, [], ◌∷◌, ◌++◌, fold, length, Option, Some, None, is_some, is_none, refl, sym, ap, subst, ◌∙◌, arith, nat_le, if◌then◌else◌}
+use Rattle.std.proofs.Common.{◌≡◌, inl, inr, ℕ, ◌≤◌, ◌<◌, ◌==◌, ◌&&◌, ◌||◌, not, Bool, true, false, List, [], ◌∷◌, ◌++◌, fold, length, Option, Some, None, is_some, is_none, refl, sym, ap, subst, ◌∙◌, arith, if◌then◌else◌}
 use Rattle.std.proofs.lemmas.Bool.Decides.{nat_tests}
 use Rattle.std.specs.Prelude.{◌⊎◌, zero, suc}
 use Rattle.std.specs.List.{list_all, list_any, find}
@@ -22,23 +22,21 @@ use Rattle.qs_record.specs.declared.record.Record.{Record}
 use Rattle.qs_record.specs.declared.record.Record.TheVariants as records
 use Rattle.qs_restart.specs.Recovery.{Recovery, in_doubt, untold, names_transaction}
 use Rattle.qs_servers.specs.Servers.{ServersValue, server_at, with_server}
-use Rattle.qs_step.specs.Answering.{kept_outcome, was_committed}
-use Rattle.qs_step.specs.Opening.{recovered_as, take_up, new_manager, opened_manager, opened_servers, keep_changes, outcome_in_log, is_left_open, close_tid, close_outcome, closed_kept, opened_node}
+use Rattle.qs_step.specs.Answering.{kept_outcome}
+use Rattle.qs_step.specs.Opening.{recovered_as, take_up, new_manager, opened_manager, opened_servers, keep_changes, outcome_in_log, is_left_open, close_tid, close_outcome, opened_node}
 use Rattle.qs_step.specs.State.{NodeValue}
-use Rattle.qs_step.specs.declared.setting.Setting.{Setting}
 use Rattle.qs_tm.specs.Manager as tm
 use Rattle.qs_tm.specs.Outcomes.{voted_before, committed_before}
 use Rattle.qs_tm.specs.Participant.{new_participant}
 use Rattle.qs_tm.specs.declared.manager.Manager.{Manager}
 use Rattle.qs_tm.specs.declared.participant.Participant.{Participant}
 use Rattle.qs_refine.specs.NodeFaces.{began_here}
-use Rattle.qs_refine.specs.PassLaws.{HasKinds}
 use Rattle.qs_refine.specs.Sights.{server_no}
 use Rattle.qs_refine.specs.Sound.{in_order, where_so, same_flag, is_owned, is_owned_label}
 use Rattle.qs_refine.specs.Steadies.{IsTaken, IsFirst}
 use Rattle.qs_refine.specs.Tidy.{Stage, IsStage, IsTidyNode, IsCrossed, is_tidy_part, is_tidy_label, is_tidy_loan, is_tidy_outcome}
-use Rattle.qs_refine.proofs.CrossedKept.{or_left, or_right}
-use Rattle.qs_refine.proofs.Entries.{all_of_tid, all_inserted, none_found}
+use Rattle.qs_refine.proofs.CrossedKept.{or_left}
+use Rattle.qs_refine.proofs.Entries.{all_of_tid, none_found}
 use Rattle.qs_refine.proofs.PartsAfter.{IsSame, IsChanged, IsPut, changed_seen, put_seen}
 use Rattle.qs_refine.proofs.SaidTidy.{IsSaidTidy, taken_records, is_taken_record}
 use Rattle.qs_refine.proofs.ServerKinds.{kind_kept}

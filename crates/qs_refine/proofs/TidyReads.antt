@@ -38,9 +38,8 @@ use Rattle.qs_tm.specs.Outcomes.{told_with_own}
 use Rattle.qs_tm.specs.Participant.{is_undecided}
 use Rattle.qs_tm.specs.declared.participant.Participant.{Participant}
 use Rattle.qs_refine.specs.Begun.{fits, is_drawn, may_command}
-use Rattle.qs_refine.specs.Links.{node_no}
 use Rattle.qs_refine.specs.Sound.{is_sound, fits_setting, is_owned, is_owned_label, where_so, same_flag}
-use Rattle.qs_refine.specs.Tidy.{Stage, IsStage, IsTidy, IsTidyNode, is_tidy_part, is_tidy_superior, is_tidy_label, is_tidy_command, is_begun_delivery, is_begun_queue}
+use Rattle.qs_refine.specs.Tidy.{Stage, IsStage, IsTidy, is_tidy_part, is_tidy_superior, is_tidy_label, is_tidy_command, is_begun_delivery, is_begun_queue}
 use Rattle.qs_refine.specs.Walks.{Reads, is_run, is_homed}
 use Rattle.qs_refine.proofs.Entries.{found_passes, one_found}
 use Rattle.qs_refine.proofs.SoundBegin.{all_last}

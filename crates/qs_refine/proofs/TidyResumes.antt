@@ -1,7 +1,6 @@
 -- A tidy node stays tidy through the first step of an incarnation, where who is committed is at home.
-use Rattle.std.proofs.Common.{◌≡◌, inl, inr, ◌&&◌, ◌||◌, not, Bool, true, false, List, [], ◌∷◌, fold, Option, Some, None, is_some, refl, sym, ap, subst, ◌∙◌, arith, if◌then◌else◌}
+use Rattle.std.proofs.Common.{◌≡◌, inl, inr, Bool, true, false, List, [], ◌∷◌, fold, Option, Some, None, refl, sym, ap, subst, ◌∙◌, if◌then◌else◌}
 use Rattle.std.specs.Prelude.{◌⊎◌}
-use Rattle.qs_base.specs.declared.identifiers.NodeNo.{NodeNo}
 use Rattle.qs_base.specs.declared.identifiers.Outcome.{Outcome}
 use Rattle.qs_base.specs.declared.identifiers.Outcome.TheVariants as outcomes
 use Rattle.qs_base.specs.declared.identifiers.ServerNo.{ServerNo}
@@ -9,8 +8,8 @@ use Rattle.qs_base.specs.declared.identifiers.Tid.{Tid}
 use Rattle.qs_engage.specs.Nodes.{listed}
 use Rattle.qs_packet.specs.declared.message.Message.TheVariants as messages
 use Rattle.qs_record.specs.declared.record.Record.{Record}
-use Rattle.qs_step.specs.Bringing.{send, send_each, log_if, tid_of}
-use Rattle.qs_step.specs.Deciding.{end_member, due_endings, end_members, learn_member, learners_at, learn_members, give_notices}
+use Rattle.qs_step.specs.Bringing.{send, log_if, tid_of}
+use Rattle.qs_step.specs.Deciding.{end_member, due_endings, end_members, learn_member, learners_at, give_notices}
 use Rattle.qs_step.specs.Restarts.{resume_home, resume_part, resume_tid, known_tids, begin_incarnation}
 use Rattle.qs_step.specs.State.{NodeValue, Work, part_of, with_node}
 use Rattle.qs_step.specs.Telling.{record_learnt}

@@ -1,5 +1,5 @@
 -- What each thing of a step keeps, decisions, outcomes that are told and inquiries keep.
-use Rattle.std.proofs.Common.{◌≡◌, inl, inr, ℕ, ◌&&◌, Bool, true, false, List, [], ◌∷◌, Option, Some, None, refl, sym, ap, subst, ◌∙◌, arith, nat_lt, if◌then◌else◌}
+use Rattle.std.proofs.Common.{◌≡◌, inr, ℕ, Bool, true, false, List, [], ◌∷◌, Option, Some, None, refl, subst, if◌then◌else◌}
 use Rattle.std.specs.Prelude.{◌⊎◌}
 use Rattle.std.specs.List.{list_any}
 use Rattle.qs_base.specs.declared.identifiers.NodeNo.{NodeNo}
@@ -25,12 +25,12 @@ use Rattle.qs_tm.specs.Participant.{is_undecided}
 use Rattle.qs_tm.specs.declared.manager.Decision.{Decision}
 use Rattle.qs_tm.specs.declared.participant.Participant.{Participant}
 use Rattle.qs_step.specs.Answering.{was_committed, answer_unknown, answer_known, inquiry_came}
-use Rattle.qs_step.specs.Bringing.{enter, send, send_each, log, log_if}
+use Rattle.qs_step.specs.Bringing.{log, log_if}
 use Rattle.qs_step.specs.Deciding.{notice_of, notify, end_member, due_endings, end_members, learn_member, learners_at, give_notices, keep_outcome, decide, decide_as, decide_commit}
 use Rattle.qs_step.specs.State.{Work, here, part_of, with_manager, change_server}
 use Rattle.qs_step.specs.Telling.{names_at, end_record, record_learnt, learn, learn_unknown, take_outcome, tell_came, forget, end_told, take_told, take_names, keep_abort_told, is_other_node, told_unknown, told_known, told_came}
-use Rattle.qs_refine.specs.Begun.{fits, fits_record}
-use Rattle.qs_refine.specs.Walks.{Reads, Keeps, IsPlain, is_homed}
+use Rattle.qs_refine.specs.Begun.{fits_record}
+use Rattle.qs_refine.specs.Walks.{Reads, Keeps, is_homed}
 use Rattle.qs_refine.proofs.Maps.{lookup_changed}
 use Rattle.qs_refine.proofs.ServerKinds.{notice_kind}
 use Rattle.qs_refine.proofs.SoundParts.{and_both, both_and}

@@ -1,7 +1,6 @@
 -- What each thing of a step keeps, requests, votes and their answers keep.
-use Rattle.std.proofs.Common.{◌≡◌, ℕ, ◌+◌, ◌<◌, ◌==◌, ◌&&◌, ◌||◌, not, Bool, true, false, List, [], ◌∷◌, fold, Option, Some, None, is_none, refl, sym, ap, ◌∙◌, arith, nat_lt, if◌then◌else◌}
+use Rattle.std.proofs.Common.{◌≡◌, ℕ, ◌+◌, ◌==◌, ◌&&◌, ◌||◌, not, Bool, true, false, List, [], ◌∷◌, fold, Option, Some, None, is_none, refl, sym, ap, ◌∙◌, arith, nat_lt, if◌then◌else◌}
 use Rattle.std.proofs.lemmas.Bool.Decides.{nat_tests}
-use Rattle.std.specs.List.{list_all}
 use Rattle.std.specs.Map.{lookup}
 use Rattle.std.specs.BTreeMap.{is_at}
 use Rattle.qs_base.specs.declared.identifiers.ClientNo.{ClientNo}
@@ -30,10 +29,10 @@ use Rattle.qs_tm.specs.Participant.{is_by_files, is_undecided}
 use Rattle.qs_tm.specs.declared.participant.Outstanding.{Outstanding}
 use Rattle.qs_tm.specs.declared.participant.Participant.{Participant}
 use Rattle.qs_step.specs.Asking.{where_undecided, become_asked, asked_by, ask_came, count, closer_came, block, pass_unknown, refusal_came}
-use Rattle.qs_step.specs.Bringing.{enter, send, send_next, send_each, member_here}
-use Rattle.qs_step.specs.Requests.{enqueue, enter_issue, with_local, issue_here, ask_on, is_asked, label_of, issue_away, issue_as, next_number, issue, waits_as, take_reply, waiting_at, reply_came}
-use Rattle.qs_step.specs.Serving.{label_at, put_label, learn_label, met, cover_from, engage, is_dropped, take_in, request_came, change_served, enter_serve, lent_to, make_loan, give_reply, serve, reply_here, may_serve, serve_or_drop, serve_next, serve_all}
-use Rattle.qs_step.specs.State.{Work, here, part_of, with_manager, with_queues, with_doings, client_cmp}
+use Rattle.qs_step.specs.Bringing.{send_next, send_each, member_here}
+use Rattle.qs_step.specs.Requests.{enqueue, enter_issue, with_local, ask_on, is_asked, issue_as, next_number, issue, waits_as, take_reply, waiting_at, reply_came}
+use Rattle.qs_step.specs.Serving.{label_at, learn_label, met, cover_from, engage, is_dropped, take_in, request_came, change_served, enter_serve, lent_to, make_loan, give_reply, serve, reply_here, may_serve, serve_or_drop, serve_next, serve_all}
+use Rattle.qs_step.specs.State.{Work, here, part_of, with_manager, with_queues, client_cmp}
 use Rattle.qs_refine.specs.Begun.{fits}
 use Rattle.qs_refine.specs.Walks.{Reads, Keeps, IsPlain}
 use Rattle.qs_refine.proofs.ServerKinds.{serving_kind}

@@ -27,21 +27,21 @@ use Rattle.qs_tm.specs.Participant as participant
 use Rattle.qs_tm.specs.Participant.{is_undecided, is_forgotten, servers_due, is_due_at}
 use Rattle.qs_tm.specs.declared.participant.Due.TheVariants as dues
 use Rattle.qs_tm.specs.declared.participant.Participant.{Participant}
-use Rattle.qs_step.specs.Bringing.{enter, send, member_here}
+use Rattle.qs_step.specs.Bringing.{send, member_here}
 use Rattle.qs_step.specs.Deciding.{decide, end_members}
-use Rattle.qs_step.specs.Restarts.{find_gone, inquire, tell_again, name_again, notice_decided, notice_part, notice_tid, peer_restarted, resume_home, resume_part, resume_tid, known_tids, begin_incarnation}
+use Rattle.qs_step.specs.Restarts.{find_gone, inquire, notice_decided, notice_part, notice_tid, peer_restarted, resume_home, resume_part, resume_tid}
 use Rattle.qs_step.specs.Settling.{is_pass_due, pass_rule, may_answer, is_quiet, say_yes, ready_rule, refusal_goes_to, send_refusal, refuse_rule, forget_rule, try, settle_tid, due_tids, settle}
-use Rattle.qs_step.specs.State.{Work, here, part_of, doings_of, with_node, with_manager, with_queues, with_doings, change_server}
-use Rattle.qs_step.specs.Telling.{record_learnt, forget}
-use Rattle.qs_step.specs.Voting.{owes_note, issue_note, note_text, change_count, served_count, enter_vote, vote_with, vote_frame, vote_next, due_votes, vote_pass}
-use Rattle.qs_refine.specs.Begun.{fits, fits_record}
+use Rattle.qs_step.specs.State.{Work, here, part_of, doings_of, with_manager, with_queues}
+use Rattle.qs_step.specs.Telling.{record_learnt}
+use Rattle.qs_step.specs.Voting.{owes_note, issue_note, note_text, change_count, served_count, enter_vote, vote_with, vote_frame, vote_next, due_votes}
+use Rattle.qs_refine.specs.Begun.{fits}
 use Rattle.qs_refine.specs.Walks.{Reads, Keeps, IsPlain, is_homed}
 use Rattle.qs_refine.specs.Sound.{is_sound}
 use Rattle.qs_refine.proofs.ServerKinds.{vote_kind}
 use Rattle.qs_refine.proofs.SoundSettle.{undecided_known, settle_tid_sound}
 use Rattle.qs_refine.proofs.SoundVotes.{pass_rule_sound}
 use Rattle.qs_refine.proofs.SoundParts.{and_both, both_and}
-use Rattle.qs_refine.proofs.WalkRules.{fold_walk, if_walk, here_home, sends_walk, issue_walk, block_walk, undecided_walk}
+use Rattle.qs_refine.proofs.WalkRules.{fold_walk, if_walk, sends_walk, issue_walk, block_walk, undecided_walk}
 use Rattle.qs_refine.proofs.WalkOutcomes.{log_if_walk, end_members_walk, notices_walk, decide_walk, decide_commit_walk, forget_walk, learnt_fits}
 
 -- whom it answers, with the number of its last request

@@ -1,5 +1,5 @@
 -- What each thing of a step keeps, clients' commands, messages and whatever else comes keep.
-use Rattle.std.proofs.Common.{◌≡◌, inl, inr, ℕ, ◌+◌, ◌<◌, ◌==◌, ◌&&◌, ◌||◌, not, Bool, true, false, List, [], ◌∷◌, fold, Option, Some, None, refl, sym, ap, subst, ◌∙◌, arith, nat_lt, if◌then◌else◌}
+use Rattle.std.proofs.Common.{◌≡◌, ℕ, Bool, true, false, List, [], ◌∷◌, fold, Option, Some, None, refl, sym, ap, ◌∙◌}
 use Rattle.std.specs.List.{list_all}
 use Rattle.std.specs.Map.{lookup}
 use Rattle.std.specs.BTreeMap.{is_at}
@@ -13,7 +13,7 @@ use Rattle.qs_ipc.specs.Queue.{is_for}
 use Rattle.qs_journal.specs.declared.script_line.Command.{Command}
 use Rattle.qs_journal.specs.declared.script_line.Command.TheVariants as commands
 use Rattle.qs_journal.specs.declared.script_line.ScriptLine.{ScriptLine}
-use Rattle.qs_kept.specs.Loans.{first_untaken, last_taken, take_first, give_back}
+use Rattle.qs_kept.specs.Loans.{first_untaken, last_taken}
 use Rattle.qs_kept.specs.declared.kept.Begun.{Begun}
 use Rattle.qs_kept.specs.declared.kept.Decided.{Decided}
 use Rattle.qs_kept.specs.declared.kept.Lent.{Lent}
@@ -28,22 +28,22 @@ use Rattle.qs_servers.specs.Servers.{timers_no}
 use Rattle.qs_tm.specs.Manager as tm
 use Rattle.qs_tm.specs.declared.participant.Participant.{Participant}
 use Rattle.qs_step.specs.Answering.{kept_outcome}
-use Rattle.qs_step.specs.Borrowing.{is_aborted, is_void, take, take_command, yield, lent_command, with_loan, loan_command, borrower_command}
+use Rattle.qs_step.specs.Borrowing.{is_aborted, is_void, take, take_command, lent_command, with_loan, loan_command, borrower_command}
 use Rattle.qs_step.specs.Bringing.{enter}
 use Rattle.qs_step.specs.Commands.{request_as, request_command, with_issued, enter_ask, ask, open_command, decided_answer, owner_command}
 use Rattle.qs_step.specs.Deciding.{decide}
 use Rattle.qs_step.specs.Requests.{next_number}
 use Rattle.qs_step.specs.Serving.{label_at}
-use Rattle.qs_step.specs.State.{Work, here, part_of, with_manager, change_server, client_cmp}
+use Rattle.qs_step.specs.State.{Work, part_of, with_manager, change_server, client_cmp}
 use Rattle.qs_step.specs.Step.{is_owner, labelled, obey, with_command, command_came, message_came, abort_old, age_rule, tick, happen, owner_waits, borrower_waits, waits_at, wait_command, wait_on, waiting_clients, answer_waiting}
 use Rattle.qs_step.specs.declared.event.Event.{Event}
 use Rattle.qs_step.specs.declared.event.Event.TheVariants as events
 use Rattle.qs_step.specs.declared.state.Issued.{Issued}
 use Rattle.qs_step.specs.declared.state.OpenCommand.{OpenCommand}
-use Rattle.qs_refine.specs.Begun.{fits, may_command, is_drawn}
-use Rattle.qs_refine.specs.Walks.{Reads, Keeps, IsPlain, is_homed, is_run, MayStepOn, begins_one}
+use Rattle.qs_refine.specs.Begun.{fits, may_command}
+use Rattle.qs_refine.specs.Walks.{Reads, Keeps, is_homed, is_run, MayStepOn, begins_one}
 use Rattle.qs_refine.proofs.SoundParts.{and_both, both_and}
-use Rattle.qs_refine.proofs.WalkRules.{fold_walk, if_walk, here_home, issue_as_walk, reply_came_walk, request_came_walk, serve_all_walk, undecided_walk, become_asked_walk, ask_came_walk, closer_came_walk, refusal_came_walk}
+use Rattle.qs_refine.proofs.WalkRules.{fold_walk, if_walk, issue_as_walk, reply_came_walk, request_came_walk, serve_all_walk, undecided_walk, become_asked_walk, ask_came_walk, closer_came_walk, refusal_came_walk}
 use Rattle.qs_refine.proofs.WalkOutcomes.{decide_walk, tell_came_walk, told_came_walk, inquiry_came_walk}
 use Rattle.qs_refine.proofs.WalkSettles.{peer_restarted_walk}
 

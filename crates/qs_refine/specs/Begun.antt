@@ -1,6 +1,6 @@
 -- Which transactions have begun, and what a message or a record may say of one.
-use Rattle.std.specs.Prelude.{ℕ, ◌==◌, Bool, true, not, ◌&&◌, ◌||◌, List, [], ◌∷◌, nat_lt, nat_le}
-use Rattle.std.specs.List.{list_all, list_any}
+use Rattle.std.specs.Prelude.{ℕ, ◌+◌, ◌==◌, Bool, true, not, ◌&&◌, ◌||◌, List, [], ◌∷◌, nat_lt, nat_le, if◌then◌else◌}
+use Rattle.std.specs.List.{list_all}
 use Rattle.qs_base.specs.declared.identifiers.NodeNo.{NodeNo}
 use Rattle.qs_base.specs.declared.identifiers.Tid.{Tid}
 use Rattle.qs_engage.specs.Nodes.{same_node}
@@ -27,15 +27,19 @@ begun_among size inc count tid =
 abbrev pub past_among : ℕ → (ℕ → ℕ) → (ℕ → ℕ) → Tid → Bool
 past_among size inc count tid = names_transaction tid && (not (nat_lt tid.home.0 size) || begun_among size inc count tid)
 
--- how many transactions were begun at a node in its present incarnation
+-- the incarnation of a node that gives numbers, or, where it is down, the first that may come
+abbrev pub inc_in : World → ℕ → ℕ
+inc_in world k = if world.channels.up k then world.channels.inc k else world.channels.inc k + 1
+
+-- how many transactions were begun in it
 abbrev pub count_in : World → ℕ → ℕ
-count_in world k = (world.hosts k).node.manager.begun
+count_in world k = if world.channels.up k then (world.hosts k).node.manager.begun else 0
 
 abbrev pub has_begun : World → Tid → Bool
-has_begun world tid = begun_among world.size world.channels.inc (count_in world) tid
+has_begun world tid = begun_among world.size (inc_in world) (count_in world) tid
 
 abbrev pub may_be_known : World → Tid → Bool
-may_be_known world tid = past_among world.size world.channels.inc (count_in world) tid
+may_be_known world tid = past_among world.size (inc_in world) (count_in world) tid
 
 -- ---- what is said of one, where P tells which may be known and Q which have begun
 

@@ -1,5 +1,5 @@
 -- What holds of all nodes, logs and channels of a world, where it begins and after each move, whatever becomes of a transaction.
-use Rattle.std.specs.Prelude.{◌≡◌, ◌≢◌, ◌⊎◌, ℕ, ◌<◌, ◌≤◌, ◌==◌, ⊤, Bool, true, false, not, ◌&&◌, ◌||◌, List, [], ◌++◌, Option, Some, None, nat_lt}
+use Rattle.std.specs.Prelude.{◌≡◌, ℕ, ◌<◌, ◌≤◌, ◌==◌, ⊤, Bool, true, false, not, ◌&&◌, ◌||◌, [], ◌++◌, Option, Some, None, nat_lt}
 use Rattle.std.specs.List.{list_all}
 use Rattle.qs_base.specs.declared.identifiers.NodeNo.{NodeNo}
 use Rattle.qs_base.specs.declared.identifiers.Outcome.TheVariants as outcomes
@@ -7,7 +7,6 @@ use Rattle.qs_base.specs.declared.identifiers.Tid.{Tid}
 use Rattle.qs_engage.specs.Engage.{new_engage}
 use Rattle.qs_ipc.specs.Ipc as ipc
 use Rattle.qs_journal.specs.declared.script_line.ScriptLine.{ScriptLine}
-use Rattle.qs_packet.specs.declared.message.Message.{Message}
 use Rattle.qs_packet.specs.declared.message.Message.TheVariants as messages
 use Rattle.qs_record.specs.declared.record.Record.{Record}
 use Rattle.qs_restart.specs.Recovery.{recovery, names_transaction}
@@ -22,13 +21,13 @@ use Rattle.qs_tm.specs.declared.participant.Participant.{Participant}
 use Rattle.qs_world.specs.Moves.{Move, Step, Cut, Stop, Rise, Meet, client_count, event_of, may_move, moved}
 use Rattle.qs_world.specs.Openings.{IsOpening, are_unended}
 use Rattle.qs_world.specs.World.{Opening, Parcel, Host, World, start}
-use Rattle.qs_refine.specs.Begun.{has_begun, may_be_known, count_in, fits, fits_record, may_command}
+use Rattle.qs_refine.specs.Begun.{has_begun, may_be_known, fits, fits_record, may_command}
 use Rattle.qs_refine.specs.Links.{node_no}
 use Rattle.qs_refine.specs.MoveLaws.{IsSeated}
 use Rattle.qs_refine.specs.SaidLaws.{AreSoundOver, MayMoveOver}
 use Rattle.qs_refine.specs.SoundMoves.{MayMove}
 use Rattle.qs_refine.specs.SoundSteps.{AnswersFor, begun}
-use Rattle.qs_refine.specs.Tidy.{Stage, IsTidyNode}
+use Rattle.qs_refine.specs.Tidy.{Stage, IsTidyNode, is_tidy_record}
 
 -- ---- a node between its steps
 
@@ -69,6 +68,7 @@ pub record IsSteadyHost (c : Stage) (host : Host) : Type 0 where
   pub saved : host.node.kept.saved ≡ host.node.kept.now  -- what it keeps for its clients is what a restart finds
   pub first : host.node.is_first ≡ true → IsFirst host.node
   pub records : list_all (is_steady_record c.past c.setting.node) (host.log ++ host.waiting) ≡ true
+  pub waiting : list_all (is_tidy_record c) host.waiting ≡ true  -- what a step appends names a transaction
   pub unended : are_unended (recovery host.log) ≡ true
 
 -- ---- messages: between two nodes of the run

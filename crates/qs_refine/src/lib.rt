@@ -6,5 +6,6 @@ pub mod moves;
 pub mod rules;
 pub mod sound_rules;
 pub mod starts;
+pub mod steadies;
 pub mod steps;
 pub mod trials;
