@@ -158,3 +158,5 @@ pub mod FactsOpened
 pub mod HomesStand
 pub mod StandsOn
 pub mod TriedStageRuns
+pub mod SaidOn
+pub mod SaidStays

@@ -30,11 +30,15 @@ ghost use Rattle.qs_step.specs.Serving.{serve_next};
 ghost use Rattle.qs_step.specs.Step.{abort_old, after_step, command_came, message_came, wait_on};
 ghost use Rattle.qs_ipc.specs.Queue.{is_for};
 ghost use Rattle.qs_journal.specs.declared.script_line.Command.TheVariants as commands;
-ghost use Rattle.qs_lawful.specs.Parcels.{HoldsChannels, HoldsWay};
+ghost use Rattle.qs_lawful.specs.Parcels.{HoldsChannels, HoldsWay, IsSaid};
 ghost use Rattle.qs_lawful.specs.Scripts.{HoldsClient};
 ghost use Rattle.qs_lawful.specs.Beside.{IsTrueCause};
 ghost use Rattle.qs_lawful.specs.Entering.{book_at, entries_so_far};
-ghost use Rattle.qs_machine.specs.Lawful.{IsLawful};
+ghost use Rattle.qs_journal.specs.declared.entry.Entry.{Entry};
+ghost use Rattle.qs_laws.specs.Laws.{IsCoherent};
+ghost use Rattle.qs_machine.specs.Lawful.{IsLawful, book_after};
+ghost use Rattle.qs_machine.specs.Opening.{opening};
+ghost use Rattle.qs_machine.specs.declared.opened.Opened.{Opened};
 ghost use Rattle.qs_lawful.specs.Given.{HasCause, IsUncommitted, MayCommit, MayDecide, MayForget, MayPass, MayReply, MayServe, MaySettle};
 ghost use Rattle.qs_lawful.specs.Standing.{CanCount, HoldsHomes, KeepsStanding, Stands, StandsBy};
 ghost use Rattle.qs_step.specs.Settling.{forget_rule, pass_rule, ready_rule, refuse_rule, settle_tid, try};
@@ -123,4 +127,10 @@ pub fn homes_have_what_is_committed()
 pub fn step_is_given_beside()
     ensures rules { (stamp : ℕ) (before : BookValue) (size : ℕ) (nodes : ℕ → NodeValue) (n : ℕ) → HoldsHomes before size nodes n → KeepsBeside stamp before size nodes n → KeepsStanding stamp before size nodes n }
     ensures step { (stamp : ℕ) (before : BookValue) (size : ℕ) (nodes : ℕ → NodeValue) (n : ℕ) (node : NodeValue) (event : Event) (free : ℕ) → StepBeside stamp before size nodes n node event free → MayStep stamp before node event free }
+{}
+
+/// What a message says is so for good, through every lawful history: that commit was asked for, an outcome, a cause, an abort that names
+/// nodes.
+pub fn what_is_said_stays()
+    ensures { (opened : List Opened) (history more : List Entry) → IsCoherent opened → IsLawful (opening opened) history → IsLawful (book_after (opening opened) history) more → (message : Message) → IsSaid (book_after (opening opened) history) message → IsSaid (book_after (book_after (opening opened) history) more) message }
 {}
