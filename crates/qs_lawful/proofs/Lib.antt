@@ -160,3 +160,4 @@ pub mod StandsOn
 pub mod TriedStageRuns
 pub mod SaidOn
 pub mod SaidStays
+pub mod ParcelsKept

@@ -35,7 +35,10 @@ use Rattle.qs_packet.specs.declared.message.Message.{Message}
 use Rattle.qs_packet.specs.declared.message.Message.TheVariants as messages
 use Rattle.qs_lawful.specs.Beside.{IsTrueCause}
 use Rattle.qs_lawful.specs.Logged.{HasAborted, HasOutcome}
-use Rattle.qs_lawful.specs.Parcels.{IsAsked, IsSaid, IsThere}
+use Rattle.qs_channels.specs.Channels.{Channels}
+use Rattle.qs_world.specs.World.{Parcel}
+use Rattle.qs_lawful.proofs.ParcelsKept.{channels_later}
+use Rattle.qs_lawful.specs.Parcels.{HoldsChannels, IsAsked, IsSaid, IsThere}
 use Rattle.qs_lawful.proofs.LogActs.{fresh}
 use Rattle.qs_lawful.proofs.SaidOn.{HasSaidMore, IsNew, SaidOn, acted_said, said_self, said_then}
 use Rattle.qs_lawful.proofs.Truths.{of_some}
@@ -169,3 +172,6 @@ module _ (opened : List Opened) (history more : List Entry) (coherent : IsCohere
   said_stays (messages.Tell tid outcome) is = outcome_still tid outcome is
   said_stays (messages.Told tid further) is = λ names. closed_still tid cells.Abort refl (is names)
   said_stays (messages.Inquire tid) is = there_still tid is
+
+  pub channels_stay : (size : ℕ) (c : Channels Parcel) → HoldsChannels old size c → HoldsChannels new size c
+  channels_stay size c h = channels_later old new size c (λ n m parcel is. record { between = is.between; goes = is.goes; says = said_stays parcel.message is.says }) h

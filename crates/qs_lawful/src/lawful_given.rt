@@ -15,7 +15,7 @@ ghost use Rattle.qs_journal.specs.declared.script_line.ScriptLine.{ScriptLine};
 ghost use Rattle.qs_packet.specs.declared.message.Message.{Message};
 ghost use Rattle.qs_world.specs.Moves.{client_count};
 ghost use Rattle.qs_world.specs.Openings.{is_line, labels_begun};
-ghost use Rattle.qs_world.specs.Posting.{next_line, next_parcel};
+ghost use Rattle.qs_world.specs.Posting.{next_line, next_parcel, post_all};
 ghost use Rattle.qs_world.specs.World.{Opening, Parcel, World};
 ghost use Rattle.std.specs.List.{list_all};
 ghost use Rattle.qs_lawful.specs.NodeFacts.{AreHomed, FitsEvent, HasNodeFacts, IsSetIn};
@@ -30,7 +30,10 @@ ghost use Rattle.qs_step.specs.Serving.{serve_next};
 ghost use Rattle.qs_step.specs.Step.{abort_old, after_step, command_came, message_came, wait_on};
 ghost use Rattle.qs_ipc.specs.Queue.{is_for};
 ghost use Rattle.qs_journal.specs.declared.script_line.Command.TheVariants as commands;
-ghost use Rattle.qs_lawful.specs.Parcels.{HoldsChannels, HoldsWay, IsSaid};
+ghost use Rattle.qs_lawful.specs.Parcels.{FitsChannels, HoldsChannels, HoldsWay, IsParcel, IsSaid};
+ghost use Rattle.qs_channels.specs.Channels.{Channels, Move, moved};
+ghost use Rattle.qs_lawful.specs.Logs.{Every};
+ghost use Rattle.qs_step.specs.declared.event.Sending.{Sending};
 ghost use Rattle.qs_lawful.specs.Scripts.{HoldsClient};
 ghost use Rattle.qs_lawful.specs.Beside.{IsTrueCause};
 ghost use Rattle.qs_lawful.specs.Entering.{book_at, entries_so_far};
@@ -133,4 +136,12 @@ pub fn step_is_given_beside()
 /// nodes.
 pub fn what_is_said_stays()
     ensures { (opened : List Opened) (history more : List Entry) → IsCoherent opened → IsLawful (opening opened) history → IsLawful (book_after (opening opened) history) more → (message : Message) → IsSaid (book_after (opening opened) history) message → IsSaid (book_after (book_after (opening opened) history) more) message }
+{}
+
+/// What channels hold is so after each thing that happens to them, and after what a step sends, where that is so; and once the machine
+/// went on.
+pub fn channels_hold_what_is_so()
+    ensures moved { (book : BookValue) (size : ℕ) (move : Move Parcel) (c : Channels Parcel) → FitsChannels book size move c → HoldsChannels book size c → HoldsChannels book size (moved move c) }
+    ensures posted { (book : BookValue) (size n stamp : ℕ) (sendings : List Sending) (c : Channels Parcel) → Every (λ (sending : Sending). IsParcel book size n sending.to.0 (record { stamp = stamp; message = sending.message })) sendings → HoldsChannels book size c → HoldsChannels book size (post_all n stamp sendings c) }
+    ensures later { (opened : List Opened) (history more : List Entry) → IsCoherent opened → IsLawful (opening opened) history → IsLawful (book_after (opening opened) history) more → (size : ℕ) (c : Channels Parcel) → HoldsChannels (book_after (opening opened) history) size c → HoldsChannels (book_after (book_after (opening opened) history) more) size c }
 {}
