@@ -161,3 +161,4 @@ pub mod TriedStageRuns
 pub mod SaidOn
 pub mod SaidStays
 pub mod ParcelsKept
+pub mod GivenEvents

@@ -26,3 +26,4 @@ pub mod GivenTests
 pub mod TriedGiven
 pub mod StandingOn
 pub mod TriedStages
+pub mod WorldGives

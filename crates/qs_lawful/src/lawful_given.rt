@@ -4,7 +4,8 @@ ghost use Rattle.qs_base.specs.declared.identifiers.Member.{Member};
 ghost use Rattle.qs_base.specs.declared.identifiers.ServerNo.{ServerNo};
 ghost use Rattle.qs_base.specs.declared.identifiers.Tid.{Tid};
 ghost use Rattle.qs_lawful.specs.Agreed.{AgreementGives, AgreesMessage, AreLentUndone, IsSettledAll, IsUndone};
-ghost use Rattle.qs_lawful.specs.Coming.{ComesLine, ComesMessage};
+ghost use Rattle.qs_lawful.specs.Coming.{ComesLine, ComesMessage, ComesTo};
+ghost use Rattle.qs_lawful.specs.WorldGives.{WorldGives};
 ghost use Rattle.qs_lawful.specs.GivenStep.{MayCome, MayCommand, MayStep, MayWait, tick_work};
 ghost use Rattle.qs_lawful.specs.StandingOn.{KeepsBeside, StepBeside};
 ghost use Rattle.qs_lawful.specs.StepStands.{StepStands};
@@ -13,8 +14,8 @@ ghost use Rattle.qs_base.specs.declared.identifiers.ClientNo.{ClientNo};
 ghost use Rattle.qs_base.specs.declared.identifiers.NodeNo.{NodeNo};
 ghost use Rattle.qs_journal.specs.declared.script_line.ScriptLine.{ScriptLine};
 ghost use Rattle.qs_packet.specs.declared.message.Message.{Message};
-ghost use Rattle.qs_world.specs.Moves.{client_count};
-ghost use Rattle.qs_world.specs.Openings.{is_line, labels_begun};
+ghost use Rattle.qs_world.specs.Moves.{Source, client_count, event_of};
+ghost use Rattle.qs_world.specs.Openings.{IsOpening, is_line, labels_begun};
 ghost use Rattle.qs_world.specs.Posting.{next_line, next_parcel, post_all};
 ghost use Rattle.qs_world.specs.World.{Opening, Parcel, World};
 ghost use Rattle.std.specs.List.{list_all};
@@ -48,7 +49,7 @@ ghost use Rattle.qs_step.specs.Settling.{forget_rule, pass_rule, ready_rule, ref
 ghost use Rattle.qs_machine.specs.Book.{BookValue};
 ghost use Rattle.qs_machine.specs.Nodes as machine;
 ghost use Rattle.qs_ops.specs.declared.answer.Cause.{Cause};
-ghost use Rattle.qs_step.specs.State.{NodeValue, Work, here};
+ghost use Rattle.qs_step.specs.State.{NodeValue, Work, here, work_on};
 ghost use Rattle.qs_tm.specs.Manager as tm;
 ghost use Rattle.qs_tm.specs.Participant.{is_forgotten};
 ghost use Rattle.qs_tm.specs.declared.participant.Participant.{Participant};
@@ -144,4 +145,9 @@ pub fn channels_hold_what_is_so()
     ensures moved { (book : BookValue) (size : ℕ) (move : Move Parcel) (c : Channels Parcel) → FitsChannels book size move c → HoldsChannels book size c → HoldsChannels book size (moved move c) }
     ensures posted { (book : BookValue) (size n stamp : ℕ) (sendings : List Sending) (c : Channels Parcel) → Every (λ (sending : Sending). IsParcel book size n sending.to.0 (record { stamp = stamp; message = sending.message })) sendings → HoldsChannels book size c → HoldsChannels book size (post_all n stamp sendings c) }
     ensures later { (opened : List Opened) (history more : List Entry) → IsCoherent opened → IsLawful (opening opened) history → IsLawful (book_after (opening opened) history) more → (size : ℕ) (c : Channels Parcel) → HoldsChannels (book_after (opening opened) history) size c → HoldsChannels (book_after (book_after (opening opened) history) more) size c }
+{}
+
+/// Whatever event comes to a node of a world, it comes as it is given, by what the world holds of scripts and channels.
+pub fn world_gives_events()
+    ensures { (o : Opening) (book : BookValue) (world : World) (n stamp free : ℕ) → IsOpening o → WorldGives o book world n free → (source : Source) (event : Event) → event_of world n stamp source ≡ Some event → ComesTo book event (work_on (world.hosts n).node free) }
 {}
