@@ -28,7 +28,7 @@ use Rattle.qs_world.specs.World.{Opening, Parcel, World, inc_of, known_of}
 use Rattle.qs_lawful.specs.Coming.{ComesBehind, ComesLine, ComesMessage}
 use Rattle.qs_lawful.specs.Face.{waiting_at}
 use Rattle.qs_lawful.specs.Logs.{Every}
-use Rattle.qs_lawful.specs.Parcels.{GoesTo, HoldsChannels, HoldsWay, IsParcel, on_its_way, ops_of, pending, pending_from, way_between}
+use Rattle.qs_lawful.specs.Parcels.{GoesTo, HoldsChannels, HoldsWay, IsParcel, on_its_way, ops_of, pending, pending_from, way_between, IsBetween}
 use Rattle.qs_lawful.specs.Scripts.{HoldsClient, IsFresh}
 use Rattle.qs_lawful.specs.Waits.{IsWithin, standing_ops, waiting_ops}
 use Rattle.qs_lawful.proofs.Truths.{clash, left_true, node_is, number_is, of_some, right_true}
@@ -175,3 +175,10 @@ module _ (book : BookValue) (world : World) (n m : ℕ) (h : HoldsChannels book 
       behind_of (messages.Tell tid outcome) is = tt
       behind_of (messages.Told tid further) is = tt
       behind_of (messages.Inquire tid) is = tt
+
+-- and a message comes from another node of the run
+pub message_between : (book : BookValue) (world : World) (n m : ℕ) → HoldsChannels book world.size world.channels → (parcel : Parcel) → next_parcel world n m ≡ Some parcel → IsBetween world.size m n
+message_between book world n m h parcel next = its.between
+  where
+    its : IsParcel book world.size m n parcel
+    its = every_at (IsParcel book world.size m n) (world.channels.posted m n (known_of world n m) (inc_of world n)) (length (world.channels.handed m n (known_of world n m) (inc_of world n))) parcel (h.posted m n (known_of world n m) (inc_of world n)) next

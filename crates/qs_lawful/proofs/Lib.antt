@@ -188,3 +188,7 @@ pub mod StopsWhole
 pub mod OthersTid
 pub mod OthersRise
 pub mod RiseKeeps
+pub mod SaidOn
+pub mod SaidStays
+pub mod ParcelsKept
+pub mod GivenEvents

@@ -34,3 +34,4 @@ pub mod TriedStages
 pub mod Doubtful
 pub mod WorldLaws
 pub mod CoherentOpenings
+pub mod WorldGives

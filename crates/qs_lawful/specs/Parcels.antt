@@ -4,6 +4,7 @@ use Rattle.std.specs.List.{flat_map, list_any}
 use Rattle.qs_base.specs.Order.{same_tid}
 use Rattle.qs_base.specs.declared.identifiers.ServerNo.{ServerNo}
 use Rattle.qs_base.specs.declared.identifiers.Tid.{Tid}
+use Rattle.qs_channels.specs.Channels as channel
 use Rattle.qs_channels.specs.Channels.{Channels}
 use Rattle.qs_machine.specs.Book.{BookValue, find_transaction}
 use Rattle.qs_machine.specs.Transaction.{TransactionValue}
@@ -58,6 +59,16 @@ pub record HoldsChannels (book : BookValue) (size : ℕ) (channels : Channels Pa
   pub posted : (n m i j : ℕ) → Every (IsParcel book size n m) (channels.posted n m i j)
   pub waits : (n m : ℕ) → Every (IsParcel book size n m) (channels.waits n m)
   pub known : (n m : ℕ) → channels.peer n m ≤ channels.inc m  -- a node knows incarnations that began
+
+-- ---- what happens to channels: what is new in them is so, and nobody gets to know what has not begun
+
+abbrev pub FitsChannels : BookValue → ℕ → channel.Move Parcel → Channels Parcel → Type 0
+FitsChannels book size (channel.Wait n m x) c = IsParcel book size n m x
+FitsChannels book size (channel.Post n m x) c = IsParcel book size n m x
+FitsChannels book size (channel.Meet n m j) c = j ≤ c.inc m
+FitsChannels book size (channel.Notice n m j) c = j ≤ c.inc m
+FitsChannels book size (channel.Restart n i) c = c.inc n ≤ i
+FitsChannels book size move c = ⊤
 
 -- ---- the requests that are on their way stand in the machine behind those that wait, in their order
 

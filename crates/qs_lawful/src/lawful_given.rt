@@ -4,7 +4,8 @@ ghost use Rattle.qs_base.specs.declared.identifiers.Member.{Member};
 ghost use Rattle.qs_base.specs.declared.identifiers.ServerNo.{ServerNo};
 ghost use Rattle.qs_base.specs.declared.identifiers.Tid.{Tid};
 ghost use Rattle.qs_lawful.specs.Agreed.{AgreementGives, AgreesMessage, AreLentUndone, IsSettledAll, IsUndone};
-ghost use Rattle.qs_lawful.specs.Coming.{ComesLine, ComesMessage};
+ghost use Rattle.qs_lawful.specs.Coming.{ComesLine, ComesMessage, ComesTo};
+ghost use Rattle.qs_lawful.specs.WorldGives.{WorldGives};
 ghost use Rattle.qs_lawful.specs.GivenStep.{MayCome, MayCommand, MayStep, MayWait, tick_work};
 ghost use Rattle.qs_lawful.specs.StandingOn.{KeepsBeside, StepBeside};
 ghost use Rattle.qs_lawful.specs.StepStands.{StepStands};
@@ -13,9 +14,9 @@ ghost use Rattle.qs_base.specs.declared.identifiers.ClientNo.{ClientNo};
 ghost use Rattle.qs_base.specs.declared.identifiers.NodeNo.{NodeNo};
 ghost use Rattle.qs_journal.specs.declared.script_line.ScriptLine.{ScriptLine};
 ghost use Rattle.qs_packet.specs.declared.message.Message.{Message};
-ghost use Rattle.qs_world.specs.Moves.{client_count};
-ghost use Rattle.qs_world.specs.Openings.{is_line, labels_begun};
-ghost use Rattle.qs_world.specs.Posting.{next_line, next_parcel};
+ghost use Rattle.qs_world.specs.Moves.{Source, client_count, event_of};
+ghost use Rattle.qs_world.specs.Openings.{IsOpening, is_line, labels_begun};
+ghost use Rattle.qs_world.specs.Posting.{next_line, next_parcel, post_all};
 ghost use Rattle.qs_world.specs.World.{Opening, Parcel, World};
 ghost use Rattle.std.specs.List.{list_all};
 ghost use Rattle.qs_lawful.specs.NodeFacts.{AreHomed, FitsEvent, HasNodeFacts, IsSetIn};
@@ -30,18 +31,25 @@ ghost use Rattle.qs_step.specs.Serving.{serve_next};
 ghost use Rattle.qs_step.specs.Step.{abort_old, after_step, command_came, message_came, wait_on};
 ghost use Rattle.qs_ipc.specs.Queue.{is_for};
 ghost use Rattle.qs_journal.specs.declared.script_line.Command.TheVariants as commands;
-ghost use Rattle.qs_lawful.specs.Parcels.{HoldsChannels, HoldsWay};
+ghost use Rattle.qs_lawful.specs.Parcels.{FitsChannels, HoldsChannels, HoldsWay, IsParcel, IsSaid};
+ghost use Rattle.qs_channels.specs.Channels.{Channels, Move, moved};
+ghost use Rattle.qs_lawful.specs.Logs.{Every};
+ghost use Rattle.qs_step.specs.declared.event.Sending.{Sending};
 ghost use Rattle.qs_lawful.specs.Scripts.{HoldsClient};
 ghost use Rattle.qs_lawful.specs.Beside.{IsTrueCause};
 ghost use Rattle.qs_lawful.specs.Entering.{book_at, entries_so_far};
-ghost use Rattle.qs_machine.specs.Lawful.{IsLawful};
+ghost use Rattle.qs_journal.specs.declared.entry.Entry.{Entry};
+ghost use Rattle.qs_laws.specs.Laws.{IsCoherent};
+ghost use Rattle.qs_machine.specs.Lawful.{IsLawful, book_after};
+ghost use Rattle.qs_machine.specs.Opening.{opening};
+ghost use Rattle.qs_machine.specs.declared.opened.Opened.{Opened};
 ghost use Rattle.qs_lawful.specs.Given.{HasCause, IsUncommitted, MayCommit, MayDecide, MayForget, MayPass, MayReply, MayServe, MaySettle};
 ghost use Rattle.qs_lawful.specs.Standing.{CanCount, HoldsHomes, KeepsStanding, Stands, StandsBy};
 ghost use Rattle.qs_step.specs.Settling.{forget_rule, pass_rule, ready_rule, refuse_rule, settle_tid, try};
 ghost use Rattle.qs_machine.specs.Book.{BookValue};
 ghost use Rattle.qs_machine.specs.Nodes as machine;
 ghost use Rattle.qs_ops.specs.declared.answer.Cause.{Cause};
-ghost use Rattle.qs_step.specs.State.{NodeValue, Work, here};
+ghost use Rattle.qs_step.specs.State.{NodeValue, Work, here, work_on};
 ghost use Rattle.qs_tm.specs.Manager as tm;
 ghost use Rattle.qs_tm.specs.Participant.{is_forgotten};
 ghost use Rattle.qs_tm.specs.declared.participant.Participant.{Participant};
@@ -123,4 +131,23 @@ pub fn homes_have_what_is_committed()
 pub fn step_is_given_beside()
     ensures rules { (stamp : ℕ) (before : BookValue) (size : ℕ) (nodes : ℕ → NodeValue) (n : ℕ) → HoldsHomes before size nodes n → KeepsBeside stamp before size nodes n → KeepsStanding stamp before size nodes n }
     ensures step { (stamp : ℕ) (before : BookValue) (size : ℕ) (nodes : ℕ → NodeValue) (n : ℕ) (node : NodeValue) (event : Event) (free : ℕ) → StepBeside stamp before size nodes n node event free → MayStep stamp before node event free }
+{}
+
+/// What a message says is so for good, through every lawful history: that commit was asked for, an outcome, a cause, an abort that names
+/// nodes.
+pub fn what_is_said_stays()
+    ensures { (opened : List Opened) (history more : List Entry) → IsCoherent opened → IsLawful (opening opened) history → IsLawful (book_after (opening opened) history) more → (message : Message) → IsSaid (book_after (opening opened) history) message → IsSaid (book_after (book_after (opening opened) history) more) message }
+{}
+
+/// What channels hold is so after each thing that happens to them, and after what a step sends, where that is so; and once the machine
+/// went on.
+pub fn channels_hold_what_is_so()
+    ensures moved { (book : BookValue) (size : ℕ) (move : Move Parcel) (c : Channels Parcel) → FitsChannels book size move c → HoldsChannels book size c → HoldsChannels book size (moved move c) }
+    ensures posted { (book : BookValue) (size n stamp : ℕ) (sendings : List Sending) (c : Channels Parcel) → Every (λ (sending : Sending). IsParcel book size n sending.to.0 (record { stamp = stamp; message = sending.message })) sendings → HoldsChannels book size c → HoldsChannels book size (post_all n stamp sendings c) }
+    ensures later { (opened : List Opened) (history more : List Entry) → IsCoherent opened → IsLawful (opening opened) history → IsLawful (book_after (opening opened) history) more → (size : ℕ) (c : Channels Parcel) → HoldsChannels (book_after (opening opened) history) size c → HoldsChannels (book_after (book_after (opening opened) history) more) size c }
+{}
+
+/// Whatever event comes to a node of a world, it comes as it is given, by what the world holds of scripts and channels.
+pub fn world_gives_events()
+    ensures { (o : Opening) (book : BookValue) (world : World) (n stamp free : ℕ) → IsOpening o → WorldGives o book world n free → (source : Source) (event : Event) → event_of world n stamp source ≡ Some event → ComesTo book event (work_on (world.hosts n).node free) }
 {}

@@ -23,9 +23,10 @@ pub use lawful_commands::{
 };
 pub use lawful_entries::{entries_are_lawful, requests_are_lawful, settled_is_unanimous};
 pub use lawful_given::{
-    coming_is_given, homes_have_what_is_committed, nodes_have_the_facts, serving_is_given,
-    settling_is_given, settling_is_given_whole, stages_keep_the_facts, step_is_given,
-    step_is_given_beside, world_gives_what_comes,
+    channels_hold_what_is_so, coming_is_given, homes_have_what_is_committed, nodes_have_the_facts,
+    serving_is_given, settling_is_given, settling_is_given_whole, stages_keep_the_facts,
+    step_is_given, step_is_given_beside, what_is_said_stays, world_gives_events,
+    world_gives_what_comes,
 };
 pub use lawful_logs::{
     crash_is_lawful, others_keep_the_log, requests_keep_the_log, step_keeps_the_log,
