@@ -167,3 +167,6 @@ pub mod StopsWhole
 pub mod OthersTid
 pub mod OthersRise
 pub mod RiseKeeps
+pub mod OthersLog
+pub mod OthersDown
+pub mod RisesWhole
