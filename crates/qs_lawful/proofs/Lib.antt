@@ -192,3 +192,6 @@ pub mod SaidOn
 pub mod SaidStays
 pub mod ParcelsKept
 pub mod GivenEvents
+pub mod OthersLog
+pub mod OthersDown
+pub mod RisesWhole

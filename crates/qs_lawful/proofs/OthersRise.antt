@@ -46,8 +46,8 @@ module _ (book : BookValue) (risen : NodeNo) (stamp inc : ℕ) (log : Recovery) 
   -- ---- where a client stands
 
   -- the client's line is the same
-  record SameLine (client : ℕ) (b : BookValue) (c : BookValue) : Type 0 where
-    on : (owner : Owner) → slice_get b.owners client ≡ Some owner → (later : Owner) × (slice_get c.owners client ≡ Some later) × (later.line ≡ owner.line)
+  pub record SameLine (client : ℕ) (b : BookValue) (c : BookValue) : Type 0 where
+    pub on : (owner : Owner) → slice_get b.owners client ≡ Some owner → (later : Owner) × (slice_get c.owners client ≡ Some later) × (later.line ≡ owner.line)
 
   line_self : (client : ℕ) (b : BookValue) → SameLine client b b
   line_self client b = record { on = λ owner is. (owner, is, refl) }
@@ -115,7 +115,7 @@ module _ (book : BookValue) (risen : NodeNo) (stamp inc : ℕ) (log : Recovery) 
   line_abort client b seq = line_if (is_open_here risen.0 (begun_tid risen.0 state.inc seq) (find_transaction b (begun_tid risen.0 state.inc seq))) client b (decide (begun_tid risen.0 state.inc seq) outcomes.Abort (Some (causes.Home state.inc)) b) b
       (line_decide client (begun_tid risen.0 state.inc seq) outcomes.Abort (Some (causes.Home state.inc)) b) (line_self client b)
 
-  lines : (client : ℕ) → SameLine client book now
+  pub lines : (client : ℕ) → SameLine client book now
   lines client =
       let a = with_found book risen.0 stamp inc log state r.there in
       let b = fold (commit_found risen.0) a log.committed in
@@ -129,7 +129,7 @@ module _ (book : BookValue) (risen : NodeNo) (stamp inc : ℕ) (log : Recovery) 
   -- ---- a node that runs
 
   module _ (n : ℕ) (far : (n == risen.0) ≡ false) (near : (risen.0 == n) ≡ false) where
-    nodes_same : slice_get now.nodes n ≡ slice_get book.nodes n
+    pub nodes_same : slice_get now.nodes n ≡ slice_get book.nodes n
     nodes_same = ap (λ (ns : List machine.NodeValue). slice_get ns n) (restart_nodes risen.0 inc (found_votes log) log.committed book)
         ∙ (elsewhere (restarted_node (reopened risen.0 inc (found_votes log) log.committed (put_new_votes risen.0 (found_votes log) book)) log.committed) _ risen.0 n near ∙ elsewhere (with_votes (new_votes risen.0 book (found_votes log))) book.nodes risen.0 n near)
 

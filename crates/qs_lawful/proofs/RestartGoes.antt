@@ -2,9 +2,14 @@
 -- what is open at its home is decided.
 use Rattle.std.proofs.Common.{◌≡◌, ◌≢◌, ◌⊎◌, inl, inr, ℕ, ◌==◌, ◌&&◌, Bool, true, false, List, [], ◌∷◌, Option, Some, None, fold, refl, sym, ap, subst, ◌∙◌, arith, if◌then◌else◌, unwrap_or, is_some}
 use Rattle.std.proofs.lemmas.Bool.Decides.{nat_tests}
+use Rattle.std.specs.List.{list_all}
 use Rattle.std.specs.Map.{lookup}
 use Rattle.std.specs.BTreeMap.{insert_entry, is_at}
 use Rattle.qs_base.specs.Order.{tid_cmp}
+use Rattle.std.specs.declared.cmp.Ordering.{Ordering}
+use Rattle.std.specs.declared.cmp.Ordering.TheVariants.{Less, Equal, Greater}
+use Rattle.qs_base.specs.declared.identifiers.Class.{Class}
+use Rattle.qs_base.specs.declared.identifiers.Class.TheVariants as classes
 use Rattle.qs_base.specs.declared.identifiers.ClientNo.{ClientNo}
 use Rattle.qs_base.specs.declared.identifiers.Member.{Member}
 use Rattle.qs_base.specs.declared.identifiers.Outcome.{Outcome}
@@ -16,11 +21,13 @@ use Rattle.qs_machine.specs.Book.{BookValue, decide, find_transaction, with_tran
 use Rattle.qs_machine.specs.Nodes as machine
 use Rattle.qs_machine.specs.Nodes.{is_recoverable}
 use Rattle.qs_machine.specs.Restart.{abort_begun, begun_tid, commit_found, count_of, decide_found, is_among, is_open_here, learn_found, member_at, record_at, vote_found}
-use Rattle.qs_machine.specs.Transaction.{TransactionValue, decided_at, found_at, has_learnt, is_open, life, part_of, with_learnt}
+use Rattle.qs_ops.specs.Members.{class_of}
+use Rattle.qs_machine.specs.Transaction.{TransactionValue, agrees, agrees_in, decided_at, found_at, has_learnt, is_open, life, part_of, with_learnt}
 use Rattle.qs_machine.specs.Transaction as transaction
 use Rattle.qs_machine.specs.declared.transaction.Cell.{Cell}
 use Rattle.qs_machine.specs.declared.transaction.Life.{Life}
 use Rattle.qs_machine.specs.declared.transaction.Link.{Link}
+use Rattle.qs_machine.specs.declared.transaction.Part.{Part}
 use Rattle.qs_machine.specs.declared.transaction.Noted.{Noted}
 use Rattle.qs_machine.specs.declared.transaction.Request.{Request}
 use Rattle.qs_machine.specs.declared.transaction.RequestNo.{RequestNo}
@@ -37,6 +44,31 @@ use Rattle.qs_lawful.proofs.Keys.{same_key_or, life_exact, life_itself}
 abbrev pub IsElsewhere : ℕ → ℕ → Member → ℕ → Type 0
 IsElsewhere here inc member i = ((member.node.0 == here) && ((i == inc) && is_recoverable member.server.0)) ≡ false
 
+-- a part that agrees is put in among parts that do
+agree_put : (l : Life) (part : Part) → agrees_in (class_of l.member.server.0) part ≡ true → (parts : List (Life × Part)) → list_all agrees parts ≡ true → list_all agrees (insert_entry transaction.life_cmp parts l part) ≡ true
+agree_put l part own [] all = rw own refl
+agree_put l part own (e ∷ parts) all = by (transaction.life_cmp l e.0) refl (agree_put l part own parts (and_both (agrees e) _ all).1)
+  where
+    and_both : (a b : Bool) → (a && b) ≡ true → (a ≡ true) × (b ≡ true)
+    and_both true b e = (refl, e)
+    and_both false b e = absurd (cc e)
+
+    same : transaction.life_cmp l e.0 ≡ Equal → agrees_in (class_of e.0.member.server.0) part ≡ true
+    same is = subst (λ (x : Life). agrees_in (class_of x.member.server.0) part ≡ true) (life_exact l e.0 (rw is refl)) own
+
+    by : (o : Ordering) → transaction.life_cmp l e.0 ≡ o → list_all agrees (insert_entry transaction.life_cmp parts l part) ≡ true → list_all agrees (insert_entry transaction.life_cmp (e ∷ parts) l part) ≡ true
+    by Less is more = rw (is, own) all
+    by Equal is more = rw (is, same is) (and_both (agrees e) _ all).1
+    by Greater is more = rw (is, (and_both (agrees e) _ all).0) more
+
+agrees_found : (c : Class) (covers changes : ℕ) → agrees_in c (transaction.found_part covers changes) ≡ true
+agrees_found classes.Recoverable covers changes = refl
+agrees_found classes.Volatile covers changes = refl
+agrees_found classes.Activity covers changes = refl
+agrees_found classes.Standard covers changes = refl
+agrees_found classes.Delayed covers changes = refl
+agrees_found classes.Immediate covers changes = refl
+
 pub record Goes (here : ℕ) (P : Member → ℕ → Type 0) (place : ℕ) (tid : Tid) (tx later : TransactionValue) : Type 0 where
   pub requests : later.requests ≡ tx.requests
   pub sent : later.sent ≡ tx.sent
@@ -45,14 +77,16 @@ pub record Goes (here : ℕ) (P : Member → ℕ → Type 0) (place : ℕ) (tid 
   pub asked : later.asked ≡ tx.asked
   pub owner : later.owner ≡ tx.owner
   pub starts : later.starts ≡ tx.starts
-  pub when : (later.decided ≡ tx.decided) ⊎ (later.decided ≡ Some place)
+  pub refusals : later.refusals ≡ tx.refusals
+  pub agree : list_all agrees tx.parts ≡ true → list_all agrees later.parts ≡ true
+  pub when : ((later.cell ≡ tx.cell) × (later.decided ≡ tx.decided)) ⊎ ((is_open tx.cell ≡ true) × (later.decided ≡ Some place))
   pub parts : (member : Member) (i : ℕ) → P member i → part_of later member i ≡ part_of tx member i
   pub decided : is_open tx.cell ≡ false → later.cell ≡ tx.cell
   pub away : (tid.home.0 == here) ≡ false → later.cell ≡ tx.cell
   pub learnt : (member : Member) → has_learnt tx member ≡ true → has_learnt later member ≡ true
 
 pub goes_self : (here : ℕ) (P : Member → ℕ → Type 0) (place : ℕ) (tid : Tid) (tx : TransactionValue) → Goes here P place tid tx tx
-goes_self here P place tid tx = record { requests = refl; sent = refl; noted = refl; crossed = refl; asked = refl; owner = refl; starts = refl; when = inl refl; parts = λ member i far. refl; decided = λ shut. refl; away = λ far. refl; learnt = λ member is. is }
+goes_self here P place tid tx = record { requests = refl; sent = refl; noted = refl; crossed = refl; asked = refl; owner = refl; starts = refl; refusals = refl; agree = λ all. all; when = inl (refl, refl); parts = λ member i far. refl; decided = λ shut. refl; away = λ far. refl; learnt = λ member is. is }
 
 pub goes_then : (here : ℕ) (P : Member → ℕ → Type 0) (place : ℕ) (tid : Tid) (tx mid later : TransactionValue) → Goes here P place tid tx mid → Goes here P place tid mid later → Goes here P place tid tx later
 goes_then here P place tid tx mid later a b = record {
@@ -63,6 +97,8 @@ goes_then here P place tid tx mid later a b = record {
   asked = b.asked ∙ a.asked;
   owner = b.owner ∙ a.owner;
   starts = b.starts ∙ a.starts;
+  refusals = b.refusals ∙ a.refusals;
+  agree = λ all. b.agree (a.agree all);
   when = of a.when b.when;
   parts = λ member i far. b.parts member i far ∙ a.parts member i far;
   decided = λ shut. b.decided (ap is_open (a.decided shut) ∙ shut) ∙ a.decided shut;
@@ -70,13 +106,15 @@ goes_then here P place tid tx mid later a b = record {
   learnt = λ member is. b.learnt member (a.learnt member is);
 }
   where
-    of : (mid.decided ≡ tx.decided) ⊎ (mid.decided ≡ Some place) → (later.decided ≡ mid.decided) ⊎ (later.decided ≡ Some place) → (later.decided ≡ tx.decided) ⊎ (later.decided ≡ Some place)
-    of a (inr q) = inr q
-    of (inl p) (inl q) = inl (q ∙ p)
-    of (inr p) (inl q) = inr (q ∙ p)
+    of : ((mid.cell ≡ tx.cell) × (mid.decided ≡ tx.decided)) ⊎ ((is_open tx.cell ≡ true) × (mid.decided ≡ Some place)) → ((later.cell ≡ mid.cell) × (later.decided ≡ mid.decided)) ⊎ ((is_open mid.cell ≡ true) × (later.decided ≡ Some place))
+        → ((later.cell ≡ tx.cell) × (later.decided ≡ tx.decided)) ⊎ ((is_open tx.cell ≡ true) × (later.decided ≡ Some place))
+    of (inl p) (inl q) = inl (q.0 ∙ p.0, q.1 ∙ p.1)
+    of (inl p) (inr q) = inr (ap is_open (sym p.0) ∙ q.0, q.1)
+    of (inr p) (inl q) = inr (p.0, q.1 ∙ p.1)
+    of (inr p) (inr q) = inr (p.0, q.1)
 
 goes_learnt : (here : ℕ) (P : Member → ℕ → Type 0) (place : ℕ) (tid : Tid) (m : Member) (tx : TransactionValue) → Goes here P place tid tx (with_learnt m tx)
-goes_learnt here P place tid m tx = record { requests = refl; sent = refl; noted = refl; crossed = refl; asked = refl; owner = refl; starts = refl; when = inl refl; parts = λ member i far. refl; decided = λ shut. refl; away = λ far. refl; learnt = λ member is. more_learnt m tx member is }
+goes_learnt here P place tid m tx = record { requests = refl; sent = refl; noted = refl; crossed = refl; asked = refl; owner = refl; starts = refl; refusals = refl; agree = λ all. all; when = inl (refl, refl); parts = λ member i far. refl; decided = λ shut. refl; away = λ far. refl; learnt = λ member is. more_learnt m tx member is }
 
 goes_decided : (here : ℕ) (P : Member → ℕ → Type 0) (tid : Tid) (place : ℕ) (outcome : Outcome) (cause : Option Cause) (tx : TransactionValue) → ((tid.home.0 == here) && is_open tx.cell) ≡ true → Goes here P place tid tx (decided_at place outcome cause tx)
 goes_decided here P tid place outcome cause tx is = record {
@@ -87,13 +125,19 @@ goes_decided here P tid place outcome cause tx is = record {
   asked = refl;
   owner = refl;
   starts = refl;
-  when = inr refl;
+  refusals = refl;
+  agree = λ all. all;
+  when = inr (open_of (tid.home.0 == here) (is_open tx.cell) is, refl);
   parts = λ member i far. refl;
   decided = λ shut. absurd (clash (tid.home.0 == here) (is_open tx.cell) is (inr shut));
   away = λ far. absurd (clash (tid.home.0 == here) (is_open tx.cell) is (inl far));
   learnt = λ member is. is;
 }
   where
+    open_of : (a b : Bool) → (a && b) ≡ true → b ≡ true
+    open_of true b e = e
+    open_of false b e = absurd (cc e)
+
     clash : (a b : Bool) → (a && b) ≡ true → (a ≡ false) ⊎ (b ≡ false) → ⊥
     clash true true e (inl f) = cc f
     clash true true e (inr f) = cc f
@@ -101,7 +145,7 @@ goes_decided here P tid place outcome cause tx is = record {
     clash false b e f = cc e
 
 goes_found : (here : ℕ) (P : Member → ℕ → Type 0) (inc place : ℕ) → ((member : Member) (i : ℕ) → P member i → IsElsewhere here inc member i) → (tid : Tid) (server covers changes : ℕ) → is_recoverable server ≡ true → (tx : TransactionValue) → Goes here P place tid tx (found_at (member_at here server) inc covers changes tx)
-goes_found here P inc place apart tid server covers changes kept tx = record { requests = refl; sent = refl; noted = refl; crossed = refl; asked = refl; owner = refl; starts = refl; when = inl refl; parts = λ member i far. part member i (apart member i far); decided = λ shut. refl; away = λ far. refl; learnt = λ member is. is }
+goes_found here P inc place apart tid server covers changes kept tx = record { requests = refl; sent = refl; noted = refl; crossed = refl; asked = refl; owner = refl; starts = refl; refusals = refl; agree = agree_put (life (member_at here server) inc) (transaction.found_part covers changes) (agrees_found (class_of server) covers changes) tx.parts; when = inl (refl, refl); parts = λ member i far. part member i (apart member i far); decided = λ shut. refl; away = λ far. refl; learnt = λ member is. is }
   where
     part : (member : Member) (i : ℕ) → IsElsewhere here inc member i → part_of (found_at (member_at here server) inc covers changes tx) member i ≡ part_of tx member i
     part member i far = by (same_key_or transaction.life_cmp life_exact life_itself (life (member_at here server) inc) (life member i))

@@ -37,7 +37,7 @@ use Rattle.qs_lawful.specs.Lasting.{Lasts}
 use Rattle.qs_lawful.specs.Logged.{HoldsHost}
 use Rattle.qs_lawful.specs.Logs.{Every, HoldsStopped, found_votes}
 use Rattle.qs_lawful.specs.Said.{HoldsLeft, HoldsSaid}
-use Rattle.qs_lawful.specs.WorldLaws.{RisesWell, rise_entry}
+use Rattle.qs_lawful.specs.WorldLaws.{rise_entry}
 use Rattle.qs_lawful.specs.Worlds.{HoldsDown, HoldsKept, HoldsNodeAt, HoldsNodeOf, HoldsUp, HoldsWorld, IsLeftOpen, IsLoanOf, IsOpenStill}
 use Rattle.qs_lawful.proofs.FoundOnce.{found_once}
 use Rattle.qs_lawful.proofs.LogFrames.{every_on}
@@ -134,7 +134,7 @@ module _ (book : BookValue) (world : World) (n stamp inc : ℕ) (lasts : Lasts b
       not_true false e = refl
       not_true true e = absurd (cc e)
 
-  ordered : moves.is_in_order world n stamp ≡ true
+  pub ordered : moves.is_in_order world n stamp ≡ true
   ordered = (and_both (moves.is_in_order world n stamp) _ (and_both (not (world.channels.up n)) _ may).1).0
 
   later : nat_lt (inc_of world n) inc ≡ true
@@ -269,8 +269,9 @@ module _ (book : BookValue) (world : World) (n stamp inc : ℕ) (lasts : Lasts b
       same_format : new_state.format ≡ at.state.format
       same_format = (same_found (world.hosts n).node.manager.alloc setting (world.hosts n).node.kept.saved book stamp log at.state r kept_before.loans).format
 
-  pub rises_well : RisesWell book world n stamp inc
-  rises_well = record { lawful = (entry_lawful, tt); holds = subst (λ (b : BookValue). HoldsNodeAt b (moved (Rise n stamp inc) world) n) (sym same_book) (subst (λ (b : Bool). HoldsNodeOf book_now world.size n (if b then inc else inc_of world n) (if b then true else world.channels.up n) (if b then risen else world.hosts n)) (sym (self n)) node_now) }
+  -- its entry is lawful, and the machine holds the node that begins
+  pub rises_own : (broken book entry ≡ None) × HoldsNodeAt (effect book entry) (moved (Rise n stamp inc) world) n
+  rises_own = (entry_lawful, subst (λ (b : BookValue). HoldsNodeAt b (moved (Rise n stamp inc) world) n) (sym same_book) (subst (λ (b : Bool). HoldsNodeOf book_now world.size n (if b then inc else inc_of world n) (if b then true else world.channels.up n) (if b then risen else world.hosts n)) (sym (self n)) node_now))
     where
       self : (k : ℕ) → (k == k) ≡ true
       self k = grind (arith, nat_tests)

@@ -25,10 +25,10 @@ and_both true b e = (refl, e)
 and_both false b e = absurd (cc e)
 
 -- an order of stamps, and of nodes where these are one, goes on
-back_by : (limit last0 last1 stamp n s k : ℕ) → (nat_lt stamp limit && (nat_lt last0 stamp || ((last0 == stamp) && not (nat_lt n last1)))) ≡ true → (nat_lt s limit && (nat_lt stamp s || ((stamp == s) && not (nat_lt k n)))) ≡ true → (nat_lt s limit && (nat_lt last0 s || ((last0 == s) && not (nat_lt k last1)))) ≡ true
+pub back_by : (limit last0 last1 stamp n s k : ℕ) → (nat_lt stamp limit && (nat_lt last0 stamp || ((last0 == stamp) && not (nat_lt n last1)))) ≡ true → (nat_lt s limit && (nat_lt stamp s || ((stamp == s) && not (nat_lt k n)))) ≡ true → (nat_lt s limit && (nat_lt last0 s || ((last0 == s) && not (nat_lt k last1)))) ≡ true
 back_by limit last0 last1 stamp n s k a b = grind (arith, nat_tests, a, b)
 
-next_by : (limit size stamp n s k host : ℕ) → ((nat_lt k size && nat_lt s limit) && ((nat_lt stamp s || ((stamp == s) && nat_le n k)) && nat_le host s)) ≡ true → (nat_lt s limit && (nat_lt stamp s || ((stamp == s) && not (nat_lt k n)))) ≡ true
+pub next_by : (limit size stamp n s k host : ℕ) → ((nat_lt k size && nat_lt s limit) && ((nat_lt stamp s || ((stamp == s) && nat_le n k)) && nat_le host s)) ≡ true → (nat_lt s limit && (nat_lt stamp s || ((stamp == s) && not (nat_lt k n)))) ≡ true
 next_by limit size stamp n s k host a = grind (arith, nat_tests, a)
 
 module _ (book : BookValue) (world : World) (n stamp : ℕ) (cause : CrashCause) (lasts : Lasts book) (h : HoldsWorld book world) (up : world.channels.up n ≡ true) (ordered : is_in_order world n stamp ≡ true) (crash : is_crash cause ≡ true) where

@@ -39,6 +39,7 @@ pub record LastsAt (book : BookValue) (here : NodeNo) (state : machine.NodeValue
   pub open_now : (tid : Tid) (tx : TransactionValue) → find_transaction book tid ≡ Some tx → tid.home ≡ here → is_open tx.cell ≡ true → IsOfNow state tid
   pub committed : (tid : Tid) → is_among state.committed tid ≡ true → HasCommitted book tid
   pub tidy : IsRising machine.voter_cmp state.records
+  pub stopped : state.stopped ≤ book.place
 
 pub record Lasts (book : BookValue) : Type 0 where
   pub named : IsNamed book

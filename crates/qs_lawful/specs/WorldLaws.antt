@@ -14,16 +14,16 @@ use Rattle.qs_step.specs.State.{NodeValue}
 use Rattle.qs_lawful.specs.Holds.{Holds, is_next}
 use Rattle.qs_lawful.specs.Lasting.{Lasts}
 use Rattle.qs_lawful.specs.Logs.{found_votes}
-use Rattle.qs_lawful.specs.Worlds.{HoldsNodeAt, HoldsWorld}
+use Rattle.qs_lawful.specs.Worlds.{HoldsWorld}
 
 -- the entry of a node's restart, with what its log says
 abbrev pub rise_entry : World → ℕ → ℕ → ℕ → Entry
 rise_entry world n stamp inc = entry_of n stamp (acts.Restart inc (found_votes (recovery (world.hosts n).log)) (recovery (world.hosts n).log).committed)
 
--- a node that is down restarts: its entry is lawful, and the machine after it holds the node that begins, and its log
+-- a node that is down restarts: its entry is lawful, and the machine after it has the world after it, with the node that begins and its log
 pub record RisesWell (book : BookValue) (world : World) (n stamp inc : ℕ) : Type 0 where
   pub lawful : IsLawful book (rise_entry world n stamp inc ∷ [])
-  pub holds : HoldsNodeAt (book_after book (rise_entry world n stamp inc ∷ [])) (moved (Rise n stamp inc) world) n
+  pub holds : HoldsWorld (book_after book (rise_entry world n stamp inc ∷ [])) (moved (Rise n stamp inc) world)
 
 abbrev pub EachRises : Type 0
 EachRises = (book : BookValue) (world : World) (n stamp inc : ℕ) → Lasts book → HoldsWorld book world → may_move world (Rise n stamp inc) ≡ true → RisesWell book world n stamp inc

@@ -198,7 +198,7 @@ lasts_tx_ok book entry =
     && (list_all (λ (e : Noted). inc_up_to book e.node e.inc) entry.1.noted && implied (is_commit entry.1.cell) (is_empty entry.1.crossed)))
 
 abbrev pub lasts_ok : BookValue → Bool
-lasts_ok book = list_all (lasts_tx_ok book) book.transactions && list_all (λ (state : machine.NodeValue). list_all (has_committed book) state.committed) book.nodes
+lasts_ok book = list_all (lasts_tx_ok book) book.transactions && list_all (λ (state : machine.NodeValue). list_all (has_committed book) state.committed && nat_le state.stopped book.place) book.nodes
 
 -- ---- a node, and the world
 

@@ -1,5 +1,5 @@
 use Rattle.qs_lawful.proofs.RiseKeeps.{keeps}
-use Rattle.qs_lawful.proofs.RisesWell.{rises_well}
+use Rattle.qs_lawful.proofs.RisesWhole.{rises_well}
 use Rattle.qs_lawful.proofs.lawful_worlds.restart_is_held.Goals as goal
 
 pub returns : goal.returns
