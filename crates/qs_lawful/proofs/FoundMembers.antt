@@ -112,7 +112,7 @@ self n = grind (arith, nat_tests)
 
 pub member_none : (tx : TransactionValue) (member : Member) (inc : ℕ) → part_of tx member inc ≡ no_part → HoldsMember tx member inc no_member
 member_none tx member inc none = record {
-  covers = subst (λ (p : Part). ((0 == p.served + p.found) || list_any (is_start member inc p.served 0) tx.starts) ≡ true) (sym none) refl;
+  covers = λ two. subst (λ (p : Part). ((0 == p.served + p.found) || list_any (is_start member inc p.served 0) tx.starts) ≡ true) (sym none) refl;
   voted = subst (λ (p : Part). p.voted ≤ p.served) (sym none) (grind (arith));
   votes = λ two. subst (λ (p : Part). HoldsVoter p no_member) (sym none) (record { covers = tt; is_due = refl });
   learns = λ told. subst (λ (p : Part). may_learn_still p ≡ rules.is_to_learn (class_of member.server.0) no_member) (sym none) (sym (unlearnt (class_of member.server.0)));
@@ -121,7 +121,7 @@ member_none tx member inc none = record {
 
 pub member_found : (tx : TransactionValue) (member : Member) (inc count : ℕ) (v : Prepared) → is_recoverable member.server.0 ≡ true → part_of tx member inc ≡ found_part v.covers count → HoldsMember tx member inc (member_as (Some v))
 member_found tx member inc count v kept is = record {
-  covers = subst (λ (p : Part). ((v.covers == p.served + p.found) || list_any (is_start member inc p.served v.covers) tx.starts) ≡ true) (sym is) (or_left (v.covers == 0 + v.covers) _ (grind (arith, nat_tests)));
+  covers = λ two. subst (λ (p : Part). ((v.covers == p.served + p.found) || list_any (is_start member inc p.served v.covers) tx.starts) ≡ true) (sym is) (or_left (v.covers == 0 + v.covers) _ (grind (arith, nat_tests)));
   voted = subst (λ (p : Part). p.voted ≤ p.served) (sym is) (grind (arith));
   votes = λ two. subst (λ (p : Part). HoldsVoter p (member_as (Some v))) (sym is) (record { covers = grind (arith); is_due = rw (self v.covers) refl });
   learns = λ told. subst (λ (p : Part). may_learn_still p ≡ rules.is_to_learn (class_of member.server.0) (member_as (Some v))) (sym is) (learn (three member.server.0 kept));
