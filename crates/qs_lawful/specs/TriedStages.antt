@@ -1,18 +1,17 @@
 -- What stands at each stage of a step, tried within the steps of whole runs: as the event came, after each rule of settling, and after each
 -- command that stayed open.
-use Rattle.std.specs.Prelude.{◌≡◌, ℕ, ◌+◌, ◌==◌, Bool, true, false, not, ◌&&◌, ◌||◌, List, [], ◌∷◌, ◌++◌, Option, Some, None, drop, fold, suc, take}
+use Rattle.std.specs.Prelude.{◌≡◌, ℕ, ◌==◌, Bool, true, false, not, ◌&&◌, ◌||◌, List, [], ◌∷◌, ◌++◌, Option, Some, None, drop, fold, suc, take}
 use Rattle.std.specs.Global.{Global}
 use Rattle.std.specs.List.{list_all}
 use Rattle.qs_base.specs.declared.identifiers.ClientNo.{ClientNo}
 use Rattle.qs_base.specs.declared.identifiers.NodeNo.{NodeNo}
-use Rattle.qs_base.specs.declared.identifiers.ServerNo.{ServerNo}
 use Rattle.qs_base.specs.declared.identifiers.Tid.{Tid}
 use Rattle.qs_machine.specs.Book.{BookValue}
 use Rattle.qs_machine.specs.Clauses.{note_text}
 use Rattle.qs_machine.specs.Lawful.{book_after}
 use Rattle.qs_machine.specs.Transaction.{TransactionValue, has_note, is_covering, may_learn_still, part_of, sent_in, sent_on}
 use Rattle.qs_ops.specs.Members.{class_of, is_two_phase}
-use Rattle.qs_step.specs.Settling.{due_tids, forget_rule, pass_rule, ready_rule, refuse_rule, settle, settle_tid, try}
+use Rattle.qs_step.specs.Settling.{due_tids, pass_rule, ready_rule, refuse_rule, settle, settle_tid, try}
 use Rattle.qs_step.specs.State.{NodeValue, Work}
 use Rattle.qs_step.specs.Step.{wait_on, waiting_clients}
 use Rattle.qs_step.specs.declared.event.Event.{Event}
