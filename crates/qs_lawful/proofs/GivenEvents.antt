@@ -1,26 +1,19 @@
 -- An event of a node of the world comes as it is given: from the next line of a client, the next message of a channel, or by itself.
-use Rattle.std.proofs.Common.{◌≡◌, ℕ, ◌==◌, Bool, true, false, List, [], ◌∷◌, Option, Some, None, zero, suc, refl, sym, ap, subst, ◌∙◌, arith, nat_lt}
+use Rattle.std.proofs.Common.{◌≡◌, ℕ, ◌==◌, Bool, true, false, Option, Some, None, zero, suc, refl, sym, ap, subst, ◌∙◌, arith, nat_lt}
 use Rattle.std.proofs.lemmas.Bool.Decides.{nat_tests}
 use Rattle.std.specs.List.{list_all}
 use Rattle.std.specs.Prelude.{◌&&◌, if◌then◌else◌}
-use Rattle.qs_ipc.specs.Ipc as ipc
 use Rattle.qs_journal.specs.declared.script_line.ScriptLine.{ScriptLine}
 use Rattle.qs_machine.specs.Book.{BookValue}
-use Rattle.qs_step.specs.Restarts.{begin_incarnation}
-use Rattle.qs_step.specs.Serving.{serve_next}
-use Rattle.qs_step.specs.State.{NodeValue, Work, work_on}
+use Rattle.qs_step.specs.State.{work_on}
 use Rattle.qs_step.specs.declared.event.Event.{Event}
 use Rattle.qs_step.specs.declared.event.Event.TheVariants as events
 use Rattle.qs_world.specs.Moves.{Source, Commanded, Handed, Queues, Clock, Noticed, command_of, event_of, has_begun, node_no}
 use Rattle.qs_world.specs.Openings.{IsOpening, are_rising, each_below, is_line, is_script, labels_begun}
 use Rattle.qs_world.specs.Posting.{next_line, next_parcel}
 use Rattle.qs_world.specs.World.{Opening, Parcel, World, known_of}
-use Rattle.qs_lawful.specs.Coming.{ComesLine, ComesTo}
-use Rattle.qs_lawful.specs.Given.{AtEach}
-use Rattle.qs_lawful.specs.NodeFacts.{AreYoung}
-use Rattle.qs_lawful.specs.Parcels.{HoldsChannels, HoldsWays, IsBetween}
-use Rattle.qs_lawful.specs.Scripts.{HoldsScripts}
-use Rattle.qs_lawful.specs.Standing.{CanCount}
+use Rattle.qs_lawful.specs.Coming.{ComesTo}
+use Rattle.qs_lawful.specs.Parcels.{IsBetween}
 use Rattle.qs_lawful.specs.WorldGives.{WorldGives}
 use Rattle.qs_lawful.proofs.GivenByWorld.{line_comes, message_between, message_comes}
 use Rattle.qs_lawful.proofs.Truths.{left_true, number_is, of_some, right_true}

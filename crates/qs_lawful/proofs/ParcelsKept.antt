@@ -1,12 +1,12 @@
 -- What channels hold is so after each thing that happens to them, where what is new in them is so.
-use Rattle.std.proofs.Common.{◌≡◌, ℕ, ◌==◌, ◌≤◌, Bool, true, false, List, [], ◌∷◌, ◌++◌, fold, refl, sym, subst, arith}
-use Rattle.std.specs.Prelude.{⊤, if◌then◌else◌}
+use Rattle.std.proofs.Common.{◌≡◌, ℕ, ◌==◌, ◌≤◌, Bool, true, false, List, [], ◌∷◌, ◌++◌, refl, sym, subst, arith}
+use Rattle.std.specs.Prelude.{if◌then◌else◌}
 use Rattle.qs_channels.specs.Channels as channel
 use Rattle.qs_channels.specs.Channels.{Channels, with_at4}
 use Rattle.qs_channels.specs.Network.{with_at, with_at2}
 use Rattle.qs_machine.specs.Book.{BookValue}
 use Rattle.qs_step.specs.declared.event.Sending.{Sending}
-use Rattle.qs_world.specs.Posting.{post_all, post_move, post_next}
+use Rattle.qs_world.specs.Posting.{post_all, post_next}
 use Rattle.qs_world.specs.World.{Parcel}
 use Rattle.qs_lawful.specs.Logs.{Every}
 use Rattle.qs_lawful.specs.Parcels.{FitsChannels, HoldsChannels, IsParcel}

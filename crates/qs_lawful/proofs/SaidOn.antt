@@ -1,23 +1,19 @@
 -- Each act leaves what was said of a transaction: it stays in the machine, it stays asked for commit, and the votes against it stay.
-use Rattle.std.proofs.Common.{◌≡◌, ℕ, ◌==◌, ◌++◌, [], ◌∷◌, Bool, true, false, List, Option, Some, None, refl, ap, subst, sym, inl, inr, ◌∙◌, fold, append_assoc, if◌then◌else◌, nat_lt}
+use Rattle.std.proofs.Common.{◌≡◌, ℕ, [], ◌∷◌, Bool, true, false, List, Option, Some, None, refl, ap, subst, sym, inl, inr, ◌∙◌, fold, if◌then◌else◌}
 use Rattle.std.proofs.lemmas.List.Folds.{list_any-append}
 use Rattle.std.specs.BTreeMap.{is_at}
 use Rattle.std.specs.List.{list_any}
 use Rattle.std.specs.Map.{lookup, set_value}
-use Rattle.std.specs.Option.{option_map}
-use Rattle.std.specs.Prelude.{◌||◌, ◌&&◌, is_some, slice_get, ⊤}
-use Rattle.std.specs.declared.cmp.Ordering.TheVariants.{Less, Equal, Greater}
+use Rattle.std.specs.Prelude.{is_some, slice_get, ⊤}
 use Rattle.qs_base.proofs.TidOrder.{tid_exact}
 use Rattle.qs_base.specs.Order.{tid_cmp}
 use Rattle.qs_base.specs.declared.identifiers.ClientNo.{ClientNo}
 use Rattle.qs_base.specs.declared.identifiers.Member.{Member}
-use Rattle.qs_base.specs.declared.identifiers.NodeNo.{NodeNo}
 use Rattle.qs_base.specs.declared.identifiers.Outcome.{Outcome}
 use Rattle.qs_base.specs.declared.identifiers.Outcome.TheVariants as outcomes
 use Rattle.qs_base.specs.declared.identifiers.Tid.{Tid}
 use Rattle.qs_journal.specs.declared.entry.Act.{Act}
 use Rattle.qs_journal.specs.declared.entry.Act.TheVariants as acts
-use Rattle.qs_journal.specs.declared.entry.Entry.{Entry}
 use Rattle.qs_journal.specs.declared.entry.Found.{Found}
 use Rattle.qs_ops.specs.Servers.{audit_no, extra_no, files_no, is_client_no}
 use Rattle.qs_ops.specs.declared.answer.Cause.{Cause}
@@ -31,7 +27,6 @@ use Rattle.qs_machine.specs.Clauses.{borrower_at, link_to}
 use Rattle.qs_machine.specs.Lawful.{effect_act}
 use Rattle.qs_machine.specs.Restart.{abort_begun, begun_at, begun_tid, commit_found, count_of, is_among, is_open_here, learn_found, member_at, put_new_votes, record_at, restart, restart_found, up_to, vote_found}
 use Rattle.qs_machine.specs.Transaction.{TransactionValue, decided_at, found_at, has_refusal, is_refusal, issued, learnt, voted, with_learnt}
-use Rattle.qs_machine.specs.declared.state.Asking.{Asking}
 use Rattle.qs_machine.specs.declared.transaction.Request.{Request}
 use Rattle.qs_machine.specs.declared.transaction.RequestNo.{RequestNo}
 use Rattle.qs_laws.proofs.Maps.{Either, changed_either, lookup_put_apart}

@@ -1,5 +1,5 @@
 -- What a message says is so for good, through every lawful history: what it says of the cell, of votes and of what stood open stays.
-use Rattle.std.proofs.Common.{◌≡◌, ℕ, ◌==◌, ◌++◌, [], ◌∷◌, Bool, true, false, List, Option, Some, None, ◌≤◌, length, zero, suc, arith, refl, ap, subst, sym, ◌∙◌, append_assoc}
+use Rattle.std.proofs.Common.{◌≡◌, ℕ, ◌==◌, ◌++◌, [], ◌∷◌, Bool, true, false, List, Option, Some, None, ◌≤◌, length, zero, suc, arith, refl, ap, sym, ◌∙◌, append_assoc}
 use Rattle.std.proofs.lemmas.List.Folds.{list_any-append}
 use Rattle.std.proofs.lemmas.Option.{slice_get_within}
 use Rattle.std.specs.List.{list_any}
@@ -19,13 +19,13 @@ use Rattle.qs_laws.proofs.Openings.{opening_holds}
 use Rattle.qs_laws.proofs.Outcomes.{Inv}
 use Rattle.qs_laws.proofs.Steps.{after_both, held, ran, stepped}
 use Rattle.qs_laws.specs.Laws.{IsCoherent}
-use Rattle.qs_laws.specs.Gone.{IsGone, restarts_beyond, restarts_into}
+use Rattle.qs_laws.specs.Gone.{IsGone, restarts_into}
 use Rattle.qs_machine.specs.Book.{BookValue, cell_of_transaction, find_transaction, inc_at}
 use Rattle.qs_machine.specs.Clauses.{is_gone_cause}
 use Rattle.qs_machine.specs.Lawful.{IsLawful, book_after, broken, broken_at, effect, is_in_order}
 use Rattle.qs_machine.specs.Nodes.{NodeValue}
 use Rattle.qs_machine.specs.Opening.{opening}
-use Rattle.qs_machine.specs.Transaction.{TransactionValue, cell_of, is_open}
+use Rattle.qs_machine.specs.Transaction.{TransactionValue, is_open}
 use Rattle.qs_machine.specs.declared.opened.Opened.{Opened}
 use Rattle.qs_machine.specs.declared.transaction.Cell.{Cell}
 use Rattle.qs_machine.specs.declared.transaction.Cell.TheVariants as cells
@@ -34,11 +34,11 @@ use Rattle.qs_ops.specs.declared.answer.Cause.TheVariants as causes
 use Rattle.qs_packet.specs.declared.message.Message.{Message}
 use Rattle.qs_packet.specs.declared.message.Message.TheVariants as messages
 use Rattle.qs_lawful.specs.Beside.{IsTrueCause}
-use Rattle.qs_lawful.specs.Logged.{HasAborted, HasOutcome}
+use Rattle.qs_lawful.specs.Logged.{HasOutcome}
 use Rattle.qs_channels.specs.Channels.{Channels}
 use Rattle.qs_world.specs.World.{Parcel}
 use Rattle.qs_lawful.proofs.ParcelsKept.{channels_later}
-use Rattle.qs_lawful.specs.Parcels.{HoldsChannels, IsAsked, IsSaid, IsThere}
+use Rattle.qs_lawful.specs.Parcels.{HoldsChannels, IsSaid, IsThere}
 use Rattle.qs_lawful.proofs.LogActs.{fresh}
 use Rattle.qs_lawful.proofs.SaidOn.{HasSaidMore, IsNew, SaidOn, acted_said, said_self, said_then}
 use Rattle.qs_lawful.proofs.Truths.{of_some}

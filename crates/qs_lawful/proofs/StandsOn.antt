@@ -1,14 +1,9 @@
 -- What stands at each stage of a step stands on: the node's setting and its own facts, and what the homes have, by themselves; the rest as given.
 use Rattle.std.proofs.Common.{◌≡◌, ℕ, refl, ap, sym, subst, ◌∙◌}
-use Rattle.qs_base.specs.declared.identifiers.ClientNo.{ClientNo}
 use Rattle.qs_base.specs.declared.identifiers.Outcome.TheVariants as outcomes
-use Rattle.qs_base.specs.declared.identifiers.ServerNo.{ServerNo}
-use Rattle.qs_base.specs.declared.identifiers.Tid.{Tid}
 use Rattle.std.proofs.Common.{Some}
-use Rattle.std.specs.Prelude.{if◌then◌else◌}
 use Rattle.qs_machine.specs.Book.{BookValue}
 use Rattle.qs_ops.specs.declared.answer.Cause.TheVariants as causes
-use Rattle.qs_step.specs.Restarts.{begin_incarnation}
 use Rattle.qs_step.specs.Serving.{serve_next}
 use Rattle.qs_step.specs.Settling.{forget_rule, is_pass_due, pass_rule, ready_rule, refuse_rule, try}
 use Rattle.qs_step.specs.State.{NodeValue, Work, work_on}
@@ -18,7 +13,7 @@ use Rattle.qs_step.specs.Voting.{vote_pass}
 use Rattle.qs_step.specs.declared.event.Event.{Event}
 use Rattle.qs_step.specs.declared.setting.Setting.{Setting}
 use Rattle.qs_tm.specs.Participant.{is_forgotten}
-use Rattle.qs_lawful.specs.Entering.{HoldsWork, book_at}
+use Rattle.qs_lawful.specs.Entering.{HoldsWork}
 use Rattle.qs_lawful.specs.GivenStep.{MayStep, first_work}
 use Rattle.qs_lawful.specs.NodeFacts.{FitsEvent, HasNodeFacts}
 use Rattle.qs_lawful.specs.Standing.{HoldsHomes, KeepsStanding, Stands, StandsBy}

@@ -1,18 +1,17 @@
 -- What stands at each stage of a step, tried within the steps of whole runs: as the event came, after each rule of settling, and after each
 -- command that stayed open.
-use Rattle.std.specs.Prelude.{◌≡◌, ℕ, ◌+◌, ◌==◌, Bool, true, false, not, ◌&&◌, ◌||◌, List, [], ◌∷◌, ◌++◌, Option, Some, None, drop, fold, suc, take}
+use Rattle.std.specs.Prelude.{◌≡◌, ℕ, ◌==◌, Bool, true, false, not, ◌&&◌, ◌||◌, List, [], ◌∷◌, ◌++◌, Option, Some, None, drop, fold, suc, take}
 use Rattle.std.specs.Global.{Global}
 use Rattle.std.specs.List.{list_all}
 use Rattle.qs_base.specs.declared.identifiers.ClientNo.{ClientNo}
 use Rattle.qs_base.specs.declared.identifiers.NodeNo.{NodeNo}
-use Rattle.qs_base.specs.declared.identifiers.ServerNo.{ServerNo}
 use Rattle.qs_base.specs.declared.identifiers.Tid.{Tid}
 use Rattle.qs_machine.specs.Book.{BookValue}
 use Rattle.qs_machine.specs.Clauses.{note_text}
 use Rattle.qs_machine.specs.Lawful.{book_after}
 use Rattle.qs_machine.specs.Transaction.{TransactionValue, has_note, is_covering, may_learn_still, part_of, sent_in, sent_on}
 use Rattle.qs_ops.specs.Members.{class_of, is_two_phase}
-use Rattle.qs_step.specs.Settling.{due_tids, forget_rule, pass_rule, ready_rule, refuse_rule, settle, settle_tid, try}
+use Rattle.qs_step.specs.Settling.{due_tids, pass_rule, ready_rule, refuse_rule, settle, settle_tid, try}
 use Rattle.qs_step.specs.State.{NodeValue, Work}
 use Rattle.qs_step.specs.Step.{wait_on, waiting_clients}
 use Rattle.qs_step.specs.declared.event.Event.{Event}
@@ -89,8 +88,21 @@ next_test o world (Take n source ∷ more) = source_test o world n source
 abbrev pub within_ok : Opening → ℕ → ℕ → ℕ → Bool
 within_ok o clients first count = list_all (λ (n : ℕ). next_test o (fold make (start o) (take n (rounds_of o.size clients 9))) (drop n (rounds_of o.size clients 9))) (places_from first count)
 
+-- without its history a step fails
+abbrev blind_test : Opening → World → ℕ → Source → Bool
+blind_test o world n source = event_test (next_stamp world) (book_of o) (world.hosts n).node (event_of world n (next_stamp world) source)
+
+abbrev blind_next : Opening → World → List Stage → Bool
+blind_next o world [] = true
+blind_next o world (Know n m ∷ more) = true
+blind_next o world (Take n source ∷ more) = blind_test o world n source
+
+abbrev pub blind_ok : Opening → ℕ → ℕ → ℕ → Bool
+blind_ok o clients first count = list_all (λ (n : ℕ). blind_next o (fold make (start o) (take n (rounds_of o.size clients 9))) (drop n (rounds_of o.size clients 9))) (places_from first count)
+
 pub record TriedStages (alloc : Global) : Type 0 where
   pub early : within_ok (rich alloc) 3 0 60 ≡ true
   pub later : within_ok (rich alloc) 3 60 80 ≡ true
   pub two : within_ok (both alloc) 1 0 40 ≡ true
   pub timers : within_ok (timed alloc) 1 0 40 ≡ true
+  pub blind_fails : blind_ok (rich alloc) 3 100 6 ≡ false
