@@ -1,0 +1,189 @@
+-- What stands of a node after an event and after a restart: its log on the disk, and its setting.
+use Rattle.std.proofs.Common.{◌≡◌, ◌⊎◌, ◌∙◌, ◌≤◌, ap, subst, sym, refl, inl, inr, ℕ, Bool, List, [], ◌++◌}
+use Rattle.std.proofs.lemmas.List.{append-nil}
+use Rattle.std.specs.Prelude.{Result}
+use Rattle.std.specs.Global.{Global}
+use Rattle.qs_disk.specs.Disk.{DiskState, EachImage}
+use Rattle.qs_disk.specs.Fuse.{FusedValue}
+use Rattle.qs_disk.specs.Moments.{Keeps}
+use Rattle.qs_files.specs.declared.files.Files.{Files}
+use Rattle.qs_host.specs.Host.{HostValue, IsLogAfter, IsOldOrAfter}
+use Rattle.qs_incarnation.specs.Incarnation.{open_limit, IsRaisedLog, IsReopened, IsArmed, HasOneOf}
+use Rattle.qs_journal.specs.declared.script_line.Point.{Point}
+use Rattle.qs_lanes.specs.declared.ends.NodeEnds.{NodeEnds}
+use Rattle.qs_log.specs.Log.{LogValue, Stands, records_of}
+use Rattle.qs_record.specs.declared.record.Record.{Record}
+use Rattle.qs_restart.specs.declared.recovered.Recovered.{Recovered}
+use Rattle.qs_ops.specs.declared.no_server.NoServer.{NoServer}
+use Rattle.qs_step.specs.declared.event.ClientAnswer.{ClientAnswer}
+use Rattle.qs_step.specs.declared.event.Effects.{Effects}
+use Rattle.qs_step.specs.declared.setting.Setting.{Setting}
+use Rattle.qs_world.specs.Histories.{opened_with}
+use Rattle.qs_chronicle.specs.Carried.{Seen}
+use Rattle.qs_chronicle.specs.declared.occasion.Occasion.{Occasion}
+use Rattle.qs_cell.specs.Cell.{IsOutcome, IfStands, StandsAfter, out_of, disk_after}
+use Rattle.qs_cell.specs.Restart.{IsRestarted, IfUp, restarted_disk, found_in}
+use Rattle.qs_cell.specs.Starts.{IsSound, IsStarted, Begins, setting_in}
+use Rattle.qs_cell.specs.State.{Up, IsSeenAs, LogStands, IsAllowed, Restarts, state_of, answers_of, state_after, answer_after, carried_of, disk_of}
+use Rattle.qs_cell.specs.Visits.{Makes}
+use Rattle.qs_cell.specs.declared.running.Outcome.{Outcome}
+use Rattle.qs_cell.specs.declared.running.Outcome.TheVariants as outcomes
+use Rattle.qs_cell.specs.declared.starting.NodePlan.{NodePlan}
+use Rattle.qs_cell.specs.declared.state.NodeState.{NodeState}
+use Rattle.qs_cell.specs.declared.state.NodeState.TheVariants as states
+use Rattle.qs_cell.specs.declared.state.RestartFault.{RestartFault}
+use Rattle.qs_cell.specs.declared.stopped.Restarted.{Restarted}
+use Rattle.qs_cell.specs.declared.stopped.Restarted.TheVariants as restarts
+use Rattle.qs_cell.specs.declared.stopped.Stopped.{Stopped}
+
+-- ---- an event
+
+pub disk_made : {D : Type 0} (outcome : Outcome D Files NoServer) → disk_after outcome ≡ disk_of (state_of outcome)
+disk_made (outcomes.Whole running answers) = refl
+disk_made (outcomes.Followed stopped answers) = refl
+disk_made (outcomes.Replaced stopped) = refl
+disk_made (outcomes.CutOff stopped) = refl
+
+stands_whole : {D : Type 0} (out : Effects) (old new : LogValue (FusedValue D)) (s : DiskState) → IsLogAfter out old new → StandsAfter out old new.disk s → Stands new s
+stands_whole {D} out old new s is stands = subst (λ (log : LogValue (FusedValue D)). Stands log s) (sym is) stands
+
+pub stands_made : {D : Type 0} (state : D → DiskState) (own : D → ℕ) (size : ℕ) (occasion : Occasion) (old : Up D) (outcome : Outcome D Files NoServer)
+    → IsOutcome own size occasion old outcome
+    → IfStands outcome (λ disk. StandsAfter (out_of size occasion old) old.host.log disk (state disk.disk)) → LogStands state (state_of outcome)
+stands_made state own size occasion old (outcomes.Whole running answers) is stands =
+    stands_whole (out_of size occasion old) old.host.log running.host.log (state running.host.log.disk.disk) is.log stands
+stands_made state own size occasion old (outcomes.Followed stopped answers) is stands = tt
+stands_made state own size occasion old (outcomes.Replaced stopped) is stands = tt
+stands_made state own size occasion old (outcomes.CutOff stopped) is stands = tt
+
+pub setting_made : {D : Type 0} (own : D → ℕ) (size : ℕ) (occasion : Occasion) (old : Up D) (outcome : Outcome D Files NoServer)
+    → IsOutcome own size occasion old outcome → (carried_of (state_of outcome)).setting ≡ old.carried.setting
+setting_made own size occasion old (outcomes.Whole running answers) is = is.setting
+setting_made own size occasion old (outcomes.Followed stopped answers) is = is.setting
+setting_made own size occasion old (outcomes.Replaced stopped) is = is.setting
+setting_made own size occasion old (outcomes.CutOff stopped) is = is.setting
+
+pub makes_of : {D : Type 0} (told : Type 0) (state : D → DiskState) (own size : D → ℕ) (occasion : Occasion) (old : Up D) (outcome : Outcome D Files NoServer)
+    (new : NodeState D) (answers : List ClientAnswer) → IsOutcome own (size old.host.log.disk.disk) occasion old outcome → new ≡ state_of outcome
+    → answers ≡ answers_of outcome
+    → (told → Keeps (IsOldOrAfter (out_of (size old.host.log.disk.disk) occasion old) old.host.log) (state old.host.log.disk.disk) (state (disk_after outcome).disk))
+    → Makes told state own size occasion old new answers
+makes_of {D} told state own size occasion old outcome new answers is node said moments = record {
+  outcome = outcome;
+  is = is;
+  node = node;
+  said = said;
+  moments = λ yes. subst (λ (d : FusedValue D).
+      Keeps (IsOldOrAfter (out_of (size old.host.log.disk.disk) occasion old) old.host.log) (state old.host.log.disk.disk) (state d.disk))
+      (disk_made outcome ∙ ap (λ (n : NodeState D). disk_of n) (sym node)) (moments yes);
+}
+
+-- what is seen changes alone
+pub sound_seen : {D : Type 0} (told : Type 0) (state : D → DiskState) (f : Seen → Seen) (old new : NodeState D) → IsSeenAs f old new → IsSound told state old
+    → IsSound told state new
+sound_seen told state f (states.Up old) (states.Up new) is sound = record {
+  stands = λ yes. subst (λ h. Stands h.log (state h.log.disk.disk)) (sym is.0) (sound.stands yes);
+  allowed = record {
+    batch = subst (λ (s : Setting). s.extra ≤ 8) (sym is.1.1) sound.allowed.batch;
+    keep = subst (λ (s : Setting). s.keep ≤ 144) (sym is.1.1) sound.allowed.keep;
+  };
+}
+sound_seen told state f (states.Down old) (states.Down new) is sound = record {
+  stands = λ yes. tt;
+  allowed = record {
+    batch = subst (λ (s : Setting). s.extra ≤ 8) (sym is.1.1.1.1) sound.allowed.batch;
+    keep = subst (λ (s : Setting). s.keep ≤ 144) (sym is.1.1.1.1) sound.allowed.keep;
+  };
+}
+sound_seen told state f (states.Up old) (states.Down new) is sound = absurd is
+sound_seen told state f (states.Down old) (states.Up new) is sound = absurd is
+
+-- and so does what an event leaves
+pub sound_after : {D : Type 0} (told : Type 0) (state : D → DiskState) (old new : NodeState D) → (told → LogStands state new)
+    → (carried_of new).setting ≡ (carried_of old).setting → IsSound told state old → IsSound told state new
+sound_after told state old new stands setting sound = record {
+  stands = stands;
+  allowed = record {
+    batch = subst (λ (s : Setting). s.extra ≤ 8) (sym setting) sound.allowed.batch;
+    keep = subst (λ (s : Setting). s.keep ≤ 144) (sym setting) sound.allowed.keep;
+  };
+}
+
+-- ---- a start
+
+-- the disk of the log that it began over
+pub started_moments : {D : Type 0} (state : D → DiskState) (P : List ℕ → Type 0) (s : DiskState) (alloc : Global) (setting : Setting) (crashes : List ℕ) (points : List Point)
+    (log : LogValue (FusedValue D)) (running : Up D) → Begins alloc setting crashes points log running → Keeps P s (state log.disk.disk)
+    → Keeps P s (state running.host.log.disk.disk)
+started_moments {D} state P s alloc setting crashes points log running begins keeps =
+    subst (λ (l : LogValue (FusedValue D)). Keeps P s (state l.disk.disk)) (sym (ap (λ (h : HostValue (FusedValue D)). h.log) begins.host)) keeps
+
+pub started_of : {D : Type 0} (told : Type 0) (state : D → DiskState) (alloc : Global) (disk : D) (setting : Setting) (ends : List NodeEnds) (plan : NodePlan)
+    (log : LogValue (FusedValue D)) (running : Up D) (found : Recovered) → Begins alloc setting plan.crashes plan.points log running → found ≡ found_in log
+    → (told → IsRaisedLog open_limit (state disk).content log) → IsArmed plan.stops log.disk.fuse
+    → IsStarted told state alloc disk setting ends plan
+    (record { alloc = alloc; seat = record { node = states.Up running; ends = ends }; opened = opened_with running.carried.setting found })
+started_of {D} told state alloc disk setting ends plan log running found begins is raised armed =
+    let same : log ≡ running.host.log = sym (ap (λ (h : HostValue (FusedValue D)). h.log) begins.host) in
+    record {
+      running = running;
+      node = refl;
+      begins = subst (λ (l : LogValue (FusedValue D)). Begins alloc setting plan.crashes plan.points l running) same begins;
+      raised = λ yes. subst (λ (l : LogValue (FusedValue D)). IsRaisedLog open_limit (state disk).content l) same (raised yes);
+      armed = subst (λ (l : LogValue (FusedValue D)). IsArmed plan.stops l.disk.fuse) same armed;
+      lanes = refl;
+      opened = ap (λ (s : Setting). opened_with s found) begins.setting ∙ ap (opened_with (setting_in log setting)) is
+          ∙ ap (λ (l : LogValue (FusedValue D)). opened_with (setting_in l setting) (found_in l)) same;
+    }
+
+-- ---- a restart
+
+pub disk_restarted : {D : Type 0} (restarted : Restarted D Files NoServer) → restarted_disk restarted ≡ disk_of (state_after restarted)
+disk_restarted (restarts.Up running) = refl
+disk_restarted (restarts.Down stopped why) = refl
+
+pub if_up : {D F X : Type 0} (restarted : Restarted D F X) (P : LogValue (FusedValue D) → Type 0) (log : LogValue (FusedValue D)) → IfUp restarted (λ new. new ≡ log)
+    → P log → IfUp restarted P
+if_up (restarts.Up running) P log is p = subst P (sym is) p
+if_up (restarts.Down stopped why) P log is p = tt
+
+pub found_all : {D : Type 0} (log : LogValue (FusedValue D)) (P : List Record → List Record → Type 0) → log.waiting ≡ []
+    → ((a b : List Record) → P a b → (log.forced ≡ a) ⊎ (log.forced ≡ b)) → (a b : List Record) → P a b → (records_of log ≡ a) ⊎ (records_of log ≡ b)
+found_all log P none found a b p = elim (found a b p) [ inl left ↦ inl (all ∙ left) | inr right ↦ inr (all ∙ right) ]
+  where
+    all : records_of log ≡ log.forced
+    all = ap (λ (waiting : List Record). log.forced ++ waiting) none ∙ append-nil log.forced
+
+pub restarts_of : {D : Type 0} (told : Type 0) (state : D → DiskState) (own : D → ℕ) (alloc : Global) (old : Stopped D) (restarted : Restarted D Files NoServer)
+    (new : NodeState D) (answer : Result Bool RestartFault) → IsRestarted own alloc old restarted → new ≡ state_after restarted → answer ≡ answer_after restarted
+    → (told → IfUp restarted (IsReopened (state old.disk.disk)))
+    → (told → IfUp restarted (λ log. (a b : List Record) → EachImage (HasOneOf a b) (state old.disk.disk).now → (records_of log ≡ a) ⊎ (records_of log ≡ b)))
+    → (told → (a b : List Record) → EachImage (HasOneOf a b) (state old.disk.disk).now
+    → Keeps (HasOneOf a b) (state old.disk.disk) (state (restarted_disk restarted).disk))
+    → Restarts told state own alloc old new answer
+restarts_of {D} told state own alloc old restarted new answer is node said reopened found moments = record {
+  restarted = restarted;
+  is = is;
+  node = node;
+  said = said;
+  reopened = reopened;
+  found = found;
+  moments = λ yes a b here. subst (λ (d : FusedValue D). Keeps (HasOneOf a b) (state old.disk.disk) (state d.disk))
+      (disk_restarted restarted ∙ ap (λ (n : NodeState D). disk_of n) (sym node)) (moments yes a b here);
+}
+
+pub stands_restarted : {D : Type 0} (state : D → DiskState) (restarted : Restarted D Files NoServer) → IfUp restarted (λ log. Stands log (state log.disk.disk))
+    → LogStands state (state_after restarted)
+stands_restarted state (restarts.Up running) stands = stands
+stands_restarted state (restarts.Down stopped why) stands = tt
+
+pub allowed_restarted : {D : Type 0} (own : D → ℕ) (alloc : Global) (old : Stopped D) (restarted : Restarted D Files NoServer) → IsRestarted own alloc old restarted
+    → IsAllowed old.carried → IsAllowed (carried_of (state_after restarted))
+allowed_restarted own alloc old (restarts.Up running) is allowed = record {
+  batch = subst (λ (s : Setting). s.extra ≤ 8) (sym is.setting) allowed.batch;
+  keep = subst (λ (s : Setting). s.keep ≤ 144) (sym is.setting) allowed.keep;
+}
+allowed_restarted own alloc old (restarts.Down stopped why) is allowed = record {
+  batch = subst (λ (s : Setting). s.extra ≤ 8) (sym is.0.setting) allowed.batch;
+  keep = subst (λ (s : Setting). s.keep ≤ 144) (sym is.0.setting) allowed.keep;
+}

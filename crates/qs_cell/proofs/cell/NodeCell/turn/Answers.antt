@@ -1,0 +1,43 @@
+use Rattle.std.proofs.Common.{◌∙◌, ap, sym}
+use Rattle.qs_cell.proofs.Standing.{sound_seen, sound_after}
+use Rattle.qs_cell.proofs.Turning.{turn_none, turn_made, turn_broken, on_err_all, on_ok_map}
+use Rattle.qs_cell.proofs.cell.NodeCell.turn.Goals as goal
+
+pub invariant_of-self : goal.invariant_of-self
+invariant_of-self g c = sound_seen g.D.Disk.told g.D.Disk.state (λ s. s) c.self.inside.state c.make_room.new.self c.make_room.ensures.same c.self.invariant
+
+pub invariant_of-self-in_err-occasion : goal.invariant_of-self-in_err-occasion
+invariant_of-self-in_err-occasion g c =
+    sound_seen g.D.Disk.told g.D.Disk.state (λ s. s) c.self.inside.state c.make_room.new.self c.make_room.ensures.same c.self.invariant
+
+pub invariant_of-self-in_default : goal.invariant_of-self-in_default
+invariant_of-self-in_default g c =
+    sound_seen g.D.Disk.told g.D.Disk.state (λ s. s) c.self.inside.state c.make_room.new.self c.make_room.ensures.same c.self.invariant
+
+pub returns-in_default-clause-turns : goal.returns-in_default-clause-turns
+returns-in_default-clause-turns g c =
+    turn_none g.D.Disk.told g.D.Disk.state g.D.Disk.fault_count g.D.Disk.byte_count c.args.source c.args.self.now.seat c.self.inside.state c.make_room.new.self c.self.inside.ends.items c.next.new.ends.items
+    (ap (λ cell. cell.seat) c.self.view_is) c.make_room.ensures.same (sym c.in_ok-occasion.ensures.due ∙ c.in_default.is) c.in_ok-occasion.ensures.left
+
+pub replace_with-answers-requires : goal.replace_with-answers-requires
+replace_with-answers-requires g c = (
+  (sound_seen g.D.Disk.told g.D.Disk.state (λ s. s) c.self.inside.state c.make_room.new.self c.make_room.ensures.same c.self.invariant).stands,
+  c.in_ok-make_room.ensures.room,
+)
+
+pub invariant_of-self-2 : goal.invariant_of-self-2
+invariant_of-self-2 g c =
+    sound_after g.D.Disk.told g.D.Disk.state c.make_room.new.self c.replace_with-answers.new.dest c.replace_with-answers.ensures.1.0 c.replace_with-answers.ensures.1.1
+    (sound_seen g.D.Disk.told g.D.Disk.state (λ s. s) c.self.inside.state c.make_room.new.self c.make_room.ensures.same c.self.invariant)
+
+pub returns-clause-turns : goal.returns-clause-turns
+returns-clause-turns g c = on_ok_map c.deliver_all.result c.deliver_all.ensures (λ after.
+    turn_made g.D.Disk.told g.D.Disk.state g.D.Disk.fault_count g.D.Disk.byte_count c.args.source c.in-Some.occasion c.args.self.now.seat c.self.inside.state c.make_room.new.self c.replace_with-answers.new.dest
+    c.self.inside.ends.items c.next.new.ends.items c.deliver_all.new.ends.items c.replace_with-answers.result (ap (λ cell. cell.seat) c.self.view_is)
+    c.make_room.ensures.same (sym c.in_ok-occasion.ensures.due ∙ c.in-Some.is) c.in_ok-occasion.ensures.left c.replace_with-answers.ensures.0 after)
+
+pub returns-clause-breaks : goal.returns-clause-breaks
+returns-clause-breaks g c = on_err_all c.deliver_all.result
+    (turn_broken g.D.Disk.told g.D.Disk.state g.D.Disk.fault_count g.D.Disk.byte_count c.args.source c.in-Some.occasion c.args.self.now.seat (record { node = c.replace_with-answers.new.dest; ends = c.deliver_all.new.ends.items })
+    c.self.inside.state c.make_room.new.self c.self.inside.ends.items c.replace_with-answers.result (ap (λ cell. cell.seat) c.self.view_is)
+    c.make_room.ensures.same (sym c.in_ok-occasion.ensures.due ∙ c.in-Some.is) c.replace_with-answers.ensures.0)

@@ -1,0 +1,9 @@
+use Rattle.std.proofs.Common.{◌≡◌, take}
+use Rattle.qs_cell.specs.Visits.{TurnsAll}
+use Rattle.qs_cell.proofs.cell.NodeCell.turn_each.Given as goal
+
+abbrev pub invariant-loop-source : goal.invariant-loop-source
+invariant-loop-source g l = record {
+  turns : TurnsAll g.D.Disk.told g.D.Disk.state g.D.Disk.fault_count g.D.Disk.byte_count (take l.source-index l.sources) l.initial.self.seat l.self.seat;
+  opened : l.self.opened ≡ l.initial.self.opened;
+}
