@@ -5,7 +5,7 @@ ghost use Rattle.qs_base.specs.Causes.{Rose};
 ghost use Rattle.qs_cell.specs.Starts.{IsStarted, started_disk, journal_of, trace_of};
 ghost use Rattle.qs_cell.specs.Restart.{in_round_as};
 ghost use Rattle.qs_cell.specs.State.{IsSeenAs, LogStands, IsAllowed, StartsAgain, carried_of, cause_of, disk_of, has_undecided, is_settled_node};
-ghost use Rattle.qs_cell.specs.Visits.{Turns, IsBroken, TurnsAll, TurnsSome, Visits, Breaks, sources_of, due, left_by, held_by, as_command, due_command, due_again, left_of, all_delivered, deliver, has_noted, is_noted, MakesIn};
+ghost use Rattle.qs_cell.specs.Visits.{Turns, IsBroken, TurnsAll, TurnsSome, Visits, Breaks, Grows, sources_of, due, left_by, held_by, as_command, due_command, due_again, left_of, all_delivered, deliver, has_noted, is_noted, MakesIn};
 ghost use Rattle.qs_chronicle.specs.Chronicle.{HasRoom};
 ghost use Rattle.qs_disk.specs.Moments.{Keeps};
 ghost use Rattle.qs_incarnation.specs.Incarnation.{open_limit, IsTouched};
@@ -129,6 +129,7 @@ impl<D: Disk> NodeCell<D> {
         ensures sent { IfOk result (λ visited. visited.sent ≡ false) }
         ensures noted { IfOk result (λ visited. visited.noted ≡ has_noted (journal_of self.old) (journal_of self.new)) }
         ensures breaks { OnErr result (Breaks D.told D.state D.fault_count D.byte_count self.old.seat self.new.seat) }
+        ensures grows { Grows (journal_of self.old) (journal_of self.new) }
         ensures opened { self.new.opened ≡ self.old.opened }
     {
         let before = self.journal().len();
@@ -199,6 +200,7 @@ impl<D: Disk> NodeCell<D> {
     /// the log is damaged; the node is still down then. A node that is up is left alone.
     pub fn restart(&mut self) -> Result<bool, RestartFault>
         ensures starts { StartsAgain D.told D.state D.fault_count self.old.alloc self.old.seat.node self.new.seat.node result }
+        ensures grows { Grows (journal_of self.old) (journal_of self.new) }
         ensures ends { self.new.seat.ends ≡ self.old.seat.ends }
         ensures opened { self.new.opened ≡ self.old.opened }
     {
