@@ -59,3 +59,4 @@ pub mod Begun
 pub mod Walks
 pub mod Tidy
 pub mod Steadies
+pub mod SteadyFacts
