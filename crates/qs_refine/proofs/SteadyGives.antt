@@ -1,5 +1,5 @@
 -- A world that is steady gives what is said of its nodes, and of a transaction that has not begun.
-use Rattle.std.proofs.Common.{◌≡◌, ◌≤◌, ◌&&◌, ◌||◌, not, Bool, true, false, List, [], ◌∷◌, Option, Some, None, is_some, refl, sym, subst, arith, nat_lt}
+use Rattle.std.proofs.Common.{ap, ◌≡◌, ◌≤◌, ◌&&◌, ◌||◌, not, Bool, true, false, List, [], ◌∷◌, Option, Some, None, is_some, refl, sym, subst, arith, nat_lt}
 use Rattle.std.proofs.lemmas.Bool.Decides.{nat_tests}
 use Rattle.std.specs.List.{list_all, list_any}
 use Rattle.qs_base.specs.Order.{same_tid}
@@ -12,9 +12,10 @@ use Rattle.qs_ipc.specs.Ipc as ipc
 use Rattle.qs_ipc.specs.Queue as queue
 use Rattle.qs_ipc.specs.Queue.{QueueValue}
 use Rattle.qs_kept.specs.Keeping.{is_outcome_of}
+use Rattle.qs_kept.specs.declared.kept.Decided.{Decided}
 use Rattle.qs_kept.specs.Loans.{is_standing_loan}
 use Rattle.qs_restart.specs.Recovery.{Prepared, recovery, names_transaction, is_of, is_untold_of}
-use Rattle.qs_step.specs.Answering.{was_committed}
+use Rattle.qs_step.specs.Answering.{kept_outcome, was_committed, is_kept_commit}
 use Rattle.qs_step.specs.State.{NodeValue}
 use Rattle.qs_tm.specs.Manager as tm
 use Rattle.qs_tm.specs.Outcomes.{is_abort}
@@ -45,37 +46,6 @@ unknown_of c node n tid off = by (tm.part_of tid node.manager) refl
     by : (o : Option Participant) → tm.part_of tid node.manager ≡ o → o ≡ None
     by None none = refl
     by (Some part) known = absurd (let past : c.past tid ≡ true = past_of c node n tid part known in cc (past, off))
-
-pub node_facts : SteadyNodeFacts
-node_facts world n steady low up = record {
-  kinds = tidy.kinds;
-  owned = tidy.crossed.owned;
-  commits = all_known (is_kept_part node) node.manager.known tidy.ordered (λ t part known. kept t part known (began_here node t) refl part.outcome refl);
-  queues = tidy.apart;
-  unknown = unknown_of c node tidy (tm.next_tid node.manager) (fresh_next c (stage_is world n low up steady.seated) node tidy);
-  past = λ t here names number. past (tm.knows t node.manager) (was_committed t node) (began_here node t) (tidy.crossed.pasts t here names number);
-}
-  where
-    c : Stage
-    c = stage_of world n
-
-    node : NodeValue
-    node = (world.hosts n).node
-
-    tidy : IsTidyNode c node
-    tidy = (steady.nodes n low).tidy
-
-    kept : (t : Tid) (part : Participant) → tm.part_of t node.manager ≡ Some part → (b : Bool) → began_here node t ≡ b → (o : Option Outcome) → part.outcome ≡ o → where_so (b && (is_some o && not (is_abort o))) (was_committed t node) ≡ true
-    kept t part known true here (Some outcomes.Commit) is = tidy.crossed.commits t part known here is
-    kept t part known true here (Some outcomes.Abort) is = refl
-    kept t part known true here None is = refl
-    kept t part known false here o is = refl
-
-    past : (a b h : Bool) → (a || b) ≡ true → where_so (h && not a) b ≡ true
-    past true b true is = refl
-    past true b false is = refl
-    past false b true is = is
-    past false b false is = refl
 
 pub superior_known : SteadySuperior
 superior_known world n m t part steady low known is = by part.engage.superior is (and_both (where_so part.asked (c.begun t)) _ (and_both (c.past t && same_flag part.engage.home (same_node t.home c.setting.node)) _ (part_read c (world.hosts n).node (steady.nodes n low).tidy t part known)).1).1
@@ -130,6 +100,46 @@ module _ (tid : Tid) (past : Tid → Bool) (off : past tid ≡ false) where
           let it : t ≡ tid = same_is t tid same in
           let its : past t ≡ true = at (names_transaction t) (subst (λ (u : Tid). names_transaction u ≡ true) (sym it) names) is in
           let here : past tid ≡ true = subst (λ (u : Tid). past u ≡ true) it its in cc (here, off))
+
+pub node_facts : SteadyNodeFacts
+node_facts world n steady low up = record {
+  kinds = tidy.kinds;
+  owned = tidy.crossed.owned;
+  commits = all_known (is_kept_part node) node.manager.known tidy.ordered (λ t part known. kept t part known (began_here node t) refl part.outcome refl);
+  queues = tidy.apart;
+  unknown = unknown_of c node tidy (tm.next_tid node.manager) new;
+  fresh = neither_of (is_kept_commit (kept_outcome (tm.next_tid node.manager) node)) (list_any (same_tid (tm.next_tid node.manager)) node.committed)
+      (ap (λ (o : Option Decided). is_kept_commit o) (none_found (is_outcome_of (tm.next_tid node.manager)) (is_tidy_outcome c) (λ d its. other (tm.next_tid node.manager) c.past new d.tid (and_both (c.past d.tid) _ its).0) node.kept.now.outcomes tidy.outcomes))
+      (none_any (same_tid (tm.next_tid node.manager)) c.past (λ t its. other (tm.next_tid node.manager) c.past new t its) node.committed tidy.committed);
+  past = λ t here names number. past (tm.knows t node.manager) (was_committed t node) (began_here node t) (tidy.crossed.pasts t here names number);
+}
+  where
+    c : Stage
+    c = stage_of world n
+
+    node : NodeValue
+    node = (world.hosts n).node
+
+    tidy : IsTidyNode c node
+    tidy = (steady.nodes n low).tidy
+
+    new : c.past (tm.next_tid node.manager) ≡ false
+    new = fresh_next c (stage_is world n low up steady.seated) node tidy
+
+    neither_of : (a b : Bool) → a ≡ false → b ≡ false → (a || b) ≡ false
+    neither_of a b x y = rw (x, y) refl
+
+    kept : (t : Tid) (part : Participant) → tm.part_of t node.manager ≡ Some part → (b : Bool) → began_here node t ≡ b → (o : Option Outcome) → part.outcome ≡ o → where_so (b && (is_some o && not (is_abort o))) (was_committed t node) ≡ true
+    kept t part known true here (Some outcomes.Commit) is = tidy.crossed.commits t part known here is
+    kept t part known true here (Some outcomes.Abort) is = refl
+    kept t part known true here None is = refl
+    kept t part known false here o is = refl
+
+    past : (a b h : Bool) → (a || b) ≡ true → where_so (h && not a) b ≡ true
+    past true b true is = refl
+    past true b false is = refl
+    past false b true is = is
+    past false b false is = refl
 
 pub unbegun_unknown : UnbegunUnknown
 unbegun_unknown tid world n steady low names off = record {

@@ -126,5 +126,6 @@ accept_tidy e node n = record {
   outcomes = n.outcomes;
   commands = n.commands;
   kinds = n.kinds;
+  committed = n.committed;
   crossed = record { owned = n.crossed.owned; commits = n.crossed.commits; fresh = n.crossed.fresh; pasts = n.crossed.pasts };
 }

@@ -89,6 +89,7 @@ module _ (c : Stage) where
     outcomes = n.outcomes;
     commands = all;
     kinds = n.kinds;
+    committed = n.committed;
     crossed = record { owned = n.crossed.owned; commits = n.crossed.commits; fresh = n.crossed.fresh; pasts = n.crossed.pasts };
   }
 
@@ -139,6 +140,7 @@ module _ (c : Stage) where
     outcomes = t.node.outcomes;
     commands = t.node.commands;
     kinds = t.node.kinds;
+    committed = t.node.committed;
     crossed = record { owned = owned; commits = t.node.crossed.commits; fresh = t.node.crossed.fresh; pasts = t.node.crossed.pasts };
   }) t
 
@@ -202,6 +204,7 @@ module _ (c : Stage) where
     outcomes = t.node.outcomes;
     commands = t.node.commands;
     kinds = λ r below. ap number_of (kind_kept f same r work.node.servers server) ∙ t.node.kinds r below;
+    committed = t.node.committed;
     crossed = record { owned = t.node.crossed.owned; commits = t.node.crossed.commits; fresh = t.node.crossed.fresh; pasts = t.node.crossed.pasts };
   }) t
 
@@ -220,6 +223,7 @@ module _ (c : Stage) where
     outcomes = t.node.outcomes;
     commands = t.node.commands;
     kinds = t.node.kinds;
+    committed = t.node.committed;
     crossed = record { owned = t.node.crossed.owned; commits = t.node.crossed.commits; fresh = t.node.crossed.fresh; pasts = t.node.crossed.pasts };
   }) t
 

@@ -88,6 +88,7 @@ module _ (c : Stage) (node : NodeValue) (is : IsTidyNode c node) where
     outcomes = is.outcomes;
     commands = is.commands;
     kinds = is.kinds;
+    committed = is.committed;
     crossed = crossed_manager node m crosses is.crossed;
   }
 
@@ -221,6 +222,7 @@ module _ (c : Stage) (node : NodeValue) (is : IsTidyNode c node) where
     outcomes = all_last (is_tidy_outcome c) node.kept.now.outcomes (record { tid = tid; outcome = outcome; cause = cause }) is.outcomes homed;
     commands = is.commands;
     kinds = is.kinds;
+    committed = is.committed;
     crossed = crossed_decided node tid outcome cause (tm.decide tid outcome node.manager) change is.crossed;
   }
     where

@@ -213,6 +213,7 @@ module _ (c : Stage) (stage : IsStage c) (none : c.count ≡ 0) (alloc : Global)
     loans = loans;
     outcomes = tidy_outcomes;
     commands = refl;
+    committed = fits.committed;
     kinds = changes_kinds (in_doubt said) (opened_servers c.setting.quota (recovered_as said)) (opened_kinds c.setting.quota said);
     crossed = crossed;
   }

@@ -40,6 +40,7 @@ module _ (c : Stage) where
     outcomes = t.node.outcomes;
     commands = t.node.commands;
     kinds = t.node.kinds;
+    committed = t.node.committed;
     crossed = record { owned = t.node.crossed.owned; commits = t.node.crossed.commits; fresh = t.node.crossed.fresh; pasts = t.node.crossed.pasts };
   }) t
 

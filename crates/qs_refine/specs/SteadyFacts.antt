@@ -6,7 +6,7 @@ use Rattle.qs_base.specs.declared.identifiers.Tid.{Tid}
 use Rattle.qs_ipc.specs.Ipc as ipc
 use Rattle.qs_kept.specs.Loans.{is_standing_loan}
 use Rattle.qs_restart.specs.Recovery.{recovery, names_transaction, is_untold_of}
-use Rattle.qs_step.specs.Answering.{kept_outcome}
+use Rattle.qs_step.specs.Answering.{kept_outcome, was_committed}
 use Rattle.qs_step.specs.State.{NodeValue, work_on}
 use Rattle.qs_tm.specs.Manager as tm
 use Rattle.qs_tm.specs.declared.participant.Participant.{Participant}
@@ -27,6 +27,7 @@ pub record NodeFacts (node : NodeValue) : Type 0 where
   pub commits : keeps_commits node ≡ true  -- what it committed in this incarnation is kept as committed
   pub queues : are_servers_apart node.queues ≡ true  -- each server has one queue
   pub unknown : tm.part_of (tm.next_tid node.manager) node.manager ≡ None  -- the next number that it gives is new
+  pub fresh : was_committed (tm.next_tid node.manager) node ≡ false
   pub past : (t : Tid) → began_here node t ≡ true → names_transaction t ≡ true → t.seq ≤ node.manager.begun → is_past node t ≡ true  -- what began here, and is known no more, is committed
 
 abbrev pub SteadyNodeFacts : Type 0
