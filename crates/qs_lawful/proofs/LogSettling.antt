@@ -7,7 +7,7 @@ use Rattle.qs_base.specs.declared.identifiers.Outcome.TheVariants as outcomes
 use Rattle.qs_base.specs.declared.identifiers.ServerNo.{ServerNo}
 use Rattle.qs_base.specs.declared.identifiers.Tid.{Tid}
 use Rattle.qs_engage.specs.Engage.{release_of}
-use Rattle.qs_engage.specs.Nodes.{listed}
+use Rattle.qs_engage.specs.Nodes.{is_no_node, listed}
 use Rattle.qs_laws.proofs.Outcomes.{Inv}
 use Rattle.qs_machine.specs.Book.{BookValue}
 use Rattle.qs_ops.specs.Server.{vote_of}
@@ -184,7 +184,7 @@ module _ (stamp : ℕ) (before : BookValue) (i : Inv before) (disk waiting : Lis
       by true is = by_forget stamp before i disk waiting tid work (λ h q at prepared.
           let same : q ≡ part = of_some (sym at ∙ known) in
           let involved : part.involved ≡ true = (h.knows.parts tid part known).involved (ap (λ (p : Participant). p.log.prepared) (sym same) ∙ prepared) in
-          clash part.involved (uninvolved (is_undecided part) part.engage.home (is_none part.engage.superior) (only_read part) is) involved)
+          clash part.involved (uninvolved (is_undecided part) part.engage.home (is_none part.engage.superior) (is_no_node part.told && only_read part) is) involved)
         where
           clash : (b : Bool) → b ≡ false → b ≡ true → ⊥
           clash b e f = cc (sym e ∙ f)

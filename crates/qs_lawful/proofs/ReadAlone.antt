@@ -14,6 +14,7 @@ use Rattle.qs_ops.specs.Members.{class_of, is_two_phase}
 use Rattle.qs_step.specs.Settling.{forget_rule}
 use Rattle.qs_step.specs.State.{Work}
 use Rattle.qs_step.specs.Telling.{forget}
+use Rattle.qs_engage.specs.Nodes.{is_no_node}
 use Rattle.qs_tm.specs.Manager as tm
 use Rattle.qs_tm.specs.Members as rules
 use Rattle.qs_tm.specs.Members.{all_servers}
@@ -141,12 +142,13 @@ pub by_forget_rule : (stamp : ℕ) (before : BookValue) (tid : Tid) (work : Work
     → (is_forgotten part ≡ true → MayForget stamp before work tid) → HoldsWork stamp before (forget_rule tid part work)
 by_forget_rule stamp before tid work h part known unknown given = by (is_forgotten part) refl
   where
-    last : (a b c d e : Bool) → ((a && b) && ((c && d) && e)) ≡ true → e ≡ true
-    last true true true true e is = is
-    last true true true false e is = absurd (cc is)
-    last true true false d e is = absurd (cc is)
-    last true false c d e is = absurd (cc is)
-    last false b c d e is = absurd (cc is)
+    last : (a b c d t e : Bool) → ((a && b) && ((c && d) && (t && e))) ≡ true → e ≡ true
+    last true true true true true e is = is
+    last true true true true false e is = absurd (cc is)
+    last true true true false t e is = absurd (cc is)
+    last true true false d t e is = absurd (cc is)
+    last true false c d t e is = absurd (cc is)
+    last false b c d t e is = absurd (cc is)
 
     by : (b : Bool) → is_forgotten part ≡ b → HoldsWork stamp before (if b then forget tid work else work)
     by false is = h
@@ -156,4 +158,4 @@ by_forget_rule stamp before tid work h part known unknown given = by (is_forgott
         by_unheard stamp before work h tid may.once tx.0 tx.1
         (unheard_tid work.node.setting.node work.node.setting.inc tid tx.0 (face_of work.node tid) part
         (subst (λ (o : Option Participant). HoldsTid work.node.setting.node work.node.setting.inc tid tx.0 (record (face_of work.node tid) { known = o })) known (of_tid stamp (book_at stamp before work) work.node h.holds tid tx.0 tx.1))
-        (last (is_undecided part) (not part.engage.home) (is_none part.engage.superior) (not part.involved) (only_read part) is) unknown (may.read tx.0 tx.1) may.away)
+        (last (is_undecided part) (not part.engage.home) (is_none part.engage.superior) (not part.involved) (is_no_node part.told) (only_read part) is) unknown (may.read tx.0 tx.1) may.away)
