@@ -1,5 +1,5 @@
 -- What the logs of an opening hold is what the laws want of an opening.
-use Rattle.std.proofs.Common.{◌≡◌, ◌⊎◌, inl, inr, ℕ, ◌+◌, ◌<◌, ◌==◌, ◌&&◌, ◌||◌, ◌++◌, not, zero, suc, Bool, true, false, List, [], ◌∷◌, map, flat_map, Option, Some, None, fold, refl, sym, ap, subst, ◌∙◌, arith, if◌then◌else◌, nat_lt}
+use Rattle.std.proofs.Common.{◌≡◌, ℕ, ◌+◌, ◌<◌, ◌==◌, ◌&&◌, ◌||◌, not, zero, suc, Bool, true, false, List, [], ◌∷◌, map, flat_map, Option, Some, None, fold, refl, sym, ap, subst, arith, if◌then◌else◌, nat_lt}
 use Rattle.std.proofs.lemmas.Bool.Decides.{nat_tests}
 use Rattle.std.specs.Global.{Global}
 use Rattle.std.specs.Prelude.{slice_get}
@@ -14,7 +14,7 @@ use Rattle.qs_machine.specs.declared.opened.Pending.{Pending}
 use Rattle.qs_ops.specs.declared.operation.Op.{Op}
 use Rattle.qs_record.specs.declared.record.Record.{Record}
 use Rattle.qs_record.specs.declared.record.Record.TheVariants as records
-use Rattle.qs_restart.specs.Recovery.{Prepared, Recovery, ended, found_commit, found_record, is_in_doubt, is_of, is_vote_of, mark_committed, names_transaction, nothing_said, prepare_of, recovery, with_list}
+use Rattle.qs_restart.specs.Recovery.{Prepared, Recovery, found_record, is_in_doubt, is_of, is_vote_of, mark_committed, names_transaction, nothing_said, prepare_of, recovery, with_list}
 use Rattle.qs_step.specs.Opening.{recovered_of}
 use Rattle.qs_world.specs.Histories.{opened_from, opened_with, pending_of}
 use Rattle.qs_world.specs.Openings.{IsOpening, each_below, is_earlier, is_record}

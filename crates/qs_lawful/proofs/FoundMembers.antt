@@ -1,44 +1,23 @@
 -- A member of a node in a new incarnation: its vote was found, or it did nothing yet.
-use Rattle.std.proofs.Common.{◌≡◌, ◌≢◌, ◌⊎◌, inl, inr, ℕ, ◌<◌, ◌≤◌, ◌==◌, ◌+◌, ◌&&◌, ◌||◌, not, Bool, true, false, List, [], ◌∷◌, length, Option, Some, None, fold, refl, sym, ap, subst, ◌∙◌, arith, if◌then◌else◌, is_some, unwrap_or, nat_lt}
+use Rattle.std.proofs.Common.{◌≡◌, ◌⊎◌, inl, inr, ℕ, ◌≤◌, ◌==◌, ◌+◌, ◌&&◌, ◌||◌, Bool, true, false, List, [], ◌∷◌, Some, refl, sym, ap, subst, arith}
 use Rattle.std.proofs.lemmas.Bool.Decides.{nat_tests}
-use Rattle.std.specs.Global.{Global}
-use Rattle.std.specs.Prelude.{slice_get}
 use Rattle.std.specs.List.{filter, list_all, list_any}
-use Rattle.std.specs.Map.{lookup}
-use Rattle.std.specs.BTreeMap.{is_at}
-use Rattle.qs_base.specs.Order.{same_tid, tid_cmp}
+use Rattle.qs_base.specs.Order.{same_tid}
 use Rattle.qs_base.proofs.Same.{same_tid-true}
 use Rattle.qs_base.specs.declared.identifiers.Class.{Class}
 use Rattle.qs_base.specs.declared.identifiers.Class.TheVariants as classes
-use Rattle.qs_base.specs.declared.identifiers.ClientNo.{ClientNo}
 use Rattle.qs_base.specs.declared.identifiers.Member.{Member}
-use Rattle.qs_base.specs.declared.identifiers.NodeNo.{NodeNo}
-use Rattle.qs_base.specs.declared.identifiers.Outcome.{Outcome}
-use Rattle.qs_base.specs.declared.identifiers.Outcome.TheVariants as outcomes
-use Rattle.qs_base.specs.declared.identifiers.ServerNo.{ServerNo}
 use Rattle.qs_base.specs.declared.identifiers.Tid.{Tid}
-use Rattle.qs_engage.specs.Nodes.{same_node}
-use Rattle.qs_kept.specs.declared.kept.Kept.{Kept}
-use Rattle.qs_kept.specs.declared.kept.Lent.{Lent}
-use Rattle.qs_machine.specs.Book.{BookValue, cell_of_transaction, find_transaction}
-use Rattle.qs_machine.specs.Clauses.{note_text}
-use Rattle.qs_machine.specs.Nodes as machine
 use Rattle.qs_machine.specs.Nodes.{is_recoverable}
-use Rattle.qs_machine.specs.Restart.{count_of, is_among, is_committed, member_at, record_at}
-use Rattle.qs_machine.specs.Transaction.{TransactionValue, borrower, found_part, has_note, is_abort, is_commit, is_covering, is_crossed, is_empty, is_open, is_outcome, is_standing, is_start, is_unanimous, learnt_abort, may_learn_still, no_part, part_of, requests_at, requests_in, sent_in, sent_on}
-use Rattle.qs_machine.specs.declared.transaction.Cell.{Cell}
-use Rattle.qs_machine.specs.declared.transaction.Cell.TheVariants as cells
+use Rattle.qs_machine.specs.Restart.{is_among}
+use Rattle.qs_machine.specs.Transaction.{TransactionValue, found_part, is_start, may_learn_still, no_part, part_of}
 use Rattle.qs_machine.specs.declared.transaction.Part.{Part}
-use Rattle.qs_machine.specs.declared.transaction.RequestNo.{RequestNo}
-use Rattle.qs_ops.specs.Members.{class_of, is_two_phase, learns_outcome}
-use Rattle.qs_ops.specs.Servers.{files_no}
-use Rattle.qs_restart.specs.Recovery.{Prepared, Recovery, is_in_doubt, names_transaction}
+use Rattle.qs_ops.specs.Members.{class_of}
+use Rattle.qs_restart.specs.Recovery.{Prepared}
 use Rattle.qs_tm.specs.Members as rules
 use Rattle.qs_tm.specs.Members.{no_member}
-use Rattle.qs_tm.specs.declared.members.MemberPart.{MemberPart}
-use Rattle.qs_lawful.specs.Doubtful.{doubt_at, is_doubt_at, member_as}
-use Rattle.qs_lawful.specs.Face.{at_server}
-use Rattle.qs_lawful.specs.Holds.{HoldsMember, HoldsVoter, is_kept}
+use Rattle.qs_lawful.specs.Doubtful.{member_as}
+use Rattle.qs_lawful.specs.Holds.{HoldsMember, HoldsVoter}
 use Rattle.qs_lawful.specs.Logs.{Every}
 
 -- ---- lists

@@ -1,55 +1,43 @@
 -- What a node has of each transaction as an incarnation of it begins is what the machine has of it, where that has nothing else of the
 -- incarnation.
-use Rattle.std.proofs.Common.{◌≡◌, ◌≢◌, ◌⊎◌, inl, inr, ℕ, ◌<◌, ◌≤◌, ◌==◌, ◌&&◌, not, Bool, true, false, List, [], ◌∷◌, length, map, Option, Some, None, fold, refl, sym, ap, subst, ◌∙◌, arith, is_some, nat_lt}
+use Rattle.std.proofs.Common.{◌≡◌, ◌⊎◌, inl, inr, ℕ, ◌<◌, ◌==◌, ◌&&◌, Bool, true, false, List, [], length, Option, Some, None, fold, refl, sym, ap, subst, ◌∙◌, arith, is_some, nat_lt}
 use Rattle.std.proofs.lemmas.Bool.Decides.{nat_tests}
 use Rattle.std.specs.Global.{Global}
-use Rattle.std.specs.Map.{lookup}
-use Rattle.std.specs.BTreeMap.{is_at}
-use Rattle.std.specs.Prelude.{slice_get}
-use Rattle.std.specs.List.{filter, list_all, list_any}
-use Rattle.qs_base.specs.Order.{member_cmp, same_tid}
+use Rattle.std.specs.List.{filter, list_all}
+use Rattle.qs_base.specs.Order.{same_tid}
 use Rattle.qs_base.proofs.Same.{same_tid-true}
 use Rattle.qs_base.specs.declared.identifiers.ClientNo.{ClientNo}
-use Rattle.qs_base.specs.declared.identifiers.Member.{Member}
 use Rattle.qs_base.specs.declared.identifiers.NodeNo.{NodeNo}
 use Rattle.qs_base.specs.declared.identifiers.Outcome.{Outcome}
 use Rattle.qs_base.specs.declared.identifiers.Outcome.TheVariants as outcomes
-use Rattle.qs_base.specs.declared.identifiers.ServerNo.{ServerNo}
 use Rattle.qs_base.specs.declared.identifiers.Tid.{Tid}
 use Rattle.qs_engage.specs.Nodes.{same_node}
 use Rattle.qs_kept.specs.declared.kept.Kept.{Kept}
 use Rattle.qs_kept.specs.declared.kept.Lent.{Lent}
 use Rattle.qs_machine.specs.Book.{BookValue, cell_of_transaction, find_transaction}
 use Rattle.qs_machine.specs.Clauses.{note_text}
-use Rattle.qs_machine.specs.Nodes as machine
 use Rattle.qs_machine.specs.Nodes.{is_recoverable}
-use Rattle.qs_machine.specs.Restart.{count_of, is_among, member_at, record_at}
-use Rattle.qs_machine.specs.Transaction.{TransactionValue, borrower, has_note, is_abort, is_commit, is_crossed, is_empty, is_open, is_outcome, is_standing, learnt_abort, no_part, part_of, requests_at, requests_in, sent_in, sent_on}
-use Rattle.qs_machine.specs.Transaction as transaction
+use Rattle.qs_machine.specs.Restart.{is_among, member_at}
+use Rattle.qs_machine.specs.Transaction.{TransactionValue, borrower, has_note, is_outcome, learnt_abort, no_part, part_of, sent_in, sent_on}
 use Rattle.qs_machine.specs.declared.transaction.Cell.{Cell}
 use Rattle.qs_machine.specs.declared.transaction.Cell.TheVariants as cells
 use Rattle.qs_machine.specs.declared.transaction.Part.{Part}
-use Rattle.qs_machine.specs.declared.transaction.Request.{Request}
-use Rattle.qs_machine.specs.declared.transaction.RequestNo.{RequestNo}
 use Rattle.qs_ops.specs.Server.{ServerValue}
 use Rattle.qs_ops.specs.Servers.{client_no, files_no}
 use Rattle.qs_ops.specs.Table.{applied, no_table, share_of}
-use Rattle.qs_ops.specs.declared.server.Kind.TheVariants as kinds
 use Rattle.qs_ops.specs.declared.share.Share.{Share}
-use Rattle.qs_restart.specs.Recovery.{Prepared, Recovery, is_in_doubt, names_transaction}
-use Rattle.qs_step.specs.Opening.{opened_manager, opened_node, opened_servers, recovered_as}
+use Rattle.qs_restart.specs.Recovery.{Prepared, Recovery, is_in_doubt}
+use Rattle.qs_step.specs.Opening.{opened_node, opened_servers, recovered_as}
 use Rattle.qs_step.specs.State.{NodeValue}
 use Rattle.qs_step.specs.declared.setting.Setting.{Setting}
-use Rattle.qs_tm.specs.Manager as tm
-use Rattle.qs_tm.specs.Members as rules
 use Rattle.qs_tm.specs.declared.participant.Participant.{Participant}
 use Rattle.qs_lawful.specs.Doubtful.{doubt_at, member_as, share_as}
-use Rattle.qs_lawful.specs.Face.{Face, IsEmpty, at_server, face_of, is_given_back, is_loan_here, is_loan_in}
-use Rattle.qs_lawful.specs.Holds.{HoldsAt, HoldsHome, HoldsMember, HoldsTid, is_kept}
+use Rattle.qs_lawful.specs.Face.{IsEmpty, at_server, face_of, is_given_back, is_loan_here, is_loan_in}
+use Rattle.qs_lawful.specs.Holds.{HoldsAt, HoldsMember, HoldsTid}
 use Rattle.qs_lawful.specs.Lasting.{StandsOnce}
-use Rattle.qs_lawful.specs.Logged.{HasAborted, HasCommitted, StandsIn}
-use Rattle.qs_lawful.specs.Logs.{Every, HoldsStopped}
-use Rattle.qs_lawful.specs.Waits.{AreFor, HoldsWaits, HoldsWaitsAt, is_idle, op_in, standing_ops}
+use Rattle.qs_lawful.specs.Logged.{HasAborted, HasCommitted}
+use Rattle.qs_lawful.specs.Logs.{Every}
+use Rattle.qs_lawful.specs.Waits.{HoldsWaits, HoldsWaitsAt, is_idle}
 use Rattle.qs_lawful.proofs.FoundMembers.{and_false, every_passed, left_false, none_pass}
 use Rattle.qs_lawful.proofs.LogFrames.{every_on}
 use Rattle.qs_lawful.proofs.Reopened.{IsReopened, doubt_is, manager_reopened, share_taken}

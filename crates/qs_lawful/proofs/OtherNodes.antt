@@ -1,13 +1,12 @@
 -- What another node does that changes no transaction and no owner leaves all that is held of a node, its log too, whether it runs or not.
-use Rattle.std.proofs.Common.{◌≡◌, ◌⊎◌, inl, inr, ℕ, ◌==◌, ◌&&◌, ◌||◌, ◌++◌, not, Bool, true, false, List, [], ◌∷◌, length, flat_map, Option, Some, None, fold, refl, sym, ap, subst, ◌∙◌, if◌then◌else◌, is_some}
+use Rattle.std.proofs.Common.{◌≡◌, ◌⊎◌, inl, inr, ℕ, ◌&&◌, ◌++◌, not, Bool, true, List, [], ◌∷◌, length, flat_map, Option, Some, None, fold, refl, sym, ap, subst, ◌∙◌, if◌then◌else◌}
 use Rattle.std.specs.Prelude.{slice_get}
 use Rattle.qs_base.specs.declared.identifiers.ClientNo.{ClientNo}
 use Rattle.qs_base.specs.declared.identifiers.Tid.{Tid}
-use Rattle.qs_journal.specs.declared.entry.Found.{Found}
 use Rattle.qs_kept.specs.declared.kept.Decided.{Decided}
-use Rattle.qs_machine.specs.Book.{BookValue, find_transaction}
+use Rattle.qs_machine.specs.Book.{BookValue}
 use Rattle.qs_machine.specs.Nodes as machine
-use Rattle.qs_machine.specs.Restart.{add_commit, changes_at, commits_found, has_record, is_among, new_vote, new_votes, new_votes_at, put_new_votes, record_at, with_votes}
+use Rattle.qs_machine.specs.Restart.{add_commit, changes_at, commits_found, has_record, is_among, new_votes, new_votes_at, record_at, with_votes}
 use Rattle.qs_machine.specs.declared.state.OnRecord.{OnRecord}
 use Rattle.qs_machine.specs.declared.state.Voter.{Voter}
 use Rattle.qs_laws.proofs.Maps.{changed_at_here}
@@ -20,8 +19,8 @@ use Rattle.qs_step.specs.State.{NodeValue}
 use Rattle.qs_tm.specs.declared.manager.Manager.{Manager}
 use Rattle.qs_world.specs.World.{Host}
 use Rattle.qs_lawful.specs.Holds.{HasEnded, Holds, HoldsClients, IsBehind, IsOwner, MayBeTold, is_next}
-use Rattle.qs_lawful.specs.Logged.{HoldsHost, HoldsLogged, Later, StandsIn}
-use Rattle.qs_lawful.specs.Logs.{Every, HoldsStopped, IsApplied, IsCutVote, IsVoteLogged, found_votes}
+use Rattle.qs_lawful.specs.Logged.{HoldsHost, HoldsLogged, Later}
+use Rattle.qs_lawful.specs.Logs.{HoldsStopped, IsCutVote, IsVoteLogged, found_votes}
 use Rattle.qs_lawful.specs.Said.{HoldsLeft, HoldsSaid, IsAsRecorded, IsMadeBy, IsRecorded, IsToBeRecorded, book_found}
 use Rattle.qs_lawful.specs.Worlds.{HoldsDown, HoldsNodeOf, HoldsUp}
 use Rattle.qs_lawful.proofs.LearntOn.{learnt_self}

@@ -1,5 +1,5 @@
 -- A restart of another node leaves what a node that is down will find as it restarts itself; and so all that is held of any other node.
-use Rattle.std.proofs.Common.{◌≡◌, ◌⊎◌, inl, inr, ℕ, ◌≤◌, ◌==◌, ◌&&◌, ◌||◌, ◌++◌, not, Bool, true, false, List, [], ◌∷◌, flat_map, Option, Some, None, fold, refl, sym, ap, subst, ◌∙◌, if◌then◌else◌, is_some}
+use Rattle.std.proofs.Common.{◌≡◌, ℕ, ◌≤◌, ◌==◌, ◌&&◌, ◌++◌, not, Bool, true, false, List, [], ◌∷◌, flat_map, Option, Some, None, fold, refl, sym, ap, subst, ◌∙◌, if◌then◌else◌}
 use Rattle.std.specs.Prelude.{slice_get}
 use Rattle.qs_base.specs.declared.identifiers.NodeNo.{NodeNo}
 use Rattle.qs_base.specs.declared.identifiers.Tid.{Tid}
@@ -7,7 +7,7 @@ use Rattle.qs_journal.specs.declared.entry.Found.{Found}
 use Rattle.qs_laws.proofs.Maps.{changed_at_here}
 use Rattle.qs_machine.specs.Book.{BookValue, find_transaction, pending_in}
 use Rattle.qs_machine.specs.Nodes as machine
-use Rattle.qs_machine.specs.Restart.{add_commit, changes_at, commits_found, could_vote, has_record, is_among, is_new_vote, is_on_record, member_at, new_vote, new_votes, record_at, vote_as_stopped, with_votes}
+use Rattle.qs_machine.specs.Restart.{add_commit, changes_at, commits_found, could_vote, has_record, is_among, is_new_vote, is_on_record, member_at, new_vote, new_votes, record_at, with_votes}
 use Rattle.qs_machine.specs.Transaction.{TransactionValue, part_of}
 use Rattle.qs_machine.specs.declared.state.OnRecord.{OnRecord}
 use Rattle.qs_machine.specs.declared.state.Voter.{Voter}
@@ -15,11 +15,11 @@ use Rattle.qs_machine.specs.declared.transaction.Part.{Part}
 use Rattle.qs_ops.specs.Servers.{audit_no, files_no}
 use Rattle.qs_ops.specs.Table.{applied}
 use Rattle.qs_ops.specs.declared.operation.Op.{Op}
-use Rattle.qs_restart.specs.Recovery.{Prepared, Recovery, recovery}
+use Rattle.qs_restart.specs.Recovery.{Recovery, recovery}
 use Rattle.qs_world.specs.World.{Host}
 use Rattle.qs_lawful.specs.Holds.{is_next}
 use Rattle.qs_lawful.specs.Logged.{StandsIn}
-use Rattle.qs_lawful.specs.Logs.{Every, found_votes}
+use Rattle.qs_lawful.specs.Logs.{found_votes}
 use Rattle.qs_lawful.specs.Said.{HoldsLeft, IsMadeBy, IsRecorded, IsToBeRecorded, IsUndone, book_found}
 use Rattle.qs_lawful.specs.Worlds.{HoldsDown, HoldsNodeOf, HoldsUp}
 use Rattle.qs_lawful.proofs.LogFrames.{every_on}

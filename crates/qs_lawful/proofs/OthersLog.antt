@@ -1,5 +1,5 @@
 -- A restart of another node leaves what the log of a node says, whether it runs or not, and what is kept for its clients.
-use Rattle.std.proofs.Common.{◌≡◌, ◌⊎◌, inl, inr, ℕ, ◌≤◌, ◌==◌, ◌&&◌, ◌||◌, ◌++◌, not, Bool, true, false, List, [], ◌∷◌, flat_map, Option, Some, None, fold, refl, sym, ap, subst, ◌∙◌, arith, if◌then◌else◌, is_some, nat_lt}
+use Rattle.std.proofs.Common.{◌≡◌, ◌⊎◌, inl, inr, ℕ, ◌≤◌, ◌==◌, ◌&&◌, ◌||◌, ◌++◌, not, Bool, true, false, List, Option, Some, None, refl, sym, ap, subst, ◌∙◌, arith, is_some, nat_lt}
 use Rattle.std.proofs.lemmas.Bool.Decides.{nat_tests}
 use Rattle.std.specs.Prelude.{slice_get}
 use Rattle.std.specs.List.{list_all}
@@ -14,21 +14,19 @@ use Rattle.qs_journal.specs.declared.entry.Found.{Found}
 use Rattle.qs_kept.specs.declared.kept.Kept.{Kept}
 use Rattle.qs_machine.specs.Book.{BookValue, cell_of_transaction, crossed_in, find_transaction}
 use Rattle.qs_machine.specs.Nodes as machine
-use Rattle.qs_machine.specs.Restart.{could_vote, is_among, is_committed, is_on_record, may_be_lost, member_at}
-use Rattle.qs_machine.specs.Transaction.{TransactionValue, agrees, all_served, has_learnt, is_abort, is_before, is_commit, is_covering, is_crossed, is_empty, is_open, is_unanimous, part_of, was_committed, was_crossed, was_in_commit}
-use Rattle.qs_machine.specs.Transaction as transaction
+use Rattle.qs_machine.specs.Restart.{could_vote, is_among, is_committed, may_be_lost, member_at}
+use Rattle.qs_machine.specs.Transaction.{TransactionValue, agrees, all_served, has_learnt, is_abort, is_before, is_commit, is_empty, is_open, is_unanimous, part_of, was_committed}
 use Rattle.qs_machine.specs.declared.state.Owner.{Owner}
 use Rattle.qs_machine.specs.declared.state.OnRecord.{OnRecord}
 use Rattle.qs_machine.specs.declared.state.Voter.{Voter}
 use Rattle.qs_machine.specs.declared.transaction.Cell.{Cell}
 use Rattle.qs_machine.specs.declared.transaction.Cell.TheVariants as cells
-use Rattle.qs_machine.specs.declared.transaction.Part.{Part}
 use Rattle.qs_record.specs.declared.record.Record.{Record}
 use Rattle.qs_restart.specs.Recovery.{Prepared, Recovery, names_transaction, recovery}
 use Rattle.qs_tm.specs.declared.manager.Manager.{Manager}
 use Rattle.qs_lawful.specs.Holds.{IsOwner}
-use Rattle.qs_lawful.specs.Logged.{HasCommitted, HoldsHost, HoldsLogged, IsNamed, Later, StandsIn}
-use Rattle.qs_lawful.specs.Logs.{Every, HoldsStopped, IsApplied, IsCommitLogged, IsCutVote, IsRecordKept, IsVoteLogged, found_of, found_votes}
+use Rattle.qs_lawful.specs.Logged.{HoldsHost, HoldsLogged, IsNamed, Later}
+use Rattle.qs_lawful.specs.Logs.{HoldsStopped, IsCommitLogged, IsCutVote, IsRecordKept, IsVoteLogged, found_of}
 use Rattle.qs_lawful.specs.Said.{HoldsSaid, IsAsRecorded, IsRecorded, IsUndone}
 use Rattle.qs_lawful.specs.Worlds.{HoldsKept, IsLeftOpen, IsLoanOf, IsOpenStill}
 use Rattle.qs_lawful.proofs.FoundMembers.{and_both}
@@ -37,7 +35,7 @@ use Rattle.qs_lawful.proofs.Marks.{knows_on, knows_self}
 use Rattle.qs_lawful.proofs.OthersRise.{lines, nodes_same}
 use Rattle.qs_lawful.proofs.RestartGoes.{Goes, IsElsewhere}
 use Rattle.qs_lawful.proofs.RestoredClients.{ended_still}
-use Rattle.qs_lawful.proofs.RestoredTid.{Restarts, aborted_stays, committed_stays, goes, new, none, was}
+use Rattle.qs_lawful.proofs.RestoredTid.{Restarts, aborted_stays, committed_stays, goes, new, none}
 
 module _ (book : BookValue) (risen : NodeNo) (stamp inc : ℕ) (log : Recovery) (state : machine.NodeValue) (r : Restarts book risen inc log state) (n : ℕ) (far : (n == risen.0) ≡ false) (near : (risen.0 == n) ≡ false) where
   abbrev now : BookValue

@@ -1,11 +1,10 @@
 -- A restart of another node leaves all that is held of a node that runs, and of its log.
-use Rattle.std.proofs.Common.{◌≡◌, ◌⊎◌, inl, inr, ℕ, ◌==◌, ◌&&◌, ◌||◌, ◌++◌, not, Bool, true, false, List, [], ◌∷◌, length, Option, Some, None, fold, refl, sym, ap, subst, ◌∙◌, if◌then◌else◌, is_some, nat_lt}
+use Rattle.std.proofs.Common.{◌≡◌, ◌⊎◌, inl, inr, ℕ, ◌==◌, not, Bool, true, false, List, [], ◌∷◌, Option, Some, None, fold, refl, sym, ap, subst, ◌∙◌, if◌then◌else◌, is_some, nat_lt}
 use Rattle.std.specs.Prelude.{slice_get}
 use Rattle.std.specs.Map.{lookup}
 use Rattle.std.specs.BTreeMap.{is_at}
 use Rattle.qs_base.specs.Order.{member_cmp}
 use Rattle.qs_base.specs.declared.identifiers.ClientNo.{ClientNo}
-use Rattle.qs_base.specs.declared.identifiers.Member.{Member}
 use Rattle.qs_base.specs.declared.identifiers.NodeNo.{NodeNo}
 use Rattle.qs_base.specs.declared.identifiers.Outcome.{Outcome}
 use Rattle.qs_base.specs.declared.identifiers.Outcome.TheVariants as outcomes
@@ -18,7 +17,7 @@ use Rattle.qs_laws.proofs.InRun.{ran_run}
 use Rattle.qs_machine.specs.Book.{BookValue, decide, find_transaction, owner_of, told, with_transaction}
 use Rattle.qs_machine.specs.Nodes as machine
 use Rattle.qs_machine.specs.Restart.{abort_begun, begun_tid, commit_found, count_of, is_among, is_open_here, learn_found, member_at, new_votes, put_new_votes, record_at, reopened, restarted_node, up_to, vote_found, with_votes}
-use Rattle.qs_machine.specs.Transaction.{TransactionValue, found_at, is_commit, is_crossed, is_empty, is_open, with_learnt}
+use Rattle.qs_machine.specs.Transaction.{TransactionValue, found_at, is_commit, is_empty, is_open, with_learnt}
 use Rattle.qs_machine.specs.declared.state.Owner.{Owner}
 use Rattle.qs_ops.specs.Servers.{audit_no, extra_no, files_no}
 use Rattle.qs_ops.specs.declared.answer.Cause.{Cause}
@@ -28,7 +27,7 @@ use Rattle.qs_step.specs.State.{NodeValue}
 use Rattle.qs_world.specs.Posting.{entry_of}
 use Rattle.qs_lawful.specs.Face.{face_of}
 use Rattle.qs_lawful.specs.Holds.{Holds, HoldsAt, HoldsClients, IsBehind, IsOwner, is_next}
-use Rattle.qs_lawful.specs.Logs.{Every, found_votes}
+use Rattle.qs_lawful.specs.Logs.{found_votes}
 use Rattle.qs_lawful.specs.Tables.{is_seen, seen_in}
 use Rattle.qs_lawful.specs.Waits.{HoldsWaitsAt}
 use Rattle.qs_lawful.proofs.CrossedTables.{servers_alike}

@@ -1,5 +1,5 @@
 -- A restart of another node leaves what is held of each transaction at a node.
-use Rattle.std.proofs.Common.{◌≡◌, ◌≢◌, ◌⊎◌, inl, inr, ℕ, ◌≤◌, ◌==◌, ◌&&◌, ◌||◌, not, Bool, true, false, List, [], ◌∷◌, length, map, Option, Some, None, refl, sym, ap, subst, ◌∙◌, is_some}
+use Rattle.std.proofs.Common.{◌≡◌, ℕ, ◌≤◌, ◌==◌, ◌||◌, not, Bool, true, false, List, length, map, refl, sym, ap, subst, ◌∙◌, is_some}
 use Rattle.std.specs.List.{filter, list_any}
 use Rattle.std.specs.Map.{lookup}
 use Rattle.std.specs.BTreeMap.{is_at}
@@ -26,7 +26,7 @@ use Rattle.qs_servers.specs.Servers.{ServersValue}
 use Rattle.qs_tm.specs.Members as rules
 use Rattle.qs_tm.specs.Participant.{member_of}
 use Rattle.qs_lawful.specs.Face.{Face, at_server, is_held, is_numbered, part_in}
-use Rattle.qs_lawful.specs.Holds.{HoldsHome, HoldsMember, HoldsTid}
+use Rattle.qs_lawful.specs.Holds.{HoldsHome, HoldsTid}
 use Rattle.qs_lawful.specs.Waits.{AreFor, HoldsWaits, IsWithin, op_in, waiting_ops}
 use Rattle.qs_lawful.proofs.Parts.{member_like}
 use Rattle.qs_lawful.proofs.RestartGoes.{Goes, IsElsewhere}

@@ -1,10 +1,8 @@
 -- What a node has of each transaction as an incarnation of it begins with what its log says.
-use Rattle.std.proofs.Common.{◌≡◌, ◌⊎◌, inl, inr, ℕ, ◌<◌, ◌==◌, ◌&&◌, not, zero, suc, replicate, Bool, true, false, List, [], ◌∷◌, ◌++◌, length, map, Option, Some, None, fold, refl, sym, ap, subst, ◌∙◌, arith, if◌then◌else◌, unwrap_or}
-use Rattle.std.proofs.lemmas.Bool.Decides.{nat_tests}
+use Rattle.std.proofs.Common.{◌≡◌, ◌⊎◌, inl, inr, ℕ, ◌<◌, ◌==◌, ◌&&◌, not, Bool, true, false, List, [], ◌∷◌, length, Option, Some, None, fold, refl, sym, ap, subst, ◌∙◌, if◌then◌else◌, unwrap_or}
 use Rattle.std.proofs.lemmas.List.Sums.{fold-append}
 use Rattle.std.specs.Global.{Global}
-use Rattle.std.specs.Prelude.{slice_index_or}
-use Rattle.std.specs.List.{filter, list_all}
+use Rattle.std.specs.List.{list_all}
 use Rattle.std.specs.Map.{lookup}
 use Rattle.std.specs.BTreeMap.{insert_entry, is_at}
 use Rattle.qs_base.specs.Order.{same_tid, tid_cmp}
@@ -22,13 +20,13 @@ use Rattle.qs_machine.specs.Restart.{is_among}
 use Rattle.qs_ops.specs.Table.{TableValue, kept, nothing_held, share_of}
 use Rattle.qs_ops.specs.declared.share.Share.{Share}
 use Rattle.qs_record.specs.declared.record.Record.{Record}
-use Rattle.qs_restart.specs.Recovery.{Prepared, Recovery, Untold, in_doubt, is_in_doubt, names_transaction, prepare_of, recovery, untold}
+use Rattle.qs_restart.specs.Recovery.{Prepared, Recovery, in_doubt, is_in_doubt, names_transaction, untold}
 use Rattle.qs_step.specs.Opening.{new_manager, opened_manager, recovered_as, take_up}
 use Rattle.qs_step.specs.declared.setting.Setting.{Setting}
 use Rattle.qs_tm.specs.Manager as tm
 use Rattle.qs_tm.specs.Members.{no_member}
 use Rattle.qs_tm.specs.Outcomes.{committed_before}
-use Rattle.qs_tm.specs.Participant.{member_of, new_participant}
+use Rattle.qs_tm.specs.Participant.{member_of}
 use Rattle.qs_tm.specs.declared.manager.Manager.{Manager}
 use Rattle.qs_tm.specs.declared.participant.Participant.{Participant}
 use Rattle.qs_lawful.specs.Doubtful.{doubt_at, is_doubt_at, last_doubt, member_as, share_as}
@@ -38,7 +36,7 @@ use Rattle.qs_lawful.proofs.Apart.{Apart, same_or_apart}
 use Rattle.qs_lawful.proofs.RestartTables.{take_changes}
 use Rattle.qs_lawful.proofs.RestartVotes.{IsSorted}
 use Rattle.qs_lawful.proofs.TakenCommits.{IsListed, IsTold, commits_taken}
-use Rattle.qs_lawful.proofs.TakenUp.{IsTaken, Taken, all_alike, node_taken, outcome_before, votes_known, votes_taken}
+use Rattle.qs_lawful.proofs.TakenUp.{Taken, all_alike, node_taken, outcome_before, votes_known, votes_taken}
 
 -- ---- what is in doubt is not committed
 

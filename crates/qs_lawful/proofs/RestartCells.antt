@@ -1,5 +1,5 @@
 -- What a restart decides: what its log has committed is committed, and of what began in the incarnation that ended the rest is aborted.
-use Rattle.std.proofs.Common.{◌≡◌, ◌≢◌, ◌⊎◌, inl, inr, ℕ, ◌==◌, ◌&&◌, ◌||◌, ◌≤◌, ◌++◌, zero, suc, Bool, true, false, List, [], ◌∷◌, Option, Some, None, fold, refl, sym, ap, subst, ◌∙◌, arith, if◌then◌else◌, is_some}
+use Rattle.std.proofs.Common.{◌≡◌, ◌⊎◌, inl, inr, ℕ, ◌==◌, ◌&&◌, ◌≤◌, zero, suc, Bool, true, false, List, [], ◌∷◌, Option, Some, None, fold, refl, sym, ap, subst, ◌∙◌, arith, if◌then◌else◌, is_some}
 use Rattle.std.proofs.lemmas.Bool.Decides.{nat_tests}
 use Rattle.std.proofs.lemmas.List.Sums.{fold-append}
 use Rattle.std.specs.Map.{lookup, set_value}
@@ -8,19 +8,16 @@ use Rattle.std.specs.BTreeMap.{is_at}
 use Rattle.qs_base.specs.Order.{same_tid, tid_cmp}
 use Rattle.qs_base.proofs.Same.{same_tid-true}
 use Rattle.qs_base.specs.declared.identifiers.Member.{Member}
-use Rattle.qs_base.specs.declared.identifiers.NodeNo.{NodeNo}
 use Rattle.qs_base.specs.declared.identifiers.Outcome.{Outcome}
 use Rattle.qs_base.specs.declared.identifiers.Outcome.TheVariants as outcomes
 use Rattle.qs_base.specs.declared.identifiers.Tid.{Tid}
-use Rattle.qs_laws.proofs.Alikes.{tid_itself}
 use Rattle.qs_laws.proofs.Maps.{changed_either, changed_none, lookup_changed}
 use Rattle.qs_machine.specs.Book.{BookValue, cell_of_transaction, decide, find_transaction, with_transaction}
 use Rattle.qs_machine.specs.Nodes as machine
 use Rattle.qs_machine.specs.Nodes.{is_recoverable}
-use Rattle.qs_machine.specs.Restart.{abort_begun, begun_tid, commit_found, decide_found, is_among, is_open_here, learn_found, member_at, record_at, up_to}
+use Rattle.qs_machine.specs.Restart.{abort_begun, begun_tid, commit_found, is_among, is_open_here, learn_found, member_at, record_at, up_to}
 use Rattle.qs_machine.specs.Transaction.{TransactionValue, cell_of, decided_at, has_learnt, is_open, with_learnt}
 use Rattle.qs_machine.specs.Transaction as transaction
-use Rattle.qs_machine.specs.declared.state.OnRecord.{OnRecord}
 use Rattle.qs_machine.specs.declared.transaction.Cell.{Cell}
 use Rattle.qs_machine.specs.declared.transaction.Cell.TheVariants as cells
 use Rattle.qs_ops.specs.Servers.{audit_no, extra_no, files_no}

@@ -1,6 +1,6 @@
 -- What a restart leaves of each transaction of the machine, and what it changes: members of its node learn commit, its votes are found, and
 -- what is open at its home is decided.
-use Rattle.std.proofs.Common.{◌≡◌, ◌≢◌, ◌⊎◌, inl, inr, ℕ, ◌==◌, ◌&&◌, Bool, true, false, List, [], ◌∷◌, Option, Some, None, fold, refl, sym, ap, subst, ◌∙◌, arith, if◌then◌else◌, unwrap_or, is_some}
+use Rattle.std.proofs.Common.{◌≡◌, ◌⊎◌, inl, inr, ℕ, ◌==◌, ◌&&◌, Bool, true, false, List, [], ◌∷◌, Option, Some, None, fold, refl, sym, ap, subst, ◌∙◌, arith, if◌then◌else◌, is_some}
 use Rattle.std.proofs.lemmas.Bool.Decides.{nat_tests}
 use Rattle.std.specs.List.{list_all}
 use Rattle.std.specs.Map.{lookup}
@@ -10,7 +10,6 @@ use Rattle.std.specs.declared.cmp.Ordering.{Ordering}
 use Rattle.std.specs.declared.cmp.Ordering.TheVariants.{Less, Equal, Greater}
 use Rattle.qs_base.specs.declared.identifiers.Class.{Class}
 use Rattle.qs_base.specs.declared.identifiers.Class.TheVariants as classes
-use Rattle.qs_base.specs.declared.identifiers.ClientNo.{ClientNo}
 use Rattle.qs_base.specs.declared.identifiers.Member.{Member}
 use Rattle.qs_base.specs.declared.identifiers.Outcome.{Outcome}
 use Rattle.qs_base.specs.declared.identifiers.Outcome.TheVariants as outcomes
@@ -18,20 +17,13 @@ use Rattle.qs_base.specs.declared.identifiers.Tid.{Tid}
 use Rattle.qs_journal.specs.declared.entry.Found.{Found}
 use Rattle.qs_laws.proofs.Maps.{changed_apart, changed_none, lookup_changed}
 use Rattle.qs_machine.specs.Book.{BookValue, decide, find_transaction, with_transaction}
-use Rattle.qs_machine.specs.Nodes as machine
 use Rattle.qs_machine.specs.Nodes.{is_recoverable}
-use Rattle.qs_machine.specs.Restart.{abort_begun, begun_tid, commit_found, count_of, decide_found, is_among, is_open_here, learn_found, member_at, record_at, vote_found}
+use Rattle.qs_machine.specs.Restart.{abort_begun, begun_tid, commit_found, count_of, is_among, is_open_here, learn_found, member_at, record_at, vote_found}
 use Rattle.qs_ops.specs.Members.{class_of}
 use Rattle.qs_machine.specs.Transaction.{TransactionValue, agrees, agrees_in, decided_at, found_at, has_learnt, is_open, life, part_of, with_learnt}
 use Rattle.qs_machine.specs.Transaction as transaction
-use Rattle.qs_machine.specs.declared.transaction.Cell.{Cell}
 use Rattle.qs_machine.specs.declared.transaction.Life.{Life}
-use Rattle.qs_machine.specs.declared.transaction.Link.{Link}
 use Rattle.qs_machine.specs.declared.transaction.Part.{Part}
-use Rattle.qs_machine.specs.declared.transaction.Noted.{Noted}
-use Rattle.qs_machine.specs.declared.transaction.Request.{Request}
-use Rattle.qs_machine.specs.declared.transaction.RequestNo.{RequestNo}
-use Rattle.qs_machine.specs.declared.transaction.Sent.{Sent}
 use Rattle.qs_ops.specs.Servers.{audit_no, extra_no, files_no}
 use Rattle.qs_ops.specs.declared.answer.Cause.{Cause}
 use Rattle.qs_lawful.specs.Logs.{Every}

@@ -1,5 +1,5 @@
 -- What is in doubt in a log is pending again at files and audit of the node, and at the machine's tables of them where it is not crossed.
-use Rattle.std.proofs.Common.{◌≡◌, ℕ, ◌==◌, ◌&&◌, ◌||◌, not, Bool, true, false, List, [], ◌∷◌, ◌++◌, map, flat_map, Option, Some, None, fold, refl, sym, ap, subst, ◌∙◌, arith, if◌then◌else◌}
+use Rattle.std.proofs.Common.{◌≡◌, ℕ, ◌==◌, ◌&&◌, ◌||◌, not, Bool, true, false, List, [], ◌∷◌, map, flat_map, fold, refl, sym, ap, subst, ◌∙◌, arith, if◌then◌else◌}
 use Rattle.std.proofs.lemmas.Bool.Decides.{nat_tests}
 use Rattle.std.proofs.lemmas.List.Sums.{fold-append}
 use Rattle.std.specs.List.{filter, list_all}
@@ -13,7 +13,6 @@ use Rattle.qs_ops.specs.Table.{TableValue, kept}
 use Rattle.qs_ops.specs.declared.operation.Op.{Op}
 use Rattle.qs_ops.specs.declared.server.Kind.TheVariants as kinds
 use Rattle.qs_ops.specs.declared.share.Kept.{Kept}
-use Rattle.qs_record.specs.declared.record.Record.TheVariants as records
 use Rattle.qs_restart.specs.Recovery.{Prepared, is_in_doubt, names_transaction, open_vote, prepare_of}
 use Rattle.qs_servers.specs.Servers.{ServersValue}
 use Rattle.qs_step.specs.Opening.{keep_changes}

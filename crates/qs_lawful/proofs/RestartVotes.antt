@@ -3,11 +3,9 @@ use Rattle.std.proofs.Common.{◌≡◌, ◌≢◌, ◌⊎◌, inl, inr, ℕ, �
 use Rattle.std.proofs.lemmas.Bool.Decides.{nat_tests}
 use Rattle.std.specs.List.{filter}
 use Rattle.std.specs.Prelude.{slice_get}
-use Rattle.std.specs.Map.{lookup}
-use Rattle.std.specs.BTreeMap.{insert_entry, is_at}
+use Rattle.std.specs.BTreeMap.{is_at}
 use Rattle.qs_base.specs.Order.{same_tid, tid_cmp}
 use Rattle.qs_base.proofs.Same.{same_tid-self}
-use Rattle.qs_base.specs.declared.identifiers.Member.{Member}
 use Rattle.qs_base.specs.declared.identifiers.Tid.{Tid}
 use Rattle.qs_laws.proofs.Maps.{changed_apart, changed_none, lookup_changed, lookup_put}
 use Rattle.qs_machine.specs.Book.{BookValue, find_transaction, with_transaction}
@@ -17,9 +15,9 @@ use Rattle.qs_machine.specs.Transaction.{TransactionValue, found_at, found_part,
 use Rattle.qs_machine.specs.Transaction as transaction
 use Rattle.qs_machine.specs.declared.transaction.Life.{Life}
 use Rattle.qs_machine.specs.declared.transaction.Part.{Part}
-use Rattle.qs_restart.specs.Recovery.{Prepared, is_in_doubt, names_transaction, open_vote}
+use Rattle.qs_restart.specs.Recovery.{Prepared, names_transaction, open_vote}
 use Rattle.qs_world.specs.Moves as moves
-use Rattle.qs_lawful.specs.Doubtful.{doubt_at, is_doubt_at, last_doubt}
+use Rattle.qs_lawful.specs.Doubtful.{last_doubt}
 use Rattle.qs_lawful.specs.Logs.{Every, found_of}
 use Rattle.qs_lawful.proofs.Apart.{Apart, same_or_apart}
 use Rattle.qs_lawful.proofs.Keys.{same_key_or, life_exact, life_itself}

@@ -1,10 +1,9 @@
 -- The machine after a restart that finds what a log says: its transactions, its node, and who may be told what.
-use Rattle.std.proofs.Common.{◌≡◌, ◌⊎◌, inl, inr, ℕ, ◌==◌, ◌&&◌, ◌≤◌, Bool, true, false, List, [], ◌∷◌, map, Option, Some, None, fold, refl, sym, ap, subst, ◌∙◌, arith, if◌then◌else◌, is_some}
+use Rattle.std.proofs.Common.{◌≡◌, ◌⊎◌, inl, inr, ℕ, ◌==◌, ◌≤◌, Bool, true, false, List, [], ◌∷◌, Option, Some, None, fold, refl, sym, ap, subst, ◌∙◌, arith, if◌then◌else◌, is_some}
 use Rattle.std.proofs.lemmas.Bool.Decides.{nat_tests}
 use Rattle.std.specs.Prelude.{slice_get}
-use Rattle.std.specs.List.{filter, list_all}
 use Rattle.std.specs.BTreeMap.{is_at}
-use Rattle.qs_base.specs.Order.{same_tid, tid_cmp}
+use Rattle.qs_base.specs.Order.{tid_cmp}
 use Rattle.qs_base.proofs.Same.{same_tid-self}
 use Rattle.qs_base.specs.declared.identifiers.Member.{Member}
 use Rattle.qs_base.specs.declared.identifiers.Outcome.TheVariants as outcomes
@@ -12,7 +11,7 @@ use Rattle.qs_base.specs.declared.identifiers.Tid.{Tid}
 use Rattle.qs_journal.specs.declared.entry.Act.TheVariants as acts
 use Rattle.qs_journal.specs.declared.entry.Found.{Found}
 use Rattle.qs_laws.proofs.Again.{reopened_there}
-use Rattle.qs_laws.proofs.Faces.{Age, age}
+use Rattle.qs_laws.proofs.Faces.{Age}
 use Rattle.qs_laws.proofs.Maps.{changed_apart, changed_at_here}
 use Rattle.qs_laws.proofs.Restarts.{votes_age}
 use Rattle.qs_machine.specs.Book.{BookValue, cell_of_transaction, decide, find_transaction, with_transaction}
@@ -26,18 +25,17 @@ use Rattle.qs_machine.specs.Book as machine_book
 use Rattle.qs_machine.specs.declared.transaction.Cell.{Cell}
 use Rattle.qs_machine.specs.declared.transaction.Cell.TheVariants as cells
 use Rattle.qs_ops.specs.Servers.{audit_no, extra_no, files_no}
-use Rattle.qs_record.specs.declared.record.Record.{Record}
 use Rattle.qs_restart.specs.Recovery.{Prepared, Recovery, names_transaction, open_vote}
 use Rattle.qs_world.specs.Moves as moves
 use Rattle.qs_world.specs.Posting.{entry_of}
 use Rattle.qs_lawful.specs.Doubtful.{doubt_at}
 use Rattle.qs_lawful.specs.Lasting.{IsOfNow}
 use Rattle.qs_lawful.specs.Logs.{Every, found_votes}
-use Rattle.qs_lawful.proofs.Apart.{Apart, apart, same_or_apart}
+use Rattle.qs_lawful.proofs.Apart.{Apart, same_or_apart}
 use Rattle.qs_lawful.proofs.LogRecords.{every_filter, every_map}
-use Rattle.qs_lawful.proofs.RestartCells.{CellsBy, Learnt, Shut, abort_cells, aborts_on, aborts_shut, cells_changed, cells_fold, cells_self, cells_then, commit_cells, commits_learn, commits_on, commits_shut, learnt_stays, shut_on}
+use Rattle.qs_lawful.proofs.RestartCells.{CellsBy, Shut, abort_cells, aborts_on, aborts_shut, cells_changed, cells_fold, cells_self, commit_cells, commits_learn, commits_on, commits_shut, learnt_stays}
 use Rattle.qs_lawful.proofs.RestartGoes.{Goes, IsElsewhere, Onward, on_fold, on_then, vote_on}
-use Rattle.qs_lawful.proofs.RestartVotes.{HasPart, IsSorted, find_vote, found_each, part_as, votes_found}
+use Rattle.qs_lawful.proofs.RestartVotes.{HasPart, IsSorted, found_each, part_as, votes_found}
 
 -- ---- a transaction of which no Commit is found
 

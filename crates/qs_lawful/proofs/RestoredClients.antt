@@ -2,8 +2,7 @@
 use Rattle.std.proofs.Common.{◌≡◌, ◌⊎◌, inl, inr, ℕ, ◌==◌, ◌&&◌, ◌++◌, Bool, true, false, List, [], ◌∷◌, Option, Some, None, fold, refl, sym, ap, subst, ◌∙◌, arith, if◌then◌else◌, is_some, is_none}
 use Rattle.std.proofs.lemmas.Bool.Decides.{nat_tests}
 use Rattle.std.specs.Prelude.{slice_get}
-use Rattle.std.specs.List.{find, list_any}
-use Rattle.qs_base.specs.Order.{same_tid}
+use Rattle.std.specs.List.{find}
 use Rattle.qs_base.proofs.Same.{same_tid-true}
 use Rattle.qs_base.specs.declared.identifiers.ClientNo.{ClientNo}
 use Rattle.qs_base.specs.declared.identifiers.NodeNo.{NodeNo}
@@ -18,13 +17,12 @@ use Rattle.qs_kept.specs.declared.kept.Decided.{Decided}
 use Rattle.qs_kept.specs.declared.kept.Kept.{Kept}
 use Rattle.qs_machine.specs.Book.{BookValue, cell_of_transaction, find_transaction, with_transaction}
 use Rattle.qs_machine.specs.Nodes as machine
-use Rattle.qs_machine.specs.Restart.{abort_begun, begun_tid, commit_found, count_of, decide_found, is_among, is_open_here, learn_found, member_at, record_at, up_to, vote_found}
-use Rattle.qs_machine.specs.Transaction.{TransactionValue, cell_of, found_at, is_open, is_outcome, with_learnt}
+use Rattle.qs_machine.specs.Restart.{abort_begun, begun_tid, commit_found, count_of, is_among, is_open_here, learn_found, member_at, record_at, up_to, vote_found}
+use Rattle.qs_machine.specs.Transaction.{TransactionValue, found_at, is_open, is_outcome, with_learnt}
 use Rattle.qs_machine.specs.declared.state.Owner.{Owner}
 use Rattle.qs_machine.specs.declared.transaction.Cell.{Cell}
 use Rattle.qs_machine.specs.declared.transaction.Cell.TheVariants as cells
 use Rattle.qs_ops.specs.Servers.{audit_no, extra_no, files_no}
-use Rattle.qs_ops.specs.declared.answer.Cause.{Cause}
 use Rattle.qs_ops.specs.declared.answer.Cause.TheVariants as causes
 use Rattle.qs_restart.specs.Recovery.{Recovery}
 use Rattle.qs_step.specs.Opening.{close_outcome, close_tid, is_left_open, outcome_in_log}
@@ -32,7 +30,7 @@ use Rattle.qs_lawful.specs.Holds.{HasEnded, IsOwner, MayBeTold}
 use Rattle.qs_lawful.specs.Lasting.{IsOfNow}
 use Rattle.qs_lawful.specs.Logs.{Every, found_votes}
 use Rattle.qs_lawful.specs.Worlds.{HoldsKept, IsLeftOpen, IsOpenStill}
-use Rattle.qs_lawful.proofs.Restored.{committed, found_new, owners_new, settled, voted, with_found}
+use Rattle.qs_lawful.proofs.Restored.{found_new, owners_new, settled, with_found}
 use Rattle.qs_lawful.proofs.RestartGoes.{Goes, IsElsewhere}
 use Rattle.qs_lawful.proofs.RestartOwners.{HoldsOwner, may_still, owner_changed, owner_decided, owner_fold}
 use Rattle.qs_lawful.proofs.RestoredTid.{Restarts, at_node, done_committed, goes, new, open_aborted}

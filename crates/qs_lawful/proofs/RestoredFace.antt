@@ -1,63 +1,38 @@
 -- After a restart the machine has of each transaction in the new incarnation what stands in doubt in the log, and nothing else.
-use Rattle.std.proofs.Common.{◌≡◌, ◌≢◌, ◌⊎◌, inl, inr, ℕ, ◌<◌, ◌≤◌, ◌==◌, ◌&&◌, not, Bool, true, false, List, [], ◌∷◌, length, map, Option, Some, None, fold, refl, sym, ap, subst, ◌∙◌, arith, is_some, nat_lt}
+use Rattle.std.proofs.Common.{◌≡◌, ℕ, ◌<◌, ◌≤◌, ◌==◌, ◌&&◌, not, Bool, true, false, List, length, map, Option, Some, None, refl, sym, ap, subst, ◌∙◌, arith, is_some}
 use Rattle.std.proofs.lemmas.Bool.Decides.{nat_tests}
 use Rattle.std.specs.Global.{Global}
 use Rattle.std.specs.Map.{lookup}
 use Rattle.std.specs.BTreeMap.{is_at}
-use Rattle.std.specs.Prelude.{slice_get}
-use Rattle.std.specs.List.{filter, list_all, list_any}
+use Rattle.std.specs.List.{filter, list_any}
 use Rattle.qs_base.specs.Order.{member_cmp, same_tid}
 use Rattle.qs_base.proofs.Same.{same_tid-true}
-use Rattle.qs_base.specs.declared.identifiers.ClientNo.{ClientNo}
 use Rattle.qs_base.specs.declared.identifiers.Member.{Member}
 use Rattle.qs_base.specs.declared.identifiers.NodeNo.{NodeNo}
-use Rattle.qs_base.specs.declared.identifiers.Outcome.{Outcome}
-use Rattle.qs_base.specs.declared.identifiers.Outcome.TheVariants as outcomes
-use Rattle.qs_base.specs.declared.identifiers.ServerNo.{ServerNo}
 use Rattle.qs_base.specs.declared.identifiers.Tid.{Tid}
-use Rattle.qs_engage.specs.Nodes.{same_node}
 use Rattle.qs_kept.specs.declared.kept.Kept.{Kept}
-use Rattle.qs_kept.specs.declared.kept.Lent.{Lent}
-use Rattle.qs_machine.specs.Book.{BookValue, cell_of_transaction, find_transaction}
-use Rattle.qs_machine.specs.Clauses.{note_text}
+use Rattle.qs_machine.specs.Book.{BookValue, find_transaction}
 use Rattle.qs_machine.specs.Nodes as machine
 use Rattle.qs_machine.specs.Nodes.{is_recoverable}
-use Rattle.qs_machine.specs.Restart.{count_of, is_among, member_at, record_at}
+use Rattle.qs_machine.specs.Restart.{count_of, member_at, record_at}
 use Rattle.qs_machine.specs.Transaction.{TransactionValue, borrower, has_note, is_abort, is_commit, is_crossed, is_empty, is_open, is_outcome, is_standing, learnt_abort, no_part, part_of, requests_at, requests_in, sent_in, sent_on}
 use Rattle.qs_machine.specs.Transaction as transaction
-use Rattle.qs_machine.specs.declared.transaction.Cell.{Cell}
-use Rattle.qs_machine.specs.declared.transaction.Cell.TheVariants as cells
 use Rattle.qs_machine.specs.declared.transaction.Part.{Part}
 use Rattle.qs_machine.specs.declared.transaction.Request.{Request}
 use Rattle.qs_machine.specs.declared.transaction.RequestNo.{RequestNo}
-use Rattle.qs_ops.specs.Server.{ServerValue}
-use Rattle.qs_ops.specs.Servers.{client_no, files_no}
-use Rattle.qs_ops.specs.Table.{applied, no_table, share_of}
-use Rattle.qs_ops.specs.declared.server.Kind.TheVariants as kinds
-use Rattle.qs_ops.specs.declared.share.Share.{Share}
+use Rattle.qs_ops.specs.Servers.{files_no}
 use Rattle.qs_restart.specs.Recovery.{Prepared, Recovery, is_in_doubt, names_transaction}
-use Rattle.qs_step.specs.Opening.{opened_manager, opened_node, opened_servers, recovered_as}
-use Rattle.qs_step.specs.State.{NodeValue}
 use Rattle.qs_step.specs.declared.setting.Setting.{Setting}
-use Rattle.qs_tm.specs.Manager as tm
-use Rattle.qs_tm.specs.Members as rules
-use Rattle.qs_tm.specs.declared.participant.Participant.{Participant}
-use Rattle.qs_lawful.specs.Doubtful.{doubt_at, member_as, share_as}
-use Rattle.qs_lawful.specs.Face.{Face, IsEmpty, at_server, face_of, is_given_back, is_loan_here, is_loan_in}
-use Rattle.qs_lawful.specs.Holds.{HoldsAt, HoldsHome, HoldsMember, HoldsTid, is_kept}
+use Rattle.qs_lawful.specs.Doubtful.{doubt_at, share_as}
 use Rattle.qs_lawful.specs.Lasting.{StandsOnce}
-use Rattle.qs_lawful.specs.Logged.{HasAborted, HasCommitted, StandsIn}
-use Rattle.qs_lawful.specs.Logs.{Every, HoldsStopped}
-use Rattle.qs_lawful.specs.Said.{IsRecorded, IsToBeRecorded}
-use Rattle.qs_lawful.specs.Waits.{AreFor, HoldsWaits, HoldsWaitsAt, is_idle, op_in, standing_ops}
+use Rattle.qs_lawful.specs.Logs.{Every}
+use Rattle.qs_lawful.specs.Said.{IsToBeRecorded}
+use Rattle.qs_lawful.specs.Waits.{AreFor, is_idle, op_in}
 use Rattle.qs_lawful.specs.Worlds.{IsLoanOf}
-use Rattle.qs_lawful.proofs.FoundMembers.{and_false, every_passed, left_false, none_pass}
 use Rattle.qs_lawful.proofs.FreshFace.{Fresh, FreshAt, IsDoubt, IsOldLoan}
 use Rattle.qs_lawful.proofs.LogFrames.{every_on}
-use Rattle.qs_lawful.proofs.Reopened.{IsReopened, doubt_is, manager_reopened, share_taken}
-use Rattle.qs_lawful.proofs.Reopened as reopened
+use Rattle.qs_lawful.proofs.Reopened.{doubt_is}
 use Rattle.qs_lawful.proofs.RestartGoes.{Goes, IsElsewhere}
-use Rattle.qs_lawful.proofs.RestartTables.{HasLogged, HaveTables, tables_kept, take_changes}
 use Rattle.qs_lawful.proofs.Restored.{with_found}
 use Rattle.qs_lawful.proofs.RestartVotes.{part_as}
 use Rattle.qs_lawful.proofs.RestoredTid.{InDoubt, Restarts, before, done_committed, in_doubt, kinds, member_held, new, part_is, part_plain, sorted, unlearnt_abort, was, at_node, found_whole, goes}

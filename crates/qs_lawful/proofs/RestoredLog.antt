@@ -1,22 +1,16 @@
 -- After a restart the log of the node says what the machine has on record, and the node that begins knows its log.
-use Rattle.std.proofs.Common.{◌≡◌, ◌⊎◌, inl, inr, ℕ, ◌<◌, ◌==◌, ◌&&◌, ◌||◌, ◌++◌, not, Bool, true, false, List, [], ◌∷◌, flat_map, Option, Some, None, fold, refl, sym, ap, subst, ◌∙◌, arith, if◌then◌else◌, is_some, nat_lt}
+use Rattle.std.proofs.Common.{◌≡◌, ◌⊎◌, inl, inr, ℕ, ◌==◌, ◌&&◌, ◌||◌, Bool, true, false, List, [], ◌∷◌, Option, Some, None, fold, refl, sym, ap, subst, ◌∙◌, arith, if◌then◌else◌, is_some}
 use Rattle.std.proofs.lemmas.Bool.Decides.{nat_tests}
-use Rattle.std.proofs.lemmas.List.{append-nil}
-use Rattle.std.specs.Global.{Global}
 use Rattle.std.specs.Prelude.{slice_get}
 use Rattle.std.specs.List.{list_any}
 use Rattle.std.specs.Map.{lookup}
-use Rattle.std.specs.BTreeMap.{insert_entry, is_at}
-use Rattle.qs_base.specs.Order.{member_cmp, same_tid, tid_cmp}
+use Rattle.std.specs.BTreeMap.{is_at}
+use Rattle.qs_base.specs.Order.{member_cmp, same_tid}
 use Rattle.qs_base.proofs.Same.{same_tid-self}
 use Rattle.qs_base.specs.declared.identifiers.NodeNo.{NodeNo}
-use Rattle.qs_base.specs.declared.identifiers.Outcome.{Outcome}
-use Rattle.qs_base.specs.declared.identifiers.Outcome.TheVariants as outcomes
 use Rattle.qs_base.specs.declared.identifiers.Tid.{Tid}
-use Rattle.qs_engage.specs.Nodes.{same_node}
 use Rattle.qs_journal.specs.declared.entry.Found.{Found}
-use Rattle.qs_kept.specs.declared.kept.Kept.{Kept}
-use Rattle.qs_laws.proofs.Alikes.{voter_exact, voter_itself}
+use Rattle.qs_laws.proofs.Alikes.{voter_exact}
 use Rattle.qs_laws.proofs.Found.{forgot_others}
 use Rattle.qs_laws.proofs.Reopens.{restarted_is}
 use Rattle.qs_laws.proofs.Maps.{changed_at_here}
@@ -24,7 +18,7 @@ use Rattle.qs_laws.proofs.Rising.{IsRising, put_rises, voter_total}
 use Rattle.qs_machine.specs.Book.{BookValue, cell_of_transaction, crossed_in, find_transaction}
 use Rattle.qs_machine.specs.Nodes as machine
 use Rattle.qs_machine.specs.Nodes.{is_recoverable, record_of, voter, voter_cmp}
-use Rattle.qs_machine.specs.Restart.{could_vote, is_among, is_found_as, is_new_vote, is_on_record, may_be_lost, member_at, new_vote, new_votes, record_at, reopened, votes_once, with_votes, without_records}
+use Rattle.qs_machine.specs.Restart.{is_among, is_found_as, is_new_vote, is_on_record, may_be_lost, member_at, new_votes, record_at, reopened, votes_once, with_votes, without_records}
 use Rattle.qs_machine.specs.Transaction.{TransactionValue, has_learnt, is_abort, is_open}
 use Rattle.qs_machine.specs.declared.state.OnRecord.{OnRecord}
 use Rattle.qs_machine.specs.declared.state.Voter.{Voter}
@@ -32,8 +26,8 @@ use Rattle.qs_machine.specs.declared.transaction.Cell.{Cell}
 use Rattle.qs_machine.specs.declared.transaction.Cell.TheVariants as cells
 use Rattle.qs_ops.specs.Table.{TableValue, apply_change, apply_note}
 use Rattle.qs_restart.specs.Recovery.{Prepared, Recovery, is_in_doubt, names_transaction}
-use Rattle.qs_lawful.specs.Logged.{HasAborted, HasCommitted, HoldsLogged, IsCommitMade, IsMarked, IsRecordSafe, StandsIn}
-use Rattle.qs_lawful.specs.Logs.{Every, HoldsStopped, IsApplied, IsCutVote, IsRecordKept, IsVoteLogged, found_of, found_votes}
+use Rattle.qs_lawful.specs.Logged.{HoldsLogged, IsCommitMade, IsMarked, IsRecordSafe, StandsIn}
+use Rattle.qs_lawful.specs.Logs.{Every, IsCutVote, IsRecordKept, IsVoteLogged, found_of, found_votes}
 use Rattle.qs_lawful.specs.Said.{HoldsSaid, IsAsRecorded, IsRecorded, IsToBeRecorded, IsUndone}
 use Rattle.qs_lawful.proofs.FoundMembers.{every_two}
 use Rattle.qs_lawful.proofs.LogFrames.{every_on}

@@ -1,62 +1,37 @@
 -- After a restart the machine holds what the node has that begins its incarnation, its log too: as of a node that runs.
-use Rattle.std.proofs.Common.{◌≡◌, ◌⊎◌, inl, inr, ℕ, ◌<◌, ◌≤◌, ◌==◌, ◌&&◌, ◌++◌, not, Bool, true, false, List, [], ◌∷◌, length, map, Option, Some, None, fold, refl, sym, ap, subst, ◌∙◌, arith, if◌then◌else◌, is_some, nat_lt}
-use Rattle.std.proofs.lemmas.Bool.Decides.{nat_tests}
+use Rattle.std.proofs.Common.{◌≡◌, inl, ℕ, ◌<◌, ◌≤◌, ◌++◌, true, List, [], ◌∷◌, length, Option, Some, None, refl, sym, ap, subst, ◌∙◌, arith, is_some}
 use Rattle.std.proofs.lemmas.List.{append-nil}
 use Rattle.std.specs.Global.{Global}
 use Rattle.std.specs.Prelude.{slice_get}
-use Rattle.std.specs.List.{filter}
-use Rattle.std.specs.Map.{lookup}
-use Rattle.std.specs.BTreeMap.{insert_entry, is_at}
-use Rattle.qs_base.specs.Order.{same_tid, tid_cmp}
-use Rattle.qs_base.proofs.Same.{same_tid-self}
-use Rattle.qs_base.specs.declared.identifiers.NodeNo.{NodeNo}
-use Rattle.qs_base.specs.declared.identifiers.Outcome.TheVariants as outcomes
 use Rattle.qs_base.specs.declared.identifiers.Tid.{Tid}
-use Rattle.qs_engage.specs.Nodes.{same_node}
 use Rattle.qs_journal.specs.declared.entry.Act.TheVariants as acts
 use Rattle.qs_kept.specs.declared.kept.Kept.{Kept}
 use Rattle.qs_laws.proofs.InRun.{ran_run}
-use Rattle.qs_base.proofs.TidOrder.{tid_total}
-use Rattle.qs_laws.proofs.Rising.{IsRising, put_rises}
 use Rattle.qs_machine.specs.Book.{BookValue, find_transaction}
 use Rattle.qs_machine.specs.Nodes as machine
-use Rattle.qs_machine.specs.Restart.{is_among, votes_once}
+use Rattle.qs_machine.specs.Restart.{votes_once}
 use Rattle.qs_machine.specs.Transaction.{TransactionValue}
 use Rattle.qs_record.specs.declared.record.Record.{Record}
-use Rattle.qs_record.specs.declared.record.Record.TheVariants as records
-use Rattle.qs_restart.specs.Recovery.{Prepared, Recovery, in_doubt, is_in_doubt, names_transaction, recovery, untold}
-use Rattle.qs_step.specs.Opening.{new_manager, opened_manager, recovered_as, take_up}
+use Rattle.qs_restart.specs.Recovery.{Recovery, in_doubt, recovery, untold}
+use Rattle.qs_step.specs.Opening.{new_manager}
 use Rattle.qs_step.specs.State.{NodeValue}
 use Rattle.qs_step.specs.declared.setting.Setting.{Setting}
 use Rattle.qs_tm.specs.Manager as tm
-use Rattle.qs_tm.specs.Members.{no_member}
-use Rattle.qs_tm.specs.Outcomes.{committed_before, voted_before}
-use Rattle.qs_tm.specs.Participant.{member_of, new_participant}
-use Rattle.qs_tm.specs.declared.manager.Manager.{Manager}
-use Rattle.qs_tm.specs.declared.members.MemberPart.{MemberPart}
 use Rattle.qs_tm.specs.declared.participant.Participant.{Participant}
 use Rattle.qs_world.specs.Posting.{entry_of}
-use Rattle.qs_lawful.specs.Doubtful.{doubt_at, is_doubt_at, last_doubt, member_as}
-use Rattle.qs_lawful.specs.Face.{face_of, part_or_new}
+use Rattle.qs_lawful.specs.Face.{part_or_new}
 use Rattle.qs_lawful.specs.Holds.{Holds, HoldsClients, HoldsNode, is_next}
-use Rattle.qs_lawful.specs.Logged.{HasAborted, HoldsHost, HoldsLogged, IsKnown, IsNamed, IsPrepared, KeepsRecords, KnowsLog, StandsIn}
+use Rattle.qs_lawful.specs.Logged.{HoldsHost, HoldsLogged, IsNamed, KnowsLog}
 use Rattle.qs_lawful.specs.Logs.{Every, found_votes}
-use Rattle.qs_lawful.specs.Said.{HoldsSaid, IsApart}
-use Rattle.qs_lawful.specs.Worlds.{HoldsKept, HoldsUp, IsLoanOf}
-use Rattle.qs_lawful.proofs.FoundMembers.{every_two}
-use Rattle.qs_lawful.proofs.LogFrames.{every_on}
-use Rattle.qs_lawful.proofs.Marks.{changed_rises}
-use Rattle.qs_lawful.proofs.Reopened as reopened
-use Rattle.qs_lawful.proofs.Reopened.{IsReopened}
+use Rattle.qs_lawful.specs.Worlds.{HoldsKept}
 use Rattle.qs_lawful.proofs.RestoredClients.{outcomes_held, owner_still}
 use Rattle.qs_lawful.proofs.FreshFace.{Fresh, IsOldLoan, at_held, known_as, node, waits_at}
 use Rattle.qs_lawful.proofs.FreshLog.{SameNumbers, all_taken, knows}
 use Rattle.qs_lawful.proofs.RestoredFace.{after, fresh, old_loans}
-use Rattle.qs_lawful.proofs.RestoredLog.{log_held, said_held}
+use Rattle.qs_lawful.proofs.RestoredLog.{log_held}
 use Rattle.qs_lawful.proofs.RestoredServers.{reborn, same_found, servers_held}
 use Rattle.qs_lawful.proofs.Restored.{there_new}
-use Rattle.qs_lawful.proofs.RestoredTid.{InDoubt, Restarts, at_node, done_committed, was}
-use Rattle.qs_lawful.proofs.TakenUp.{all_alike, outcome_before}
+use Rattle.qs_lawful.proofs.RestoredTid.{Restarts, at_node, was}
 
 -- ---- the whole
 

@@ -1,22 +1,19 @@
 -- What is on record of a node after a restart: the votes that were found, and nothing of what is committed in its log.
-use Rattle.std.proofs.Common.{◌≡◌, ◌⊎◌, inl, inr, ℕ, ◌==◌, ◌&&◌, ◌||◌, ◌++◌, not, Bool, true, false, List, [], ◌∷◌, map, flat_map, Option, Some, None, fold, refl, sym, ap, subst, ◌∙◌, arith, if◌then◌else◌, is_some, nat_le}
+use Rattle.std.proofs.Common.{◌≡◌, ◌⊎◌, inl, inr, ℕ, ◌==◌, ◌&&◌, ◌||◌, not, Bool, true, false, List, [], ◌∷◌, map, flat_map, Option, Some, None, fold, refl, sym, ap, subst, ◌∙◌, arith, if◌then◌else◌, nat_le}
 use Rattle.std.proofs.lemmas.Bool.Decides.{nat_tests}
 use Rattle.std.proofs.lemmas.List.Sums.{fold-append}
 use Rattle.std.specs.Prelude.{slice_get}
-use Rattle.std.specs.Cmp.{IsTotalOrder}
 use Rattle.std.specs.List.{filter, list_any}
 use Rattle.std.specs.Map.{lookup, remove_entry}
 use Rattle.std.specs.BTreeMap.{insert_entry, is_at}
-use Rattle.std.specs.declared.cmp.Ordering.TheVariants.{Equal}
 use Rattle.qs_base.specs.Order.{same_tid}
 use Rattle.qs_base.proofs.Same.{same_tid-self, same_tid-true}
 use Rattle.qs_base.specs.declared.identifiers.Tid.{Tid}
 use Rattle.qs_journal.specs.declared.entry.Found.{Found}
 use Rattle.qs_laws.proofs.Alikes.{voter_equal, voter_exact, voter_itself}
-use Rattle.qs_laws.proofs.Found.{forgot_others}
 use Rattle.qs_laws.proofs.Maps.{lookup_put, lookup_put_apart, removed_none}
 use Rattle.qs_laws.proofs.Shares.{removed_apart}
-use Rattle.qs_laws.proofs.Rising.{IsRising, put_rises, remove_rises, removed}
+use Rattle.qs_laws.proofs.Rising.{IsRising, remove_rises, removed}
 use Rattle.qs_machine.specs.Book.{BookValue, find_transaction}
 use Rattle.qs_machine.specs.Nodes as machine
 use Rattle.qs_machine.specs.Nodes.{is_recoverable, record_of, voter, voter_cmp, without_record}
@@ -26,7 +23,6 @@ use Rattle.qs_machine.specs.declared.state.Voter.{Voter}
 use Rattle.qs_restart.specs.Recovery.{Prepared, Recovery, names_transaction, open_vote}
 use Rattle.qs_world.specs.Moves as moves
 use Rattle.qs_lawful.specs.Logs.{Every, found_of, found_votes}
-use Rattle.qs_lawful.proofs.LogFrames.{every_on}
 use Rattle.qs_lawful.proofs.LogRecords.{every_filter, every_map}
 
 -- ---- votes that are found, vote by vote of the log

@@ -1,5 +1,5 @@
 -- After a restart the machine has at each server of the node what the node has there, but for what is crossed.
-use Rattle.std.proofs.Common.{◌≡◌, ◌⊎◌, ℕ, ◌==◌, ◌&&◌, not, Bool, true, false, List, [], ◌∷◌, Option, Some, None, fold, flat_map, refl, sym, ap, subst, ◌∙◌, arith, if◌then◌else◌, is_some}
+use Rattle.std.proofs.Common.{◌≡◌, ℕ, ◌==◌, not, Bool, true, false, List, [], ◌∷◌, Option, Some, None, fold, flat_map, refl, sym, ap, subst, ◌∙◌, arith, is_some}
 use Rattle.std.proofs.lemmas.Bool.Decides.{nat_tests}
 use Rattle.std.specs.Global.{Global}
 use Rattle.std.specs.Map.{lookup}
@@ -7,16 +7,15 @@ use Rattle.std.specs.BTreeMap.{is_at}
 use Rattle.qs_base.specs.Order.{member_cmp}
 use Rattle.qs_base.specs.declared.identifiers.Tid.{Tid}
 use Rattle.qs_kept.specs.declared.kept.Kept.{Kept}
-use Rattle.qs_laws.proofs.Reopens.{forgot_audit, forgot_files}
 use Rattle.qs_machine.specs.Book.{BookValue, crossed_in, find_transaction}
 use Rattle.qs_machine.specs.Nodes as machine
 use Rattle.qs_machine.specs.Restart.{keep_found, member_at, new_votes, record_at, reopened, with_vote, with_votes, without_records}
-use Rattle.qs_machine.specs.Transaction.{TransactionValue, is_crossed}
+use Rattle.qs_machine.specs.Transaction.{TransactionValue}
 use Rattle.qs_machine.specs.declared.state.OnRecord.{OnRecord}
 use Rattle.qs_machine.specs.declared.state.Voter.{Voter}
 use Rattle.qs_ops.specs.Server.{ServerValue}
 use Rattle.qs_ops.specs.Servers.{audit_no, files_no, names_no}
-use Rattle.qs_ops.specs.Table.{TableValue, applied, kept, no_table, restarted}
+use Rattle.qs_ops.specs.Table.{TableValue, applied, no_table, restarted}
 use Rattle.qs_ops.specs.declared.operation.Op.{Op}
 use Rattle.qs_restart.specs.Recovery.{Prepared, Recovery}
 use Rattle.qs_step.specs.Opening.{opened_servers, recovered_as}
@@ -25,10 +24,9 @@ use Rattle.qs_step.specs.declared.setting.Setting.{Setting}
 use Rattle.qs_lawful.specs.Doubts.{HoldsDoubts}
 use Rattle.qs_lawful.specs.Logs.{Every, found_votes}
 use Rattle.qs_lawful.specs.Said.{IsMadeBy, IsToBeRecorded}
-use Rattle.qs_lawful.specs.Tables.{HoldsKinds, HoldsServers, HoldsTable, HoldsTimers, is_seen, seen_in}
+use Rattle.qs_lawful.specs.Tables.{HoldsServers, HoldsTable, HoldsTimers, is_seen, seen_in}
 use Rattle.qs_lawful.specs.Worlds.{IsLoanOf}
 use Rattle.qs_lawful.proofs.LogFrames.{every_on}
-use Rattle.qs_lawful.proofs.RestartGoes.{Goes, IsElsewhere}
 use Rattle.qs_lawful.proofs.RestartTables.{HaveTables, IsKeptAs, take_changes, votes_kept}
 use Rattle.qs_lawful.proofs.FreshFace.{node, tables}
 use Rattle.qs_lawful.proofs.RestoredFace.{after, fresh, old_loans}

@@ -1,5 +1,5 @@
 -- A node that restarts leaves all that is held of every other node that runs.
-use Rattle.std.proofs.Common.{◌≡◌, ℕ, ◌==◌, Bool, true, false, refl, sym, ap, subst, ◌∙◌, arith}
+use Rattle.std.proofs.Common.{◌≡◌, ℕ, ◌==◌, true, false, sym, ap, subst, ◌∙◌, arith}
 use Rattle.std.proofs.lemmas.Bool.Decides.{nat_tests}
 use Rattle.qs_machine.specs.Book.{BookValue}
 use Rattle.qs_machine.specs.Lawful.{effect}

@@ -1,8 +1,7 @@
 -- A node that is down restarts: its entry is lawful, and the machine holds the node that begins, its log, and what is kept for clients.
-use Rattle.std.proofs.Common.{◌≡◌, ◌⊎◌, inl, inr, ℕ, ◌<◌, ◌≤◌, ◌==◌, ◌&&◌, ◌||◌, ◌++◌, not, Bool, true, false, List, [], ◌∷◌, length, Option, Some, None, fold, refl, sym, ap, subst, ◌∙◌, arith, if◌then◌else◌, is_some, is_none, nat_lt, nat_le}
+use Rattle.std.proofs.Common.{◌≡◌, ℕ, ◌<◌, ◌≤◌, ◌==◌, ◌&&◌, ◌++◌, not, Bool, true, false, List, [], ◌∷◌, Option, Some, None, fold, refl, sym, ap, subst, ◌∙◌, arith, if◌then◌else◌, is_some, nat_lt}
 use Rattle.std.proofs.lemmas.Bool.Decides.{nat_tests}
 use Rattle.std.proofs.lemmas.List.{append-nil}
-use Rattle.std.specs.Global.{Global}
 use Rattle.std.specs.Prelude.{slice_get}
 use Rattle.std.specs.List.{find, list_any}
 use Rattle.qs_base.specs.Order.{same_tid}
@@ -16,12 +15,11 @@ use Rattle.qs_journal.specs.declared.entry.Entry.{Entry}
 use Rattle.qs_kept.specs.Keeping.{is_outcome_of}
 use Rattle.qs_kept.specs.declared.kept.Begun.{Begun}
 use Rattle.qs_kept.specs.declared.kept.Decided.{Decided}
-use Rattle.qs_kept.specs.declared.kept.Kept.{Kept}
 use Rattle.qs_kept.specs.declared.kept.Lent.{Lent}
 use Rattle.qs_machine.specs.Book.{BookValue, find_transaction}
-use Rattle.qs_machine.specs.Lawful.{broken, broken_at, broken_node, effect, is_in_order}
+use Rattle.qs_machine.specs.Lawful.{broken, effect, is_in_order}
 use Rattle.qs_machine.specs.Nodes as machine
-use Rattle.qs_machine.specs.Restart.{broken_restart, votes_once}
+use Rattle.qs_machine.specs.Restart.{votes_once}
 use Rattle.qs_machine.specs.Transaction.{TransactionValue}
 use Rattle.qs_ops.specs.declared.answer.Cause.TheVariants as causes
 use Rattle.qs_record.specs.declared.record.Record.{Record}
@@ -32,19 +30,19 @@ use Rattle.qs_step.specs.declared.setting.Setting.{Setting}
 use Rattle.qs_world.specs.Moves.{Rise, may_move, moved, risen_host}
 use Rattle.qs_world.specs.Moves as moves
 use Rattle.qs_world.specs.World.{Host, World, inc_of}
-use Rattle.qs_lawful.specs.Holds.{Holds, IsOwner, is_next}
+use Rattle.qs_lawful.specs.Holds.{Holds, is_next}
 use Rattle.qs_lawful.specs.Lasting.{Lasts}
 use Rattle.qs_lawful.specs.Logged.{HoldsHost}
 use Rattle.qs_lawful.specs.Logs.{Every, HoldsStopped, found_votes}
 use Rattle.qs_lawful.specs.Said.{HoldsLeft, HoldsSaid}
 use Rattle.qs_lawful.specs.WorldLaws.{rise_entry}
-use Rattle.qs_lawful.specs.Worlds.{HoldsDown, HoldsKept, HoldsNodeAt, HoldsNodeOf, HoldsUp, HoldsWorld, IsLeftOpen, IsLoanOf, IsOpenStill}
+use Rattle.qs_lawful.specs.Worlds.{HoldsDown, HoldsKept, HoldsNodeAt, HoldsNodeOf, HoldsUp, HoldsWorld, IsLeftOpen, IsLoanOf}
 use Rattle.qs_lawful.proofs.FoundOnce.{found_once}
 use Rattle.qs_lawful.proofs.LogFrames.{every_on}
 use Rattle.qs_lawful.proofs.Restarting.{may_restart}
 use Rattle.qs_lawful.proofs.RestoredClients.{outcomes_held, owner_still}
 use Rattle.qs_lawful.proofs.RestoredLog.{said_held}
-use Rattle.qs_lawful.proofs.RestoredNode.{begins, held, host_held, now, state_now}
+use Rattle.qs_lawful.proofs.RestoredNode.{held, host_held, now, state_now}
 use Rattle.qs_lawful.proofs.RestoredServers.{same_found}
 use Rattle.qs_lawful.proofs.Restored.{there_new}
 use Rattle.qs_lawful.proofs.RestoredTid.{Restarts, goes}

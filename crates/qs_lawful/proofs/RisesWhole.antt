@@ -1,11 +1,9 @@
 -- A node that is down restarts: the machine after the entry has the whole world after it.
-use Rattle.std.proofs.Common.{◌≡◌, ℕ, ◌<◌, ◌≤◌, ◌==◌, Bool, true, false, [], ◌∷◌, length, Some, refl, sym, ap, subst, ◌∙◌, arith, if◌then◌else◌}
+use Rattle.std.proofs.Common.{◌≡◌, ℕ, ◌<◌, ◌==◌, Bool, true, false, [], ◌∷◌, length, refl, sym, ap, subst, ◌∙◌, arith, if◌then◌else◌}
 use Rattle.std.proofs.lemmas.Bool.Decides.{nat_tests}
-use Rattle.std.specs.Prelude.{slice_get}
 use Rattle.qs_laws.proofs.InRun.{ran_run}
 use Rattle.qs_machine.specs.Book.{BookValue}
 use Rattle.qs_machine.specs.Lawful.{effect}
-use Rattle.qs_machine.specs.Nodes as machine
 use Rattle.qs_step.specs.Opening.{recovered_of}
 use Rattle.qs_world.specs.Moves.{Rise, is_in_order, may_move, moved, risen_host, stamp_limit}
 use Rattle.qs_world.specs.World.{World, inc_of}

@@ -1,8 +1,7 @@
 -- A node stops, in place of a step or in one whose batch is lost: what its log says on the disk is what a restart will find, and no more.
-use Rattle.std.proofs.Common.{◌≡◌, ◌⊎◌, inl, inr, ℕ, ◌<◌, ◌==◌, ◌&&◌, ◌||◌, ◌++◌, not, Bool, true, false, List, [], ◌∷◌, flat_map, Option, Some, None, fold, refl, sym, ap, subst, ◌∙◌, arith, if◌then◌else◌, is_some, nat_lt}
+use Rattle.std.proofs.Common.{◌≡◌, inl, inr, ℕ, ◌<◌, ◌==◌, ◌&&◌, ◌||◌, ◌++◌, not, Bool, true, false, List, [], ◌∷◌, flat_map, Option, Some, None, fold, refl, sym, ap, subst, ◌∙◌, arith, if◌then◌else◌, is_some, nat_lt}
 use Rattle.std.proofs.lemmas.Bool.Decides.{nat_tests}
 use Rattle.std.specs.Prelude.{slice_get}
-use Rattle.std.specs.List.{find, list_any}
 use Rattle.std.specs.Map.{lookup}
 use Rattle.std.specs.BTreeMap.{is_at}
 use Rattle.qs_base.specs.Order.{same_tid, tid_cmp}
@@ -14,10 +13,8 @@ use Rattle.qs_journal.specs.declared.entry.Act.TheVariants as acts
 use Rattle.qs_journal.specs.declared.entry.CrashCause.{CrashCause}
 use Rattle.qs_journal.specs.declared.entry.Entry.{Entry}
 use Rattle.qs_journal.specs.declared.entry.Found.{Found}
-use Rattle.qs_kept.specs.declared.kept.Begun.{Begun}
 use Rattle.qs_kept.specs.declared.kept.Decided.{Decided}
 use Rattle.qs_kept.specs.declared.kept.Kept.{Kept}
-use Rattle.qs_kept.specs.declared.kept.Lent.{Lent}
 use Rattle.qs_laws.proofs.Maps.{changed_at_here}
 use Rattle.qs_machine.specs.Book.{BookValue, cell_of_transaction, crash_node, find_transaction}
 use Rattle.qs_machine.specs.Clauses.{has_vote, is_crash}
@@ -34,16 +31,16 @@ use Rattle.qs_ops.specs.Servers.{audit_no, files_no}
 use Rattle.qs_ops.specs.Table.{applied}
 use Rattle.qs_ops.specs.declared.operation.Op.{Op}
 use Rattle.qs_ops.specs.declared.vote.Vote.TheVariants as votes
-use Rattle.qs_restart.specs.Recovery.{Prepared, Recovery, names_transaction, recovery}
+use Rattle.qs_restart.specs.Recovery.{Prepared, Recovery, recovery}
 use Rattle.qs_world.specs.Moves.{is_in_order, stopped, stopped_host}
 use Rattle.qs_world.specs.Moves as moves
 use Rattle.qs_world.specs.Posting.{entry_of}
 use Rattle.qs_world.specs.World.{Host, World, inc_of}
-use Rattle.qs_lawful.specs.Holds.{HasEnded, Holds, IsOwner, MayBeTold}
+use Rattle.qs_lawful.specs.Holds.{HasEnded, IsOwner, MayBeTold}
 use Rattle.qs_lawful.specs.Lasting.{Lasts}
-use Rattle.qs_lawful.specs.Logged.{HasCommitted, HoldsHost, HoldsLogged, IsCommitMade, Later, StandsIn}
-use Rattle.qs_lawful.specs.Logs.{Every, IsApplied, IsVoteLogged, found_of, found_votes}
-use Rattle.qs_lawful.specs.Said.{HoldsLeft, HoldsSaid, IsMadeBy, IsApart, IsAsRecorded, IsRecorded, IsToBeRecorded}
+use Rattle.qs_lawful.specs.Logged.{HasCommitted, HoldsLogged, IsCommitMade, Later}
+use Rattle.qs_lawful.specs.Logs.{Every, IsVoteLogged, found_of, found_votes}
+use Rattle.qs_lawful.specs.Said.{HoldsLeft, IsMadeBy, IsApart, IsAsRecorded, IsRecorded, IsToBeRecorded}
 use Rattle.qs_lawful.specs.Worlds.{HoldsDown, HoldsKept, HoldsNodeAt, HoldsNodeOf, HoldsUp, HoldsWorld, IsLeftOpen, IsLoanOf, IsOpenStill}
 use Rattle.qs_lawful.proofs.LogCrashes.{may_crash}
 use Rattle.qs_lawful.proofs.LogCrashes as crashes

@@ -1,18 +1,17 @@
 -- A node stops, in place of a step or in one whose batch is lost: the machine after the entry has the whole world after it.
-use Rattle.std.proofs.Common.{◌≡◌, ◌⊎◌, inl, inr, ℕ, ◌<◌, ◌==◌, ◌&&◌, ◌||◌, ◌^◌, not, Bool, true, false, [], ◌∷◌, length, Option, Some, None, refl, sym, ap, subst, ◌∙◌, arith, if◌then◌else◌, is_some, nat_lt, nat_le}
+use Rattle.std.proofs.Common.{◌≡◌, ℕ, ◌<◌, ◌==◌, ◌&&◌, ◌||◌, not, Bool, true, false, [], ◌∷◌, length, Option, Some, None, refl, sym, subst, ◌∙◌, arith, if◌then◌else◌, is_some, nat_lt, nat_le}
 use Rattle.std.proofs.lemmas.Bool.Decides.{nat_tests}
-use Rattle.std.specs.Prelude.{slice_get}
 use Rattle.qs_journal.specs.declared.entry.Act.TheVariants as acts
 use Rattle.qs_journal.specs.declared.entry.CrashCause.{CrashCause}
 use Rattle.qs_laws.proofs.Holds.{elsewhere}
 use Rattle.qs_laws.proofs.InRun.{ran_run}
-use Rattle.qs_machine.specs.Book.{BookValue, changed_at, crash_node}
+use Rattle.qs_machine.specs.Book.{BookValue, crash_node}
 use Rattle.qs_machine.specs.Clauses.{is_crash}
 use Rattle.qs_machine.specs.Lawful.{effect}
 use Rattle.qs_step.specs.declared.event.Event.{Event}
 use Rattle.qs_world.specs.Moves.{Cut, Source, Stop, cut_with, event_of, is_in_order, is_later, may_move, moved, stamp_limit, stopped, stopped_host}
 use Rattle.qs_world.specs.Posting.{entry_of}
-use Rattle.qs_world.specs.World.{Host, World, inc_of}
+use Rattle.qs_world.specs.World.{World, inc_of}
 use Rattle.qs_lawful.specs.Holds.{is_next}
 use Rattle.qs_lawful.specs.Lasting.{Lasts}
 use Rattle.qs_lawful.specs.WorldLaws.{StopsWell}

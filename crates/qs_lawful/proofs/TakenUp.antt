@@ -4,8 +4,8 @@ use Rattle.std.specs.Prelude.{slice_index_or}
 use Rattle.std.specs.List.{filter, list_all}
 use Rattle.std.specs.BTreeMap.{insert_entry, is_at}
 use Rattle.std.proofs.lemmas.Bool.Decides.{nat_tests}
-use Rattle.qs_base.specs.Order.{same_tid, tid_cmp}
-use Rattle.qs_base.proofs.Same.{same_tid-true, same_tid-self}
+use Rattle.qs_base.specs.Order.{tid_cmp}
+use Rattle.qs_base.proofs.Same.{same_tid-self}
 use Rattle.qs_base.specs.declared.identifiers.NodeNo.{NodeNo}
 use Rattle.qs_base.specs.declared.identifiers.Outcome.TheVariants as outcomes
 use Rattle.qs_base.specs.declared.identifiers.Outcome.{Outcome}
@@ -14,21 +14,19 @@ use Rattle.qs_base.specs.declared.identifiers.Tid.{Tid}
 use Rattle.qs_engage.specs.Engage.{new_engage}
 use Rattle.qs_engage.specs.Nodes.{same_node}
 use Rattle.qs_laws.proofs.Alikes.{at_exact, tid_itself}
-use Rattle.qs_laws.proofs.Maps.{changed_apart, changed_none, lookup_changed, lookup_put, lookup_put_apart}
+use Rattle.qs_laws.proofs.Maps.{changed_apart, lookup_changed, lookup_put, lookup_put_apart}
 use Rattle.qs_machine.specs.Nodes.{is_recoverable}
 use Rattle.qs_record.specs.declared.record.Record.{Record}
 use Rattle.qs_record.specs.declared.record.Record.TheVariants as records
-use Rattle.qs_restart.specs.Recovery as restart
 use Rattle.qs_restart.specs.Recovery.{Prepared, is_in_doubt, prepare_of}
 use Rattle.qs_tm.specs.Manager as tm
 use Rattle.qs_tm.specs.Members.{no_member}
 use Rattle.qs_tm.specs.Outcomes.{voted_before, committed_before}
 use Rattle.qs_tm.specs.Participant.{new_participant, member_of}
 use Rattle.qs_tm.specs.declared.manager.Manager.{Manager}
-use Rattle.qs_tm.specs.declared.members.MemberPart.{MemberPart}
 use Rattle.qs_tm.specs.declared.participant.Participant.{Participant}
 use Rattle.qs_lawful.specs.Logs.{Every}
-use Rattle.qs_lawful.specs.Doubtful.{is_doubt_at, last_doubt, doubt_at, member_as}
+use Rattle.qs_lawful.specs.Doubtful.{last_doubt, member_as}
 use Rattle.qs_lawful.proofs.Apart.{Apart, same_or_apart}
 use Rattle.qs_lawful.proofs.Parts.{index_set, index_apart, set_size}
 

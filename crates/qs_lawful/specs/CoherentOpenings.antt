@@ -1,6 +1,6 @@
 -- When what the logs of an opening hold is what the laws want of an opening; and an opening that is such as a run may begin with, in which
 -- a log has a vote in doubt of a transaction that it has committed: the laws do not speak of runs from there.
-use Rattle.std.specs.Prelude.{◌≡◌, ℕ, Bool, true, false, not, ◌||◌, List, [], ◌∷◌, codes}
+use Rattle.std.specs.Prelude.{◌≡◌, ℕ, Bool, true, not, ◌||◌, [], ◌∷◌, codes}
 use Rattle.std.specs.Global.{Global}
 use Rattle.std.specs.List.{list_all, list_any}
 use Rattle.qs_base.specs.declared.identifiers.Tid.{Tid}

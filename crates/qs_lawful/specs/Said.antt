@@ -1,9 +1,7 @@
 -- What a log says of contents and changes, and what the machine has of them: committed files and notes are those that the log's
 -- Commits leave, and what is on record is what the log's Prepare has.
 use Rattle.std.specs.Prelude.{◌≡◌, ℕ, true, false, List, length, Option, Some, None}
-use Rattle.qs_base.specs.declared.identifiers.NodeNo.{NodeNo}
 use Rattle.qs_base.specs.declared.identifiers.Tid.{Tid}
-use Rattle.qs_journal.specs.declared.entry.Found.{Found}
 use Rattle.qs_machine.specs.Book.{BookValue, crossed_in, find_transaction}
 use Rattle.qs_machine.specs.Nodes as machine
 use Rattle.qs_machine.specs.Restart.{count_of, is_among, member_at, put_new_votes, record_at, reopened}

@@ -1,6 +1,6 @@
 -- What the machine has of a world, as tests: a twin of each conjunct, so that it can be tried on the states of runs.
 use Rattle.std.specs.Prelude.{ℕ, ◌+◌, ◌==◌, Bool, true, false, not, ◌&&◌, ◌||◌, List, [], ◌∷◌, ◌++◌, length, Option, Some, None, is_some, is_none, slice_get, nat_le, if◌then◌else◌}
-use Rattle.std.specs.List.{list_all, list_any, filter, find}
+use Rattle.std.specs.List.{list_all, list_any, find}
 use Rattle.std.specs.Ordering.{is_lt}
 use Rattle.qs_base.specs.Order.{same_bytes, same_tid, tid_cmp}
 use Rattle.qs_base.specs.declared.identifiers.ClientNo.{ClientNo}
@@ -16,7 +16,7 @@ use Rattle.qs_kept.specs.declared.kept.Lent.{Lent}
 use Rattle.qs_machine.specs.Book.{BookValue, crossed_in, find_transaction}
 use Rattle.qs_machine.specs.Nodes as machine
 use Rattle.qs_machine.specs.Restart.{could_vote, count_of, is_among, is_committed, is_found_as, is_on_record, may_be_lost, member_at, record_at, reopened}
-use Rattle.qs_machine.specs.Transaction.{TransactionValue, has_learnt, is_abort, is_commit, is_empty, is_open, is_standing}
+use Rattle.qs_machine.specs.Transaction.{TransactionValue, has_learnt, is_abort, is_commit, is_empty, is_open}
 use Rattle.qs_machine.specs.declared.state.OnRecord.{OnRecord}
 use Rattle.qs_machine.specs.declared.state.Voter.{Voter}
 use Rattle.qs_machine.specs.declared.transaction.Life.{Life}
@@ -27,9 +27,7 @@ use Rattle.qs_machine.specs.declared.transaction.Sent.{Sent}
 use Rattle.qs_ops.specs.Servers.{files_no}
 use Rattle.qs_ops.specs.Table.{TableValue, no_table, applied}
 use Rattle.qs_ops.specs.declared.operation.Op.{Op}
-use Rattle.qs_record.specs.declared.record.Record.{Record}
 use Rattle.qs_restart.specs.Recovery.{Prepared, Recovery, recovery, names_transaction}
-use Rattle.qs_step.specs.State.{NodeValue}
 use Rattle.qs_tm.specs.Manager as tm
 use Rattle.qs_tm.specs.declared.manager.Manager.{Manager}
 use Rattle.qs_tm.specs.declared.participant.Participant.{Participant}

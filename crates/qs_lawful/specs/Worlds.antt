@@ -13,7 +13,7 @@ use Rattle.qs_kept.specs.declared.kept.Lent.{Lent}
 use Rattle.qs_machine.specs.Book.{BookValue, find_transaction}
 use Rattle.qs_machine.specs.Nodes as machine
 use Rattle.qs_machine.specs.Transaction.{TransactionValue, is_open}
-use Rattle.qs_restart.specs.Recovery.{Recovery, recovery}
+use Rattle.qs_restart.specs.Recovery.{recovery}
 use Rattle.qs_world.specs.Moves.{is_in_order}
 use Rattle.qs_world.specs.World.{Host, World, inc_of}
 use Rattle.qs_lawful.specs.Holds.{Holds, HasEnded, IsOwner, is_next}

@@ -28,7 +28,8 @@ use Rattle.qs_refine.proofs.Sending.{append_nil}
 use Rattle.qs_refine.proofs.SoundBegin.{all_implied}
 use Rattle.qs_refine.proofs.SoundStep.{step_sound}
 use Rattle.qs_refine.proofs.SteadyGrows.{Grows, Rises, begun_rises, past_rises, parcels_on, record_on, record_steady, hosts_after, may_be_on, has_begun_on}
-use Rattle.qs_refine.proofs.SteadyMays.{event_fits, comes_may, comes_new, open_at}
+use Rattle.qs_refine.proofs.SteadyBegins.{comes_may, comes_new}
+use Rattle.qs_refine.proofs.SteadyMays.{event_fits, open_at}
 use Rattle.qs_refine.proofs.SteadyPosts.{Ends, stepped_steady, counts_rise, past_names, named_behind}
 use Rattle.qs_refine.proofs.SteadySteps.{c, d, bump, step_tidy}
 use Rattle.qs_refine.proofs.TidyBegins.{Widens, node_wide, record_wide}

@@ -1,8 +1,8 @@
 -- A world after a whole step: what is posted, what waits, and what the node keeps.
-use Rattle.std.proofs.Common.{◌≡◌, ◌≢◌, inr, ℕ, ◌≤◌, ◌<◌, ◌==◌, ◌&&◌, not, Bool, true, false, List, [], ◌∷◌, ◌++◌, map, drop, Option, Some, None, refl, sym, ap, subst, ◌∙◌, arith, nat_lt, if◌then◌else◌}
+use Rattle.std.proofs.Common.{◌≡◌, ◌≢◌, inr, ℕ, ◌≤◌, ◌<◌, ◌==◌, ◌&&◌, not, Bool, true, false, List, [], ◌∷◌, ◌++◌, map, Some, refl, sym, ap, subst, ◌∙◌, arith, nat_lt, if◌then◌else◌}
 use Rattle.std.proofs.lemmas.Bool.Decides.{nat_tests}
 use Rattle.std.proofs.lemmas.List.Sums.{fold-append}
-use Rattle.std.specs.List.{list_all, list_any, filter}
+use Rattle.std.specs.List.{list_all, filter}
 use Rattle.qs_base.specs.declared.identifiers.NodeNo.{NodeNo}
 use Rattle.qs_base.specs.declared.identifiers.Tid.{Tid}
 use Rattle.qs_channels.specs.Channels.{Channels}
@@ -16,35 +16,30 @@ use Rattle.qs_step.specs.declared.event.Effects.{Effects}
 use Rattle.qs_step.specs.declared.event.Event.{Event}
 use Rattle.qs_step.specs.declared.event.Sending.{Sending}
 use Rattle.qs_step.specs.declared.setting.Setting.{Setting}
-use Rattle.qs_world.specs.Moves.{Source, Commanded, Handed, Queues, Clock, Noticed, client_count, event_of, taken_by, handed_by, log_after, waiting_after, stepped_host, stepped}
+use Rattle.qs_world.specs.Moves.{Source, event_of, taken_by, stepped_host, stepped}
 use Rattle.qs_world.specs.Openings.{are_unended}
-use Rattle.qs_world.specs.Posting.{answered, is_answer_to, next_parcel}
 use Rattle.qs_world.specs.World.{Host, Parcel, World}
 use Rattle.qs_refine.specs.Begun.{past_among, inc_in, count_in, has_begun, may_be_known, fits, fits_record}
 use Rattle.qs_refine.specs.Links.{node_no}
 use Rattle.qs_refine.specs.MoveLaws.{IsSeated}
 use Rattle.qs_refine.specs.SaidLaws.{AreSoundOver}
-use Rattle.qs_refine.specs.Steadies.{stage_with, stage_of, IsSteadyHost, IsSteadyWorld, is_steady_record, is_steady_parcel, is_steady_line, are_two}
+use Rattle.qs_refine.specs.Steadies.{stage_with, stage_of, IsSteadyHost, IsSteadyWorld, is_steady_record, is_steady_parcel, are_two}
 use Rattle.qs_refine.specs.Tidy.{Stage, IsTidy, is_tidy_sending, is_tidy_record}
 use Rattle.qs_refine.proofs.Moving.{inc_taken, up_taken, waits_taken, posted_taken, peer_taken}
 use Rattle.qs_refine.proofs.Posted.{parcels, inc_all, up_all, peer_all, posted_all, waits_all}
 use Rattle.qs_refine.proofs.SaidNames.{AreNamed, unended_named, fold_named, unended_said}
 use Rattle.qs_refine.proofs.SaidTidy.{all_joined}
-use Rattle.qs_refine.proofs.Seating.{noticed_is}
 use Rattle.qs_refine.proofs.Sending.{append_nil}
 use Rattle.qs_refine.proofs.SoundBegin.{all_implied}
 use Rattle.qs_refine.proofs.SoundParts.{and_both, both_and}
 use Rattle.qs_refine.proofs.SteadyGrows.{Grows, Rises, parcels_on, record_on, record_steady, hosts_after, may_be_on, has_begun_on}
 use Rattle.qs_refine.proofs.SteadySteps.{accept_tidy}
 use Rattle.qs_refine.proofs.TidyBegins.{Widens, node_wide, fits_wide, record_wide}
+use Rattle.qs_refine.proofs.SteadyTakes.{peer_here, peers_taken, scripts_taken}
 
 -- what may be known names a transaction
 pub past_names : (size : ℕ) (inc count : ℕ → ℕ) (tid : Tid) → past_among size inc count tid ≡ true → names_transaction tid ≡ true
 past_names size inc count tid is = (and_both (names_transaction tid) _ is).0
-
-pub all_dropped_one : {X : Type 0} (q : X → Bool) (xs : List X) → list_all q xs ≡ true → list_all q (drop 1 xs) ≡ true
-all_dropped_one q [] all = refl
-all_dropped_one q (x ∷ xs) all = (and_both (q x) (list_all q xs) all).1
 
 -- records behind others
 pub named_behind : (past : Tid → Bool) (me : NodeNo) → ((tid : Tid) → past tid ≡ true → names_transaction tid ≡ true) → (log more : List Record) → are_unended (recovery log) ≡ true → list_all (fits_record past me) more ≡ true → AreNamed (recovery (log ++ more))
@@ -109,27 +104,8 @@ module _ (world : World) (steady : IsSteadyWorld world) (n stamp free : ℕ) (so
       by true same = let at : k ≡ n = grind (arith, nat_tests, same) in subst (λ (j : ℕ). count j ≤ count_in new j) (sym at) (subst (λ (j : ℕ). count n ≤ j) (sym count_here) own)
       by false apart = subst (λ (j : ℕ). j ≤ count_in new k) (sym (others k apart)) (subst (λ (j : ℕ). count_in world k ≤ j) (sym (count_there k apart)) (grind (arith)))
 
-  -- whom a node knows it knows still
-  peer_here : (s : Source) → event_of world n stamp s ≡ Some event → (m : ℕ) → 1 ≤ world.channels.peer n m → 1 ≤ (taken_by world n s).peer n m
-  peer_here (Commanded k) is m knows = knows
-  peer_here (Handed h) is m knows = by (next_parcel world n h)
-    where
-      by : (o : Option Parcel) → 1 ≤ (Rattle.qs_world.specs.Moves.hand_next n h o world.channels).peer n m
-      by None = knows
-      by (Some parcel) = knows
-  peer_here Queues is m knows = knows
-  peer_here Clock is m knows = knows
-  peer_here (Noticed h later) is m knows = by (m == h)
-    where
-      new_one : 1 ≤ later
-      new_one = let its : world.channels.peer n h < later = (noticed_is world n stamp h later event is).0 in grind (arith, its)
-
-      by : (b : Bool) → 1 ≤ (if n == n then (if b then later else world.channels.peer n m) else world.channels.peer n m)
-      by true = rw itself new_one
-      by false = rw itself knows
-
   met_new : (m : ℕ) → 1 ≤ world.channels.peer n m → 1 ≤ new.channels.peer n m
-  met_new m knows = subst (λ (p : ℕ → ℕ → ℕ). 1 ≤ p n m) (sym peer_eq) (peer_here source is m knows)
+  met_new m knows = subst (λ (p : ℕ → ℕ → ℕ). 1 ≤ p n m) (sym peer_eq) (peer_here world steady n stamp event source is m knows)
 
   apart_nodes : (a : ℕ) → (a == n) ≡ false → a ≢ n
   apart_nodes a off same = let it : (a == n) ≡ true = grind (arith, nat_tests, same) in cc (it, off)
@@ -285,66 +261,14 @@ module _ (world : World) (steady : IsSteadyWorld world) (n stamp free : ℕ) (so
         pick true b d off = rw off refl
         pick false b d off = refl
 
-    -- ---- whom it knows, and the scripts
-
-    peers_now : (p q : ℕ) → 1 ≤ new.channels.peer p q → are_two world.size p q ≡ true
-    peers_now p q knows = by source is (subst (λ (f : ℕ → ℕ → ℕ). 1 ≤ f p q) peer_eq knows)
-      where
-        by : (s : Source) → event_of world n stamp s ≡ Some event → 1 ≤ (taken_by world n s).peer p q → are_two world.size p q ≡ true
-        by (Commanded k) is knows = steady.peers p q knows
-        by (Handed h) is knows = at (next_parcel world n h) knows
-          where
-            at : (o : Option Parcel) → 1 ≤ (Rattle.qs_world.specs.Moves.hand_next n h o world.channels).peer p q → are_two world.size p q ≡ true
-            at None knows = steady.peers p q knows
-            at (Some parcel) knows = steady.peers p q knows
-        by Queues is knows = steady.peers p q knows
-        by Clock is knows = steady.peers p q knows
-        by (Noticed h later) is knows = at (p == n) refl (q == h) refl knows
-          where
-            met : 1 ≤ world.channels.peer n h
-            met = known_one world n stamp h later event is
-              where
-                known_one : (world : World) (n stamp m new : ℕ) (event : Event) → Rattle.qs_world.specs.Moves.notice_of world n stamp m new ≡ Some event → 1 ≤ world.channels.peer n m
-                known_one world n stamp m new event is = one (nat_lt 0 (world.channels.peer n m)) refl is
-                  where
-                    one : (b : Bool) → nat_lt 0 (world.channels.peer n m) ≡ b
-                        → (if b && (nat_lt (world.channels.peer n m) new && Rattle.qs_world.specs.Moves.has_begun world stamp m new) then Some (Rattle.qs_step.specs.declared.event.Event.TheVariants.PeerRestarted (node_no m) (world.channels.peer n m) new) else None) ≡ Some event → 1 ≤ world.channels.peer n m
-                    one true it is = grind (arith, nat_tests, it)
-                    one false it is = absurd (cc (is))
-
-            at : (a : Bool) → (p == n) ≡ a → (b : Bool) → (q == h) ≡ b → 1 ≤ (if a then (if b then later else world.channels.peer p q) else world.channels.peer p q) → are_two world.size p q ≡ true
-            at true pa true qb knows =
-                let p_is : p ≡ n = grind (arith, nat_tests, pa) in let q_is : q ≡ h = grind (arith, nat_tests, qb) in
-                subst (λ (k : ℕ). are_two world.size k q ≡ true) (sym p_is) (subst (λ (k : ℕ). are_two world.size n k ≡ true) (sym q_is) (steady.peers n h met))
-            at true pa false qb knows = steady.peers p q knows
-            at false pa b qb knows = steady.peers p q knows
-
-    scripts_now : (k : ℕ) → k < client_count → list_all (is_steady_line world.size) (new.clients k).lines ≡ true
-    scripts_now k below = by (list_any (is_answer_to k) out.answers)
-      where
-        first : (s : Source) → list_all (is_steady_line world.size) (handed_by s world.clients k).lines ≡ true
-        first (Commanded c) = at (k == c) refl
-          where
-            at : (b : Bool) → (k == c) ≡ b → list_all (is_steady_line world.size) (if b then record (world.clients c) { is_handed = true } else world.clients k).lines ≡ true
-            at true same = let it : k ≡ c = grind (arith, nat_tests, same) in subst (λ (j : ℕ). list_all (is_steady_line world.size) (world.clients j).lines ≡ true) it (steady.scripts k below)
-            at false apart = steady.scripts k below
-        first (Handed h) = steady.scripts k below
-        first Queues = steady.scripts k below
-        first Clock = steady.scripts k below
-        first (Noticed h later) = steady.scripts k below
-
-        by : (b : Bool) → list_all (is_steady_line world.size) (if b then answered (handed_by source world.clients k) else handed_by source world.clients k).lines ≡ true
-        by true = all_dropped_one (is_steady_line world.size) (handed_by source world.clients k).lines (first source)
-        by false = first source
-
     pub stepped_steady : IsSteadyWorld new
     stepped_steady = record {
       seated = seated;
       sound = sound;
       nodes = hosts_after world new n host grows (λ k. refl) (λ k m off knows. met_there k m off knows) (λ in_run. host_now) steady.nodes;
-      peers = peers_now;
+      peers = λ p q knows. peers_taken world steady n stamp event p q source is (subst (λ (f : ℕ → ℕ → ℕ). 1 ≤ f p q) peer_eq knows);
       nobody = nobody_now;
       posted = posted_now;
       waits = waits_now;
-      scripts = scripts_now;
+      scripts = scripts_taken world steady n stamp event source out.answers;
     }

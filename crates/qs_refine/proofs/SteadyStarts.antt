@@ -28,7 +28,8 @@ use Rattle.qs_refine.proofs.SoundBegin.{all_implied}
 use Rattle.qs_refine.proofs.SoundParts.{and_both, both_and}
 use Rattle.qs_refine.proofs.SoundViews.{seen}
 use Rattle.qs_refine.proofs.SteadyGrows.{stage_is}
-use Rattle.qs_refine.proofs.TidyOpened.{opened_tidy, opened_first, opened_taken}
+use Rattle.qs_refine.proofs.TidyOpened.{opened_tidy, opened_first}
+use Rattle.qs_refine.proofs.TidyTaken.{opened_taken}
 
 module _ (o : Opening) (opens : IsOpening o) where
   abbrev world : World

@@ -19,7 +19,7 @@ use Rattle.qs_refine.proofs.SoundHappen.{happen_sound}
 use Rattle.qs_refine.proofs.SoundParts.{both_and}
 use Rattle.qs_refine.proofs.SoundRestart.{begin_incarnation_sound}
 use Rattle.qs_refine.proofs.SteadyGrows.{Rises, begun_rises, past_rises, begun_past, own_past, stage_is}
-use Rattle.qs_refine.proofs.SteadyMays.{ComesFit, begun_tidy, comes_may, comes_on}
+use Rattle.qs_refine.proofs.SteadyBegins.{ComesFit, begun_tidy, comes_may, comes_on}
 use Rattle.qs_refine.proofs.TidyHappens.{Later, happen_tidy, settles_tidy}
 
 -- one number more at node n
@@ -126,5 +126,6 @@ accept_tidy e node n = record {
   outcomes = n.outcomes;
   commands = n.commands;
   kinds = n.kinds;
+  committed = n.committed;
   crossed = record { owned = n.crossed.owned; commits = n.crossed.commits; fresh = n.crossed.fresh; pasts = n.crossed.pasts };
 }

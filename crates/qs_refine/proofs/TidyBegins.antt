@@ -129,6 +129,7 @@ module _ (c d : Stage) (wide : Widens c d) where
     outcomes = all_implied (is_tidy_outcome c) (is_tidy_outcome d) outcome_wide node.kept.now.outcomes n.outcomes;
     commands = subst (λ (s : Rattle.qs_step.specs.declared.setting.Setting.Setting). list_all (λ (entry : ClientNo × Rattle.qs_step.specs.declared.state.OpenCommand.OpenCommand). Rattle.qs_refine.specs.Begun.may_command s.nodes entry.1.line.command) node.commands ≡ true) (sym wide.setting) n.commands;
     kinds = n.kinds;
+    committed = all_implied c.past d.past wide.past node.committed n.committed;
     crossed = n.crossed;
   }
 
@@ -237,6 +238,7 @@ module _ (c d : Stage) (wide : Widens c d) where
       outcomes = all_implied (is_tidy_outcome c) (is_tidy_outcome d) outcome_wide node.kept.now.outcomes n.outcomes;
       commands = subst (λ (s : Rattle.qs_step.specs.declared.setting.Setting.Setting). list_all (λ (entry : ClientNo × Rattle.qs_step.specs.declared.state.OpenCommand.OpenCommand). Rattle.qs_refine.specs.Begun.may_command s.nodes entry.1.line.command) node.commands ≡ true) (sym wide.setting) n.commands;
       kinds = n.kinds;
+      committed = all_implied c.past d.past wide.past node.committed n.committed;
       crossed = crossed;
     }
 

@@ -83,6 +83,7 @@ module _ (c : Stage) (stage : IsStage c) where
       outcomes = t.node.outcomes;
       commands = t.node.commands;
       kinds = t.node.kinds;
+      committed = t.node.committed;
       crossed = record { owned = all_last (is_owned_label work.node) work.node.kept.now.labels label t.node.crossed.owned owned; commits = t.node.crossed.commits; fresh = t.node.crossed.fresh; pasts = t.node.crossed.pasts };
     };
     begun = t.begun;

@@ -1,18 +1,13 @@
 -- A node in the middle of a step stays tidy through each thing that a rule does.
-use Rattle.std.proofs.Common.{◌≡◌, ℕ, ◌==◌, ◌&&◌, not, Bool, true, false, List, [], ◌∷◌, ◌++◌, drop, Option, Some, None, is_some, refl, sym, ap, subst, ◌∙◌, arith, nat_lt, nat_le, if◌then◌else◌}
+use Rattle.std.proofs.Common.{◌≡◌, ℕ, ◌&&◌, not, Bool, true, false, List, [], ◌∷◌, ◌++◌, Option, Some, None, is_some, refl, sym, ap, subst, ◌∙◌, arith, nat_lt, nat_le, if◌then◌else◌}
 use Rattle.std.proofs.lemmas.Bool.Decides.{nat_tests}
 use Rattle.std.specs.List.{list_all}
 use Rattle.std.specs.BTreeMap.{is_at, insert_entry}
-use Rattle.std.specs.Map.{lookup, set_value, remove_entry}
+use Rattle.std.specs.Map.{lookup, remove_entry}
 use Rattle.qs_base.specs.declared.identifiers.ClientNo.{ClientNo}
 use Rattle.qs_base.specs.declared.identifiers.NodeNo.{NodeNo}
 use Rattle.qs_base.specs.declared.identifiers.ServerNo.{ServerNo}
 use Rattle.qs_base.specs.declared.identifiers.Tid.{Tid}
-use Rattle.qs_ipc.specs.Ipc as ipc
-use Rattle.qs_ipc.specs.Ipc.{IpcValue, server_cmp}
-use Rattle.qs_ipc.specs.Queue as queue
-use Rattle.qs_ipc.specs.Queue.{QueueValue, added, after_first, no_queue, mark_stale}
-use Rattle.qs_ipc.specs.declared.delivery.Delivery.{Delivery}
 use Rattle.qs_journal.specs.declared.entry.Act.TheVariants as acts
 use Rattle.qs_journal.specs.declared.script_line.ScriptLine.{ScriptLine}
 use Rattle.qs_kept.specs.Loans.{take_first, give_back, last_taken, is_taken, is_untaken}
@@ -26,7 +21,6 @@ use Rattle.qs_step.specs.Bringing.{send, answer, is_other, log, tid_of}
 use Rattle.qs_step.specs.Commands.{with_issued}
 use Rattle.qs_step.specs.State.{NodeValue, Work, with_manager, with_queues, with_kept, change_server, client_cmp}
 use Rattle.qs_step.specs.Step.{with_command}
-use Rattle.qs_step.specs.Telling.{drop_counts}
 use Rattle.qs_step.specs.declared.setting.Setting.{Setting}
 use Rattle.qs_step.specs.declared.state.Issued.{Issued}
 use Rattle.qs_step.specs.declared.state.OpenCommand.{OpenCommand}
@@ -34,13 +28,14 @@ use Rattle.qs_tm.specs.Manager as tm
 use Rattle.qs_tm.specs.Outcomes as outcome_rules
 use Rattle.qs_refine.specs.Begun.{fits, fits_record, may_command}
 use Rattle.qs_refine.specs.Sound.{is_owned_label}
-use Rattle.qs_refine.specs.Tidy.{Stage, IsStage, IsTidy, IsTidyNode, is_tidy_label, is_tidy_loan, is_tidy_command, is_tidy_sending, is_tidy_record, is_begun_delivery, is_begun_queue, are_servers_apart}
+use Rattle.qs_refine.specs.Tidy.{Stage, IsStage, IsTidy, IsTidyNode, is_tidy_label, is_tidy_loan, is_tidy_command, is_tidy_sending, is_tidy_record}
 use Rattle.qs_refine.specs.Walks.{Keeps, IsPlain, same_kind}
-use Rattle.qs_refine.proofs.Entries.{found_passes, all_changed_value, all_inserted, all_but_removed, all_mapped, all_set_value, apart_set, apart_put, apart_mapped}
+use Rattle.qs_refine.proofs.Entries.{all_changed_value, all_inserted, all_but_removed}
 use Rattle.qs_refine.proofs.ServerKinds.{kind_kept}
 use Rattle.qs_refine.proofs.SoundBegin.{all_last}
 use Rattle.qs_refine.proofs.SoundParts.{and_both, both_and}
 use Rattle.qs_refine.proofs.TidyNodes.{SamePart, part_tidy, ask_tidy, request_tidy, release_tidy, learn_tidy, meet_tidy, keep_abort_tidy, forget_tidy, tick_tidy, decide_tidy}
+use Rattle.qs_refine.proofs.TidyWaits.{node_tidy, enqueue_tidy, next_tidy, drop_tidy, mark_tidy}
 
 module _ (c : Stage) where
   -- what it does beside what it keeps
@@ -50,10 +45,6 @@ module _ (c : Stage) where
     begun = ap (λ (n : NodeValue). n.is_first) node ∙ t.begun;
     out = record { messages = rw messages t.out.messages; records = rw records t.out.records };
   }
-
-  -- the node is changed, and nothing is done
-  node_tidy : (work : Work) (node : NodeValue) → node.is_first ≡ work.node.is_first → IsTidyNode c node → IsTidy c work → IsTidy c (record work { node = node })
-  node_tidy work node first is t = record { node = is; begun = first ∙ t.begun; out = record { messages = t.out.messages; records = t.out.records } }
 
   other_read : (work : Work) (to : NodeNo) (b : Bool) → IsTidy c work → is_other work.node.setting to ≡ b → is_other c.setting to ≡ b
   other_read work to b t is = ap (λ (s : Setting). is_other s to) (sym t.node.setting) ∙ is
@@ -98,6 +89,7 @@ module _ (c : Stage) where
     outcomes = n.outcomes;
     commands = all;
     kinds = n.kinds;
+    committed = n.committed;
     crossed = record { owned = n.crossed.owned; commits = n.crossed.commits; fresh = n.crossed.fresh; pasts = n.crossed.pasts };
   }
 
@@ -122,104 +114,19 @@ module _ (c : Stage) where
       }
 
   opens_tidy : (line : ScriptLine) (work : Work) → may_command c.setting.nodes line.command ≡ true → IsTidy c work → IsTidy c (with_command line work)
-  opens_tidy line work may t = node_tidy work (record work.node { commands = insert_entry client_cmp work.node.commands line.client (record { line = line; issued = None }) }) refl
+  opens_tidy line work may t = node_tidy c work (record work.node { commands = insert_entry client_cmp work.node.commands line.client (record { line = line; issued = None }) }) refl
       (with_commands work (insert_entry client_cmp work.node.commands line.client (record { line = line; issued = None })) (all_inserted client_cmp (is_tidy_command c) line.client (record { line = line; issued = None }) (λ l. may) work.node.commands t.node.commands) t.node) t
 
   issue_tidy : (client : ClientNo) (issued : Issued) (work : Work) → IsTidy c work → IsTidy c (with_issued client issued work)
-  issue_tidy client issued work t = node_tidy work (record work.node { commands = tm.changed_value (is_at (client_cmp client)) (λ command. record command { issued = Some issued }) work.node.commands }) refl
+  issue_tidy client issued work t = node_tidy c work (record work.node { commands = tm.changed_value (is_at (client_cmp client)) (λ command. record command { issued = Some issued }) work.node.commands }) refl
       (with_commands work (tm.changed_value (is_at (client_cmp client)) (λ command. record command { issued = Some issued }) work.node.commands)
       (all_changed_value (is_at (client_cmp client)) (is_tidy_command c) (λ command. record command { issued = Some issued }) (λ k l command its. its) work.node.commands t.node.commands) t.node) t
-
-  -- ---- what waits
-
-  with_waiting : (work : Work) (queues : IpcValue) → are_servers_apart queues ≡ true → list_all (is_begun_queue c) queues ≡ true → IsTidy c work → IsTidy c (with_queues (λ old. queues) work)
-  with_waiting work queues apart all t = node_tidy work (record work.node { queues = queues }) refl (record {
-    setting = t.node.setting;
-    own = t.node.own;
-    inc = t.node.inc;
-    count = t.node.count;
-    ordered = t.node.ordered;
-    known = t.node.known;
-    apart = apart;
-    waiting = all;
-    labels = t.node.labels;
-    loans = t.node.loans;
-    outcomes = t.node.outcomes;
-    commands = t.node.commands;
-    kinds = t.node.kinds;
-    crossed = record { owned = t.node.crossed.owned; commits = t.node.crossed.commits; fresh = t.node.crossed.fresh; pasts = t.node.crossed.pasts };
-  }) t
-
-  enqueue_tidy : (server : ServerNo) (delivery : Delivery) (work : Work) → c.begun delivery.tid ≡ true → IsTidy c work → IsTidy c (with_queues (ipc.enqueue server delivery) work)
-  enqueue_tidy server delivery work begun t = with_waiting work (ipc.enqueue server delivery work.node.queues) (by (lookup (is_at (server_cmp server)) work.node.queues) refl).0 (by (lookup (is_at (server_cmp server)) work.node.queues) refl).1 t
-    where
-      after : Option QueueValue → IpcValue
-      after o = elim o [
-        | None ↦ insert_entry server_cmp work.node.queues server (added delivery no_queue)
-        | Some queue ↦ set_value (is_at (server_cmp server)) work.node.queues (added delivery queue)
-      ]
-
-      by : (o : Option QueueValue) → lookup (is_at (server_cmp server)) work.node.queues ≡ o → (are_servers_apart (after o) ≡ true) × (list_all (is_begun_queue c) (after o) ≡ true)
-      by None none = (
-        apart_put server (added delivery no_queue) work.node.queues none t.node.apart,
-        all_inserted server_cmp (is_begun_queue c) server (added delivery no_queue) (λ l. both_and (c.begun delivery.tid) true begun refl) work.node.queues t.node.waiting,
-      )
-      by (Some queue) found = (
-        apart_set server (added delivery queue) work.node.queues ∙ t.node.apart,
-        let it : (k : ServerNo) × (is_begun_queue c (k, queue) ≡ true) = found_passes (is_at (server_cmp server)) (is_begun_queue c) work.node.queues queue found t.node.waiting in
-            all_set_value (is_at (server_cmp server)) (is_begun_queue c) (added delivery queue) (λ l. all_last (is_begun_delivery c) queue.waiting delivery it.1 begun) work.node.queues t.node.waiting,
-      )
-
-  all_dropped : (ds : List Delivery) → list_all (is_begun_delivery c) ds ≡ true → list_all (is_begun_delivery c) (drop 1 ds) ≡ true
-  all_dropped [] all = refl
-  all_dropped (d ∷ ds) all = (and_both (is_begun_delivery c d) (list_all (is_begun_delivery c) ds) all).1
-
-  next_tidy : (server : ServerNo) (work : Work) → IsTidy c work → IsTidy c (with_queues (ipc.after_next server) work)
-  next_tidy server work t = with_waiting work (ipc.after_next server work.node.queues) (apart (lookup (is_at (server_cmp server)) work.node.queues))
-      (all_changed_value (is_at (server_cmp server)) (is_begun_queue c) after_first (λ k l queue its. all_dropped queue.waiting its) work.node.queues t.node.waiting) t
-    where
-      apart : (o : Option QueueValue) → are_servers_apart (elim o [ None ↦ work.node.queues | Some v ↦ set_value (is_at (server_cmp server)) work.node.queues (after_first v) ]) ≡ true
-      apart None = t.node.apart
-      apart (Some queue) = apart_set server (after_first queue) work.node.queues ∙ t.node.apart
-
-  drop_tidy : (tid : Tid) (work : Work) → IsTidy c work → IsTidy c (with_queues (drop_counts tid) work)
-  drop_tidy tid work t = by (ipc.waits tid work.node.queues)
-    where
-      kept : (e : ServerNo × QueueValue) → (ipc.forgotten_below ipc.servers tid e).0 ≡ e.0
-      kept e = at (nat_lt e.0.0 ipc.servers)
-        where
-          at : (b : Bool) → (if b then (e.0, queue.forgotten tid e.1) else e).0 ≡ e.0
-          at true = refl
-          at false = refl
-
-      still : (e : ServerNo × QueueValue) → is_begun_queue c e ≡ true → is_begun_queue c (ipc.forgotten_below ipc.servers tid e) ≡ true
-      still e is = at (nat_lt e.0.0 ipc.servers)
-        where
-          at : (b : Bool) → is_begun_queue c (if b then (e.0, queue.forgotten tid e.1) else e) ≡ true
-          at true = is
-          at false = is
-
-      by : (b : Bool) → IsTidy c (with_queues (λ queues. if b then queues else ipc.forget tid queues) work)
-      by true = with_waiting work work.node.queues t.node.apart t.node.waiting t
-      by false = with_waiting work (ipc.forget tid work.node.queues) (apart_mapped (ipc.forgotten_below ipc.servers tid) kept work.node.queues ∙ t.node.apart)
-          (all_mapped (is_begun_queue c) (ipc.forgotten_below ipc.servers tid) still work.node.queues t.node.waiting) t
-
-  mark_tidy : (peer : NodeNo) (work : Work) → IsTidy c work → IsTidy c (with_queues (ipc.mark_queues peer) work)
-  mark_tidy peer work t = with_waiting work (ipc.mark_queues peer work.node.queues) (apart_mapped (ipc.mark_queue peer) (λ e. refl) work.node.queues ∙ t.node.apart)
-      (all_mapped (is_begun_queue c) (ipc.mark_queue peer) (λ e is. all_mapped (is_begun_delivery c) (mark_stale peer) stale e.1.waiting is) work.node.queues t.node.waiting) t
-    where
-      stale : (d : Delivery) → is_begun_delivery c d ≡ true → is_begun_delivery c (mark_stale peer d) ≡ true
-      stale d is = by (d.from.0 == peer.0)
-        where
-          by : (b : Bool) → is_begun_delivery c (if b then record d { stale = true } else d) ≡ true
-          by true = is
-          by false = is
 
   -- ---- what is kept for clients
 
   with_clients : (work : Work) (labels : List Begun) (loans : List Lent) → list_all (is_tidy_label c) labels ≡ true → list_all (is_tidy_loan c) loans ≡ true → list_all (is_owned_label work.node) labels ≡ true → IsTidy c work
       → IsTidy c (with_kept (λ kept. record kept { labels = labels; loans = loans }) work)
-  with_clients work labels loans tidy lent owned t = node_tidy work (record work.node { kept = record work.node.kept { now = record work.node.kept.now { labels = labels; loans = loans } } }) refl (record {
+  with_clients work labels loans tidy lent owned t = node_tidy c work (record work.node { kept = record work.node.kept { now = record work.node.kept.now { labels = labels; loans = loans } } }) refl (record {
     setting = t.node.setting;
     own = t.node.own;
     inc = t.node.inc;
@@ -233,6 +140,7 @@ module _ (c : Stage) where
     outcomes = t.node.outcomes;
     commands = t.node.commands;
     kinds = t.node.kinds;
+    committed = t.node.committed;
     crossed = record { owned = owned; commits = t.node.crossed.commits; fresh = t.node.crossed.fresh; pasts = t.node.crossed.pasts };
   }) t
 
@@ -282,7 +190,7 @@ module _ (c : Stage) where
   -- ---- servers
 
   serve_tidy : (server : ServerNo) (f : ServerValue → ServerValue) (work : Work) → same_kind f → IsTidy c work → IsTidy c (change_server server f work)
-  serve_tidy server f work same t = node_tidy work (change_server server f work).node refl (record {
+  serve_tidy server f work same t = node_tidy c work (change_server server f work).node refl (record {
     setting = t.node.setting;
     own = t.node.own;
     inc = t.node.inc;
@@ -296,11 +204,12 @@ module _ (c : Stage) where
     outcomes = t.node.outcomes;
     commands = t.node.commands;
     kinds = λ r below. ap number_of (kind_kept f same r work.node.servers server) ∙ t.node.kinds r below;
+    committed = t.node.committed;
     crossed = record { owned = t.node.crossed.owned; commits = t.node.crossed.commits; fresh = t.node.crossed.fresh; pasts = t.node.crossed.pasts };
   }) t
 
   local_tidy : (tid : Tid) (number : ℕ) (work : Work) → IsTidy c work → IsTidy c (Rattle.qs_step.specs.Requests.with_local tid number work)
-  local_tidy tid number work t = node_tidy work (Rattle.qs_step.specs.Requests.with_local tid number work).node refl (record {
+  local_tidy tid number work t = node_tidy c work (Rattle.qs_step.specs.Requests.with_local tid number work).node refl (record {
     setting = t.node.setting;
     own = t.node.own;
     inc = t.node.inc;
@@ -314,6 +223,7 @@ module _ (c : Stage) where
     outcomes = t.node.outcomes;
     commands = t.node.commands;
     kinds = t.node.kinds;
+    committed = t.node.committed;
     crossed = record { owned = t.node.crossed.owned; commits = t.node.crossed.commits; fresh = t.node.crossed.fresh; pasts = t.node.crossed.pasts };
   }) t
 
@@ -330,20 +240,20 @@ module _ (c : Stage) where
     send = send_tidy;
     log = log_tidy;
     answer = answer_tidy;
-    part = λ tid f work plain t. node_tidy work _ refl (part_tidy c work.node t.node tid f (plain_same f plain)) t;
-    ask = λ tid work begun t. node_tidy work _ refl (ask_tidy c work.node t.node tid begun) t;
-    request = λ tid peer number work begun met t. node_tidy work _ refl (request_tidy c work.node t.node tid peer number begun met) t;
-    release = λ tid work t. node_tidy work _ refl (release_tidy c work.node t.node tid) t;
-    meet = λ tid work begun away t. node_tidy work _ refl (meet_tidy c work.node t.node tid (stage.inside tid begun).0 away) t;
-    keep_abort = λ tid work past none t. node_tidy work _ refl (keep_abort_tidy c work.node t.node tid past none) t;
-    decide = λ tid outcome cause work homed open_now t. node_tidy work _ refl (decide_tidy c work.node t.node tid outcome cause homed open_now) t;
-    learn = λ tid outcome work away t. node_tidy work _ refl (learn_tidy c work.node t.node tid outcome away) t;
-    forget = λ tid part work known may t. node_tidy work _ refl (forget_tidy c work.node t.node tid part known may) t;
-    tick = λ work t. node_tidy work _ refl (tick_tidy c work.node t.node) t;
-    enqueue = enqueue_tidy;
-    next = next_tidy;
-    drop = drop_tidy;
-    mark = mark_tidy;
+    part = λ tid f work plain t. node_tidy c work _ refl (part_tidy c work.node t.node tid f (plain_same f plain)) t;
+    ask = λ tid work begun t. node_tidy c work _ refl (ask_tidy c work.node t.node tid begun) t;
+    request = λ tid peer number work begun met t. node_tidy c work _ refl (request_tidy c work.node t.node tid peer number begun met) t;
+    release = λ tid work t. node_tidy c work _ refl (release_tidy c work.node t.node tid) t;
+    meet = λ tid work begun away t. node_tidy c work _ refl (meet_tidy c work.node t.node tid (stage.inside tid begun).0 away) t;
+    keep_abort = λ tid work past none t. node_tidy c work _ refl (keep_abort_tidy c work.node t.node tid past none) t;
+    decide = λ tid outcome cause work homed open_now t. node_tidy c work _ refl (decide_tidy c work.node t.node tid outcome cause homed open_now) t;
+    learn = λ tid outcome work away t. node_tidy c work _ refl (learn_tidy c work.node t.node tid outcome away) t;
+    forget = λ tid part work known may t. node_tidy c work _ refl (forget_tidy c work.node t.node tid part known may) t;
+    tick = λ work t. node_tidy c work _ refl (tick_tidy c work.node t.node) t;
+    enqueue = enqueue_tidy c;
+    next = next_tidy c;
+    drop = drop_tidy c;
+    mark = mark_tidy c;
     learn_label = learn_label_tidy;
     lend = lend_tidy;
     take = λ client tid work t. with_loans work (take_first client tid work.node.kept.now.loans) (all_taken client tid work.node.kept.now.loans t.node.loans) t;

@@ -92,6 +92,7 @@ module _ (c : Stage) (stage : IsStage c) where
           outcomes = n.outcomes;
           commands = n.commands;
           kinds = n.kinds;
+          committed = n.committed;
           crossed = record { owned = n.crossed.owned; commits = n.crossed.commits; fresh = n.crossed.fresh; pasts = n.crossed.pasts };
         };
         begun = refl;

@@ -62,3 +62,4 @@ pub mod Walks
 pub mod Tidy
 pub mod Steadies
 pub mod EachRun
+pub mod SteadyFacts

@@ -105,6 +105,7 @@ pub record IsTidyNode (c : Stage) (node : NodeValue) : Type 0 where
   pub outcomes : list_all (is_tidy_outcome c) node.kept.now.outcomes ≡ true
   pub commands : list_all (is_tidy_command c) node.commands ≡ true
   pub kinds : HasKinds node
+  pub committed : list_all c.past node.committed ≡ true  -- the transactions of its log's Commits
   pub crossed : IsCrossed node
 
 -- ---- what it sends, and the records that it appends
