@@ -1,0 +1,2 @@
+-- How a run judges its own journal.
+pub mod Verdicts
