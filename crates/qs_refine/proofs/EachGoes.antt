@@ -19,7 +19,7 @@ use Rattle.qs_agree.specs.World as machine
 use Rattle.qs_agree.specs.World.{Open, Committed, Aborted}
 use Rattle.qs_agree.specs.Carry.{Leads}
 use Rattle.qs_agree.proofs.Carries.{leads_on}
-use Rattle.qs_refine.specs.EachMove.{ShowsAll, KeepsDecided, MessagesFit, CanCountAll}
+use Rattle.qs_refine.specs.EachMove.{ShowsAll, KeepsDecided, MessagesFit, CanCountAll, NamersInvolved}
 use Rattle.qs_refine.specs.Faces.{Face, ShowsFace}
 use Rattle.qs_refine.specs.JoinLaws.{is_loose, StepForced}
 use Rattle.qs_refine.specs.MoveLaws.{AllClose, StepShown, taken_scene}
@@ -45,7 +45,7 @@ use Rattle.qs_refine.proofs.TurnOn.{became, fate_found, fate_at, Turned, is_abor
 use Rattle.qs_refine.proofs.TurnEvents.{step_on}
 use Rattle.qs_refine.proofs.WaitStands.{answer_waiting_goes}
 
-module _ (t : Tid) (world : World) (w : machine.World) (steady : IsSteady world) (home_in : t.home.0 < world.size) (began : HasBegun world t) (all : ShowsAll t world w) (kept : KeepsDecided t world w) (fits : MessagesFit world) (counts : CanCountAll world)
+module _ (t : Tid) (world : World) (w : machine.World) (steady : IsSteady world) (home_in : t.home.0 < world.size) (began : HasBegun world t) (all : ShowsAll t world w) (kept : KeepsDecided t world w) (fits : MessagesFit world) (counts : CanCountAll world) (named : NamersInvolved world)
     (n stamp free : ℕ) (n_in : n < world.size) (on : world.channels.up n ≡ true) (source : Source) (event : Event) (is : event_of world n stamp source ≡ Some event) where
   abbrev pub node : NodeValue
   node = (world.hosts n).node
@@ -57,7 +57,7 @@ module _ (t : Tid) (world : World) (w : machine.World) (steady : IsSteady world)
   last_work = step_work node event free
 
   pub came : StepCame t world n free source event w
-  came = step_came t world w steady home_in began all kept fits counts n free n_in on stamp source event is
+  came = step_came t world w steady home_in began all kept fits counts named n free n_in on stamp source event is
 
   abbrev pub later : Scene
   later = came.later

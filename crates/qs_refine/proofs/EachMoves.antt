@@ -15,7 +15,7 @@ use Rattle.qs_world.specs.World.{World}
 use Rattle.qs_agree.specs.World as machine
 use Rattle.qs_agree.specs.World.{Open, Committed, Aborted}
 use Rattle.qs_agree.specs.Carry.{Leads}
-use Rattle.qs_refine.specs.EachMove.{ShowsOutcome, ShowsAll, AllGoes, KeepsDecided, MessagesFit, CanCountAll}
+use Rattle.qs_refine.specs.EachMove.{ShowsOutcome, ShowsAll, AllGoes, KeepsDecided, MessagesFit, CanCountAll, NamersInvolved}
 use Rattle.qs_refine.specs.Faces.{Face}
 use Rattle.qs_refine.specs.Links.{node_no}
 use Rattle.qs_refine.specs.MoveLaws.{ShowsWorld, WorldGoes, StepShown}
@@ -71,7 +71,7 @@ pub goes_all : (t : Tid) (world : World) (w : machine.World) (home_in : t.home.0
     → ((k : ℕ) → k < world.size → after.channels.up k ≡ true → StaysAt world after k ⊎ TellsAt t after k goes.next) → AllGoes t after w
 goes_all t world w home_in all after sized goes each_node = all_goes t world w home_in all after goes.next goes.leads sized goes.shown each_node
 
-module _ (t : Tid) (world : World) (w : machine.World) (steady : IsSteady world) (counts : CanCountAll world) (fits : MessagesFit world) (home_in : t.home.0 < world.size) (began : HasBegun world t) (kept : KeepsDecided t world w) (all : ShowsAll t world w) where
+module _ (t : Tid) (world : World) (w : machine.World) (steady : IsSteady world) (counts : CanCountAll world) (named : NamersInvolved world) (fits : MessagesFit world) (home_in : t.home.0 < world.size) (began : HasBegun world t) (kept : KeepsDecided t world w) (all : ShowsAll t world w) where
   -- ---- a node stops
 
   pub halted : (n stamp : ℕ) (cause : CrashCause) (log : List Rattle.qs_record.specs.declared.record.Record.Record) (k : ℕ) → (stopped world n stamp cause log).channels.up k ≡ true → StaysAt world (stopped world n stamp cause log) k
@@ -87,11 +87,11 @@ module _ (t : Tid) (world : World) (w : machine.World) (steady : IsSteady world)
   -- ---- a step
 
   module _ (n stamp free : ℕ) (source : Source) (event : Event) (n_in : n < world.size) (on : world.channels.up n ≡ true) (is : event_of world n stamp source ≡ Some event) where
-    shown_step : (shown : StepShown t world n free source event w) × Leads (each.f t world w steady home_in began all kept fits counts n stamp free n_in on source event is) shown.next
-    shown_step = each.step_shown t world w steady home_in began all kept fits counts n stamp free n_in on source event is
+    shown_step : (shown : StepShown t world n free source event w) × Leads (each.f t world w steady home_in began all kept fits counts named n stamp free n_in on source event is) shown.next
+    shown_step = each.step_shown t world w steady home_in began all kept fits counts named n stamp free n_in on source event is
 
     abbrev then_f : machine.World
-    then_f = each.f t world w steady home_in began all kept fits counts n stamp free n_in on source event is
+    then_f = each.f t world w steady home_in began all kept fits counts named n stamp free n_in on source event is
 
     abbrev work : Work
     work = step_work (world.hosts n).node event free
@@ -99,14 +99,14 @@ module _ (t : Tid) (world : World) (w : machine.World) (steady : IsSteady world)
     abbrev after : World
     after = step_with world n stamp free source (Some event)
 
-    stood : Rattle.qs_refine.specs.Stands.Stands t (each.later t world w steady home_in began all kept fits counts n stamp free n_in on source event is) n work then_f
-    stood = each.stands t world w steady home_in began all kept fits counts n stamp free n_in on source event is
+    stood : Rattle.qs_refine.specs.Stands.Stands t (each.later t world w steady home_in began all kept fits counts named n stamp free n_in on source event is) n work then_f
+    stood = each.stands t world w steady home_in began all kept fits counts named n stamp free n_in on source event is
 
     abbrev its : Rattle.qs_refine.proofs.EachEvent.StepCame t world n free source event w
-    its = each.came t world w steady home_in began all kept fits counts n stamp free n_in on source event is
+    its = each.came t world w steady home_in began all kept fits counts named n stamp free n_in on source event is
 
-    turned : Rattle.qs_refine.proofs.TurnOn.Turned (Rattle.qs_refine.proofs.EachCame.case_of t world n (each.came t world w steady home_in began all kept fits counts n stamp free n_in on source event is).came.ends then_f) work
-    turned = each.turned t world w steady home_in began all kept fits counts n stamp free n_in on source event is
+    turned : Rattle.qs_refine.proofs.TurnOn.Turned (Rattle.qs_refine.proofs.EachCame.case_of t world n (each.came t world w steady home_in began all kept fits counts named n stamp free n_in on source event is).came.ends then_f) work
+    turned = each.turned t world w steady home_in began all kept fits counts named n stamp free n_in on source event is
 
     fate_is : (part : Participant) → part_of t work ≡ Some part → fate_at t work.node ≡ became part.outcome part.acknowledged
     fate_is part known = ap fate_found known
@@ -123,7 +123,7 @@ module _ (t : Tid) (world : World) (w : machine.World) (steady : IsSteady world)
 
         by : (b : Bool) → same_node t.home work.node.setting.node ≡ b → then_f.cell ≡ Committed
         by false away = committed_is then_f.cell (turned.learnt away part.acknowledged (fate_is part known ∙ ap (λ (o : Option Outcome). became o part.acknowledged) decided))
-        by true at = stood.lawful.agreed.knows_commit (place n (world.channels.inc n)) ((each.face_then t world w steady home_in began all kept fits counts n stamp free n_in on source event is).outcome
+        by true at = stood.lawful.agreed.knows_commit (place n (world.channels.inc n)) ((each.face_then t world w steady home_in began all kept fits counts named n stamp free n_in on source event is).outcome
             ∙ (ap (λ (f : Face). f.outcome) (face_is t _ n work then_f stood part known) ∙ (ap (λ (o : Option Outcome). outcome_seen o (part.engage.home || part.involved)) decided ∙ seen (part.engage.home || part.involved) (either part.engage.home part.involved (home_flag at)))))
           where
             seen : (b : Bool) → b ≡ true → outcome_seen (Some outcomes.Commit) b ≡ Committed
