@@ -19,7 +19,7 @@ use Rattle.qs_world.specs.Moves.{Source, Commanded, Handed, Queues, Clock, Notic
 use Rattle.qs_world.specs.World.{Parcel, World}
 use Rattle.qs_agree.specs.World as machine
 use Rattle.qs_agree.proofs.Carries.{leads_on}
-use Rattle.qs_refine.specs.EachMove.{ShowsAll, KeepsDecided, MessagesFit, CanCountAll, NamersInvolved}
+use Rattle.qs_refine.specs.EachMove.{ShowsAll, MessagesFit, CanCountAll, NamersInvolved}
 use Rattle.qs_refine.specs.Links.{node_no}
 use Rattle.qs_refine.specs.Messages.{all_said}
 use Rattle.qs_refine.specs.MoveLaws.{taken_scene}
@@ -55,7 +55,7 @@ pub record StepCame (t : Tid) (world : World) (n free : ℕ) (source : Source) (
   pub came : Came t world n free event later w
   pub taken : (work : Work) (log : List Record) (v : machine.World) → Shows t (stepped later n work log) v → Shows t (stepped (taken_scene world n source) n work log) v
 
-module _ (t : Tid) (world : World) (w : machine.World) (steady : IsSteady world) (home_in : t.home.0 < world.size) (began : HasBegun world t) (all : ShowsAll t world w) (kept : KeepsDecided t world w) (fits : MessagesFit world) (counts : CanCountAll world) (named : NamersInvolved world)
+module _ (t : Tid) (world : World) (w : machine.World) (steady : IsSteady world) (home_in : t.home.0 < world.size) (began : HasBegun world t) (all : ShowsAll t world w) (fits : MessagesFit world) (counts : CanCountAll world) (named : NamersInvolved world)
     (n free : ℕ) (n_in : n < world.size) (on : world.channels.up n ≡ true) where
   abbrev node : NodeValue
   node = (world.hosts n).node
@@ -144,7 +144,7 @@ module _ (t : Tid) (world : World) (w : machine.World) (steady : IsSteady world)
         size = refl;
         inc = refl;
         log = refl;
-        came = message_arrives t world w steady home_in began all kept n free n_in on m (world.channels.peer n m) (rest_behind world n m parcel) parcel.message (is_next world n m parcel steady found) (is_fit world n m parcel steady found) (fits n m free parcel n_in on found);
+        came = message_arrives t world w steady home_in began all n free n_in on m (world.channels.peer n m) (rest_behind world n m parcel) parcel.message (is_next world n m parcel steady found) (is_fit world n m parcel steady found) (fits n m free parcel n_in on found);
         taken = λ work log v shown. handed_taken t world n m parcel work log v found shown;
       }
 

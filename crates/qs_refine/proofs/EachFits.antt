@@ -21,7 +21,7 @@ use Rattle.qs_agree.specs.World as machine
 use Rattle.qs_agree.specs.World.{Open, Committed, Aborted}
 use Rattle.qs_agree.specs.Carry.{Leads}
 use Rattle.qs_refine.specs.CameWhole.{MayCome}
-use Rattle.qs_refine.specs.EachMove.{ShowsAll, KeepsDecided, IsAbout}
+use Rattle.qs_refine.specs.EachMove.{ShowsAll, IsAbout}
 use Rattle.qs_refine.specs.Faces.{Face}
 use Rattle.qs_refine.specs.Links.{Said, Inquired, Link, link, IsLink, names_node, node_no}
 use Rattle.qs_refine.specs.Messages.{said, all_said}
@@ -63,7 +63,7 @@ inquiries_put l (Rattle.qs_refine.specs.Links.Outcome_told commit ∷ rest) home
 inquiries_put l (Rattle.qs_refine.specs.Links.Taken_in further ∷ rest) home is = inquiries_put l rest home is.1
 inquiries_put l (Inquired ∷ rest) home is = let more = inquiries_put (record l { inquiry_taken = l.inquiry_taken + 1 }) rest home is in omega (arith, more)
 
-module _ (t : Tid) (world : World) (w : machine.World) (steady : IsSteady world) (home_in : t.home.0 < world.size) (began : HasBegun world t) (all : ShowsAll t world w) (kept : KeepsDecided t world w) (n free : ℕ) (n_in : n < world.size) (on : world.channels.up n ≡ true)
+module _ (t : Tid) (world : World) (w : machine.World) (steady : IsSteady world) (home_in : t.home.0 < world.size) (began : HasBegun world t) (all : ShowsAll t world w) (n free : ℕ) (n_in : n < world.size) (on : world.channels.up n ≡ true)
     (v : machine.World) (leads : Leads w v) (scene : Scene) (sized : scene.size ≡ world.size) (same : scene.inc ≡ world.channels.inc) (is : Stands t scene n (begun (world.hosts n).node free) v) (m i : ℕ) (rest : List Message) where
   abbrev work : Work
   work = begun (world.hosts n).node free
@@ -184,4 +184,4 @@ module _ (t : Tid) (world : World) (w : machine.World) (steady : IsSteady world)
     own_comes (messages.Told tid further) next fit = λ about at. takes further (subst (λ (u : Tid). Next (messages.Told u further)) (sym about) next) at
     own_comes (messages.Inquire tid) next fit = λ about.
         let at : n ≡ t.home.0 = sym (eqb-true t.home.0 n (subst (λ (u : Tid). (u.home.0 == n) ≡ true) (sym about) (and_both (is_of_run world.size tid) (tid.home.0 == n) fit).1)) in
-        (at, keeps_past t world w steady home_in all n free n_in on v leads scene sized same is began kept at (λ committed none. asked_knows (subst (λ (u : Tid). Next (messages.Inquire u)) (sym about) next) at (commit_stays w v all.seen.lawful leads committed) none))
+        (at, keeps_past t world w steady home_in all n free n_in on v leads scene sized same is began all.kept at (λ committed none. asked_knows (subst (λ (u : Tid). Next (messages.Inquire u)) (sym about) next) at (commit_stays w v all.seen.lawful leads committed) none))
