@@ -15,6 +15,7 @@ use Rattle.qs_packet.specs.declared.message.Message.TheVariants as messages
 use Rattle.qs_tm.specs.Manager as tm
 use Rattle.qs_tm.specs.Outcomes as outcome_rules
 use Rattle.qs_tm.specs.declared.participant.Participant.{Participant}
+use Rattle.qs_step.specs.Answering.{was_committed}
 use Rattle.qs_step.specs.State.{Work, part_of, with_manager}
 use Rattle.qs_step.specs.Step.{happen, message_came}
 use Rattle.qs_step.specs.Telling.{told_at_home, told_unknown, told_known, end_told}
@@ -26,7 +27,7 @@ use Rattle.qs_agree.specs.World.{Open, Committed, Aborted}
 use Rattle.qs_agree.specs.Carry.{Leads}
 use Rattle.qs_agree.proofs.Carries.{leads_on}
 use Rattle.qs_refine.specs.DecisionLaws.{ShowsTold}
-use Rattle.qs_refine.specs.EachMove.{ShowsAll, KeepsDecided}
+use Rattle.qs_refine.specs.EachMove.{ShowsAll}
 use Rattle.qs_refine.specs.Faces.{Face}
 use Rattle.qs_refine.specs.Links.{node_no}
 use Rattle.qs_refine.specs.NodeFaces.{face_at, outcome_seen, unknown}
@@ -57,7 +58,7 @@ use Rattle.qs_refine.proofs.TurnEvents.{MayHear}
 
 -- what is followed through the step, with the machine as it is at the end
 abbrev pub case_of : Tid → World → ℕ → Bool → machine.World → Case
-case_of t world n ends f = record { tid = t; before = (world.hosts n).waiting; learns = is_committed f.cell; ends = ends; acks = f.acknowledged }
+case_of t world n ends f = record { tid = t; before = (world.hosts n).waiting; learns = is_committed f.cell; ends = ends; acks = f.acknowledged; was = was_committed t (world.hosts n).node }
 
 -- what its End asks, as soon as it is appended
 pub record IsEnding (t : Tid) (n q : ℕ) (v : machine.World) : Type 0 where
@@ -75,7 +76,7 @@ pub record Came (t : Tid) (world : World) (n free : ℕ) (event : Event) (later 
 
 -- ---- a message
 
-module _ (t : Tid) (world : World) (w : machine.World) (steady : IsSteady world) (home_in : t.home.0 < world.size) (began : HasBegun world t) (all : ShowsAll t world w) (kept : KeepsDecided t world w) (n free : ℕ) (n_in : n < world.size) (on : world.channels.up n ≡ true)
+module _ (t : Tid) (world : World) (w : machine.World) (steady : IsSteady world) (home_in : t.home.0 < world.size) (began : HasBegun world t) (all : ShowsAll t world w) (n free : ℕ) (n_in : n < world.size) (on : world.channels.up n ≡ true)
     (m i : ℕ) (message : Message) (rest : List Message) (next : IsNext (scene_of world) n m i message rest) (fit : is_fit_message world.size m n message ≡ true) (fits : FitsMessage (node_no m) message (begun (world.hosts n).node free)) where
   abbrev work : Work
   work = begun (world.hosts n).node free
@@ -93,7 +94,7 @@ module _ (t : Tid) (world : World) (w : machine.World) (steady : IsSteady world)
 
   goes : GoesOn t later n (message_came (node_no m) message work) stood.next
   goes = message_stands t (scene_of world) n m i message rest work stood.next next fits
-      (own_comes t world w steady home_in began all kept n free n_in on stood.next stood.leads (scene_of world) refl refl stood.stands m i rest takes message next fit) stood.stands
+      (own_comes t world w steady home_in began all n free n_in on stood.next stood.leads (scene_of world) refl refl stood.stands m i rest takes message next fit) stood.stands
 
   -- with nothing asked of the machine at the end of the step
   plainly : ((f : machine.World) → Leads goes.next f → MayHear (case_of t world n false f) (node_no m) message work) → Came t world n free (events.Received (node_no m) message) later w
@@ -101,7 +102,7 @@ module _ (t : Tid) (world : World) (w : machine.World) (steady : IsSteady world)
 
 -- ---- one that tells an outcome
 
-module _ (t : Tid) (world : World) (w : machine.World) (steady : IsSteady world) (home_in : t.home.0 < world.size) (began : HasBegun world t) (all : ShowsAll t world w) (kept : KeepsDecided t world w) (n free : ℕ) (n_in : n < world.size) (on : world.channels.up n ≡ true)
+module _ (t : Tid) (world : World) (w : machine.World) (steady : IsSteady world) (home_in : t.home.0 < world.size) (began : HasBegun world t) (all : ShowsAll t world w) (n free : ℕ) (n_in : n < world.size) (on : world.channels.up n ≡ true)
     (m i : ℕ) (rest : List Message) where
   abbrev its_work : Work
   its_work = begun (world.hosts n).node free
@@ -204,13 +205,13 @@ module _ (t : Tid) (world : World) (w : machine.World) (steady : IsSteady world)
 
 -- ---- whatever the message is
 
-module _ (t : Tid) (world : World) (w : machine.World) (steady : IsSteady world) (home_in : t.home.0 < world.size) (began : HasBegun world t) (all : ShowsAll t world w) (kept : KeepsDecided t world w) (n free : ℕ) (n_in : n < world.size) (on : world.channels.up n ≡ true)
+module _ (t : Tid) (world : World) (w : machine.World) (steady : IsSteady world) (home_in : t.home.0 < world.size) (began : HasBegun world t) (all : ShowsAll t world w) (n free : ℕ) (n_in : n < world.size) (on : world.channels.up n ≡ true)
     (m i : ℕ) (rest : List Message) where
   abbrev Arrives : Message → Type 0
   Arrives message = IsNext (scene_of world) n m i message rest → is_fit_message world.size m n message ≡ true → FitsMessage (node_no m) message (begun (world.hosts n).node free) → Came t world n free (events.Received (node_no m) message) (handed (scene_of world) m i n rest) w
 
   quietly : (message : Message) → ((f : machine.World) → MayHear (case_of t world n false f) (node_no m) message (begun (world.hosts n).node free)) → Arrives message
-  quietly message hears next fit fits = plainly t world w steady home_in began all kept n free n_in on m i message rest next fit fits (λ f leads. hears f)
+  quietly message hears next fit fits = plainly t world w steady home_in began all n free n_in on m i message rest next fit fits (λ f leads. hears f)
 
   -- a Told of the transaction
   told_own : (further : List NodeNo) → Arrives (messages.Told t further)
@@ -224,14 +225,14 @@ module _ (t : Tid) (world : World) (w : machine.World) (steady : IsSteady world)
 
       -- the node is not the home's, or does not know the commit
       unasked : ((at : same_node t.home (begun (world.hosts n).node free).node.setting.node ≡ true) (part : Participant) → part_of t (begun (world.hosts n).node free) ≡ Some part → part.outcome ≡ Some outcomes.Commit → ⊥) → Came t world n free (events.Received (node_no m) (messages.Told t further)) (handed (scene_of world) m i n rest) w
-      unasked never = plainly t world w steady home_in began all kept n free n_in on m i (messages.Told t further) rest next fit fits
+      unasked never = plainly t world w steady home_in began all n free n_in on m i (messages.Told t further) rest next fit fits
           (λ f leads. record { acks = λ same at part known commit still. absurd (never at part known commit); ends = λ same at part known commit told. absurd (never at part known commit) })
 
       some_same : (a b : Participant) → Some a ≡ Some b → a ≡ b
       some_same a b is = cc (is)
 
       at_home : n ≡ t.home.0 → (part : Participant) → part_of t (begun (world.hosts n).node free) ≡ Some part → (o : Option Outcome) → part.outcome ≡ o → Came t world n free (events.Received (node_no m) (messages.Told t further)) (handed (scene_of world) m i n rest) w
-      at_home here part known (Some outcomes.Commit) committed = came_taking t world w steady home_in began all kept n free n_in on m i rest further next fits here part known committed
+      at_home here part known (Some outcomes.Commit) committed = came_taking t world w steady home_in began all n free n_in on m i rest further next fits here part known committed
       at_home here part known (Some outcomes.Abort) aborted = unasked (λ at p its commit. let same : part ≡ p = some_same part p (sym known ∙ its) in let both : Some outcomes.Abort ≡ Some outcomes.Commit = sym aborted ∙ (ap (λ (x : Participant). x.outcome) same ∙ commit) in cc (both))
       at_home here part known None open_now = unasked (λ at p its commit. let same : part ≡ p = some_same part p (sym known ∙ its) in let both : None ≡ Some outcomes.Commit = sym open_now ∙ (ap (λ (x : Participant). x.outcome) same ∙ commit) in cc (both))
 
@@ -250,11 +251,11 @@ module _ (t : Tid) (world : World) (w : machine.World) (steady : IsSteady world)
   message_arrives (messages.VotedYes tid up_to told) = quietly (messages.VotedYes tid up_to told) (λ f. tt)
   message_arrives (messages.VotedAbort tid cause) = quietly (messages.VotedAbort tid cause) (λ f. tt)
   message_arrives (messages.Inquire tid) = quietly (messages.Inquire tid) (λ f. tt)
-  message_arrives (messages.Tell tid outcome) = λ next fit fits. plainly t world w steady home_in began all kept n free n_in on m i (messages.Tell tid outcome) rest next fit fits
-      (λ f leads. tells t world w steady home_in began all kept n free n_in on m i rest tid outcome next f (leads_on _ _ _ (goes t world w steady home_in began all kept n free n_in on m i (messages.Tell tid outcome) rest next fit fits).leads leads))
+  message_arrives (messages.Tell tid outcome) = λ next fit fits. plainly t world w steady home_in began all n free n_in on m i (messages.Tell tid outcome) rest next fit fits
+      (λ f leads. tells t world w steady home_in began all n free n_in on m i rest tid outcome next f (leads_on _ _ _ (goes t world w steady home_in began all n free n_in on m i (messages.Tell tid outcome) rest next fit fits).leads leads))
   message_arrives (messages.Told tid further) = by (same_tid t tid) refl
     where
       by : (b : Bool) → same_tid t tid ≡ b → Arrives (messages.Told tid further)
       by true same = subst (λ (u : Tid). Arrives (messages.Told u further)) (same_is t tid same) (told_own further)
-      by false apart = λ next fit fits. plainly t world w steady home_in began all kept n free n_in on m i (messages.Told tid further) rest next fit fits
+      by false apart = λ next fit fits. plainly t world w steady home_in began all n free n_in on m i (messages.Told tid further) rest next fit fits
           (λ f leads. record { acks = λ same at part known commit still. absurd (cc (same, apart)); ends = λ same at part known commit told. absurd (cc (same, apart)) })

@@ -4,6 +4,7 @@ use Rattle.std.proofs.lemmas.Bool.{eqb-true}
 use Rattle.qs_base.specs.Order.{same_tid}
 use Rattle.qs_base.specs.declared.identifiers.NodeNo.{NodeNo}
 use Rattle.qs_base.specs.declared.identifiers.Tid.{Tid}
+use Rattle.qs_engage.specs.Nodes.{is_no_node}
 use Rattle.qs_engage.specs.Engage.{peer_of}
 use Rattle.qs_engage.specs.declared.engage.Engage.{Engage}
 use Rattle.qs_journal.specs.declared.script_line.ScriptLine.{ScriptLine}
@@ -18,7 +19,7 @@ use Rattle.qs_world.specs.Moves.{Source, Commanded, Handed, Queues, Clock, Notic
 use Rattle.qs_world.specs.World.{Parcel, World}
 use Rattle.qs_agree.specs.World as machine
 use Rattle.qs_agree.proofs.Carries.{leads_on}
-use Rattle.qs_refine.specs.EachMove.{ShowsAll, KeepsDecided, MessagesFit, CanCountAll}
+use Rattle.qs_refine.specs.EachMove.{ShowsAll, MessagesFit, CanCountAll, NamersInvolved}
 use Rattle.qs_refine.specs.Links.{node_no}
 use Rattle.qs_refine.specs.Messages.{all_said}
 use Rattle.qs_refine.specs.MoveLaws.{taken_scene}
@@ -54,7 +55,7 @@ pub record StepCame (t : Tid) (world : World) (n free : ℕ) (source : Source) (
   pub came : Came t world n free event later w
   pub taken : (work : Work) (log : List Record) (v : machine.World) → Shows t (stepped later n work log) v → Shows t (stepped (taken_scene world n source) n work log) v
 
-module _ (t : Tid) (world : World) (w : machine.World) (steady : IsSteady world) (home_in : t.home.0 < world.size) (began : HasBegun world t) (all : ShowsAll t world w) (kept : KeepsDecided t world w) (fits : MessagesFit world) (counts : CanCountAll world)
+module _ (t : Tid) (world : World) (w : machine.World) (steady : IsSteady world) (home_in : t.home.0 < world.size) (began : HasBegun world t) (all : ShowsAll t world w) (fits : MessagesFit world) (counts : CanCountAll world) (named : NamersInvolved world)
     (n free : ℕ) (n_in : n < world.size) (on : world.channels.up n ≡ true) where
   abbrev node : NodeValue
   node = (world.hosts n).node
@@ -143,7 +144,7 @@ module _ (t : Tid) (world : World) (w : machine.World) (steady : IsSteady world)
         size = refl;
         inc = refl;
         log = refl;
-        came = message_arrives t world w steady home_in began all kept n free n_in on m (world.channels.peer n m) (rest_behind world n m parcel) parcel.message (is_next world n m parcel steady found) (is_fit world n m parcel steady found) (fits n m free parcel n_in on found);
+        came = message_arrives t world w steady home_in began all n free n_in on m (world.channels.peer n m) (rest_behind world n m parcel) parcel.message (is_next world n m parcel steady found) (is_fit world n m parcel steady found) (fits n m free parcel n_in on found);
         taken = λ work log v shown. handed_taken t world n m parcel work log v found shown;
       }
 
@@ -186,7 +187,20 @@ module _ (t : Tid) (world : World) (w : machine.World) (steady : IsSteady world)
         before = was t world w steady home_in all n free n_in on part known
 
         by : (o : Option NodeNo) → part.engage.superior ≡ o → (part.involved ≡ true) ⊎ (is_some part.engage.superior ≡ true)
-        by None none = inl (before.1.1.involved ∙ (steady.nodes n n_in).released t before.0 before.1.0 (sym (ap (λ (e : Engage). e.home) before.1.1.engage) ∙ away) (sym before.1.1.outcome ∙ undecided) (sym (ap (λ (e : Engage). e.superior) before.1.1.engage) ∙ none))
+        by None none = inl (before.1.1.involved ∙ drawn ((steady.nodes n n_in).released t before.0 before.1.0 at_other open_before free_before))
+          where
+            at_other : before.0.engage.home ≡ false
+            at_other = sym (ap (λ (e : Engage). e.home) before.1.1.engage) ∙ away
+
+            open_before : before.0.outcome ≡ None
+            open_before = sym before.1.1.outcome ∙ undecided
+
+            free_before : before.0.engage.superior ≡ None
+            free_before = sym (ap (λ (e : Engage). e.superior) before.1.1.engage) ∙ none
+
+            drawn : (before.0.involved ≡ true) ⊎ (is_no_node before.0.told ≡ false) → before.0.involved ≡ true
+            drawn (inl is) = is
+            drawn (inr others) = named n t before.0 n_in before.1.0 at_other open_before free_before others
         by (Some s) some = inr (ap (λ (o : Option NodeNo). is_some o) some)
 
     nothing_posted : scene.pending n (world.channels.inc n) m new ≡ []

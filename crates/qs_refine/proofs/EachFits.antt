@@ -21,7 +21,7 @@ use Rattle.qs_agree.specs.World as machine
 use Rattle.qs_agree.specs.World.{Open, Committed, Aborted}
 use Rattle.qs_agree.specs.Carry.{Leads}
 use Rattle.qs_refine.specs.CameWhole.{MayCome}
-use Rattle.qs_refine.specs.EachMove.{ShowsAll, KeepsDecided, AnswersSome, IsAbout}
+use Rattle.qs_refine.specs.EachMove.{ShowsAll, IsAbout}
 use Rattle.qs_refine.specs.Faces.{Face}
 use Rattle.qs_refine.specs.Links.{Said, Inquired, Link, link, IsLink, names_node, node_no}
 use Rattle.qs_refine.specs.Messages.{said, all_said}
@@ -63,7 +63,7 @@ inquiries_put l (Rattle.qs_refine.specs.Links.Outcome_told commit ∷ rest) home
 inquiries_put l (Rattle.qs_refine.specs.Links.Taken_in further ∷ rest) home is = inquiries_put l rest home is.1
 inquiries_put l (Inquired ∷ rest) home is = let more = inquiries_put (record l { inquiry_taken = l.inquiry_taken + 1 }) rest home is in omega (arith, more)
 
-module _ (t : Tid) (world : World) (w : machine.World) (steady : IsSteady world) (home_in : t.home.0 < world.size) (began : HasBegun world t) (all : ShowsAll t world w) (kept : KeepsDecided t world w) (n free : ℕ) (n_in : n < world.size) (on : world.channels.up n ≡ true)
+module _ (t : Tid) (world : World) (w : machine.World) (steady : IsSteady world) (home_in : t.home.0 < world.size) (began : HasBegun world t) (all : ShowsAll t world w) (n free : ℕ) (n_in : n < world.size) (on : world.channels.up n ≡ true)
     (v : machine.World) (leads : Leads w v) (scene : Scene) (sized : scene.size ≡ world.size) (same : scene.inc ≡ world.channels.inc) (is : Stands t scene n (begun (world.hosts n).node free) v) (m i : ℕ) (rest : List Message) where
   abbrev work : Work
   work = begun (world.hosts n).node free
@@ -91,15 +91,15 @@ module _ (t : Tid) (world : World) (w : machine.World) (steady : IsSteady world)
   request_fits : (label : List ℕ) (member : Member) (number : ℕ) (issuer : ServerNo) (op : Op) → Next (messages.Request t label member number issuer op) → FitsMessage (node_no m) (messages.Request t label member number issuer op) work
   request_fits label member number issuer op next = (its_past, may_take t scene n work v is knows_it (no_request t scene n work v is m i (messages.Request t label member number issuer op) rest next number member.server.0 refl))
 
-  covered_fits : (up_to : ℕ) → Next (messages.Covered t up_to) → 1 ≤ up_to → FitsMessage (node_no m) (messages.Covered t up_to) work
-  covered_fits up_to next some = (small, answers_for t scene n work v is knows_it m up_to some (below_sent t scene n work v is m i (messages.Covered t up_to) rest next up_to [] refl))
+  covered_fits : (up_to : ℕ) → Next (messages.Covered t up_to) → FitsMessage (node_no m) (messages.Covered t up_to) work
+  covered_fits up_to next = (small, answers_for t scene n work v is knows_it m up_to (below_sent t scene n work v is m i (messages.Covered t up_to) rest next up_to [] refl))
 
-  voted_fits : (up_to : ℕ) (told : List NodeNo) → Next (messages.VotedYes t up_to told) → list_all (is_node_of_run world.size) told ≡ true → 1 ≤ up_to → FitsMessage (node_no m) (messages.VotedYes t up_to told) work
-  voted_fits up_to told next in_run some = (
+  voted_fits : (up_to : ℕ) (told : List NodeNo) → Next (messages.VotedYes t up_to told) → list_all (is_node_of_run world.size) told ≡ true → FitsMessage (node_no m) (messages.VotedYes t up_to told) work
+  voted_fits up_to told next in_run = (
     small,
     (
       λ k names. subst (λ (size : ℕ). nat_lt k size ≡ true) (sym (is.at.nodes ∙ sized)) (named_in world.size k told in_run names),
-      answers_for t scene n work v is knows_it m up_to some (below_sent t scene n work v is m i (messages.VotedYes t up_to told) rest next up_to told refl),
+      answers_for t scene n work v is knows_it m up_to (below_sent t scene n work v is m i (messages.VotedYes t up_to told) rest next up_to told refl),
     ),
   )
 
@@ -107,17 +107,17 @@ module _ (t : Tid) (world : World) (w : machine.World) (steady : IsSteady world)
   tell_fits outcomes.Commit next so = nothing_open t scene n work v is knows_it calm_work.queues (told_commit t scene n work v is m i (messages.Tell t outcomes.Commit) rest next refl)
   tell_fits outcomes.Abort next so = absurd (cc (so))
 
-  pub own_fits : (message : Message) → Next message → is_fit_message world.size m n message ≡ true → AnswersSome message → IsAbout t message → FitsMessage (node_no m) message work
-  own_fits messages.Hello next fit some about = tt
-  own_fits (messages.Request tid label member number issuer op) next fit some about = subst (λ (u : Tid). Next (messages.Request u label member number issuer op) → FitsMessage (node_no m) (messages.Request u label member number issuer op) work) about (request_fits label member number issuer op) next
-  own_fits (messages.Answered tid member number reply) next fit some about = tt
-  own_fits (messages.AskVote tid) next fit some about = tt
-  own_fits (messages.Covered tid up_to) next fit some about = subst (λ (u : Tid). Next (messages.Covered u up_to) → FitsMessage (node_no m) (messages.Covered u up_to) work) about (λ at. covered_fits up_to at some) next
-  own_fits (messages.VotedYes tid up_to told) next fit some about = subst (λ (u : Tid). Next (messages.VotedYes u up_to told) → FitsMessage (node_no m) (messages.VotedYes u up_to told) work) about (λ at. voted_fits up_to told at (and_both (is_of_run world.size tid) (list_all (is_node_of_run world.size) told) fit).1 some) next
-  own_fits (messages.VotedAbort tid cause) next fit some about = tt
-  own_fits (messages.Tell tid outcome) next fit some about = subst (λ (u : Tid). Next (messages.Tell u outcome) → FitsMessage (node_no m) (messages.Tell u outcome) work) about (tell_fits outcome) next
-  own_fits (messages.Told tid further) next fit some about = calm_work.commits
-  own_fits (messages.Inquire tid) next fit some about = tt
+  pub own_fits : (message : Message) → Next message → is_fit_message world.size m n message ≡ true → IsAbout t message → FitsMessage (node_no m) message work
+  own_fits messages.Hello next fit about = tt
+  own_fits (messages.Request tid label member number issuer op) next fit about = subst (λ (u : Tid). Next (messages.Request u label member number issuer op) → FitsMessage (node_no m) (messages.Request u label member number issuer op) work) about (request_fits label member number issuer op) next
+  own_fits (messages.Answered tid member number reply) next fit about = tt
+  own_fits (messages.AskVote tid) next fit about = tt
+  own_fits (messages.Covered tid up_to) next fit about = subst (λ (u : Tid). Next (messages.Covered u up_to) → FitsMessage (node_no m) (messages.Covered u up_to) work) about (covered_fits up_to) next
+  own_fits (messages.VotedYes tid up_to told) next fit about = subst (λ (u : Tid). Next (messages.VotedYes u up_to told) → FitsMessage (node_no m) (messages.VotedYes u up_to told) work) about (λ at. voted_fits up_to told at (and_both (is_of_run world.size tid) (list_all (is_node_of_run world.size) told) fit).1) next
+  own_fits (messages.VotedAbort tid cause) next fit about = tt
+  own_fits (messages.Tell tid outcome) next fit about = subst (λ (u : Tid). Next (messages.Tell u outcome) → FitsMessage (node_no m) (messages.Tell u outcome) work) about (tell_fits outcome) next
+  own_fits (messages.Told tid further) next fit about = calm_work.commits
+  own_fits (messages.Inquire tid) next fit about = tt
 
   -- ---- and may come
 
@@ -184,4 +184,4 @@ module _ (t : Tid) (world : World) (w : machine.World) (steady : IsSteady world)
     own_comes (messages.Told tid further) next fit = λ about at. takes further (subst (λ (u : Tid). Next (messages.Told u further)) (sym about) next) at
     own_comes (messages.Inquire tid) next fit = λ about.
         let at : n ≡ t.home.0 = sym (eqb-true t.home.0 n (subst (λ (u : Tid). (u.home.0 == n) ≡ true) (sym about) (and_both (is_of_run world.size tid) (tid.home.0 == n) fit).1)) in
-        (at, keeps_past t world w steady home_in all n free n_in on v leads scene sized same is began kept at (λ committed none. asked_knows (subst (λ (u : Tid). Next (messages.Inquire u)) (sym about) next) at (commit_stays w v all.seen.lawful leads committed) none))
+        (at, keeps_past t world w steady home_in all n free n_in on v leads scene sized same is began all.kept at (λ committed none. asked_knows (subst (λ (u : Tid). Next (messages.Inquire u)) (sym about) next) at (commit_stays w v all.seen.lawful leads committed) none))

@@ -1,5 +1,5 @@
 -- A whole step, joined: from what shows a transaction before it to what shows it after, whatever its event is.
-use Rattle.std.proofs.Common.{◌≡◌, ℕ, ◌<◌, ◌||◌, Bool, true, false, List, [], ◌∷◌, ◌++◌, Option, Some, None, refl, sym, ap, subst, ◌∙◌, if◌then◌else◌}
+use Rattle.std.proofs.Common.{inl, ◌≡◌, ℕ, ◌<◌, ◌||◌, Bool, true, false, List, [], ◌∷◌, ◌++◌, Option, Some, None, refl, sym, ap, subst, ◌∙◌, if◌then◌else◌}
 use Rattle.std.specs.List.{list_any, filter}
 use Rattle.qs_base.specs.declared.identifiers.Outcome.{Outcome}
 use Rattle.qs_base.specs.declared.identifiers.Outcome.TheVariants as outcomes
@@ -19,7 +19,7 @@ use Rattle.qs_agree.specs.World as machine
 use Rattle.qs_agree.specs.World.{Open, Committed, Aborted}
 use Rattle.qs_agree.specs.Carry.{Leads}
 use Rattle.qs_agree.proofs.Carries.{leads_on}
-use Rattle.qs_refine.specs.EachMove.{ShowsAll, KeepsDecided, MessagesFit, CanCountAll}
+use Rattle.qs_refine.specs.EachMove.{ShowsAll, MessagesFit, CanCountAll, NamersInvolved}
 use Rattle.qs_refine.specs.Faces.{Face, ShowsFace}
 use Rattle.qs_refine.specs.JoinLaws.{is_loose, StepForced}
 use Rattle.qs_refine.specs.MoveLaws.{AllClose, StepShown, taken_scene}
@@ -41,11 +41,11 @@ use Rattle.qs_refine.proofs.Joining.{step_closes_after}
 use Rattle.qs_refine.proofs.SaidSteps.{step_forces, step_open}
 use Rattle.qs_refine.proofs.SettleGoes.{settle_goes}
 use Rattle.qs_refine.proofs.StepEdges.{step_ends}
-use Rattle.qs_refine.proofs.TurnOn.{became, fate_found, fate_at, Turned, is_aborted_of, is_end_of, same_outcome}
+use Rattle.qs_refine.proofs.TurnOn.{KeptSo, became, fate_found, fate_at, Turned, is_aborted_of, is_end_of, same_outcome}
 use Rattle.qs_refine.proofs.TurnEvents.{step_on}
 use Rattle.qs_refine.proofs.WaitStands.{answer_waiting_goes}
 
-module _ (t : Tid) (world : World) (w : machine.World) (steady : IsSteady world) (home_in : t.home.0 < world.size) (began : HasBegun world t) (all : ShowsAll t world w) (kept : KeepsDecided t world w) (fits : MessagesFit world) (counts : CanCountAll world)
+module _ (t : Tid) (world : World) (w : machine.World) (steady : IsSteady world) (home_in : t.home.0 < world.size) (began : HasBegun world t) (all : ShowsAll t world w) (fits : MessagesFit world) (counts : CanCountAll world) (named : NamersInvolved world)
     (n stamp free : ℕ) (n_in : n < world.size) (on : world.channels.up n ≡ true) (source : Source) (event : Event) (is : event_of world n stamp source ≡ Some event) where
   abbrev pub node : NodeValue
   node = (world.hosts n).node
@@ -57,7 +57,7 @@ module _ (t : Tid) (world : World) (w : machine.World) (steady : IsSteady world)
   last_work = step_work node event free
 
   pub came : StepCame t world n free source event w
-  came = step_came t world w steady home_in began all kept fits counts n free n_in on stamp source event is
+  came = step_came t world w steady home_in began all fits counts named n free n_in on stamp source event is
 
   abbrev pub later : Scene
   later = came.later
@@ -88,6 +88,10 @@ module _ (t : Tid) (world : World) (w : machine.World) (steady : IsSteady world)
   pub turned : Turned (case_of t world n came.came.ends f) last_work
   turned = (step_on node event free may.0 (came.came.comes f last_work after_leads stands.shown) (steady.sound n n_in).node).goes
       (turned_first t world w steady home_in all n free n_in on came.came.ends f (sight_during t later n last_work) came.size came.inc all_leads stands.shown.stage)
+
+  -- and what its node keeps as committed then was so before, or is known as such
+  pub kept_then : KeptSo (case_of t world n came.came.ends f) last_work
+  kept_then = (step_on node event free may.0 (came.came.comes f last_work after_leads stands.shown) (steady.sound n n_in).node).kept (λ _ is. inl is)
 
   -- ---- and those that need not be forced may close
 
@@ -120,7 +124,7 @@ module _ (t : Tid) (world : World) (w : machine.World) (steady : IsSteady world)
       by (Some part) known = ap (λ (x : Face). x.outcome) (face_is t later n last_work f stands part known)
           ∙ ap (λ (o : Option Outcome). outcome_seen o (part.engage.home || part.involved)) (same_outcome part.outcome (Some outcomes.Abort) part.acknowledged its.0 (sym (ap fate_found known) ∙ its.1))
 
-  ended_then : came.came.ends ≡ true → IsEnding t n q f
+  pub ended_then : came.came.ends ≡ true → IsEnding t n q f
   ended_then so = let its = came.came.ended so in
       let closed = stays_closed t n q came.came.after.next f (records.End t ∷ []) came.came.after.stands.lawful after_leads face_then.up
       (λ at. home_place at came.came.after.next (happen event (begun node free)) came.came.after.stands) ((λ same. (its.home, (its.committed, its.acknowledged))), tt) in

@@ -108,5 +108,5 @@ module _ (t : Tid) (world : World) (w : machine.World) (steady : IsSteady world)
       pub keeps_past : KeepsDecided t world w → n ≡ t.home.0 → ((w.cell ≡ Committed) → part_of t wk ≡ None → is_past_commit wk.node t ≡ true) → KeepsPast t wk
       keeps_past kept at later = record {
         began = past_here;
-        kept = λ none committed. later (kept (subst (λ (k : ℕ). was_committed t (world.hosts k).node ≡ true) at (sym (Rattle.qs_refine.proofs.Calm.committed_same (work_on node free) wk keeps t) ∙ committed))) none;
+        kept = λ none committed. later (kept.now (subst (λ (k : ℕ). was_committed t (world.hosts k).node ≡ true) at (sym (Rattle.qs_refine.proofs.Calm.committed_same (work_on node free) wk keeps t) ∙ committed))) none;
       }

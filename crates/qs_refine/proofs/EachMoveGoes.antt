@@ -1,8 +1,9 @@
 -- The law of each move, and of a message about a transaction that is shown.
 use Rattle.std.proofs.Common.{◌≡◌, ◌≢◌, ◌⊎◌, inl, inr, ℕ, ◌<◌, ◌≤◌, ◌==◌, ◌&&◌, ◌||◌, not, nat_lt, nat_le, Bool, true, false, List, [], ◌∷◌, Option, Some, None, is_some, refl, sym, ap, subst, ◌∙◌, arith, if◌then◌else◌}
-use Rattle.std.specs.List.{list_any, list_all}
+use Rattle.std.specs.List.{list_any, list_all, find}
 use Rattle.std.proofs.lemmas.Bool.{eqb-true}
 use Rattle.std.proofs.lemmas.Bool.Decides.{nat_tests}
+use Rattle.qs_base.specs.Order.{same_tid}
 use Rattle.qs_base.specs.declared.identifiers.Outcome.TheVariants as outcomes
 use Rattle.qs_base.specs.declared.identifiers.Tid.{Tid}
 use Rattle.qs_engage.specs.Nodes.{same_node, has_node, no_nodes}
@@ -13,6 +14,8 @@ use Rattle.qs_tm.specs.Manager as tm
 use Rattle.qs_tm.specs.Outcomes.{committed_before}
 use Rattle.qs_tm.specs.declared.manager.Manager.{Manager}
 use Rattle.qs_tm.specs.declared.participant.Participant.{Participant}
+use Rattle.qs_kept.specs.Keeping.{is_outcome_of}
+use Rattle.qs_step.specs.Answering.{was_committed, is_kept_commit}
 use Rattle.qs_step.specs.Opening.{recovered_of, new_manager}
 use Rattle.qs_step.specs.State.{NodeValue}
 use Rattle.qs_step.specs.declared.event.Event.{Event}
@@ -20,16 +23,17 @@ use Rattle.qs_world.specs.Moves.{Step, Cut, Stop, Rise, Meet, event_of, step_wit
 use Rattle.qs_world.specs.World.{World, known_of}
 use Rattle.qs_agree.specs.World as machine
 use Rattle.qs_agree.specs.World.{Open, Committed, Aborted}
-use Rattle.qs_refine.specs.EachMove.{ShowsAll, AllGoes, KeepsDecided, MessagesFit, CanCountAll, EachMoveGoes, ShownFits}
+use Rattle.qs_refine.specs.EachMove.{ShowsAll, AllGoes, KeepsDecided, MessagesFit, CanCountAll, NamersInvolved, EachMoveGoes, ShownFits}
 use Rattle.qs_refine.specs.Links.{node_no}
 use Rattle.qs_refine.specs.MoveLaws.{WorldGoes}
 use Rattle.qs_refine.specs.Shows.{scene_of}
 use Rattle.qs_refine.specs.Sound.{may_vote, is_list_of, has_doubt}
 use Rattle.qs_refine.specs.Steady.{IsSteady, HasBegun}
+use Rattle.qs_refine.proofs.ClosedKept.{closed_commit}
 use Rattle.qs_refine.proofs.EachFits.{own_fits}
 use Rattle.qs_refine.proofs.EachHears.{first}
 use Rattle.qs_refine.proofs.EachMay.{is_next, is_fit}
-use Rattle.qs_refine.proofs.EachMoves.{StaysAt, TellsAt, goes_all, halted, step_goes_on, cut_goes_on}
+use Rattle.qs_refine.proofs.EachMoves.{StaysAt, TellsAt, kept_same, goes_all, halted, node_halted, step_goes_on, cut_goes_on}
 use Rattle.qs_refine.proofs.Facts.{invariant}
 use Rattle.qs_refine.proofs.LaterWorlds.{commit_stays}
 use Rattle.qs_refine.proofs.MoveGoes.{in_run, later_in, rises, meets}
@@ -69,7 +73,7 @@ taken_part t home said m false true untold found away part known = record {
     by false off decided = let both : None ≡ Some outcomes.Commit = sym (found.2.bare.unknown off) ∙ (sym (ap (λ (p : Participant). p.outcome) its) ∙ decided) in cc (both)
 taken_part t home said m false false untold none away part known = absurd (let both : None ≡ Some part = sym none ∙ known in cc (both))
 
-module _ (t : Tid) (world : World) (w : machine.World) (steady : IsSteady world) (counts : CanCountAll world) (fits : MessagesFit world) (home_in : t.home.0 < world.size) (began : HasBegun world t) (kept : KeepsDecided t world w) (all : ShowsAll t world w) where
+module _ (t : Tid) (world : World) (w : machine.World) (steady : IsSteady world) (counts : CanCountAll world) (named : NamersInvolved world) (fits : MessagesFit world) (home_in : t.home.0 < world.size) (began : HasBegun world t) (all : ShowsAll t world w) where
   -- ---- a restart
 
   module _ (n stamp inc : ℕ) (n_in : n < world.size) (off : world.channels.up n ≡ false) (later : world.channels.inc n < inc) where
@@ -129,8 +133,48 @@ module _ (t : Tid) (world : World) (w : machine.World) (steady : IsSteady world)
         picked true false so = absurd (cc (so))
         picked false true so = absurd (cc (so))
 
+    -- what the home's node keeps as committed then was saved so, or is in its log
+    node_at : (b : Bool) → (t.home.0 == n) ≡ b → (after.hosts t.home.0).node ≡ (if b then reopened inc (recovered_of (world.hosts n).log) node else (world.hosts t.home.0).node)
+    node_at b is = picked (t.home.0 == n) b is
+      where
+        picked : (c d : Bool) → c ≡ d → (if c then risen_host stamp inc (recovered_of (world.hosts n).log) (world.hosts n) else world.hosts t.home.0).node ≡ (if d then reopened inc (recovered_of (world.hosts n).log) node else (world.hosts t.home.0).node)
+        picked true true so = refl
+        picked false false so = refl
+        picked true false so = absurd (cc (so))
+        picked false true so = absurd (cc (so))
+
+    rise_kept : (b : Bool) → (t.home.0 == n) ≡ b → KeepsDecided t after goes.next
+    rise_kept false apart = kept_same t world after w goes.next all goes.leads (node_at false apart)
+    rise_kept true same = record {
+      now = λ is. commit_stays w goes.next all.seen.lawful goes.leads (found (subst (λ (k : NodeValue). was_committed t k ≡ true) (node_at true same) is));
+      saved = λ is. commit_stays w goes.next all.seen.lawful goes.leads (of_kept (subst (λ (k : NodeValue). is_kept_commit (find (is_outcome_of t) k.kept.saved.outcomes) ≡ true) (node_at true same) is));
+    }
+      where
+        at_n : t.home.0 ≡ n
+        at_n = eqb-true t.home.0 n same
+
+        new : NodeValue
+        new = reopened inc (recovered_of (world.hosts n).log) node
+
+        in_log : list_any (same_tid t) said.committed ≡ true → w.cell ≡ Committed
+        in_log is = (invariant w all.seen.lawful).outcomes.logged ((all.seen.shown.logs n n_in).committed (sym at_n) ∙ is)
+
+        of_kept : is_kept_commit (find (is_outcome_of t) new.kept.now.outcomes) ≡ true → w.cell ≡ Committed
+        of_kept is = by (closed_commit t node.setting.node said.committed node.kept.saved.labels node.kept.saved.outcomes is)
+          where
+            by : (is_kept_commit (find (is_outcome_of t) node.kept.saved.outcomes) ≡ true) ⊎ (list_any (same_tid t) said.committed ≡ true) → w.cell ≡ Committed
+            by (inl old) = all.kept.saved (subst (λ (k : ℕ). is_kept_commit (find (is_outcome_of t) (world.hosts k).node.kept.saved.outcomes) ≡ true) (sym at_n) old)
+            by (inr logged) = in_log logged
+
+        found : was_committed t new ≡ true → w.cell ≡ Committed
+        found = which (is_kept_commit (find (is_outcome_of t) new.kept.now.outcomes)) (list_any (same_tid t) said.committed) of_kept in_log
+          where
+            which : (a b : Bool) → (a ≡ true → w.cell ≡ Committed) → (b ≡ true → w.cell ≡ Committed) → (a || b) ≡ true → w.cell ≡ Committed
+            which true b one two is = one refl
+            which false b one two is = two is
+
     rise_goes_on : AllGoes t after w
-    rise_goes_on = goes_all t world w home_in all after refl goes (λ k k_in up. at k (k == n) refl up)
+    rise_goes_on = goes_all t world w home_in all after refl goes (rise_kept (t.home.0 == n) refl) (λ k k_in up. at k (k == n) refl up)
       where
         at : (k : ℕ) (b : Bool) → (k == n) ≡ b → (if b then true else world.channels.up k) ≡ true → StaysAt world after k ⊎ TellsAt t after k goes.next
         at k false apart up = inl (record { manager = host_at k false apart; up = up; inc = picked (k == n) apart })
@@ -146,9 +190,16 @@ module _ (t : Tid) (world : World) (w : machine.World) (steady : IsSteady world)
 
   module _ (n stamp m first_inc : ℕ) (n_in : n < world.size) (on : world.channels.up n ≡ true) (m_in : m < world.size) (other : m ≢ n) (unknown : world.channels.peer n m ≡ 0) (some : 1 ≤ first_inc) (begun_then : first_inc ≤ world.channels.inc m) where
     meet_goes_on : AllGoes t (met world n stamp m first_inc) w
-    meet_goes_on = goes_all t world w home_in all (met world n stamp m first_inc) refl (meets t world w steady.seated home_in all.seen n stamp m first_inc n_in on m_in other unknown some begun_then)
-        (λ k k_in up. inl (record { manager = picked k (k == n) refl; up = up; inc = refl }))
+    meet_goes_on = goes_all t world w home_in all (met world n stamp m first_inc) refl goes
+        (kept_same t world (met world n stamp m first_inc) w goes.next all goes.leads (same_node_at t.home.0 (t.home.0 == n) refl)) (λ k k_in up. inl (record { manager = picked k (k == n) refl; up = up; inc = refl }))
       where
+        goes : WorldGoes t (met world n stamp m first_inc) w
+        goes = meets t world w steady.seated home_in all.seen n stamp m first_inc n_in on m_in other unknown some begun_then
+
+        same_node_at : (k : ℕ) (b : Bool) → (k == n) ≡ b → (if b then record (world.hosts n) { stamp = stamp } else world.hosts k).node ≡ (world.hosts k).node
+        same_node_at k true is = ap (λ (j : ℕ). (world.hosts j).node) (sym (eqb-true k n is))
+        same_node_at k false is = refl
+
         picked : (k : ℕ) (b : Bool) → (k == n) ≡ b → (if b then record (world.hosts n) { stamp = stamp } else world.hosts k).node.manager ≡ (world.hosts k).node.manager
         picked k true is = ap (λ (j : ℕ). (world.hosts j).node.manager) (sym (eqb-true k n is))
         picked k false is = refl
@@ -156,28 +207,29 @@ module _ (t : Tid) (world : World) (w : machine.World) (steady : IsSteady world)
 -- ---- each move
 
 pub each_move_goes : EachMoveGoes
-each_move_goes t world (Step n stamp free source) w may steady counts ones fits home_in began kept all = by (event_of world n stamp source) refl
+each_move_goes t world (Step n stamp free source) w may steady counts named fits home_in began all = by (event_of world n stamp source) refl
   where
     runs : (world.channels.up n ≡ true) × ((is_later world n stamp && is_some (event_of world n stamp source)) ≡ true)
     runs = and_both (world.channels.up n) (is_later world n stamp && is_some (event_of world n stamp source)) may
 
     by : (o : Option Event) → event_of world n stamp source ≡ o → AllGoes t (step_with world n stamp free source o) w
     by None is = record { next = w; leads = record { events = []; run = refl }; shown = all }
-    by (Some event) is = step_goes_on t world w steady counts fits home_in began kept all n stamp free source event (later_in world n stamp (and_both (is_later world n stamp) _ runs.1).0) runs.0 is
-each_move_goes t world (Cut n stamp free source is_kept cause) w may steady counts ones fits home_in began kept all = by (event_of world n stamp source) refl
+    by (Some event) is = step_goes_on t world w steady counts named fits home_in began all n stamp free source event (later_in world n stamp (and_both (is_later world n stamp) _ runs.1).0) runs.0 is
+each_move_goes t world (Cut n stamp free source is_kept cause) w may steady counts named fits home_in began all = by (event_of world n stamp source) refl
   where
     runs : (world.channels.up n ≡ true) × ((is_later world n stamp && (is_some (event_of world n stamp source) && is_crash cause)) ≡ true)
     runs = and_both (world.channels.up n) (is_later world n stamp && (is_some (event_of world n stamp source) && is_crash cause)) may
 
     by : (o : Option Event) → event_of world n stamp source ≡ o → AllGoes t (cut_with world n stamp free is_kept cause o) w
     by None is = record { next = w; leads = record { events = []; run = refl }; shown = all }
-    by (Some event) is = cut_goes_on t world w steady counts fits home_in began kept all n stamp free source event (later_in world n stamp (and_both (is_later world n stamp) _ runs.1).0) runs.0 is is_kept cause
-each_move_goes t world (Stop n stamp cause) w may steady counts ones fits home_in began kept all =
+    by (Some event) is = cut_goes_on t world w steady counts named fits home_in began all n stamp free source event (later_in world n stamp (and_both (is_later world n stamp) _ runs.1).0) runs.0 is is_kept cause
+each_move_goes t world (Stop n stamp cause) w may steady counts named fits home_in began all =
     let runs = and_both (world.channels.up n) _ may in
-    goes_all t world w home_in all (stopped world n stamp cause (world.hosts n).log) refl
-    (stops t world w steady.seated home_in all.seen n stamp cause (world.hosts n).log [] (in_run world n stamp (and_both (is_in_order world n stamp) _ runs.1).0) runs.0 refl tt)
-    (λ k k_in up. inl (halted t world w steady counts fits home_in began kept all n stamp cause (world.hosts n).log k up))
-each_move_goes t world (Rise n stamp inc) w may steady counts ones fits home_in began kept all = rise_goes_on t world w steady counts fits home_in began kept all n stamp inc (in_run world n stamp order.0) (off (world.channels.up n) both.0) (grind (arith, nat_tests, order.1))
+    let goes = stops t world w steady.seated home_in all.seen n stamp cause (world.hosts n).log [] (in_run world n stamp (and_both (is_in_order world n stamp) _ runs.1).0) runs.0 refl tt in
+    goes_all t world w home_in all (stopped world n stamp cause (world.hosts n).log) refl goes
+    (kept_same t world (stopped world n stamp cause (world.hosts n).log) w goes.next all goes.leads (node_halted t world w steady counts named fits home_in began all n stamp cause (world.hosts n).log t.home.0))
+    (λ k k_in up. inl (halted t world w steady counts named fits home_in began all n stamp cause (world.hosts n).log k up))
+each_move_goes t world (Rise n stamp inc) w may steady counts named fits home_in began all = rise_goes_on t world w steady counts named fits home_in began all n stamp inc (in_run world n stamp order.0) (off (world.channels.up n) both.0) (grind (arith, nat_tests, order.1))
   where
     off : (b : Bool) → not b ≡ true → b ≡ false
     off true is = absurd (cc (is))
@@ -188,7 +240,7 @@ each_move_goes t world (Rise n stamp inc) w may steady counts ones fits home_in 
 
     order : (is_in_order world n stamp ≡ true) × (nat_lt (world.channels.inc n) inc ≡ true)
     order = and_both (is_in_order world n stamp) (nat_lt (world.channels.inc n) inc) both.1
-each_move_goes t world (Meet n stamp m first_inc) w may steady counts ones fits home_in began kept all = meet_goes_on t world w steady counts fits home_in began kept all n stamp m first_inc (later_in world n stamp order.0) runs.0 (grind (arith, nat_tests, others.1))
+each_move_goes t world (Meet n stamp m first_inc) w may steady counts named fits home_in began all = meet_goes_on t world w steady counts named fits home_in began all n stamp m first_inc (later_in world n stamp order.0) runs.0 (grind (arith, nat_tests, others.1))
     (λ is. not_same (m == n) others.0 (grind (arith, nat_tests, is))) (eqb-true (known_of world n m) 0 known.0) (grind (arith, nat_tests, begun_then.0)) (grind (arith, nat_tests, (and_both (nat_le first_inc (world.channels.inc m)) _ begun_then.1).0))
   where
     runs : (world.channels.up n ≡ true) × ((is_later world n stamp && ((not (m == n) && nat_lt m world.size) && ((known_of world n m == 0) && (nat_lt 0 first_inc && has_begun world stamp m first_inc)))) ≡ true)
@@ -216,7 +268,7 @@ each_move_goes t world (Meet n stamp m first_inc) w may steady counts ones fits 
 -- ---- a message of a transaction that is shown
 
 pub shown_fits : ShownFits
-shown_fits t world w n m free parcel steady ones home_in began kept all n_in on found about =
+shown_fits t world w n m free parcel steady home_in began all n_in on found about =
     let stood = first t world w steady home_in all n free n_in on in
-    own_fits t world w steady home_in began all kept n free n_in on stood.next stood.leads (scene_of world) refl refl stood.stands m (world.channels.peer n m) (Rattle.qs_refine.specs.TakenLaws.rest_behind world n m parcel)
-    parcel.message (is_next world n m parcel steady found) (is_fit world n m parcel steady found) (ones n m parcel found) about
+    own_fits t world w steady home_in began all n free n_in on stood.next stood.leads (scene_of world) refl refl stood.stands m (world.channels.peer n m) (Rattle.qs_refine.specs.TakenLaws.rest_behind world n m parcel)
+    parcel.message (is_next world n m parcel steady found) (is_fit world n m parcel steady found) about

@@ -55,7 +55,7 @@ dropped_waits tid work s = by (ipc.waits tid work.node.queues)
     by false = (forget_queues_leave tid tid work).node.around.waits s
 
 module _ (tid : Tid) (scene : Scene) (n : ℕ) (work : Work) (part : Participant) (w : World) (lawful : IsLawful w) (shown : ShowsWork tid scene n work w) (at : IsAt scene n work) (knows : Knows tid work part)
-    (elsewhere : tid.home.0 ≢ n) (home_in : tid.home.0 < scene.size) (ordered : in_order work.node.manager.known ≡ true) (over : participant.is_forgotten part ≡ true) (untold : is_no_node part.told ≡ true) where
+    (elsewhere : tid.home.0 ≢ n) (home_in : tid.home.0 < scene.size) (ordered : in_order work.node.manager.known ≡ true) (over : participant.is_forgotten part ≡ true) where
   abbrev x : Sight
   x = sight_during tid scene n work
 
@@ -82,6 +82,9 @@ module _ (tid : Tid) (scene : Scene) (n : ℕ) (work : Work) (part : Participant
 
   alone : part.engage.superior ≡ None
   alone = none_of part.engage.superior (both (is_none part.engage.superior) (not part.involved) idle).0
+
+  untold : is_no_node part.told ≡ true
+  untold = (both (is_no_node part.told) (only_read part) (both (is_none part.engage.superior && not part.involved) (is_no_node part.told && only_read part) parts.1).1).0
 
   uninvolved : part.involved ≡ false
   uninvolved = off_not part.involved (both (is_none part.engage.superior) (not part.involved) idle).1
@@ -125,4 +128,4 @@ module _ (tid : Tid) (scene : Scene) (n : ℕ) (work : Work) (part : Participant
   }
 
 pub forget_read : ForgetReadGoes
-forget_read tid scene n work part w lawful shown at knows elsewhere home_in ordered over untold = forget_goes tid scene n work part w lawful shown at knows elsewhere home_in ordered over untold
+forget_read tid scene n work part w lawful shown at knows elsewhere home_in ordered over = forget_goes tid scene n work part w lawful shown at knows elsewhere home_in ordered over

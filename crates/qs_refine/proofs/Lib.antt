@@ -265,6 +265,7 @@ pub mod EachEvent
 pub mod EachStep
 pub mod EachGoes
 pub mod EachMoves
+pub mod ClosedKept
 pub mod EachMoveGoes
 pub mod EachRunGoes
 pub mod TurnRecords

@@ -161,8 +161,8 @@ module _ (t : Tid) (scene : Scene) (n : ℕ) (work : Work) (w : World) (is : Sta
       by (Some part) known = at part known part.outcome refl
 
   -- what answers for requests answers for no more than were sent
-  pub answers_for : (m up_to : ℕ) → 1 ≤ up_to → up_to ≤ w.sent (Rattle.qs_refine.specs.Places.place n (scene.inc n)) m → AnswersFor (node_no m) t up_to work
-  answers_for m up_to some below part known undecided = (some, subst (λ (k : ℕ). up_to ≤ k) (here.sent open_face m ∙ ap (λ (f : Face). f.sent m) face_same) below)
+  pub answers_for : (m up_to : ℕ) → up_to ≤ w.sent (Rattle.qs_refine.specs.Places.place n (scene.inc n)) m → AnswersFor (node_no m) t up_to work
+  answers_for m up_to below part known undecided = subst (λ (k : ℕ). up_to ≤ k) (here.sent open_face m ∙ ap (λ (f : Face). f.sent m) face_same) below
     where
       here : ShowsFace (face_at work.node t) (Rattle.qs_refine.specs.Places.place n (scene.inc n)) w
       here = shown_here t scene n work w is

@@ -41,7 +41,7 @@ use Rattle.qs_refine.proofs.Maps.{lookup_changed}
 use Rattle.qs_refine.proofs.PassCarried.{Carried, Carries, carries_itself, carries_on, carries_each, carries_send, pass_carries}
 use Rattle.qs_refine.proofs.PassGoes.{pass_rule_goes}
 use Rattle.qs_refine.proofs.SettleFrames.{pass_leaves, ready_leaves, refuse_leaves, forget_rule_leaves}
-use Rattle.qs_refine.proofs.SettleStands.{stands_itself, at_same, its, is_elsewhere, elsewhere, superior_known, untold}
+use Rattle.qs_refine.proofs.SettleStands.{stands_itself, at_same, its, is_elsewhere, elsewhere, superior_known}
 use Rattle.qs_refine.proofs.Settles.{ready_elsewhere, refuse_elsewhere_goes, forget_rule_goes}
 use Rattle.qs_refine.proofs.SoundAnswer.{forget_rule_sound}
 use Rattle.qs_refine.proofs.SoundParts.{and_both}
@@ -222,7 +222,7 @@ module _ (tid : Tid) (scene : Scene) (n : ℕ) where
 
     pub forget_there : GoesOn tid scene n (forget_rule tid part work) w
     forget_there = stands_on work (forget_rule tid part work) w is
-        (forget_rule_goes tid scene n work part w is.lawful is.shown (is_elsewhere tid scene n work w is part known undecided away) (seen work.node is.sound).ordered (untold tid scene n work w is part known undecided away))
+        (forget_rule_goes tid scene n work part w is.lawful is.shown (is_elsewhere tid scene n work w is part known undecided away) (seen work.node is.sound).ordered)
         (forget_rule_leaves (beside tid) tid (beside_apart tid) part work) (forget_rule_sound tid part work known) (forget_kinds tid part work) (clears (is_forgotten part) refl) (answers (is_forgotten part))
       where
         clears : (b : Bool) → is_forgotten part ≡ b → IsClear (if b then forget tid work else work)

@@ -4,7 +4,7 @@ use Rattle.std.proofs.lemmas.Bool.{eqb-true}
 use Rattle.std.proofs.lemmas.Bool.Decides.{nat_tests}
 use Rattle.qs_base.specs.declared.identifiers.NodeNo.{NodeNo}
 use Rattle.qs_base.specs.declared.identifiers.Tid.{Tid}
-use Rattle.qs_engage.specs.Nodes.{same_node, is_no_node}
+use Rattle.qs_engage.specs.Nodes.{same_node}
 use Rattle.qs_tm.specs.Manager as tm
 use Rattle.qs_tm.specs.Participant.{is_undecided}
 use Rattle.qs_tm.specs.declared.participant.Participant.{Participant}
@@ -127,14 +127,6 @@ module _ (tid : Tid) (scene : Scene) (n : ℕ) (work : Work) (w : World) (is : S
         where
           off : (b : Bool) → b ≡ true → not b ≡ true → ⊥
           off b is never = cc (rw is at never)
-
-  pub untold : (tid.home.0 == n) ≡ false → part.involved ≡ false → is_no_node part.told ≡ true
-  untold away free = by part.engage.home (is_no_node part.told) part.involved (elsewhere away) free its.drawn
-    where
-      by : (h t i : Bool) → h ≡ false → i ≡ false → where_so (not h && not t) i ≡ true → t ≡ true
-      by true t i is so drawn = absurd (cc is)
-      by false true i is so drawn = refl
-      by false false i is so drawn = absurd (cc (so, drawn))
 
 module _ (tid : Tid) (scene : Scene) (work : Work) (w : World) (is : Stands tid scene tid.home.0 work w) (part : Participant) (known : part_of tid work ≡ Some part) (undecided : part.outcome ≡ None) where
   here_is : (tid.home.0 == tid.home.0) ≡ true

@@ -1,8 +1,6 @@
 -- What a node does of itself for one transaction: readiness, refusals and forgetting.
 use Rattle.std.proofs.Common.{◌≡◌, ℕ, ◌&&◌, not, Bool, true, false, List, [], ◌∷◌, Option, Some, None, refl, sym, subst, ap, if◌then◌else◌}
-use Rattle.std.specs.Prelude.{is_none}
 use Rattle.qs_base.specs.declared.identifiers.NodeNo.{NodeNo}
-use Rattle.qs_engage.specs.Nodes.{is_no_node}
 use Rattle.qs_base.specs.declared.identifiers.Outcome.TheVariants as outcomes
 use Rattle.qs_base.specs.declared.identifiers.Tid.{Tid}
 use Rattle.qs_engage.specs.Engage.{peer_of}
@@ -95,18 +93,8 @@ refuse_elsewhere_goes tid scene n work part w shown away = rw away (keeps_goes t
 -- ---- forgetting
 
 pub forget_rule_goes : ForgetRuleGoes
-forget_rule_goes tid scene n work part w lawful shown away ordered untold = by (participant.is_forgotten part) refl
+forget_rule_goes tid scene n work part w lawful shown away ordered = by (participant.is_forgotten part) refl
   where
-    uninvolved : participant.is_forgotten part ≡ true → part.involved ≡ false
-    uninvolved is =
-        let parts = both (is_undecided part && not part.engage.home) ((is_none part.engage.superior && not part.involved) && (is_no_node part.told && only_read part)) is in
-        let idle = both (is_none part.engage.superior && not part.involved) (is_no_node part.told && only_read part) parts.1 in
-        off part.involved (both (is_none part.engage.superior) (not part.involved) idle.0).1
-      where
-        off : (a : Bool) → not a ≡ true → a ≡ false
-        off true is = absurd (cc is)
-        off false is = refl
-
     by : (b : Bool) → participant.is_forgotten part ≡ b → Goes tid scene n (if b then forget tid work else work) w
-    by true is = forgetting.forget_read tid scene n work part w lawful shown away.at away.knows away.away away.home_in ordered is (untold (uninvolved is))
+    by true is = forgetting.forget_read tid scene n work part w lawful shown away.at away.knows away.away away.home_in ordered is
     by false is = nothing_goes tid scene n work w shown

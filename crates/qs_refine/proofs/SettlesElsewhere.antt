@@ -5,7 +5,7 @@ use Rattle.qs_base.specs.Order.{tid_cmp}
 use Rattle.qs_base.specs.declared.identifiers.NodeNo.{NodeNo}
 use Rattle.qs_base.specs.declared.identifiers.Tid.{Tid}
 use Rattle.qs_engage.specs.Engage.{release_of}
-use Rattle.qs_engage.specs.Nodes.{is_no_node, listed}
+use Rattle.qs_engage.specs.Nodes.{listed}
 use Rattle.qs_ops.specs.declared.answer.Cause.{Cause}
 use Rattle.qs_packet.specs.declared.message.Message.TheVariants as messages
 use Rattle.qs_tm.specs.Manager as tm
@@ -34,13 +34,12 @@ record Stands (tid : Tid) (scene : Scene) (n : ℕ) (work : Work) : Type 0 where
   part : Participant
   away : IsElsewhere tid scene n work part
   ordered : in_order work.node.manager.known ≡ true
-  untold : part.involved ≡ false → is_no_node part.told ≡ true
 
 -- what is kept of it changes in what the rules behind do not ask, and messages are sent
 stands_on : (tid : Tid) (scene : Scene) (n : ℕ) (f : Participant → Participant) (work new : Work) → new.node ≡ (with_manager (tm.with_part tid f) work).node
-    → ((part : Participant) → IsWhole part → IsWhole (f part)) → ((part : Participant) → (f part).engage.home ≡ part.engage.home) → ((part : Participant) → (f part).outcome ≡ part.outcome) → ((part : Participant) → (f part).involved ≡ part.involved) → ((part : Participant) → (f part).told ≡ part.told)
+    → ((part : Participant) → IsWhole part → IsWhole (f part)) → ((part : Participant) → (f part).engage.home ≡ part.engage.home) → ((part : Participant) → (f part).outcome ≡ part.outcome)
     → Stands tid scene n work → Stands tid scene n new
-stands_on tid scene n f work new same whole home outcome involved told is = record {
+stands_on tid scene n f work new same whole home outcome is = record {
   part = f is.part;
   away = record {
     at = record { in_run = is.away.at.in_run; up = is.away.at.up; node = rw same is.away.at.node; nodes = rw same is.away.at.nodes; inc = rw same is.away.at.inc };
@@ -51,7 +50,6 @@ stands_on tid scene n f work new same whole home outcome involved told is = reco
     undecided = outcome is.part ∙ is.away.undecided;
   };
   ordered = ap (λ (node : NodeValue). in_order node.manager.known) same ∙ order_changed tid f work.node.manager is.ordered;
-  untold = λ free. rw (told is.part) (is.untold (sym (involved is.part) ∙ free));
 }
 
 sent_all : (tid : Tid) (to : NodeNo) (list : List Cause) (work : Work) → (fold (send_refusal tid to) work list).node ≡ work.node
@@ -67,7 +65,7 @@ module _ (tid : Tid) (scene : Scene) (n : ℕ) where
       answers None = is
       answers (Some superior) = stands_on tid scene n participant.released work (say_yes tid is.part superior work)
           (send_node superior.0 (messages.VotedYes tid superior.1 (listed (told_with_own (here work) is.part))) (with_manager (tm.released tid) work))
-          (λ part whole. record { peers = whole.peers; members = whole.members; told = whole.told; tell = whole.tell; acknowledged = whole.acknowledged }) (λ _. refl) (λ _. refl) (λ _. refl) (λ _. refl) is
+          (λ part whole. record { peers = whole.peers; members = whole.members; told = whole.told; tell = whole.tell; acknowledged = whole.acknowledged }) (λ _. refl) (λ _. refl) is
 
       by : (b : Bool) → Stands tid scene n (if b then ready tid is.part work else work)
       by true = rw is.away.not_home (answers (release_of is.part.engage))
@@ -77,7 +75,7 @@ module _ (tid : Tid) (scene : Scene) (n : ℕ) where
   refuse_stands : (work : Work) (is : Stands tid scene n work) → Stands tid scene n (refuse_rule tid is.part work)
   refuse_stands work is = rw is.away.not_home (stands_on tid scene n participant.take_causes work (refuse_elsewhere tid is.part work)
       (sent_all tid (refusal_goes_to tid is.part) is.part.causes (with_manager (tm.take_causes tid) work))
-      (λ part whole. record { peers = whole.peers; members = whole.members; told = whole.told; tell = whole.tell; acknowledged = whole.acknowledged }) (λ _. refl) (λ _. refl) (λ _. refl) (λ _. refl) is)
+      (λ part whole. record { peers = whole.peers; members = whole.members; told = whole.told; tell = whole.tell; acknowledged = whole.acknowledged }) (λ _. refl) (λ _. refl) is)
 
   -- one after the other
   settled : (work : Work) (w : World) (is : Stands tid scene n work) → IsLawful w → ShowsWork tid scene n work w → ((m : ℕ) → is.part.engage.superior ≡ Some (node_no m) → IsKnown scene n m (scene.knows n m))
@@ -106,7 +104,7 @@ module _ (tid : Tid) (scene : Scene) (n : ℕ) where
       third_is = refuse_stands first second_is
 
       three : Goes tid scene n (forget_rule tid third_is.part second) two.next
-      three = forget_rule_goes tid scene n second third_is.part two.next (lawful_on one.next two.next (lawful_on w one.next lawful one.leads) two.leads) two.shown third_is.away third_is.ordered third_is.untold
+      three = forget_rule_goes tid scene n second third_is.part two.next (lawful_on one.next two.next (lawful_on w one.next lawful one.leads) two.leads) two.shown third_is.away third_is.ordered
 
 pub settle_elsewhere : SettleElsewhereGoes
-settle_elsewhere tid scene n work part w lawful shown away ordered peer untold = settled tid scene n work w (record { part = part; away = away; ordered = ordered; untold = untold }) lawful shown peer
+settle_elsewhere tid scene n work part w lawful shown away ordered peer = settled tid scene n work w (record { part = part; away = away; ordered = ordered }) lawful shown peer

@@ -68,7 +68,6 @@ released_sound tid part work may s = record {
   members = s.members;
   superior = refl;
   outside = s.outside;
-  drawn = s.drawn;
   idle = so_if (is_apart (participant.released part)) _ (idle (ipc.waits tid work.node.queues) (is_lent tid work.node) (needs_pass part) (none_waits tid part work may) (none_lent tid part work may) (no_pass tid part work may));
   began = s.began;
   logged = s.logged;

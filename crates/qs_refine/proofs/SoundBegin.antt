@@ -9,7 +9,7 @@ use Rattle.std.proofs.lemmas.Bool.Decides.{nat_tests}
 use Rattle.qs_base.proofs.TidOrder.{tid_exact}
 use Rattle.qs_base.specs.Order.{tid_cmp, same_tid}
 use Rattle.qs_base.specs.declared.identifiers.Tid.{Tid}
-use Rattle.qs_engage.specs.Nodes.{all_nodes, same_node, has_node, is_no_node}
+use Rattle.qs_engage.specs.Nodes.{all_nodes, same_node, has_node}
 use Rattle.qs_journal.specs.declared.entry.Act.TheVariants as acts
 use Rattle.qs_journal.specs.declared.script_line.ScriptLine.{ScriptLine}
 use Rattle.qs_kept.specs.declared.kept.Begun.{Begun}
@@ -115,7 +115,7 @@ module _ (line : ScriptLine) (work : Work) where
 
     -- more may have begun
     part_stays : (e : Tid × Participant) → is_sound_part node e ≡ true → is_sound_part mid e ≡ true
-    part_stays e is = kept ((is_whole e.1 && same_flag e.1.engage.home (same_node e.0.home node.setting.node)) && (list_all (is_sound_peer node e.1) all_nodes && (list_all (is_sound_member e.1) all_servers && is_sound_superior node e.1))) (not (has_node e.1.told e.0.home) && where_so (not e.1.engage.home && not (is_no_node e.1.told)) e.1.involved) (where_so (not e.1.engage.home && (is_undecided e.1 && not (is_engaged e.1))) (is_idle node e.0 e.1)) (is_sound_log e.1 && tells_nobody e.1) (is_sound_home node e.0 e.1) (is_sound_home mid e.0 e.1) later is
+    part_stays e is = kept ((is_whole e.1 && same_flag e.1.engage.home (same_node e.0.home node.setting.node)) && (list_all (is_sound_peer node e.1) all_nodes && (list_all (is_sound_member e.1) all_servers && is_sound_superior node e.1))) (not (has_node e.1.told e.0.home)) (where_so (not e.1.engage.home && (is_undecided e.1 && not (is_engaged e.1))) (is_idle node e.0 e.1)) (is_sound_log e.1 && tells_nobody e.1) (is_sound_home node e.0 e.1) (is_sound_home mid e.0 e.1) later is
       where
         kept : (a b c d h k : Bool) → (h ≡ true → k ≡ true) → (a && ((b && (c && h)) && d)) ≡ true → (a && ((b && (c && k)) && d)) ≡ true
         kept true true true true true k more is = rw (more refl) refl

@@ -7,7 +7,7 @@ use Rattle.std.proofs.lemmas.List.{length-set}
 use Rattle.qs_base.specs.declared.identifiers.NodeNo.{NodeNo}
 use Rattle.qs_base.specs.declared.identifiers.Tid.{Tid}
 use Rattle.qs_engage.specs.Engage.{peer_of}
-use Rattle.qs_engage.specs.Nodes.{all_nodes, same_node, has_node, is_no_node, joined}
+use Rattle.qs_engage.specs.Nodes.{all_nodes, same_node, has_node, joined}
 use Rattle.qs_engage.specs.declared.engage.PeerPart.{PeerPart}
 use Rattle.qs_tm.specs.Participant as participant
 use Rattle.qs_tm.specs.Participant.{is_undecided}
@@ -19,10 +19,9 @@ use Rattle.qs_refine.specs.Links.{names_node, node_no}
 use Rattle.qs_refine.specs.Sound.{is_sound, fits_setting, is_sound_part, where_so, is_whole, is_sound_peer}
 use Rattle.qs_refine.specs.SoundLaws.{StaysSound, CloserCameSound}
 use Rattle.qs_refine.proofs.Arrays.{peer_put, node_dropped}
-use Rattle.qs_refine.proofs.NodeSets.{all_named, joined_length, joined_has}
+use Rattle.qs_refine.proofs.NodeSets.{joined_length, joined_has}
 use Rattle.qs_refine.proofs.SoundParts.{and_both, all_found, part_sound}
 use Rattle.qs_refine.proofs.SoundBegin.{all_implied}
-use Rattle.qs_refine.proofs.SoundSent.{so_true}
 use Rattle.qs_refine.proofs.SoundViews.{PartSound, seen, part_seen, part_as}
 
 -- what holds of each node of a list holds of one that it names
@@ -55,7 +54,7 @@ pub told_length : (part : Participant) → is_whole part ≡ true → length par
 told_length part is = eqb-true (length part.told.has) 16 (and_both (length part.told.has == 16) _ (and_both ((length part.engage.peers == 16) && (length part.members == 7)) _ is).1).0
 
 module _ (tid : Tid) (peer : NodeNo) (up_to : ℕ) (told : List NodeNo) (node : NodeValue) (small : nat_le node.setting.nodes 16 ≡ true) (within : peer.0 < 16) (home_in : tid.home.0 < 16)
-    (named : (k : ℕ) → names_node told (node_no k) ≡ true → nat_lt k node.setting.nodes ≡ true) (part : Participant) (some : 1 ≤ up_to) (put : up_to ≤ (peer_of part.engage peer).sent) where
+    (named : (k : ℕ) → names_node told (node_no k) ≡ true → nat_lt k node.setting.nodes ≡ true) (part : Participant) (put : up_to ≤ (peer_of part.engage peer).sent) where
   abbrev new : Participant
   new = participant.counted tid.home peer up_to told part
 
@@ -63,15 +62,6 @@ module _ (tid : Tid) (peer : NodeNo) (up_to : ℕ) (told : List NodeNo) (node : 
   more = record (peer_of part.engage peer) { covered = max (peer_of part.engage peer).covered up_to }
 
   module _ (s : PartSound node tid part) where
-    drawn : part.involved ≡ true
-    drawn = by (nat_lt 0 (peer_of part.engage peer).sent) (grind (arith, nat_tests, some, put)) part.involved _ _
-        (and_both (nat_le (peer_of part.engage peer).covered (peer_of part.engage peer).sent) _ (all_at (is_sound_peer node part) all_nodes peer.0 s.peers (all_named peer.0 within))).1
-      where
-        by : (a : Bool) → a ≡ true → (b c d : Bool) → (where_so a (b && c) && d) ≡ true → b ≡ true
-        by true is true c d so = refl
-        by true is false c d so = absurd (cc (so))
-        by false is b c d so = absurd (cc (is))
-
     -- who is told is of the run
     told_is : (k : ℕ) → has_node new.told (node_no k) ≡ (if k == tid.home.0 then false else has_node part.told (node_no k) || names_node told (node_no k))
     told_is k = node_dropped tid.home.0 k (joined part.told told) (rw (joined_length told part.told, told_length part s.whole) home_in)
@@ -140,7 +130,6 @@ module _ (tid : Tid) (peer : NodeNo) (up_to : ℕ) (told : List NodeNo) (node : 
       members = s.members;
       superior = s.superior;
       outside = home_out;
-      drawn = subst (λ (b : Bool). where_so (not part.engage.home && not (is_no_node new.told)) b ≡ true) (sym drawn) (so_true (not part.engage.home && not (is_no_node new.told)));
       idle = s.idle;
       began = s.began;
       logged = s.logged;
@@ -155,7 +144,7 @@ closer_came_sound peer tid up_to told work within home_in named put sound = by (
         let s = seen work.node sound in
         part_sound tid (participant.counted tid.home peer up_to told) work.node part known refl
         (part_as work.node tid (participant.counted tid.home peer up_to told part)
-        (counted_sound tid peer up_to told work.node (few_nodes work.node s.fits) within home_in named part (put part known undecided).0 (put part known undecided).1
+        (counted_sound tid peer up_to told work.node (few_nodes work.node s.fits) within home_in named part (put part known undecided)
         (part_seen work.node tid part (all_found tid (is_sound_part work.node) work.node.manager.known part known s.parts)))) sound
 
     picked : (part : Participant) → part_of tid work ≡ Some part → (b : Bool) → is_undecided part ≡ b → is_sound (if b then count peer tid up_to told work else work).node ≡ true

@@ -97,7 +97,6 @@ decided_sound node tid part outcome l home s logged = record {
   members = s.members;
   superior = s.superior;
   outside = s.outside;
-  drawn = s.drawn;
   idle = rw home refl;
   began = rw home refl;
   logged = at_home part.engage.home home (where_so ((l part.log).prepared || (l part.log).listed) (l part.log).unended) (where_so (l part.log).prepared part.involved) (l part.log).listed (l part.log).prepared (is_abort (Some outcome)) logged;

@@ -116,7 +116,6 @@ module _ (node : NodeValue) (known : List (Tid × Participant)) (queues : IpcVal
     members = is.members;
     superior = is.superior;
     outside = is.outside;
-    drawn = is.drawn;
     idle = still (is_apart part) (ipc.waits t node.queues) (is_lent t node) (ipc.waits t queues) (is_lent t moved) (needs_pass part) waits lent is.idle;
     began = is.began;
     logged = is.logged;
@@ -132,7 +131,6 @@ module _ (node : NodeValue) (known : List (Tid × Participant)) (queues : IpcVal
     members = is.members;
     superior = is.superior;
     outside = is.outside;
-    drawn = is.drawn;
     idle = rw off refl;
     began = is.began;
     logged = is.logged;

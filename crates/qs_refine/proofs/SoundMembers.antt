@@ -7,7 +7,7 @@ use Rattle.std.proofs.lemmas.List.{length-set, get_or_past, get_or-set_other}
 use Rattle.qs_base.specs.declared.identifiers.ServerNo.{ServerNo}
 use Rattle.qs_base.specs.declared.identifiers.Tid.{Tid}
 use Rattle.qs_engage.specs.Engage.{peer_of, last_number}
-use Rattle.qs_engage.specs.Nodes.{all_nodes, same_node, has_node, is_no_node}
+use Rattle.qs_engage.specs.Nodes.{all_nodes, same_node, has_node}
 use Rattle.qs_tm.specs.Members.{all_servers, no_member, is_told_class, class_here}
 use Rattle.qs_tm.specs.Outcomes.{is_abort}
 use Rattle.qs_tm.specs.Participant as participant
@@ -38,11 +38,6 @@ module _ (node : NodeValue) (tid : Tid) (part : Participant) (s : PartSound node
     peer_more true false false r h is = is
     peer_more false x false r h is = absurd (cc (is))
 
-    told_more : (x i : Bool) → where_so x i ≡ true → where_so x (i || b) ≡ true
-    told_more x true is = is
-    told_more true false is = absurd (cc (is))
-    told_more false false is = refl
-
     log_more : (a x i r : Bool) → (a && (where_so x i && r)) ≡ true → (a && (where_so x (i || b) && r)) ≡ true
     log_more a x true r is = is
     log_more true true false r is = absurd (cc (is))
@@ -59,7 +54,6 @@ module _ (node : NodeValue) (tid : Tid) (part : Participant) (s : PartSound node
       members = s.members;
       superior = s.superior;
       outside = s.outside;
-      drawn = told_more (not part.engage.home && not (is_no_node part.told)) part.involved s.drawn;
       idle = s.idle;
       began = s.began;
       logged = log_more (where_so (part.log.prepared || part.log.listed) part.log.unended) part.log.prepared part.involved
@@ -105,7 +99,6 @@ module _ (node : NodeValue) (tid : Tid) (part : Participant) (s : PartSound node
       members = all_implied (is_sound_member part) (is_sound_member changed) member_sound_at all_servers s.members;
       superior = s.superior;
       outside = s.outside;
-      drawn = s.drawn;
       idle = idle;
       began = s.began;
       logged = s.logged;

@@ -130,7 +130,6 @@ module _ (alloc : Global) (setting : Setting) where
     members = members_heard;
     superior = refl;
     outside = rw (nobody tid.home.0) refl;
-    drawn = refl;
     idle = no_pass;
     began = refl;
     logged = refl;
@@ -217,7 +216,6 @@ module _ (alloc : Global) (setting : Setting) where
     members = committed_members told;
     superior = refl;
     outside = rw (nobody tid.home.0) refl;
-    drawn = refl;
     idle = refl;
     began = refl;
     logged = refl;

@@ -127,7 +127,6 @@ module _ (tid : Tid) (from : NodeNo) (number : ℕ) (node : NodeValue) (in_run :
       members = s.members;
       superior = engaged_sound.1.1.0;
       outside = s.outside;
-      drawn = rw engaged_sound.1.1.1 s.drawn;
       idle = rw not_apart refl;
       began = rw engaged_sound.1.1.1 s.began;
       logged = rw engaged_sound.1.1.1 s.logged;
@@ -157,7 +156,6 @@ new_sound tid node away none sound = record {
   members = members_new;
   superior = refl;
   outside = rw (nobody tid.home.0) refl;
-  drawn = refl;
   idle = rw (nothing_waits node tid off sound, nothing_lent node tid off sound) no_pass;
   began = refl;
   logged = refl;

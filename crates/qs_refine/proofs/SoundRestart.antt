@@ -78,7 +78,6 @@ module _ (from : NodeNo) (number : ℕ) (within : from.0 < 16) (node : NodeValue
     members = s.members;
     superior = s.superior;
     outside = s.outside;
-    drawn = s.drawn;
     idle = s.idle;
     began = s.began;
     logged = s.logged;

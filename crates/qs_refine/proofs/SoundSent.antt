@@ -8,7 +8,7 @@ use Rattle.qs_base.specs.Order.{tid_cmp}
 use Rattle.qs_base.specs.declared.identifiers.NodeNo.{NodeNo}
 use Rattle.qs_base.specs.declared.identifiers.Tid.{Tid}
 use Rattle.qs_engage.specs.Engage.{peer_of, with_peer, last_number}
-use Rattle.qs_engage.specs.Nodes.{all_nodes, same_node, has_node, is_no_node}
+use Rattle.qs_engage.specs.Nodes.{all_nodes, same_node, has_node}
 use Rattle.qs_engage.specs.declared.engage.PeerPart.{PeerPart}
 use Rattle.qs_packet.specs.declared.message.Message.TheVariants as messages
 use Rattle.qs_tm.specs.Manager as tm
@@ -33,17 +33,17 @@ so_true true = refl
 so_true false = refl
 
 -- what is said of the participant, where four of the tests change
-glue : (w f p r n t i u v l x y q s z : Bool) → (w ≡ true → y ≡ true) → (p ≡ true → q ≡ true) → s ≡ true → z ≡ true
-    → (((w && f) && (p && r)) && (((n && t) && i) && ((u && (v && l)) && x))) ≡ true
-    → (((y && f) && (q && r)) && (((n && s) && i) && ((u && (z && l)) && x))) ≡ true
-glue w f p r n t i u v l x y q s z more peers told logged is =
-    let a : (((w && f) && (p && r)) ≡ true) × ((((n && t) && i) && ((u && (v && l)) && x)) ≡ true) = and_both ((w && f) && (p && r)) _ is in
+glue : (w f p r n i u v l x y q z : Bool) → (w ≡ true → y ≡ true) → (p ≡ true → q ≡ true) → z ≡ true
+    → (((w && f) && (p && r)) && ((n && i) && ((u && (v && l)) && x))) ≡ true
+    → (((y && f) && (q && r)) && ((n && i) && ((u && (z && l)) && x))) ≡ true
+glue w f p r n i u v l x y q z more peers logged is =
+    let a : (((w && f) && (p && r)) ≡ true) × (((n && i) && ((u && (v && l)) && x)) ≡ true) = and_both ((w && f) && (p && r)) _ is in
     let b : ((w && f) ≡ true) × ((p && r) ≡ true) = and_both (w && f) _ a.0 in
-    let c : (((n && t) && i) ≡ true) × (((u && (v && l)) && x) ≡ true) = and_both ((n && t) && i) _ a.1 in
-    let d : ((n && t) ≡ true) × (i ≡ true) = and_both (n && t) _ c.0 in
+    let c : ((n && i) ≡ true) × (((u && (v && l)) && x) ≡ true) = and_both (n && i) _ a.1 in
+    let d : (n ≡ true) × (i ≡ true) = and_both n i c.0 in
     let e : ((u && (v && l)) ≡ true) × (x ≡ true) = and_both (u && (v && l)) _ c.1 in
     let g : (u ≡ true) × ((v && l) ≡ true) = and_both u _ e.0 in
-    rw (more (and_both w f b.0).0, (and_both w f b.0).1, peers (and_both p r b.1).0, (and_both p r b.1).1, (and_both n t d.0).0, told, d.1, g.0, logged, (and_both v l g.1).1, e.1) refl
+    rw (more (and_both w f b.0).0, (and_both w f b.0).1, peers (and_both p r b.1).0, (and_both p r b.1).1, d.0, d.1, g.0, logged, (and_both v l g.1).1, e.1) refl
 
 module _ (tid : Tid) (to : NodeNo) (node : NodeValue) (in_run : nat_lt to.0 node.setting.nodes ≡ true) (other : same_node to node.setting.node ≡ false) (small : nat_le node.setting.nodes 16 ≡ true) (part : Participant) where
   abbrev more : PeerPart
@@ -105,23 +105,23 @@ module _ (tid : Tid) (to : NodeNo) (node : NodeValue) (in_run : nat_lt to.0 node
   drawn_sound : is_sound_part node (tid, part) ≡ true → is_sound_part node (tid, drawn_part) ≡ true
   drawn_sound is =
       glue (is_whole part) (same_flag part.engage.home (same_node tid.home node.setting.node)) (list_all (is_sound_peer node part) all_nodes) (list_all (is_sound_member part) all_servers && is_sound_superior node part)
-      (not (has_node part.told tid.home)) (where_so (not part.engage.home && not (is_no_node part.told)) part.involved)
+      (not (has_node part.told tid.home))
       (where_so (not part.engage.home && (is_undecided part && not (is_engaged part))) (is_idle node tid part) && is_sound_home node tid part)
       (where_so (part.log.prepared || part.log.listed) part.log.unended) (where_so part.log.prepared part.involved)
       (where_so part.log.listed (part.engage.home && (Rattle.std.specs.Prelude.is_some part.outcome && not (is_abort part.outcome))) && where_so (part.log.prepared && part.engage.home) (is_undecided part || is_abort part.outcome))
-      (tells_nobody part) (is_whole part) (list_all (is_sound_peer node drawn_part) all_nodes) (where_so (not part.engage.home && not (is_no_node part.told)) true) (where_so part.log.prepared true)
-      (λ whole. whole) (all_implied (is_sound_peer node part) (is_sound_peer node drawn_part) (λ peer. drawn (peer_of part.engage peer) peer) all_nodes) (so_true _) (so_true part.log.prepared) is
+      (tells_nobody part) (is_whole part) (list_all (is_sound_peer node drawn_part) all_nodes) (where_so part.log.prepared true)
+      (λ whole. whole) (all_implied (is_sound_peer node part) (is_sound_peer node drawn_part) (λ peer. drawn (peer_of part.engage peer) peer) all_nodes) (so_true part.log.prepared) is
 
   counted_sound : is_sound_part node (tid, part) ≡ true → is_sound_part node (tid, sent_part) ≡ true
   counted_sound is =
       let whole : is_whole part ≡ true = (and_both (is_whole part) _ (and_both (is_whole part && same_flag part.engage.home (same_node tid.home node.setting.node)) _ (and_both ((is_whole part && same_flag part.engage.home (same_node tid.home node.setting.node)) && (list_all (is_sound_peer node part) all_nodes && (list_all (is_sound_member part) all_servers && is_sound_superior node part))) _ is).0).0).0 in
       glue (is_whole part) (same_flag part.engage.home (same_node tid.home node.setting.node)) (list_all (is_sound_peer node part) all_nodes) (list_all (is_sound_member part) all_servers && is_sound_superior node part)
-      (not (has_node part.told tid.home)) (where_so (not part.engage.home && not (is_no_node part.told)) part.involved)
+      (not (has_node part.told tid.home))
       (where_so (not part.engage.home && (is_undecided part && not (is_engaged part))) (is_idle node tid part) && is_sound_home node tid part)
       (where_so (part.log.prepared || part.log.listed) part.log.unended) (where_so part.log.prepared part.involved)
       (where_so part.log.listed (part.engage.home && (Rattle.std.specs.Prelude.is_some part.outcome && not (is_abort part.outcome))) && where_so (part.log.prepared && part.engage.home) (is_undecided part || is_abort part.outcome))
-      (tells_nobody part) (is_whole sent_part) (list_all (is_sound_peer node sent_part) all_nodes) (where_so (not part.engage.home && not (is_no_node part.told)) true) (where_so part.log.prepared true)
-      (λ whole. rw (length-set part.engage.peers to.0 more) whole) (all_implied (is_sound_peer node part) (is_sound_peer node sent_part) (peer_sound (whole_length whole)) all_nodes) (so_true _) (so_true part.log.prepared) is
+      (tells_nobody part) (is_whole sent_part) (list_all (is_sound_peer node sent_part) all_nodes) (where_so part.log.prepared true)
+      (λ whole. rw (length-set part.engage.peers to.0 more) whole) (all_implied (is_sound_peer node part) (is_sound_peer node sent_part) (peer_sound (whole_length whole)) all_nodes) (so_true part.log.prepared) is
 
   pub sent_sound : is_sound_part node (tid, part) ≡ true → is_sound_part node (tid, participant.sent to part) ≡ true
   sent_sound is = by ((peer_of part.engage to).sent == last_number)

@@ -92,7 +92,6 @@ learnt_sound node tid part outcome away s = record {
   members = s.members;
   superior = s.superior;
   outside = s.outside;
-  drawn = s.drawn;
   idle = rw away refl;
   began = rw away refl;
   logged = as_away part (Some outcome) part.log away (log_away part away s.logged);
@@ -108,7 +107,6 @@ ended_log node tid part log not_prepared not_listed away s = record {
   members = s.members;
   superior = s.superior;
   outside = s.outside;
-  drawn = s.drawn;
   idle = s.idle;
   began = s.began;
   logged = as_away part part.outcome log away (rw (not_prepared, not_listed) refl);
@@ -162,7 +160,6 @@ aborted_sound node tid home its = record {
   members = abort_members home;
   superior = refl;
   outside = rw (nobody tid.home.0) refl;
-  drawn = by_home home;
   idle = idle home _;
   began = began home _;
   logged = refl;
@@ -172,10 +169,6 @@ aborted_sound node tid home its = record {
     same : (a b : Bool) → b ≡ a → same_flag a b ≡ true
     same true b is = is
     same false b is = rw is refl
-
-    by_home : (h : Bool) → where_so (not h && false) false ≡ true
-    by_home true = refl
-    by_home false = refl
 
     idle : (h b : Bool) → where_so (is_apart (aborted_participant h)) b ≡ true
     idle true b = refl

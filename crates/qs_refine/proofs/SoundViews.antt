@@ -2,7 +2,7 @@
 use Rattle.std.proofs.Common.{◌≡◌, ◌&&◌, not, Bool, true, refl}
 use Rattle.std.specs.List.{list_all}
 use Rattle.qs_base.specs.declared.identifiers.Tid.{Tid}
-use Rattle.qs_engage.specs.Nodes.{all_nodes, same_node, has_node, is_no_node}
+use Rattle.qs_engage.specs.Nodes.{all_nodes, same_node, has_node}
 use Rattle.qs_tm.specs.Members.{all_servers}
 use Rattle.qs_tm.specs.Participant.{is_undecided}
 use Rattle.qs_tm.specs.declared.participant.Participant.{Participant}
@@ -46,29 +46,27 @@ sound_as node t = node_test (fits_setting node) (in_order node.manager.known) (l
 
 -- ---- a participant
 
-pub record PartTests (w f p m s n t i h l x : Bool) : Type 0 where
+pub record PartTests (w f p m s n i h l x : Bool) : Type 0 where
   pub whole : w ≡ true
   pub homed : f ≡ true
   pub peers : p ≡ true
   pub members : m ≡ true
   pub superior : s ≡ true
   pub outside : n ≡ true
-  pub drawn : t ≡ true
   pub idle : i ≡ true
   pub began : h ≡ true
   pub logged : l ≡ true
   pub silent : x ≡ true
 
-part_tests : (w f p m s n t i h l x : Bool) → (((w && f) && (p && (m && s))) && (((n && t) && (i && h)) && (l && x))) ≡ true → PartTests w f p m s n t i h l x
-part_tests w f p m s n t i h l x is =
-    let all : (((w && f) && (p && (m && s))) ≡ true) × ((((n && t) && (i && h)) && (l && x)) ≡ true) = and_both ((w && f) && (p && (m && s))) (((n && t) && (i && h)) && (l && x)) is in
+part_tests : (w f p m s n i h l x : Bool) → (((w && f) && (p && (m && s))) && ((n && (i && h)) && (l && x))) ≡ true → PartTests w f p m s n i h l x
+part_tests w f p m s n i h l x is =
+    let all : (((w && f) && (p && (m && s))) ≡ true) × (((n && (i && h)) && (l && x)) ≡ true) = and_both ((w && f) && (p && (m && s))) ((n && (i && h)) && (l && x)) is in
     let front : ((w && f) ≡ true) × ((p && (m && s)) ≡ true) = and_both (w && f) (p && (m && s)) all.0 in
     let first : (w ≡ true) × (f ≡ true) = and_both w f front.0 in
     let peers : (p ≡ true) × ((m && s) ≡ true) = and_both p (m && s) front.1 in
     let members : (m ≡ true) × (s ≡ true) = and_both m s peers.1 in
-    let back : (((n && t) && (i && h)) ≡ true) × ((l && x) ≡ true) = and_both ((n && t) && (i && h)) (l && x) all.1 in
-    let middle : ((n && t) ≡ true) × ((i && h) ≡ true) = and_both (n && t) (i && h) back.0 in
-    let told : (n ≡ true) × (t ≡ true) = and_both n t middle.0 in
+    let back : ((n && (i && h)) ≡ true) × ((l && x) ≡ true) = and_both (n && (i && h)) (l && x) all.1 in
+    let middle : (n ≡ true) × ((i && h) ≡ true) = and_both n (i && h) back.0 in
     let still : (i ≡ true) × (h ≡ true) = and_both i h middle.1 in
     let last : (l ≡ true) × (x ≡ true) = and_both l x back.1 in
     record {
@@ -77,16 +75,15 @@ part_tests w f p m s n t i h l x is =
       peers = peers.0;
       members = members.0;
       superior = members.1;
-      outside = told.0;
-      drawn = told.1;
+      outside = middle.0;
       idle = still.0;
       began = still.1;
       logged = last.0;
       silent = last.1;
     }
 
-part_test : (w f p m s n t i h l x : Bool) → PartTests w f p m s n t i h l x → (((w && f) && (p && (m && s))) && (((n && t) && (i && h)) && (l && x))) ≡ true
-part_test w f p m s n t i h l x is = rw (is.whole, is.homed, is.peers, is.members, is.superior, is.outside, is.drawn, is.idle, is.began, is.logged, is.silent) refl
+part_test : (w f p m s n i h l x : Bool) → PartTests w f p m s n i h l x → (((w && f) && (p && (m && s))) && ((n && (i && h)) && (l && x))) ≡ true
+part_test w f p m s n i h l x is = rw (is.whole, is.homed, is.peers, is.members, is.superior, is.outside, is.idle, is.began, is.logged, is.silent) refl
 
 -- elsewhere than at the home, undecided, and without a superior
 abbrev pub is_apart : Participant → Bool
@@ -95,17 +92,17 @@ is_apart part = not part.engage.home && (is_undecided part && not (is_engaged pa
 abbrev pub PartSound : NodeValue → Tid → Participant → Type 0
 PartSound node tid part = PartTests (is_whole part) (same_flag part.engage.home (same_node tid.home node.setting.node))
     (list_all (is_sound_peer node part) all_nodes) (list_all (is_sound_member part) all_servers) (is_sound_superior node part)
-    (not (has_node part.told tid.home)) (where_so (not part.engage.home && not (is_no_node part.told)) part.involved)
+    (not (has_node part.told tid.home))
     (where_so (is_apart part) (is_idle node tid part)) (is_sound_home node tid part) (is_sound_log part) (tells_nobody part)
 
 pub part_seen : (node : NodeValue) (tid : Tid) (part : Participant) → is_sound_part node (tid, part) ≡ true → PartSound node tid part
 part_seen node tid part is = part_tests (is_whole part) (same_flag part.engage.home (same_node tid.home node.setting.node))
     (list_all (is_sound_peer node part) all_nodes) (list_all (is_sound_member part) all_servers) (is_sound_superior node part)
-    (not (has_node part.told tid.home)) (where_so (not part.engage.home && not (is_no_node part.told)) part.involved)
+    (not (has_node part.told tid.home))
     (where_so (is_apart part) (is_idle node tid part)) (is_sound_home node tid part) (is_sound_log part) (tells_nobody part) is
 
 pub part_as : (node : NodeValue) (tid : Tid) (part : Participant) → PartSound node tid part → is_sound_part node (tid, part) ≡ true
 part_as node tid part t = part_test (is_whole part) (same_flag part.engage.home (same_node tid.home node.setting.node))
     (list_all (is_sound_peer node part) all_nodes) (list_all (is_sound_member part) all_servers) (is_sound_superior node part)
-    (not (has_node part.told tid.home)) (where_so (not part.engage.home && not (is_no_node part.told)) part.involved)
+    (not (has_node part.told tid.home))
     (where_so (is_apart part) (is_idle node tid part)) (is_sound_home node tid part) (is_sound_log part) (tells_nobody part) t

@@ -134,7 +134,6 @@ module _ (node : NodeValue) (tid : Tid) (part : Participant) (server : ServerNo)
     members = drawn.members;
     superior = drawn.superior;
     outside = drawn.outside;
-    drawn = drawn.drawn;
     idle = drawn.idle;
     began = drawn.began;
     logged = log part.log.listed unlisted part.engage.home (is_none part.outcome) (is_abort part.outcome) aborted _;

@@ -106,7 +106,6 @@ prepared_sound node tid part drawn open_now s = record {
   members = s.members;
   superior = s.superior;
   outside = s.outside;
-  drawn = s.drawn;
   idle = s.idle;
   began = s.began;
   logged = both_and part.involved _ drawn (both_and (where_so part.log.listed (part.engage.home && (is_some part.outcome && not (is_abort part.outcome)))) (where_so part.engage.home (is_undecided part || is_abort part.outcome))

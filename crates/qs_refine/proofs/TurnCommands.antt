@@ -39,7 +39,7 @@ use Rattle.qs_step.specs.declared.state.Issued.{Issued}
 use Rattle.qs_refine.specs.JoinLaws.{is_loose_of}
 use Rattle.qs_refine.specs.Links.{node_no}
 use Rattle.qs_refine.specs.SoundSteps.{begun}
-use Rattle.qs_refine.proofs.TurnOn.{Case, became, same_acks, open_apart, is_aborted_of, is_end_of, Turned, TurnedAs, TurnsOn, NoLoose, on_itself, on_then, if_on, rest_on, enter_on, answer_on, kept_on, doings_on}
+use Rattle.qs_refine.proofs.TurnOn.{Case, fate_at, became, same_acks, open_apart, is_aborted_of, is_end_of, Turned, TurnedAs, TurnsOn, NoLoose, on_itself, on_then, if_on, rest_on, enter_on, answer_on, kept_on, doings_on}
 use Rattle.qs_refine.proofs.TurnRecords.{nobody, put_on}
 use Rattle.qs_refine.proofs.TurnOutcomes.{IsOpenAt, decide_on}
 use Rattle.qs_refine.proofs.TurnRules.{issue_as_on, become_asked_on, undecided_on}
@@ -77,13 +77,13 @@ any_wider p q each (x ∷ xs) is = by (p x) refl is (any_wider p q each xs)
 -- a transaction begins, of which nothing is known
 -- where it is this one, none of its records waits to end it
 abbrev pub MayBeginIn : Case → Work → Type 0
-MayBeginIn k work = same_tid k.tid (tm.next_tid work.node.manager) ≡ true → NoLoose k work.out.records
+MayBeginIn k work = same_tid k.tid (tm.next_tid work.node.manager) ≡ true → NoLoose k work.out.records × (fate_at k.tid work.node ≡ None)
 
 begin_as_on : {k : Case} (line : ScriptLine) (work : Work) → MayBeginIn k work → TurnsOn k work (begin_as line (tm.next_tid work.node.manager) work)
 begin_as_on {k} line work may =
-    on_then (rest_on work counted refl refl refl)
-    (on_then (put_on (tm.next_tid work.node.manager) new counted first)
-    (on_then (rest_on begun (put_label (record { label = line.label; tid = Some (tm.next_tid work.node.manager); owner = Some line.client }) begun) refl refl refl) (on_then (enter_on _ _) (answer_on line.client answers.Done _))))
+    on_then (rest_on work counted refl refl refl refl)
+    (on_then (put_on (tm.next_tid work.node.manager) new counted (λ same. (may same).1) first)
+    (on_then (rest_on begun (put_label (record { label = line.label; tid = Some (tm.next_tid work.node.manager); owner = Some line.client }) begun) refl refl refl refl) (on_then (enter_on _ _) (answer_on line.client answers.Done _))))
   where
     new : Participant
     new = begun_participant line.client work.node.manager.ticks
@@ -105,20 +105,20 @@ begin_as_on {k} line work may =
     }
       where
         loose : (p : Record → Bool) → ((rec : Record) → p rec ≡ true → is_loose_of k.tid rec ≡ true) → list_any p (k.before ++ work.out.records) ≡ true → ⊥
-        loose p each has = let some : list_any (is_loose_of k.tid) (k.before ++ work.out.records) ≡ true = any_wider p (is_loose_of k.tid) each (k.before ++ work.out.records) has in let none = may same in cc (some, none)
+        loose p each has = let some : list_any (is_loose_of k.tid) (k.before ++ work.out.records) ≡ true = any_wider p (is_loose_of k.tid) each (k.before ++ work.out.records) has in let none = (may same).0 in cc (some, none)
 
 pub begin_command_on : {k : Case} (line : ScriptLine) (work : Work) → MayBeginIn k work → TurnsOn k work (begin_command line work)
 begin_command_on {k} line work may = by (tm.begin_fault work.room work.node.manager)
   where
     by : (o : Option BeginFault) → TurnsOn k work (begin_or_refuse line o work)
     by None = begin_as_on line work may
-    by (Some (faults.LogFull need room)) = on_then (rest_on work (put_label (record { label = line.label; tid = None; owner = Some line.client }) work) refl refl refl) (answer_on line.client (answers.LogFull need room) _)
+    by (Some (faults.LogFull need room)) = on_then (rest_on work (put_label (record { label = line.label; tid = None; owner = Some line.client }) work) refl refl refl refl) (answer_on line.client (answers.LogFull need room) _)
     by (Some (faults.Last number)) = on_itself work
     by (Some faults.NoMemory) = on_itself work
 
 -- what is open waits for its reply
 issued_on : {k : Case} (client : ClientNo) (issued : Issued) (work : Work) → TurnsOn k work (with_issued client issued work)
-issued_on {k} client issued work = rest_on work (with_issued client issued work) refl refl refl
+issued_on {k} client issued work = rest_on work (with_issued client issued work) refl refl refl refl
 
 request_command_on : {k : Case} (client : ClientNo) (tid : Tid) (member : Member) (op : Op) (work : Work) → TurnsOn k work (request_command client tid member op work)
 request_command_on {k} client tid member op work = by (next_number tid member.node work)
@@ -135,7 +135,7 @@ only tid part work known open_now other its = let one : part ≡ other = (let bo
 
 open_command_on : {k : Case} (client : ClientNo) (tid : Tid) (command : Command) (work : Work) → TurnsOn k work (open_command client tid command work)
 open_command_on {k} client tid commands.Commit work = undecided_on tid (ask tid) work (λ part known open_now. ask_on tid part work)
-open_command_on {k} client tid commands.Abort work = undecided_on tid (λ part. decide tid outcomes.Abort (Some causes.Asked)) work (λ part known open_now. decide_on tid outcomes.Abort (Some causes.Asked) work (λ same. only tid part work known open_now) (λ same away commit. absurd (cc (commit))))
+open_command_on {k} client tid commands.Abort work = undecided_on tid (λ part. decide tid outcomes.Abort (Some causes.Asked)) work (λ part known open_now. decide_on tid outcomes.Abort (Some causes.Asked) work (λ same. only tid part work known open_now) (λ same away commit. absurd (cc (commit))) (λ commit. absurd (cc (commit))))
 open_command_on {k} client tid (commands.Request member op) work = request_command_on client tid member op work
 open_command_on {k} client tid commands.Begin work = on_itself work
 open_command_on {k} client tid commands.Take work = on_itself work
@@ -150,7 +150,7 @@ owner_command_on {k} client (Some tid) command work = by (kept_outcome tid work.
     by (Some decided) = answer_on client (decided_answer decided command) work
 
 take_on : {k : Case} (client : ClientNo) (tid : Tid) (loan : Lent) (work : Work) → TurnsOn k work (take client tid loan work)
-take_on {k} client tid loan work = on_then (kept_on (λ kept. record kept { loans = take_first client tid kept.loans }) work) (answer_on client _ _)
+take_on {k} client tid loan work = on_then (kept_on (λ kept. record kept { loans = take_first client tid kept.loans }) (λ _. refl) work) (answer_on client _ _)
 
 take_command_on : {k : Case} (client : ClientNo) (tid : Tid) (work : Work) → TurnsOn k work (take_command client tid work)
 take_command_on {k} client tid work = by (first_untaken client tid work.node.kept.now.loans)
@@ -161,7 +161,7 @@ take_command_on {k} client tid work = by (first_untaken client tid work.node.kep
 
 yield_on : {k : Case} (client : ClientNo) (tid : Tid) (work : Work) → TurnsOn k work (yield client tid work)
 yield_on {k} client tid work =
-    on_then (kept_on (λ kept. record kept { loans = give_back client tid kept.loans }) work)
+    on_then (kept_on (λ kept. record kept { loans = give_back client tid kept.loans }) (λ _. refl) work)
     (on_then (enter_on _ _) (on_then (doings_on tid (λ doings. record doings { yielded = true }) _) (answer_on client answers.Done _)))
 
 lent_command_on : {k : Case} (client : ClientNo) (tid : Tid) (command : Command) (work : Work) → TurnsOn k work (lent_command client tid command work)
@@ -202,7 +202,7 @@ obey_on {k} line command work = by (label_at line.label work.node)
     by (Some begun) = labelled_on line.client begun command work
 
 pub command_came_on : {k : Case} (line : ScriptLine) (work : Work) → (line.command ≡ commands.Begin → MayBeginIn k work) → TurnsOn k work (command_came line work)
-command_came_on {k} line work may = on_then (rest_on work (with_command line work) refl refl refl) (by line.command may)
+command_came_on {k} line work may = on_then (rest_on work (with_command line work) refl refl refl refl) (by line.command may)
   where
     by : (command : Command) → (command ≡ commands.Begin → MayBeginIn k work) → TurnsOn k (with_command line work) (obey line command (with_command line work))
     by commands.Begin new = begin_command_on line (with_command line work) (new refl)

@@ -76,7 +76,7 @@ message_came_on {k} peer (messages.Inquire tid) work ordered may = inquiry_came_
 -- ---- time goes on: what is old is undecided, and each has its turn once
 
 one_old_on : {k : Case} (age : ℕ) (tid : Tid) (work : Work) → is_open_at work tid ≡ true → TurnsOn k work (abort_old age work tid)
-one_old_on {k} age tid work opened = decide_on tid outcomes.Abort (Some (causes.Old age)) work (λ same. undecided) (λ same away commit. absurd (cc (commit)))
+one_old_on {k} age tid work opened = decide_on tid outcomes.Abort (Some (causes.Old age)) work (λ same. undecided) (λ same away commit. absurd (cc (commit))) (λ commit. absurd (cc (commit)))
   where
     none_is : (o : Option Outcome) → is_none o ≡ true → o ≡ None
     none_is None is = refl
@@ -98,7 +98,7 @@ all_old_on {k} which age (e ∷ es) work ordered all = by (is_one which e.0 e.1)
     by false opened more = more work both.1
 
 tick_on : {k : Case} (work : Work) → in_order work.node.manager.known ≡ true → TurnsOn k work (tick work)
-tick_on {k} work ordered = on_then (rest_on work counted refl refl refl) (aged work.node.setting.age)
+tick_on {k} work ordered = on_then (rest_on work counted refl refl refl refl) (aged work.node.setting.age)
   where
     counted : Work
     counted = with_manager tm.tick (change_server timers_no (λ value. record value { timers = ticked value.timers }) (enter acts.Tick work))

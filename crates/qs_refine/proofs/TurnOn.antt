@@ -1,8 +1,8 @@
--- In a step no record of a transaction that must be forced comes behind one that need not: once one of these stands the node has decided. Pieces of a step keep to that, one after another.
-use Rattle.std.proofs.Common.{◌≡◌, ℕ, ◌&&◌, ◌||◌, Bool, true, false, List, [], ◌∷◌, ◌++◌, fold, Option, Some, None, refl, sym, ap, subst, ◌∙◌, if◌then◌else◌}
+-- In a step no record of a transaction that must be forced comes behind one that need not: once one of these stands the node has decided; and what the node keeps as committed it knows as such. Pieces of a step keep to that, one after another.
+use Rattle.std.proofs.Common.{◌≡◌, ◌⊎◌, ℕ, ◌&&◌, ◌||◌, Bool, true, false, List, [], ◌∷◌, ◌++◌, fold, Option, Some, None, refl, sym, ap, subst, ◌∙◌, if◌then◌else◌}
 use Rattle.std.specs.Map.{lookup}
 use Rattle.std.specs.BTreeMap.{is_at}
-use Rattle.std.specs.List.{list_any}
+use Rattle.std.specs.List.{list_any, find}
 use Rattle.qs_base.specs.Order.{same_tid, tid_cmp}
 use Rattle.qs_base.specs.declared.identifiers.ClientNo.{ClientNo}
 use Rattle.qs_base.specs.declared.identifiers.NodeNo.{NodeNo}
@@ -14,6 +14,8 @@ use Rattle.qs_engage.specs.Nodes.{same_node, has_node}
 use Rattle.qs_engage.specs.declared.nodes.Nodes.{Nodes}
 use Rattle.qs_ipc.specs.Ipc.{IpcValue}
 use Rattle.qs_journal.specs.declared.entry.Act.{Act}
+use Rattle.qs_kept.specs.Keeping.{is_outcome_of}
+use Rattle.qs_kept.specs.declared.kept.Decided.{Decided}
 use Rattle.qs_kept.specs.declared.kept.Kept.{Kept}
 use Rattle.qs_ops.specs.Server.{ServerValue}
 use Rattle.qs_ops.specs.declared.answer.Answer.{Answer}
@@ -22,6 +24,7 @@ use Rattle.qs_record.specs.declared.record.Record.{Record}
 use Rattle.qs_record.specs.declared.record.Record.TheVariants as records
 use Rattle.qs_tm.specs.Manager as tm
 use Rattle.qs_tm.specs.declared.participant.Participant.{Participant}
+use Rattle.qs_step.specs.Answering.{was_committed, is_kept_commit}
 use Rattle.qs_step.specs.Bringing.{enter, send, send_next, send_each, answer, is_other}
 use Rattle.qs_step.specs.State.{NodeValue, Work, with_manager, with_queues, with_kept, with_doings, change_server, client_cmp}
 use Rattle.qs_step.specs.declared.state.Doings.{Doings}
@@ -38,6 +41,7 @@ pub record Case : Type 0 where
   pub learns : Bool
   pub ends : Bool
   pub acks : ℕ → Bool
+  pub was : Bool  -- whether its node kept it as committed before the step
 
 abbrev pub Fate : Type 0
 Fate = Option Outcome × Nodes
@@ -102,23 +106,36 @@ pub record TurnedAs (k : Case) (node : NodeNo) (fate : Option Fate) (more : List
 abbrev pub Turned : Case → Work → Type 0
 Turned k work = TurnedAs k work.node.setting.node (fate_at k.tid work.node) work.out.records
 
+-- what its node keeps as committed was so before the step, or is known as such, or it ended
+abbrev pub KeptAs : Case → Bool → Option Fate → Type 0
+KeptAs k kept fate = k.ends ≡ false → kept ≡ true → (k.was ≡ true) ⊎ ((acks : Nodes) × (fate ≡ became (Some outcomes.Commit) acks))
+
+abbrev pub KeptSo : Case → Work → Type 0
+KeptSo k work = KeptAs k (was_committed k.tid work.node) (fate_at k.tid work.node)
+
 pub record TurnsOn (k : Case) (work new : Work) : Type 0 where
   pub setting : new.node.setting ≡ work.node.setting
   pub goes : Turned k work → Turned k new
+  pub kept : KeptSo k work → KeptSo k new
 
 -- nothing of it changes
 pub record SameTurn (k : Case) (work new : Work) : Type 0 where
   pub setting : new.node.setting ≡ work.node.setting
   pub fate : fate_at k.tid new.node ≡ fate_at k.tid work.node
   pub records : new.out.records ≡ work.out.records
+  pub was : was_committed k.tid new.node ≡ was_committed k.tid work.node
+
+-- where neither changes
+pub kept_still : (k : Case) (work new : Work) → was_committed k.tid new.node ≡ was_committed k.tid work.node → fate_at k.tid new.node ≡ fate_at k.tid work.node → KeptSo k work → KeptSo k new
+kept_still k work new was fate is = subst (λ (b : Bool). KeptAs k b (fate_at k.tid new.node)) (sym was) (subst (λ (f : Option Fate). KeptAs k (was_committed k.tid work.node) f) (sym fate) is)
 
 -- ---- one after another
 
 pub on_then : {k : Case} {a b c : Work} → TurnsOn k a b → TurnsOn k b c → TurnsOn k a c
-on_then first second = record { setting = second.setting ∙ first.setting; goes = λ is. second.goes (first.goes is) }
+on_then first second = record { setting = second.setting ∙ first.setting; goes = λ is. second.goes (first.goes is); kept = λ is. second.kept (first.kept is) }
 
 pub same_then : {k : Case} {a b c : Work} → SameTurn k a b → SameTurn k b c → SameTurn k a c
-same_then first second = record { setting = second.setting ∙ first.setting; fate = second.fate ∙ first.fate; records = second.records ∙ first.records }
+same_then first second = record { setting = second.setting ∙ first.setting; fate = second.fate ∙ first.fate; records = second.records ∙ first.records; was = second.was ∙ first.was }
 
 pub same_on : {k : Case} {work new : Work} → SameTurn k work new → TurnsOn k work new
 same_on {k} {work} {new} same = record {
@@ -126,19 +143,20 @@ same_on {k} {work} {new} same = record {
   goes = λ is. subst (λ (n : NodeNo). TurnedAs k n (fate_at k.tid new.node) new.out.records) (sym (ap (λ s. s.node) same.setting))
       (subst (λ (f : Option Fate). TurnedAs k work.node.setting.node f new.out.records) (sym same.fate)
       (subst (λ (l : List Record). TurnedAs k work.node.setting.node (fate_at k.tid work.node) l) (sym same.records) is));
+  kept = kept_still k work new same.was same.fate;
 }
 
-pub rest_same : {k : Case} (work new : Work) → new.node.setting ≡ work.node.setting → new.out.records ≡ work.out.records → new.node.manager.known ≡ work.node.manager.known → SameTurn k work new
-rest_same {k} work new setting records known = record { setting = setting; fate = ap (λ (es : List (Tid × Participant)). fate_found (lookup (is_at (tid_cmp k.tid)) es)) known; records = records }
+pub rest_same : {k : Case} (work new : Work) → new.node.setting ≡ work.node.setting → new.out.records ≡ work.out.records → new.node.manager.known ≡ work.node.manager.known → was_committed k.tid new.node ≡ was_committed k.tid work.node → SameTurn k work new
+rest_same {k} work new setting records known was = record { setting = setting; fate = ap (λ (es : List (Tid × Participant)). fate_found (lookup (is_at (tid_cmp k.tid)) es)) known; records = records; was = was }
 
-pub rest_on : {k : Case} (work new : Work) → new.node.setting ≡ work.node.setting → new.out.records ≡ work.out.records → new.node.manager.known ≡ work.node.manager.known → TurnsOn k work new
-rest_on work new setting records known = same_on (rest_same work new setting records known)
+pub rest_on : {k : Case} (work new : Work) → new.node.setting ≡ work.node.setting → new.out.records ≡ work.out.records → new.node.manager.known ≡ work.node.manager.known → was_committed k.tid new.node ≡ was_committed k.tid work.node → TurnsOn k work new
+rest_on work new setting records known was = same_on (rest_same work new setting records known was)
 
 pub on_itself : {k : Case} (work : Work) → TurnsOn k work work
-on_itself work = record { setting = refl; goes = λ is. is }
+on_itself work = record { setting = refl; goes = λ is. is; kept = λ is. is }
 
 pub same_itself : {k : Case} (work : Work) → SameTurn k work work
-same_itself work = record { setting = refl; fate = refl; records = refl }
+same_itself work = record { setting = refl; fate = refl; records = refl; was = refl }
 
 pub fold_on : {k : Case} {X : Type 0} (f : Work → X → Work) → ((work : Work) (x : X) → TurnsOn k work (f work x)) → (xs : List X) (work : Work) → TurnsOn k work (fold f work xs)
 fold_on f each [] work = on_itself work
@@ -155,7 +173,7 @@ if_on false first second = second
 -- ---- what is done beside what is kept of transactions
 
 pub enter_same : {k : Case} (act : Act) (work : Work) → SameTurn k work (enter act work)
-enter_same act work = rest_same work (enter act work) refl refl refl
+enter_same act work = rest_same work (enter act work) refl refl refl refl
 
 pub enter_on : {k : Case} (act : Act) (work : Work) → TurnsOn k work (enter act work)
 enter_on act work = same_on (enter_same act work)
@@ -164,7 +182,7 @@ pub send_on : {k : Case} (to : NodeNo) (message : Message) (work : Work) → Tur
 send_on {k} to message work = by (is_other work.node.setting to)
   where
     by : (b : Bool) → TurnsOn k work (if b then record work { out = record work.out { messages = work.out.messages ++ record { to = to; message = message } ∷ [] } } else work)
-    by true = rest_on work (record work { out = record work.out { messages = work.out.messages ++ record { to = to; message = message } ∷ [] } }) refl refl refl
+    by true = rest_on work (record work { out = record work.out { messages = work.out.messages ++ record { to = to; message = message } ∷ [] } }) refl refl refl refl
     by false = on_itself work
 
 pub sends_on : {k : Case} (nodes : List NodeNo) (message : Message) (work : Work) → TurnsOn k work (send_each nodes message work)
@@ -184,19 +202,20 @@ answer_on {k} client said work = by (lookup (is_at (client_cmp client)) work.nod
 
     by : (o : Option OpenCommand) → TurnsOn k work (elim o [ None ↦ work | Some command ↦ answered command ])
     by None = on_itself work
-    by (Some command) = rest_on work (answered command) refl refl refl
+    by (Some command) = rest_on work (answered command) refl refl refl refl
 
 pub queues_on : {k : Case} (f : IpcValue → IpcValue) (work : Work) → TurnsOn k work (with_queues f work)
-queues_on f work = rest_on work (with_queues f work) refl refl refl
+queues_on f work = rest_on work (with_queues f work) refl refl refl refl
 
-pub kept_on : {k : Case} (f : Kept → Kept) (work : Work) → TurnsOn k work (with_kept f work)
-kept_on f work = rest_on work (with_kept f work) refl refl refl
+-- the outcomes stay
+pub kept_on : {k : Case} (f : Kept → Kept) → ((kept : Kept) → (f kept).outcomes ≡ kept.outcomes) → (work : Work) → TurnsOn k work (with_kept f work)
+kept_on {k} f same work = rest_on work (with_kept f work) refl refl refl (ap (λ (l : List Decided). is_kept_commit (find (is_outcome_of k.tid) l) || list_any (same_tid k.tid) work.node.committed) (same work.node.kept.now))
 
 pub doings_on : {k : Case} (tid : Tid) (f : Doings → Doings) (work : Work) → TurnsOn k work (with_doings tid f work)
-doings_on tid f work = rest_on work (with_doings tid f work) refl refl refl
+doings_on tid f work = rest_on work (with_doings tid f work) refl refl refl refl
 
 pub server_same : {k : Case} (server : ServerNo) (f : ServerValue → ServerValue) (work : Work) → SameTurn k work (change_server server f work)
-server_same server f work = rest_same work (change_server server f work) refl refl refl
+server_same server f work = rest_same work (change_server server f work) refl refl refl refl
 
 pub server_on : {k : Case} (server : ServerNo) (f : ServerValue → ServerValue) (work : Work) → TurnsOn k work (change_server server f work)
 server_on server f work = same_on (server_same server f work)
@@ -204,14 +223,14 @@ server_on server f work = same_on (server_same server f work)
 -- ---- what is kept of one transaction is changed, and not what became of it
 
 pub part_same : {k : Case} (tid : Tid) (f : Participant → Participant) → ((part : Participant) → fate_of (f part) ≡ fate_of part) → (work : Work) → SameTurn k work (with_manager (tm.with_part tid f) work)
-part_same {k} tid f same work = record { setting = refl; fate = told_changed None fate_of (is_at (tid_cmp tid)) (is_at (tid_cmp k.tid)) f same work.node.manager.known; records = refl }
+part_same {k} tid f same work = record { setting = refl; fate = told_changed None fate_of (is_at (tid_cmp tid)) (is_at (tid_cmp k.tid)) f same work.node.manager.known; records = refl; was = refl }
 
 pub part_on : {k : Case} (tid : Tid) (f : Participant → Participant) → ((part : Participant) → fate_of (f part) ≡ fate_of part) → (work : Work) → TurnsOn k work (with_manager (tm.with_part tid f) work)
 part_on tid f same work = same_on (part_same tid f same work)
 
 -- or it is another transaction
 pub apart_same : {k : Case} (tid : Tid) (f : Participant → Participant) (work : Work) → same_tid k.tid tid ≡ false → SameTurn k work (with_manager (tm.with_part tid f) work)
-apart_same {k} tid f work apart = record { setting = refl; fate = ap fate_found (part_apart k.tid tid f work.node.manager apart); records = refl }
+apart_same {k} tid f work apart = record { setting = refl; fate = ap fate_found (part_apart k.tid tid f work.node.manager apart); records = refl; was = refl }
 
 -- ---- while it is undecided no record that need not be forced stands
 

@@ -1,6 +1,6 @@
 -- Decisions, outcomes that are told, and inquiries leave the records of a transaction in turn.
-use Rattle.std.proofs.Common.{◌≡◌, ℕ, Bool, true, false, [], Option, Some, None, is_some, refl, subst, ◌∙◌, if◌then◌else◌}
-use Rattle.std.specs.List.{list_any}
+use Rattle.std.proofs.Common.{◌≡◌, ◌⊎◌, inl, inr, ◌||◌, ℕ, Bool, true, false, List, [], ◌∷◌, ◌++◌, Option, Some, None, is_some, refl, ap, subst, ◌∙◌, if◌then◌else◌}
+use Rattle.std.specs.List.{list_any, find}
 use Rattle.std.specs.BTreeMap.{is_at}
 use Rattle.qs_base.specs.Order.{same_tid, tid_cmp}
 use Rattle.qs_base.specs.declared.identifiers.NodeNo.{NodeNo}
@@ -23,13 +23,16 @@ use Rattle.qs_tm.specs.Outcomes.{aborted_participant, record_of, writes_commit}
 use Rattle.qs_tm.specs.Participant.{is_undecided}
 use Rattle.qs_tm.specs.declared.manager.Decision.{Decision}
 use Rattle.qs_tm.specs.declared.participant.Participant.{Participant}
+use Rattle.qs_kept.specs.Keeping.{is_outcome_of}
+use Rattle.qs_kept.specs.declared.kept.Decided.{Decided}
+use Rattle.qs_step.specs.Answering.{is_kept_commit}
 use Rattle.qs_step.specs.Bringing.{log_if, tid_of}
 use Rattle.qs_step.specs.Deciding.{notice_of, notify, end_member, due_endings, end_members, learn_member, learners_at, learn_members, give_notices, keep_outcome, decide, decide_commit}
 use Rattle.qs_step.specs.State.{Work, here, part_of, with_manager, change_server}
 use Rattle.qs_step.specs.Telling.{names_at, end_record, record_learnt, learn, learn_unknown, take_outcome, tell_came}
 use Rattle.qs_refine.proofs.Maps.{changed_none}
-use Rattle.qs_refine.proofs.TurnOn.{Case, became, fate_at, Turned, TurnsOn, SameTurn, NoLoose, on_itself, on_then, same_on, same_then, fold_same, if_on, rest_on, enter_on, enter_same, send_on, sends_on, server_same, part_same, apart_same, open_loose}
-use Rattle.qs_refine.proofs.TurnRecords.{MayEnter, MayTake, put_on, log_if_on, aborted_now, fate_unknown, open_fate, open_decided, take_on}
+use Rattle.qs_refine.proofs.TurnOn.{Case, KeptSo, became, fate_at, Turned, TurnsOn, SameTurn, NoLoose, on_itself, on_then, same_on, same_then, fold_same, if_on, rest_on, enter_on, enter_same, send_on, sends_on, server_same, part_same, apart_same, open_loose}
+use Rattle.qs_refine.proofs.TurnRecords.{fate_logged_if, log_if_kept, MayEnter, MayTake, put_on, log_if_on, aborted_now, fate_unknown, open_fate, open_decided, take_on}
 
 -- ---- notices
 
@@ -88,14 +91,57 @@ pub setting_logged : (rec : Option Record) (work : Work) → (log_if rec work).n
 setting_logged None work = refl
 setting_logged (Some rec) work = refl
 
+-- what is decided is kept: a commit of one that is known as such
+pub found_last : (p : Decided → Bool) (x : Decided) (xs : List Decided) → is_kept_commit (find p (xs ++ x ∷ [])) ≡ true → (is_kept_commit (find p xs) ≡ true) ⊎ ((p x ≡ true) × (is_kept_commit (Some x) ≡ true))
+found_last p x [] = by (p x)
+  where
+    by : (b : Bool) → is_kept_commit (if b then Some x else None) ≡ true → (false ≡ true) ⊎ ((b ≡ true) × (is_kept_commit (Some x) ≡ true))
+    by true is = inr (refl, is)
+    by false is = absurd (cc (is))
+found_last p x (y ∷ ys) = by (p y) (found_last p x ys)
+  where
+    by : (b : Bool) → (is_kept_commit (find p (ys ++ x ∷ [])) ≡ true → (is_kept_commit (find p ys) ≡ true) ⊎ ((p x ≡ true) × (is_kept_commit (Some x) ≡ true)))
+        → is_kept_commit (if b then Some y else find p (ys ++ x ∷ [])) ≡ true → (is_kept_commit (if b then Some y else find p ys) ≡ true) ⊎ ((p x ≡ true) × (is_kept_commit (Some x) ≡ true))
+    by true more is = inl is
+    by false more is = more is
+
+keep_on : {k : Case} (tid : Tid) (outcome : Outcome) (cause : Option Cause) (work : Work) → (same_tid k.tid tid ≡ true → outcome ≡ outcomes.Commit → (acks : Nodes) × (fate_at k.tid work.node ≡ became (Some outcomes.Commit) acks))
+    → TurnsOn k work (keep_outcome tid outcome cause work)
+keep_on {k} tid outcome cause work known = record { setting = refl; goes = λ is. is; kept = λ so open_end is. by so open_end (which (is_kept_commit (find (is_outcome_of k.tid) (work.node.kept.now.outcomes ++ last ∷ []))) (list_any (same_tid k.tid) work.node.committed) is) }
+  where
+    last : Decided
+    last = record { tid = tid; outcome = outcome; cause = cause }
+
+    which : (a b : Bool) → (a || b) ≡ true → (a ≡ true) ⊎ (b ≡ true)
+    which true b is = inl refl
+    which false b is = inr is
+
+    before : (a b : Bool) → (a ≡ true) ⊎ (b ≡ true) → (a || b) ≡ true
+    before true b is = refl
+    before false b (inl is) = absurd (cc (is))
+    before false b (inr is) = is
+
+    commit : (o : Outcome) → is_kept_commit (Some (record { tid = tid; outcome = o; cause = cause })) ≡ true → o ≡ outcomes.Commit
+    commit outcomes.Commit is = refl
+    commit outcomes.Abort is = absurd (cc (is))
+
+    by : KeptSo k work → k.ends ≡ false → (is_kept_commit (find (is_outcome_of k.tid) (work.node.kept.now.outcomes ++ last ∷ [])) ≡ true) ⊎ (list_any (same_tid k.tid) work.node.committed ≡ true)
+        → (k.was ≡ true) ⊎ ((acks : Nodes) × (fate_at k.tid work.node ≡ became (Some outcomes.Commit) acks))
+    by so open_end (inr logged) = so open_end (before (is_kept_commit (find (is_outcome_of k.tid) work.node.kept.now.outcomes)) (list_any (same_tid k.tid) work.node.committed) (inr logged))
+    by so open_end (inl its) = at (found_last (is_outcome_of k.tid) last work.node.kept.now.outcomes its)
+      where
+        at : (is_kept_commit (find (is_outcome_of k.tid) work.node.kept.now.outcomes) ≡ true) ⊎ ((is_outcome_of k.tid last ≡ true) × (is_kept_commit (Some last) ≡ true)) → (k.was ≡ true) ⊎ ((acks : Nodes) × (fate_at k.tid work.node ≡ became (Some outcomes.Commit) acks))
+        at (inl old) = so open_end (before (is_kept_commit (find (is_outcome_of k.tid) work.node.kept.now.outcomes)) (list_any (same_tid k.tid) work.node.committed) (inl old))
+        at (inr new) = inr (known new.0 (commit outcome new.1))
+
 -- it is unknown or undecided
 abbrev pub IsOpenAt : Tid → Work → Type 0
 IsOpenAt tid work = (part : Participant) → part_of tid work ≡ Some part → part.outcome ≡ None
 
-pub decide_on : {k : Case} (tid : Tid) (outcome : Outcome) (cause : Option Cause) (work : Work) → (same_tid k.tid tid ≡ true → IsOpenAt tid work) → MayTake k tid outcome work → TurnsOn k work (decide tid outcome cause work)
-decide_on {k} tid outcome cause work open_at may =
+pub decide_on : {k : Case} (tid : Tid) (outcome : Outcome) (cause : Option Cause) (work : Work) → (same_tid k.tid tid ≡ true → IsOpenAt tid work) → MayTake k tid outcome work → (outcome ≡ outcomes.Commit → (part : Participant) × (part_of tid work ≡ Some part)) → TurnsOn k work (decide tid outcome cause work)
+decide_on {k} tid outcome cause work open_at may found =
     on_then logged
-    (on_then (rest_on (log_if (tm.decision tid outcome work.node.manager).rec decided) (keep_outcome tid outcome cause (log_if (tm.decision tid outcome work.node.manager).rec decided)) refl refl refl)
+    (on_then (keep_on tid outcome cause (log_if (tm.decision tid outcome work.node.manager).rec decided) known_then)
     (on_then (enter_on _ (keep_outcome tid outcome cause (log_if (tm.decision tid outcome work.node.manager).rec decided)))
     (on_then (same_on (notices_same tid outcome _)) (sends_on (tm.decision tid outcome work.node.manager).tell (messages.Tell tid outcome) _))))
   where
@@ -103,11 +149,12 @@ decide_on {k} tid outcome cause work open_at may =
     decided = with_manager (tm.decide tid outcome) work
 
     logged_as : (o : Option Participant) → part_of tid work ≡ o → (b : Bool) → same_tid k.tid tid ≡ b → TurnsOn k work (log_if (made tid outcome o).rec decided)
-    logged_as None none b same = rest_on work decided refl refl (changed_none (is_at (tid_cmp tid)) (outcome_rules.decided outcome) work.node.manager.known none)
+    logged_as None none b same = rest_on work decided refl refl (changed_none (is_at (tid_cmp tid)) (outcome_rules.decided outcome) work.node.manager.known none) refl
     logged_as (Some part) known false apart = on_then (same_on (apart_same tid (outcome_rules.decided outcome) work apart))
         (log_if_on (record_of tid outcome part) decided (λ is rec its same. absurd (let own : same_tid k.tid tid ≡ true = subst (λ (u : Tid). same_tid k.tid u ≡ true) (record_own tid outcome part rec its) same in cc (own, apart))))
     logged_as (Some part) known true same = record {
       setting = setting_logged (record_of tid outcome part) decided;
+      kept = λ so. log_if_kept k (record_of tid outcome part) decided ((take_on {k = k} tid (outcome_rules.decided outcome) outcome work part known open_now refl refl may).kept so);
       goes = λ is. (log_if_on (record_of tid outcome part) decided (λ after rec its of_it. record_may k tid outcome part decided rec its (open_loose k work.node.setting.node (fate_at k.tid work.node) work.out.records part.acknowledged opened is) fate)).goes
           ((take_on tid (outcome_rules.decided outcome) outcome work part known open_now refl refl may).goes is);
     }
@@ -121,15 +168,23 @@ decide_on {k} tid outcome cause work open_at may =
         fate : (acks : Nodes) × (fate_at k.tid decided.node ≡ became (Some outcome) acks)
         fate = (part.acknowledged, open_decided k tid (outcome_rules.decided outcome) outcome work part known open_now refl refl same)
 
+    -- a commit is known from then on
+    known_then : same_tid k.tid tid ≡ true → outcome ≡ outcomes.Commit → (acks : Nodes) × (fate_at k.tid (log_if (tm.decision tid outcome work.node.manager).rec decided).node ≡ became (Some outcomes.Commit) acks)
+    known_then same commit = let one = found commit in (
+      one.0.acknowledged,
+      fate_logged_if k.tid (tm.decision tid outcome work.node.manager).rec decided
+          ∙ (open_decided k tid (outcome_rules.decided outcome) outcome work one.0 one.1 (open_at same one.0 one.1) refl refl same ∙ ap (λ (o : Outcome). became (Some o) one.0.acknowledged) commit),
+    )
+
     logged : TurnsOn k work (log_if (tm.decision tid outcome work.node.manager).rec decided)
     logged = logged_as (part_of tid work) refl (same_tid k.tid tid) refl
 
-pub decide_commit_on : {k : Case} (tid : Tid) (work : Work) → (same_tid k.tid tid ≡ true → IsOpenAt tid work) → (same_tid k.tid tid ≡ true → same_node k.tid.home work.node.setting.node ≡ true) → TurnsOn k work (decide_commit tid work)
-decide_commit_on {k} tid work open_at at_home = by (tm.need_past tid work.room work.node.manager)
+pub decide_commit_on : {k : Case} (tid : Tid) (work : Work) → (part : Participant) × (part_of tid work ≡ Some part) → (same_tid k.tid tid ≡ true → IsOpenAt tid work) → (same_tid k.tid tid ≡ true → same_node k.tid.home work.node.setting.node ≡ true) → TurnsOn k work (decide_commit tid work)
+decide_commit_on {k} tid work found open_at at_home = by (tm.need_past tid work.room work.node.manager)
   where
     by : (o : Option ℕ) → TurnsOn k work (elim o [ None ↦ decide tid outcomes.Commit None work | Some need ↦ decide tid outcomes.Abort (Some (causes.Room need work.room)) work ])
-    by None = decide_on tid outcomes.Commit None work open_at (λ same away commit. absurd (let at = at_home same in cc (at, away)))
-    by (Some need) = decide_on tid outcomes.Abort (Some (causes.Room need work.room)) work open_at (λ same away commit. absurd (cc (commit)))
+    by None = decide_on tid outcomes.Commit None work open_at (λ same away commit. absurd (let at = at_home same in cc (at, away))) (λ _. found)
+    by (Some need) = decide_on tid outcomes.Abort (Some (causes.Room need work.room)) work open_at (λ same away commit. absurd (cc (commit))) (λ commit. absurd (cc (commit)))
 
 -- ---- an outcome is told
 
@@ -153,6 +208,7 @@ learn_on {k} tid outcome part work known open_now may = by (same_tid k.tid tid) 
         (λ is rec its same. absurd (let of_it : same_tid k.tid tid ≡ true = subst (λ (u : Tid). same_tid k.tid u ≡ true) (own rec part.log.prepared outcome its) same in cc (of_it, apart)))))
     by true same = record {
       setting = setting_logged (record_learnt tid outcome part) (give_notices tid outcome taken) ∙ noted.setting;
+      kept = λ so. log_if_kept k (record_learnt tid outcome part) (give_notices tid outcome taken) ((on_then (take_on {k = k} tid (outcome_rules.took_outcome outcome) outcome work part known open_now refl refl may) (same_on noted)).kept so);
       goes = λ is. (log_if_on (record_learnt tid outcome part) (give_notices tid outcome taken) (λ after rec its of_it. enters rec part.log.prepared outcome its (rw noted.records (clear is)) (part.acknowledged, noted.fate ∙ decided))).goes
           ((on_then (take_on tid (outcome_rules.took_outcome outcome) outcome work part known open_now refl refl may) (same_on noted)).goes is);
     }
@@ -177,7 +233,7 @@ keep_abort_on {k} tid work = by (tm.part_of tid work.node.manager) refl
     new = aborted_participant (tm.is_home tid work.node.manager)
 
     by : (o : Option Participant) → tm.part_of tid work.node.manager ≡ o → TurnsOn k work (record work { node = record work.node { manager = if is_some o then work.node.manager else tm.put_part tid new work.node.manager } })
-    by None none = put_on tid new work (λ same is. aborted_now (here work) (fate_at k.tid work.node) work.out.records (fate_unknown k tid work same none) is)
+    by None none = put_on tid new work (λ same. fate_unknown k tid work same none) (λ same is. aborted_now (here work) (fate_at k.tid work.node) work.out.records (fate_unknown k tid work same none) is)
     by (Some known) is = on_itself work
 
 take_outcome_on : {k : Case} (tid : Tid) (outcome : Outcome) (work : Work) → MayTake k tid outcome work → TurnsOn k work (take_outcome tid outcome work)

@@ -15,6 +15,7 @@ use Rattle.qs_record.specs.declared.record.Record.{Record}
 use Rattle.qs_record.specs.declared.record.Record.TheVariants as records
 use Rattle.qs_tm.specs.Manager as tm
 use Rattle.qs_tm.specs.declared.participant.Participant.{Participant}
+use Rattle.qs_step.specs.Answering.{was_committed}
 use Rattle.qs_step.specs.Bringing.{log, log_if, tid_of}
 use Rattle.qs_step.specs.State.{Work, part_of, with_manager}
 use Rattle.qs_refine.specs.JoinLaws.{is_loose_of, is_forced_of, are_in_turn}
@@ -25,7 +26,7 @@ use Rattle.qs_refine.proofs.SaysOn.{append_three, told_changed}
 use Rattle.qs_refine.proofs.SoundKnown.{same_is}
 use Rattle.qs_refine.proofs.SoundParts.{and_both}
 use Rattle.qs_refine.proofs.StartWorlds.{alike_at}
-use Rattle.qs_refine.proofs.TurnOn.{Case, Fate, NoLoose, Turned, TurnedAs, TurnsOn, abort_apart, apart_same, became, fate_at, fate_found, fate_of, is_aborted_of, is_end_of, on_itself, open_apart, same_acks, same_on, same_outcome}
+use Rattle.qs_refine.proofs.TurnOn.{Case, Fate, KeptSo, kept_still, NoLoose, Turned, TurnedAs, TurnsOn, abort_apart, apart_same, became, fate_at, fate_found, fate_of, is_aborted_of, is_end_of, on_itself, open_apart, same_acks, same_on, same_outcome}
 
 -- ---- a record is appended
 
@@ -76,9 +77,24 @@ MayEnter k (records.Commit tid told) work = NoLoose k work.out.records
 MayEnter k (records.Aborted tid) work = (acks : Nodes) × (fate_at k.tid work.node ≡ became (Some outcomes.Abort) acks)
 MayEnter k (records.End tid) work = (k.ends ≡ true) × ((same_node k.tid.home work.node.setting.node ≡ true) × ((acks : Nodes) → fate_at k.tid work.node ≡ became None acks → ⊥))
 
+-- what is kept as committed does not change
+fate_logged : (t : Tid) (rec : Record) (work : Work) → fate_at t (log rec work).node ≡ fate_at t work.node
+fate_logged t rec work = told_changed None fate_of (is_at (tid_cmp (tid_of rec))) (is_at (tid_cmp t)) (Rattle.qs_tm.specs.Outcomes.logged rec) (λ part. refl) work.node.manager.known
+
+pub fate_logged_if : (t : Tid) (rec : Option Record) (work : Work) → fate_at t (log_if rec work).node ≡ fate_at t work.node
+fate_logged_if t None work = refl
+fate_logged_if t (Some rec) work = fate_logged t rec work
+
+pub log_kept : (k : Case) (rec : Record) (work : Work) → KeptSo k work → KeptSo k (log rec work)
+log_kept k rec work = kept_still k work (log rec work) refl (fate_logged k.tid rec work)
+
+pub log_if_kept : (k : Case) (rec : Option Record) (work : Work) → KeptSo k work → KeptSo k (log_if rec work)
+log_if_kept k None work is = is
+log_if_kept k (Some rec) work is = log_kept k rec work is
+
 module _ (k : Case) (rec : Record) (work : Work) (may : same_tid k.tid (tid_of rec) ≡ true → MayEnter k rec work) where
   logged_fate : fate_at k.tid (log rec work).node ≡ fate_at k.tid work.node
-  logged_fate = told_changed None fate_of (is_at (tid_cmp (tid_of rec))) (is_at (tid_cmp k.tid)) (Rattle.qs_tm.specs.Outcomes.logged rec) (λ part. refl) work.node.manager.known
+  logged_fate = fate_logged k.tid rec work
 
   all_is : k.before ++ (work.out.records ++ rec ∷ []) ≡ (k.before ++ work.out.records) ++ rec ∷ []
   all_is = sym (append_three k.before work.out.records (rec ∷ []))
@@ -133,11 +149,11 @@ module _ (k : Case) (rec : Record) (work : Work) (may : same_tid k.tid (tid_of r
       more (inr has) = (last_end rec has may).0
 
   pub log_on : TurnsOn k work (log rec work)
-  log_on = record { setting = refl; goes = λ is. subst (λ (f : Option Fate). TurnedAs k work.node.setting.node f (work.out.records ++ rec ∷ [])) (sym logged_fate) (entered is) }
+  log_on = record { setting = refl; kept = log_kept k rec work; goes = λ is. subst (λ (f : Option Fate). TurnedAs k work.node.setting.node f (work.out.records ++ rec ∷ [])) (sym logged_fate) (entered is) }
 
 -- where what holds before is asked too
 pub log_on_turned : {k : Case} (rec : Record) (work : Work) → (Turned k work → same_tid k.tid (tid_of rec) ≡ true → MayEnter k rec work) → TurnsOn k work (log rec work)
-log_on_turned {k} rec work may = record { setting = refl; goes = λ is. (log_on k rec work (may is)).goes is }
+log_on_turned {k} rec work may = record { setting = refl; kept = log_kept k rec work; goes = λ is. (log_on k rec work (may is)).goes is }
 
 pub log_if_on : {k : Case} (rec : Option Record) (work : Work) → (Turned k work → (r : Record) → rec ≡ Some r → same_tid k.tid (tid_of r) ≡ true → MayEnter k r work) → TurnsOn k work (log_if rec work)
 log_if_on None work may = on_itself work
@@ -146,23 +162,33 @@ log_if_on (Some rec) work may = log_on_turned rec work (λ is. may is rec refl)
 -- ---- a transaction becomes known, decided and forgotten
 
 -- whose fate is known, that goes on as it is said of it
-pub fated_on : {k : Case} (work new : Work) (fate : Option Fate) → new.node.setting ≡ work.node.setting → new.out.records ≡ work.out.records → fate_at k.tid new.node ≡ fate → (Turned k work → TurnedAs k work.node.setting.node fate work.out.records) → TurnsOn k work new
-fated_on {k} work new fate setting records its goes = record {
+pub fated_on : {k : Case} (work new : Work) (fate : Option Fate) → new.node.setting ≡ work.node.setting → new.out.records ≡ work.out.records → fate_at k.tid new.node ≡ fate → (Turned k work → TurnedAs k work.node.setting.node fate work.out.records)
+    → was_committed k.tid new.node ≡ was_committed k.tid work.node → ((acks : Nodes) → fate_at k.tid work.node ≡ became (Some outcomes.Commit) acks → (k.ends ≡ true) ⊎ ((now : Nodes) × (fate ≡ became (Some outcomes.Commit) now))) → TurnsOn k work new
+fated_on {k} work new fate setting records its goes was commits = record {
   setting = setting;
+  kept = λ so open_end is. then_kept open_end (so open_end (sym was ∙ is));
   goes = λ is. subst (λ (n : NodeNo). TurnedAs k n (fate_at k.tid new.node) new.out.records) (sym (ap (λ s. s.node) setting))
       (subst (λ (f : Option Fate). TurnedAs k work.node.setting.node f new.out.records) (sym its)
       (subst (λ (l : List Record). TurnedAs k work.node.setting.node fate l) (sym records) (goes is)));
 }
+  where
+    then_kept : k.ends ≡ false → (k.was ≡ true) ⊎ ((acks : Nodes) × (fate_at k.tid work.node ≡ became (Some outcomes.Commit) acks)) → (k.was ≡ true) ⊎ ((acks : Nodes) × (fate_at k.tid new.node ≡ became (Some outcomes.Commit) acks))
+    then_kept open_end (inl before) = inl before
+    then_kept open_end (inr known) = now (commits known.0 known.1)
+      where
+        now : (k.ends ≡ true) ⊎ ((acks : Nodes) × (fate ≡ became (Some outcomes.Commit) acks)) → (k.was ≡ true) ⊎ ((acks : Nodes) × (fate_at k.tid new.node ≡ became (Some outcomes.Commit) acks))
+        now (inl ends) = absurd (cc (ends, open_end))
+        now (inr same) = inr (same.0, its ∙ same.1)
 
-pub put_on : {k : Case} (tid : Tid) (part : Participant) (work : Work) → (same_tid k.tid tid ≡ true → Turned k work → TurnedAs k work.node.setting.node (fate_of part) work.out.records) → TurnsOn k work (with_manager (tm.put_part tid part) work)
-put_on {k} tid part work may = by (same_tid k.tid tid) refl
+pub put_on : {k : Case} (tid : Tid) (part : Participant) (work : Work) → (same_tid k.tid tid ≡ true → fate_at k.tid work.node ≡ None) → (same_tid k.tid tid ≡ true → Turned k work → TurnedAs k work.node.setting.node (fate_of part) work.out.records) → TurnsOn k work (with_manager (tm.put_part tid part) work)
+put_on {k} tid part work unknown may = by (same_tid k.tid tid) refl
   where
     found : same_tid k.tid tid ≡ true → fate_at k.tid (with_manager (tm.put_part tid part) work).node ≡ fate_of part
     found same = subst (λ (u : Tid). fate_found (tm.part_of u (tm.put_part tid part work.node.manager)) ≡ fate_of part) (sym (same_is k.tid tid same)) (ap fate_found (lookup_put tid_cmp tid part (grind (arith, nat_tests)) work.node.manager.known))
 
     by : (b : Bool) → same_tid k.tid tid ≡ b → TurnsOn k work (with_manager (tm.put_part tid part) work)
-    by true same = fated_on work (with_manager (tm.put_part tid part) work) (fate_of part) refl refl (found same) (may same)
-    by false apart = same_on (record { setting = refl; fate = ap fate_found (put_apart k.tid tid part work.node.manager apart); records = refl })
+    by true same = fated_on work (with_manager (tm.put_part tid part) work) (fate_of part) refl refl (found same) (may same) refl (λ acks its. absurd (let both : None ≡ became (Some outcomes.Commit) acks = sym (unknown same) ∙ its in cc (both)))
+    by false apart = same_on (record { setting = refl; fate = ap fate_found (put_apart k.tid tid part work.node.manager apart); records = refl; was = refl })
 
 -- nobody is in no set
 pub nobody : (m : ℕ) → has_node no_nodes (node_no m) ≡ true → ⊥
@@ -253,4 +279,5 @@ take_on {k} tid f outcome work part known open_now decided acks may = by (same_t
     by : (b : Bool) → same_tid k.tid tid ≡ b → TurnsOn k work (with_manager (tm.with_part tid f) work)
     by true same = fated_on work (with_manager (tm.with_part tid f) work) (became (Some outcome) part.acknowledged) refl refl (open_decided k tid f outcome work part known open_now decided acks same)
         (λ is. decided_now work.node.setting.node outcome part.acknowledged work.out.records (may same) (subst (λ (e : Option Fate). TurnedAs k work.node.setting.node e work.out.records) (open_fate k tid work part known open_now same) is))
+        refl (λ a its. absurd (open_apart outcomes.Commit a part.acknowledged (sym its ∙ open_fate k tid work part known open_now same)))
     by false apart = same_on (apart_same tid f work apart)

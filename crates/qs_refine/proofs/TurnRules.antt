@@ -7,6 +7,7 @@ use Rattle.qs_base.specs.declared.identifiers.Member.{Member}
 use Rattle.qs_base.specs.declared.identifiers.NodeNo.{NodeNo}
 use Rattle.qs_base.specs.declared.identifiers.Outcome.{Outcome}
 use Rattle.qs_base.specs.declared.identifiers.ServerNo.{ServerNo}
+use Rattle.qs_base.specs.Order.{same_tid}
 use Rattle.qs_base.specs.declared.identifiers.Tid.{Tid}
 use Rattle.qs_engage.specs.Engage.{last_number, uncovered}
 use Rattle.qs_engage.specs.Nodes.{listed, same_node}
@@ -33,7 +34,7 @@ use Rattle.qs_step.specs.Requests.{enqueue, enter_issue, with_local, issue_here,
 use Rattle.qs_step.specs.Serving.{label_at, put_label, learn_label, met, cover_from, engage, is_dropped, take_in, request_came, change_served, enter_serve, lent_to, make_loan, give_reply, serve, reply_here, may_serve, serve_or_drop, serve_next, serve_all}
 use Rattle.qs_step.specs.State.{Work, here, part_of, with_manager, client_cmp}
 use Rattle.qs_refine.proofs.SoundKnown.{same_is}
-use Rattle.qs_refine.proofs.TurnOn.{Case, TurnsOn, fate_of, fate_found, on_itself, on_then, fold_on, if_on, rest_on, enter_on, send_on, sends_on, answer_on, queues_on, doings_on, server_on, part_on}
+use Rattle.qs_refine.proofs.TurnOn.{Case, fate_at, TurnsOn, fate_of, fate_found, on_itself, on_then, fold_on, if_on, rest_on, enter_on, send_on, sends_on, answer_on, queues_on, doings_on, server_on, part_on}
 use Rattle.qs_refine.proofs.TurnRecords.{heard, put_on}
 
 -- ---- requests that are issued, and their replies
@@ -47,7 +48,7 @@ enter_issue_on {k} tid request op work = on_then (enter_on _ work) (part_on tid 
 issue_here_on : {k : Case} (tid : Tid) (request : Outstanding) (op : Op) (work : Work) → TurnsOn k work (issue_here tid request op work)
 issue_here_on {k} tid request op work =
     on_then (enter_issue_on tid request op work)
-    (on_then (rest_on (enter_issue tid request op work) (with_local tid request.number (enter_issue tid request op work)) refl refl refl)
+    (on_then (rest_on (enter_issue tid request op work) (with_local tid request.number (enter_issue tid request op work)) refl refl refl refl)
     (enqueue_on request.member.server (record { tid = tid; from = here work; number = request.number; op = op; stale = false }) (with_local tid request.number (enter_issue tid request op work))))
 
 ask_on_on : {k : Case} (b : Bool) (tid : Tid) (to : NodeNo) (work : Work) → TurnsOn k work (ask_on b tid to work)
@@ -91,8 +92,11 @@ met_on {k} tid work = by (same_node tid.home (here work)) refl (tm.part_of tid w
     new = new_participant (tm.is_home tid work.node.manager)
 
     unknown : same_node tid.home (here work) ≡ false → tm.part_of tid work.node.manager ≡ None → TurnsOn k work (with_manager (tm.put_part tid new) work)
-    unknown away none = put_on tid new work (λ same is. heard (here work) _ work.out.records (ap fate_found (subst (λ (u : Tid). tm.part_of u work.node.manager ≡ None) (sym (same_is k.tid tid same)) none)) is
+    unknown away none = put_on tid new work nothing (λ same is. heard (here work) _ work.out.records (nothing same) is
         (subst (λ (u : Tid). same_node u.home (here work) ≡ false) (sym (same_is k.tid tid same)) away))
+      where
+        nothing : same_tid k.tid tid ≡ true → fate_at k.tid work.node ≡ None
+        nothing same = ap fate_found (subst (λ (u : Tid). tm.part_of u work.node.manager ≡ None) (sym (same_is k.tid tid same)) none)
 
     by : (b : Bool) → same_node tid.home (here work) ≡ b → (o : Option Participant) → tm.part_of tid work.node.manager ≡ o → TurnsOn k work (if b then work else record work { node = record work.node { manager = if is_some o then work.node.manager else tm.put_part tid new work.node.manager } })
     by true at o known = on_itself work
@@ -110,7 +114,7 @@ engage_on {k} tid peer number work =
     (cover_on (tm.engaged_at tid peer (met tid work).node.manager) tid peer number (with_manager (tm.requested tid peer number) (met tid work))))
 
 learn_label_on : {k : Case} (label : List ℕ) (tid : Tid) (work : Work) → TurnsOn k work (learn_label label tid work)
-learn_label_on {k} label tid work = if_on (is_none (label_at label work.node)) (rest_on work (put_label (record { label = label; tid = Some tid; owner = None }) work) refl refl refl) (on_itself work)
+learn_label_on {k} label tid work = if_on (is_none (label_at label work.node)) (rest_on work (put_label (record { label = label; tid = Some tid; owner = None }) work) refl refl refl refl) (on_itself work)
 
 take_in_on : {k : Case} (dropped : Bool) (member : Member) (delivery : Delivery) (work : Work) → TurnsOn k work (take_in dropped member delivery work)
 take_in_on {k} true member delivery work = on_itself work
@@ -146,7 +150,7 @@ enter_serve_on {k} server delivery reply work =
 
 make_loan_on : {k : Case} (tid : Tid) (client : Option ClientNo) (work : Work) → TurnsOn k work (make_loan tid client work)
 make_loan_on {k} tid None work = on_itself work
-make_loan_on {k} tid (Some client) work = rest_on work (make_loan tid (Some client) work) refl refl refl
+make_loan_on {k} tid (Some client) work = rest_on work (make_loan tid (Some client) work) refl refl refl refl
 
 give_reply_on : {k : Case} (member : Member) (delivery : Delivery) (reply : Reply) (work : Work) → TurnsOn k work (give_reply member delivery reply work)
 give_reply_on {k} member delivery reply work = if_on (same_node delivery.from (here work)) (reply_came_on delivery.tid member delivery.number reply work)

@@ -52,7 +52,7 @@ enter_vote_same : {k : Case} (tid : Tid) (server : ServerNo) (ballot : Vote) (wo
 enter_vote_same {k} tid server ballot work =
     same_then (server_same server (λ value. after_vote value tid ballot) work)
     (same_then (part_same tid (participant.voted (member_here work server) ballot (served_count tid server work)) (λ part. refl) (change_server server (λ value. after_vote value tid ballot) work))
-    (same_then (rest_same _ (with_doings tid (λ doings. record doings { voted = true }) _) refl refl refl) (enter_same _ _)))
+    (same_then (rest_same _ (with_doings tid (λ doings. record doings { voted = true }) _) refl refl refl refl) (enter_same _ _)))
 
 -- what is held open is undecided
 held_open : (k : Case) (tid : Tid) (work : Work) → Holds is_open tid work.node → same_tid k.tid tid ≡ true → (acks : Nodes) × (fate_at k.tid work.node ≡ became None acks)
@@ -84,7 +84,7 @@ vote_with_on {k} tid server votes.Recoverable work holds =
     prepared = with_doings tid (λ doings. record doings { prepared = true }) entered
 
     voted : SameTurn k work prepared
-    voted = same_then (enter_vote_same tid server votes.Recoverable work) (rest_same entered prepared refl refl refl)
+    voted = same_then (enter_vote_same tid server votes.Recoverable work) (rest_same entered prepared refl refl refl refl)
 
 vote_next_on : {k : Case} (tid : Tid) (work : Work) (server : ServerNo) → Holds is_open tid work.node → TurnsOn k work (vote_next tid work server)
 vote_next_on {k} tid work server holds = if_on (owes_note tid server work) (note work.node.setting.audit)
@@ -132,7 +132,7 @@ module _ {k : Case} (tid : Tid) (part : Participant) (work : Work) (known : part
       answers (Some superior) = on_then (part_on tid participant.released (λ part. refl) work) (send_on _ _ (with_manager (tm.released tid) work))
 
       at_home : (b : Bool) → part.engage.home ≡ b → TurnsOn k work (if b then (if is_quiet (doings_of tid work) then Rattle.qs_step.specs.Deciding.decide_commit tid work else work) else Rattle.qs_step.specs.Settling.answer_superior tid part work)
-      at_home true home = if_on (is_quiet (doings_of tid work)) (decide_commit_on tid work (λ same. only) (λ same. subst (λ (u : Tid). same_node u.home (here work) ≡ true) (sym (same_is k.tid tid same)) (is_home home))) (on_itself work)
+      at_home true home = if_on (is_quiet (doings_of tid work)) (decide_commit_on tid work (part, known) (λ same. only) (λ same. subst (λ (u : Tid). same_node u.home (here work) ≡ true) (sym (same_is k.tid tid same)) (is_home home))) (on_itself work)
       at_home false away = answers (release_of part.engage)
 
   pub refuse_on : part.outcome ≡ None → TurnsOn k work (refuse_rule tid part work)
@@ -143,11 +143,12 @@ module _ {k : Case} (tid : Tid) (part : Participant) (work : Work) (known : part
 
       first : (list : List Cause) → TurnsOn k work (elim list [ [] ↦ work | cause ∷ more ↦ decide tid outcomes.Abort (Some cause) work ])
       first [] = on_itself work
-      first (cause ∷ more) = decide_on tid outcomes.Abort (Some cause) work (λ same. only) (λ same away commit. absurd (cc (commit)))
+      first (cause ∷ more) = decide_on tid outcomes.Abort (Some cause) work (λ same. only) (λ same away commit. absurd (cc (commit))) (λ commit. absurd (cc (commit)))
 
   -- what is forgotten is undecided
   pub forget_rule_on : part.outcome ≡ None → is_sound work.node ≡ true → TurnsOn k work (forget_rule tid part work)
-  forget_rule_on open_now sound = if_on (is_forgotten part) (forget_on tid work (seen work.node sound).ordered (λ same acks aborted. open_apart outcomes.Abort acks part.acknowledged (sym aborted ∙ open_fate k tid work part known open_now same))) (on_itself work)
+  forget_rule_on open_now sound = if_on (is_forgotten part) (forget_on tid work (seen work.node sound).ordered (λ same acks aborted. open_apart outcomes.Abort acks part.acknowledged (sym aborted ∙ open_fate k tid work part known open_now same))
+      (λ same acks its. absurd (open_apart outcomes.Commit acks part.acknowledged (sym its ∙ open_fate k tid work part known open_now same)))) (on_itself work)
 
 known_on : {k : Case} (tid : Tid) (rule : Tid → Participant → Work → Work) (work : Work) → ((part : Participant) → part_of tid work ≡ Some part → part.outcome ≡ None → TurnsOn k work (rule tid part work)) → TurnsOn k work (try tid rule work)
 known_on {k} tid rule work each = undecided_on tid (rule tid) work each
@@ -245,7 +246,7 @@ resume_tid_on {k} work tid = by (part_of tid work) refl
     by (Some part) known = at part known part.outcome refl
 
 pub begin_incarnation_on : {k : Case} (work : Work) → TurnsOn k work (begin_incarnation work)
-begin_incarnation_on {k} work = if_on work.node.is_first (on_then (rest_on work begun refl refl refl) (fold_on resume_tid resume_tid_on (known_tids work) begun)) (on_itself work)
+begin_incarnation_on {k} work = if_on work.node.is_first (on_then (rest_on work begun refl refl refl refl) (fold_on resume_tid resume_tid_on (known_tids work) begun)) (on_itself work)
   where
     begun : Work
     begun = with_node (λ node. record node { is_first = false }) work

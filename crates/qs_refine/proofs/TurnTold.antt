@@ -1,5 +1,5 @@
 -- That an outcome was taken in, and inquiries, leave the records of a transaction in turn.
-use Rattle.std.proofs.Common.{◌≡◌, ℕ, ◌==◌, Bool, true, false, List, Option, Some, None, refl, sym, ap, subst, ◌∙◌, arith, if◌then◌else◌}
+use Rattle.std.proofs.Common.{inl, inr, ◌≡◌, ℕ, ◌==◌, Bool, true, false, List, Option, Some, None, refl, sym, ap, subst, ◌∙◌, arith, if◌then◌else◌}
 use Rattle.std.specs.List.{list_any}
 use Rattle.std.proofs.lemmas.Bool.{eqb-true}
 use Rattle.std.proofs.lemmas.Bool.Decides.{nat_tests}
@@ -39,16 +39,17 @@ use Rattle.qs_refine.proofs.TurnOutcomes.{keep_abort_on}
 -- ---- it was taken in
 
 -- what became no abort may be forgotten
-pub forget_on : {k : Case} (tid : Tid) (work : Work) → in_order work.node.manager.known ≡ true → (same_tid k.tid tid ≡ true → (acks : Nodes) → fate_at k.tid work.node ≡ became (Some outcomes.Abort) acks → ⊥) → TurnsOn k work (forget tid work)
-forget_on {k} tid work ordered kept = on_then (by (same_tid k.tid tid) refl) (queues_on (Rattle.qs_step.specs.Telling.drop_counts tid) forgot)
+pub forget_on : {k : Case} (tid : Tid) (work : Work) → in_order work.node.manager.known ≡ true → (same_tid k.tid tid ≡ true → (acks : Nodes) → fate_at k.tid work.node ≡ became (Some outcomes.Abort) acks → ⊥)
+    → (same_tid k.tid tid ≡ true → (acks : Nodes) → fate_at k.tid work.node ≡ became (Some outcomes.Commit) acks → k.ends ≡ true) → TurnsOn k work (forget tid work)
+forget_on {k} tid work ordered kept commits = on_then (by (same_tid k.tid tid) refl) (queues_on (Rattle.qs_step.specs.Telling.drop_counts tid) forgot)
   where
     forgot : Work
     forgot = with_manager (tm.forget tid) work
 
     by : (b : Bool) → same_tid k.tid tid ≡ b → TurnsOn k work forgot
     by true same = fated_on work forgot None refl refl (subst (λ (u : Tid). fate_at u forgot.node ≡ None) (sym (same_is k.tid tid same)) (ap fate_found (forgotten tid work.node.manager ordered)))
-        (forgotten_now (here work) (fate_at k.tid work.node) work.out.records (kept same))
-    by false apart = same_on (record { setting = refl; fate = ap fate_found (forget_apart k.tid tid work.node.manager apart); records = refl })
+        (forgotten_now (here work) (fate_at k.tid work.node) work.out.records (kept same)) refl (λ acks its. inl (commits same acks its))
+    by false apart = same_on (record { setting = refl; fate = ap fate_found (forget_apart k.tid tid work.node.manager apart); records = refl; was = refl })
 
 -- what the home's node asks as it takes in that a commit was told
 pub record MayTold (k : Case) (peer : NodeNo) (tid : Tid) (work : Work) : Type 0 where
@@ -66,6 +67,7 @@ acked_on {k} peer tid part work known may = by (same_tid k.tid tid) refl
     by true same = fated_on work after (became part.outcome (put_node part.acknowledged peer)) refl refl
         (fate_known k tid after (outcome_rules.acknowledged peer part) same (lookup_changed (is_at (tid_cmp tid)) (outcome_rules.acknowledged peer) work.node.manager.known part known))
         (λ is. more (subst (λ (e : Option Fate). TurnedAs k (here work) e work.out.records) (fate_known k tid work part same known) is))
+        refl (λ acks its. inr (put_node part.acknowledged peer, ap (λ (o : Option Outcome). became o (put_node part.acknowledged peer)) (same_outcome part.outcome (Some outcomes.Commit) part.acknowledged acks (sym (fate_known k tid work part same known) ∙ its))))
       where
         more : TurnedAs k (here work) (fate_of part) work.out.records → TurnedAs k (here work) (became part.outcome (put_node part.acknowledged peer)) work.out.records
         more is = record {
@@ -86,7 +88,7 @@ end_told_on : {k : Case} (b : Bool) (tid : Tid) (work : Work) → in_order work.
 end_told_on {k} false tid work ordered ends at fate = on_itself work
 end_told_on {k} true tid work ordered ends at fate = on_then (log_on k (records.End tid) work (λ same. (ends refl same, (subst (λ (u : Tid). same_node u.home (here work) ≡ true) (sym (same_is k.tid tid same)) (at refl), λ acks open_now. open_apart outcomes.Commit (fate refl same).0 acks (sym (fate refl same).1 ∙ open_now)))))
     (forget_on tid (log (records.End tid) work) (order_changed tid (outcome_rules.logged (records.End tid)) work.node.manager ordered)
-    (λ same acks aborted. abort_apart acks (fate refl same).0 (sym aborted ∙ (after ∙ (fate refl same).1))))
+    (λ same acks aborted. abort_apart acks (fate refl same).0 (sym aborted ∙ (after ∙ (fate refl same).1))) (λ same acks its. ends refl same))
   where
     after : fate_at k.tid (log (records.End tid) work).node ≡ fate_at k.tid work.node
     after = told_changed None fate_of (is_at (tid_cmp tid)) (is_at (tid_cmp k.tid)) (outcome_rules.logged (records.End tid)) (λ part. refl) work.node.manager.known
@@ -134,6 +136,7 @@ take_told_on {k} peer tid part work ordered known committed at may = by (tm.all_
     by true all false apart = on_then (acked_on peer tid part work known (λ same. absurd (cc (same, apart)))) (end_told_on true tid took took_ordered (λ _ same. absurd (cc (same, apart))) (λ _. at) (λ _ own. fate k own))
     by true all true same = record {
       setting = (ending same all).setting;
+      kept = (ending same all).kept;
       goes = λ is. subst (λ (f : Option Fate). TurnedAs k (end_told true tid took).node.setting.node f (end_told true tid took).out.records) (sym (gone same))
           (tightened (end_told true tid took).node.setting.node (end_told true tid took).out.records
           (subst (λ (f : Option Fate). TurnedAs (any_acks k) (end_told true tid took).node.setting.node f (end_told true tid took).out.records) (gone same)

@@ -5,7 +5,7 @@ use Rattle.qs_base.specs.declared.identifiers.NodeNo.{NodeNo}
 use Rattle.qs_base.specs.declared.identifiers.Outcome.TheVariants as outcomes
 use Rattle.qs_base.specs.declared.identifiers.Tid.{Tid}
 use Rattle.qs_ops.specs.declared.answer.Cause.{Cause}
-use Rattle.qs_engage.specs.Nodes.{has_node, is_no_node}
+use Rattle.qs_engage.specs.Nodes.{has_node}
 use Rattle.qs_packet.specs.declared.message.Message.{Message}
 use Rattle.qs_packet.specs.declared.message.Message.TheVariants as messages
 use Rattle.qs_restart.specs.Recovery.{is_untold_of}
@@ -97,5 +97,5 @@ ToldLastGoes = (tid : Tid) (scene : Scene) (m i : ℕ) (further : List NodeNo) (
 -- ---- another node than the home, which only read, answers to nobody and is not to be told, forgets it: Forget
 abbrev pub ForgetReadGoes : Type 0
 ForgetReadGoes = (tid : Tid) (scene : Scene) (n : ℕ) (work : Work) (part : Participant) (w : World) → IsLawful w → ShowsWork tid scene n work w → IsAt scene n work → Knows tid work part
-    → tid.home.0 ≢ n → tid.home.0 < scene.size → in_order work.node.manager.known ≡ true → participant.is_forgotten part ≡ true → is_no_node part.told ≡ true
+    → tid.home.0 ≢ n → tid.home.0 < scene.size → in_order work.node.manager.known ≡ true → participant.is_forgotten part ≡ true
     → Goes tid scene n (forget tid work) w

@@ -1,13 +1,15 @@
 -- The law of each move of the world, for a transaction that has begun: what shows it goes on to show it, with no premise on what happens inside a step.
-use Rattle.std.specs.Prelude.{◌≡◌, ℕ, ◌<◌, ◌≤◌, ⊤, true, Some}
+use Rattle.std.specs.Prelude.{◌≡◌, ℕ, ◌<◌, ⊤, true, false, Some, None}
+use Rattle.std.specs.List.{find}
 use Rattle.qs_base.specs.declared.identifiers.Outcome.TheVariants as outcomes
 use Rattle.qs_base.specs.declared.identifiers.Tid.{Tid}
-use Rattle.qs_engage.specs.Nodes.{has_node}
+use Rattle.qs_engage.specs.Nodes.{has_node, is_no_node}
 use Rattle.qs_packet.specs.declared.message.Message.{Message}
 use Rattle.qs_packet.specs.declared.message.Message.TheVariants as messages
 use Rattle.qs_tm.specs.Manager as tm
 use Rattle.qs_tm.specs.declared.participant.Participant.{Participant}
-use Rattle.qs_step.specs.Answering.{was_committed}
+use Rattle.qs_kept.specs.Keeping.{is_outcome_of}
+use Rattle.qs_step.specs.Answering.{was_committed, is_kept_commit}
 use Rattle.qs_step.specs.declared.event.Event.{Event}
 use Rattle.qs_world.specs.Moves.{Source, Move, event_of, may_move, moved}
 use Rattle.qs_world.specs.Posting.{next_parcel}
@@ -30,37 +32,36 @@ pub record ShowsOutcome (tid : Tid) (world : World) (w : machine.World) : Type 0
   pub acknowledged : (part : Participant) → world.channels.up tid.home.0 ≡ true → tm.part_of tid (world.hosts tid.home.0).node.manager ≡ Some part
       → (m : ℕ) → has_node part.acknowledged (node_no m) ≡ true → w.acknowledged m ≡ true
 
+-- what the home's node keeps as committed was, and so was what it would find of it after a restart
+pub record KeepsDecided (tid : Tid) (world : World) (w : machine.World) : Type 0 where
+  pub now : was_committed tid (world.hosts tid.home.0).node ≡ true → w.cell ≡ Committed
+  pub saved : is_kept_commit (find (is_outcome_of tid) (world.hosts tid.home.0).node.kept.saved.outcomes) ≡ true → w.cell ≡ Committed
+
 pub record ShowsAll (tid : Tid) (world : World) (w : machine.World) : Type 0 where
   pub seen : ShowsWorld tid world w
   pub outcome : ShowsOutcome tid world w
+  pub kept : KeepsDecided tid world w
 
 pub record AllGoes (tid : Tid) (world : World) (w : machine.World) : Type 0 where
   pub next : machine.World
   pub leads : Leads w next
   pub shown : ShowsAll tid world next
 
--- what the home's node keeps as committed was
-abbrev pub KeepsDecided : Tid → World → machine.World → Type 0
-KeepsDecided tid world w = was_committed tid (world.hosts tid.home.0).node ≡ true → w.cell ≡ Committed
-
 -- what no run of the length of a machine's life comes to: as a step begins the requests that wait can be counted
 abbrev pub CanCountAll : World → Type 0
 CanCountAll world = (n free : ℕ) (t : Tid) → n < world.size → CanCount t (begun (world.hosts n).node free)
+
+-- what can fail in a double fault alone, where a place counts an answer to requests of its node's earlier incarnation: who answers to nobody, and whose told set names
+-- somebody, is to be told itself
+abbrev pub NamersInvolved : World → Type 0
+NamersInvolved world = (n : ℕ) (t : Tid) (part : Participant) → n < world.size → tm.part_of t (world.hosts n).node.manager ≡ Some part
+    → part.engage.home ≡ false → part.outcome ≡ None → part.engage.superior ≡ None → is_no_node part.told ≡ false → part.involved ≡ true
 
 -- ---- what comes
 
 -- a message comes to a sound node of which it leaves a sound one
 abbrev pub MessagesFit : World → Type 0
 MessagesFit world = (n m free : ℕ) (parcel : Parcel) → n < world.size → world.channels.up n ≡ true → next_parcel world n m ≡ Some parcel → FitsMessage (node_no m) parcel.message (begun (world.hosts n).node free)
-
--- a Covered and a VotedYes answer for some request
-abbrev pub AnswersSome : Message → Type 0
-AnswersSome (messages.Covered tid up_to) = 1 ≤ up_to
-AnswersSome (messages.VotedYes tid up_to told) = 1 ≤ up_to
-AnswersSome _ = ⊤
-
-abbrev pub CountsFromOne : World → Type 0
-CountsFromOne world = (n m : ℕ) (parcel : Parcel) → next_parcel world n m ≡ Some parcel → AnswersSome parcel.message
 
 -- the transaction that a message is about
 abbrev pub IsAbout : Tid → Message → Type 0
@@ -77,7 +78,7 @@ IsAbout t (messages.Inquire tid) = t ≡ tid
 
 -- what shows its transaction gives that a message fits
 abbrev pub ShownFits : Type 0
-ShownFits = (tid : Tid) (world : World) (w : machine.World) (n m free : ℕ) (parcel : Parcel) → IsSteady world → CountsFromOne world → tid.home.0 < world.size → HasBegun world tid → KeepsDecided tid world w → ShowsAll tid world w → n < world.size → world.channels.up n ≡ true
+ShownFits = (tid : Tid) (world : World) (w : machine.World) (n m free : ℕ) (parcel : Parcel) → IsSteady world → tid.home.0 < world.size → HasBegun world tid → ShowsAll tid world w → n < world.size → world.channels.up n ≡ true
     → next_parcel world n m ≡ Some parcel → IsAbout tid parcel.message → FitsMessage (node_no m) parcel.message (begun (world.hosts n).node free)
 
 -- so what comes may come
@@ -88,5 +89,5 @@ EachMayCome = (world : World) (n stamp free : ℕ) (source : Source) (event : Ev
 -- ---- each move
 
 abbrev pub EachMoveGoes : Type 0
-EachMoveGoes = (tid : Tid) (world : World) (move : Move) (w : machine.World) → may_move world move ≡ true → IsSteady world → CanCountAll world → CountsFromOne world → MessagesFit world → tid.home.0 < world.size → HasBegun world tid → KeepsDecided tid world w → ShowsAll tid world w
+EachMoveGoes = (tid : Tid) (world : World) (move : Move) (w : machine.World) → may_move world move ≡ true → IsSteady world → CanCountAll world → NamersInvolved world → MessagesFit world → tid.home.0 < world.size → HasBegun world tid → ShowsAll tid world w
     → AllGoes tid (moved move world) w

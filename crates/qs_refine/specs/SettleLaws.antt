@@ -1,7 +1,6 @@
 -- The laws of what a node does of itself for one transaction at the end of a step: what shows the work before shows it after.
 use Rattle.std.specs.Prelude.{◌≡◌, ◌≢◌, ℕ, ◌<◌, true, false, None, Some}
 use Rattle.qs_base.specs.declared.identifiers.Tid.{Tid}
-use Rattle.qs_engage.specs.Nodes.{is_no_node}
 use Rattle.qs_tm.specs.declared.participant.Participant.{Participant}
 use Rattle.qs_step.specs.Settling.{ready_rule, refuse_rule, forget_rule, try}
 use Rattle.qs_step.specs.State.{Work}
@@ -47,7 +46,7 @@ RefuseElsewhereGoes = (tid : Tid) (scene : Scene) (n : ℕ) (work : Work) (part 
 -- elsewhere it is forgotten where it was only read
 abbrev pub ForgetRuleGoes : Type 0
 ForgetRuleGoes = (tid : Tid) (scene : Scene) (n : ℕ) (work : Work) (part : Participant) (w : World) → IsLawful w → ShowsWork tid scene n work w
-    → IsElsewhere tid scene n work part → in_order work.node.manager.known ≡ true → (part.involved ≡ false → is_no_node part.told ≡ true)
+    → IsElsewhere tid scene n work part → in_order work.node.manager.known ≡ true
     → Goes tid scene n (forget_rule tid part work) w
 
 -- ---- one after the other, behind the vote pass
@@ -61,5 +60,5 @@ SettleHomeGoes = (tid : Tid) (scene : Scene) (work : Work) (part : Participant) 
 -- at another node
 abbrev pub SettleElsewhereGoes : Type 0
 SettleElsewhereGoes = (tid : Tid) (scene : Scene) (n : ℕ) (work : Work) (part : Participant) (w : World) → IsLawful w → ShowsWork tid scene n work w
-    → IsElsewhere tid scene n work part → in_order work.node.manager.known ≡ true → ((m : ℕ) → part.engage.superior ≡ Some (node_no m) → IsKnown scene n m (scene.knows n m)) → (part.involved ≡ false → is_no_node part.told ≡ true)
+    → IsElsewhere tid scene n work part → in_order work.node.manager.known ≡ true → ((m : ℕ) → part.engage.superior ≡ Some (node_no m) → IsKnown scene n m (scene.knows n m))
     → Goes tid scene n (try tid forget_rule (try tid refuse_rule (try tid ready_rule work))) w

@@ -116,7 +116,7 @@ abbrev pub is_sound_part : NodeValue → Tid × Participant → Bool
 is_sound_part node entry =
     ((is_whole entry.1 && same_flag entry.1.engage.home (same_node entry.0.home node.setting.node))
     && (list_all (is_sound_peer node entry.1) all_nodes && (list_all (is_sound_member entry.1) all_servers && is_sound_superior node entry.1)))
-    && (((not (has_node entry.1.told entry.0.home) && where_so (not entry.1.engage.home && not (is_no_node entry.1.told)) entry.1.involved)
+    && ((not (has_node entry.1.told entry.0.home)
     && (where_so (not entry.1.engage.home && (is_undecided entry.1 && not (is_engaged entry.1))) (is_idle node entry.0 entry.1) && is_sound_home node entry.0 entry.1))
     && (is_sound_log entry.1 && tells_nobody entry.1))
 

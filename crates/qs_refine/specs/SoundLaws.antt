@@ -81,7 +81,7 @@ IssueAwaySound = (tid : Tid) (request : Outstanding) (op : Op) (work : Work) →
 -- a Covered or VotedYes comes, for a number that was sent, and names nodes of the run
 abbrev pub CloserCameSound : Type 0
 CloserCameSound = (peer : NodeNo) (tid : Tid) (up_to : ℕ) (told : List NodeNo) (work : Work) → peer.0 < 16 → tid.home.0 < 16 → ((k : ℕ) → names_node told (node_no k) ≡ true → nat_lt k work.node.setting.nodes ≡ true)
-    → ((part : Participant) → part_of tid work ≡ Some part → is_undecided part ≡ true → (1 ≤ up_to) × (up_to ≤ (peer_of part.engage peer).sent))
+    → ((part : Participant) → part_of tid work ≡ Some part → is_undecided part ≡ true → up_to ≤ (peer_of part.engage peer).sent)
     → StaysSound work (closer_came peer tid up_to told work)
 
 -- a request of another node comes: it is not of a transaction that is committed here, and not of one that this node lost

@@ -27,7 +27,7 @@ use Rattle.qs_refine.specs.SoundLaws.{StaysSound}
 
 -- what answers for requests of an undecided transaction answers for one that was sent
 abbrev pub AnswersFor : NodeNo → Tid → ℕ → Work → Type 0
-AnswersFor peer tid up_to work = (part : Participant) → part_of tid work ≡ Some part → is_undecided part ≡ true → (1 ≤ up_to) × (up_to ≤ (peer_of part.engage peer).sent)
+AnswersFor peer tid up_to work = (part : Participant) → part_of tid work ≡ Some part → is_undecided part ≡ true → up_to ≤ (peer_of part.engage peer).sent
 
 -- a message of that node
 abbrev pub FitsMessage : NodeNo → Message → Work → Type 0

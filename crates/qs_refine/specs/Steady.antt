@@ -1,12 +1,12 @@
 -- What holds of all nodes, logs and channels of a world, where it begins and after each move, whatever becomes of a transaction.
-use Rattle.std.specs.Prelude.{◌≡◌, ◌≢◌, ℕ, ◌<◌, ◌≤◌, ◌==◌, ⊤, Bool, true, false, not, ◌&&◌, List, [], ◌∷◌, ◌++◌, Some, None, nat_lt}
+use Rattle.std.specs.Prelude.{◌≡◌, ◌≢◌, ◌⊎◌, ℕ, ◌<◌, ◌≤◌, ◌==◌, ⊤, Bool, true, false, not, ◌&&◌, List, [], ◌∷◌, ◌++◌, Some, None, nat_lt}
 use Rattle.std.specs.List.{list_all}
 use Rattle.qs_base.specs.declared.identifiers.NodeNo.{NodeNo}
 use Rattle.qs_base.specs.declared.identifiers.ServerNo.{ServerNo}
 use Rattle.qs_base.specs.declared.identifiers.Outcome.TheVariants as outcomes
 use Rattle.qs_base.specs.declared.identifiers.Tid.{Tid}
 use Rattle.qs_engage.specs.Engage.{peer_of, no_peer}
-use Rattle.qs_engage.specs.Nodes.{has_node}
+use Rattle.qs_engage.specs.Nodes.{has_node, is_no_node}
 use Rattle.qs_ipc.specs.Ipc.{IpcValue}
 use Rattle.qs_ipc.specs.Queue.{QueueValue, is_for}
 use Rattle.qs_journal.specs.declared.script_line.ScriptLine.{ScriptLine}
@@ -58,7 +58,8 @@ pub record IsSteadyNode (node : NodeValue) : Type 0 where
   pub fresh : was_committed (tm.next_tid node.manager) node ≡ false
   pub past : (t : Tid) → began_here node t ≡ true → names_transaction t ≡ true → t.seq ≤ node.manager.begun → is_past node t ≡ true  -- what began here and is known no more is committed
   pub decided : (t : Tid) (part : Participant) → tm.part_of t node.manager ≡ Some part → part.engage.home ≡ true → part.outcome ≡ Some outcomes.Commit → is_past_commit node t ≡ true  -- a commit that it still knows is kept, or is of its log
-  pub released : (t : Tid) (part : Participant) → tm.part_of t node.manager ≡ Some part → part.engage.home ≡ false → part.outcome ≡ None → part.engage.superior ≡ None → part.involved ≡ true  -- who answers to nobody, and was not forgotten, is to be told
+  pub released : (t : Tid) (part : Participant) → tm.part_of t node.manager ≡ Some part → part.engage.home ≡ false → part.outcome ≡ None → part.engage.superior ≡ None
+      → (part.involved ≡ true) ⊎ (is_no_node part.told ≡ false)  -- who answers to nobody, and was not forgotten, is to be told, or was told of others
   pub early : node.is_first ≡ true → (t : Tid) (part : Participant) → tm.part_of t node.manager ≡ Some part → IsEarly part
   pub idle : node.is_first ≡ true → (t : Tid) (s : ℕ) → waiting_at node t s ≡ 0  -- and nothing waits
 
