@@ -1,5 +1,5 @@
 -- A node over its log: what is free to a step, what the log is after it, and what a step that is cut off leaves on the disk.
-use Rattle.std.specs.Prelude.{◌≡◌, ◌⊎◌, ℕ, Bool, List, [], ◌∷◌, ◌++◌, Result, Ok, Err, if◌then◌else◌}
+use Rattle.std.specs.Prelude.{◌≡◌, ◌⊎◌, ◌&&◌, ◌==◌, ℕ, Bool, not, length, List, [], ◌∷◌, ◌++◌, Result, Ok, Err, if◌then◌else◌}
 use Rattle.std.specs.Global.{Global}
 use Rattle.qs_kept.specs.declared.kept.Kept.{Kept}
 use Rattle.qs_log.specs.Image.{IsLog}
@@ -12,6 +12,7 @@ use Rattle.qs_step.specs.Step.{after_step, effects_of, step_work}
 use Rattle.qs_step.specs.declared.setting.Setting.{Setting}
 use Rattle.qs_step.specs.declared.event.Effects.{Effects}
 use Rattle.qs_step.specs.declared.event.Event.{Event}
+use Rattle.qs_tm.specs.Manager as tm
 use Rattle.qs_host.specs.declared.down.HostDown.{HostDown}
 
 pub record HostValue (D : Type 0) : Type 0 where
@@ -38,6 +39,10 @@ worked_node size host event = (step_work host.node event (free_of size host)).no
 -- and what it is after the step
 abbrev pub node_after : {D : Type 0} → ℕ → HostValue D → Event → NodeValue
 node_after size host event = after_step host.node event (free_of size host)
+
+-- nothing is left to do for a transaction: none is undecided of which it is the home, and none has records that are not ended
+abbrev pub is_settled : {D : Type 0} → HostValue D → Bool
+is_settled host = not (tm.has_undecided host.node.manager) && (length (unended (records_of host.log)) == 0)
 
 -- ---- what it does with the log
 

@@ -11,7 +11,7 @@ ghost use Rattle.qs_servers.specs.Servers.{server_at};
 ghost use Rattle.qs_step.specs.Opening.{recovered_of};
 ghost use Rattle.qs_step.specs.Step.{accept};
 ghost use Rattle.qs_tm.specs.Manager as tm;
-ghost use Rattle.qs_host.specs.Host.{effects_at, worked_node, opened_host, IsLogAfter, IsOldOrAfter, disk_of};
+ghost use Rattle.qs_host.specs.Host.{effects_at, worked_node, is_settled, opened_host, IsLogAfter, IsOldOrAfter, disk_of};
 ghost use Rattle.qs_host.specs.declared.down.HostFault.TheVariants.{Disk as OfDisk};
 
 use crate::appending::append_and_force;
@@ -181,6 +181,14 @@ impl<D: Disk, F: Server, X: Server> Host<D, F, X> {
         ensures { result ≡ tm.has_undecided self.now.node.manager }
     {
         self.node.undecided()
+    }
+
+    /// Whether the node is the home of no transaction that it has not decided, and its log has a record of none that is not
+    /// ended there.
+    pub fn settled(&self) -> bool
+        ensures { result ≡ is_settled self.now }
+    {
+        !self.undecided() && self.unended.is_empty()
     }
 
     /// The disk of its log.

@@ -1,5 +1,5 @@
 //! The transactions of a log that are not ended there.
-ghost use Rattle.std.specs.Prelude.{◌≡◌, ◌<◌, ◌≤◌, ◌^◌, [], OnOk, OnErr, IfOk, length};
+ghost use Rattle.std.specs.Prelude.{◌≡◌, ◌<◌, ◌≤◌, ◌^◌, ◌==◌, [], OnOk, OnErr, IfOk, length};
 ghost use Rattle.qs_room.specs.Room.{opened, after_record, unended, free_room};
 
 use qs_base::{NoMemory, Tid};
@@ -57,6 +57,13 @@ impl Unended {
     {
         self.tids.insert(tid, ())?;
         Ok(())
+    }
+
+    /// Whether there is none.
+    pub fn is_empty(&self) -> bool
+        ensures { result ≡ (length self.now == 0) }
+    {
+        self.tids.is_empty()
     }
 
     /// How many bytes of a log that has `room` are free where it keeps `keep` for each of them; at least 0.

@@ -1,0 +1,151 @@
+-- What an event of a cell does: a whole step, a crash right behind it, a crash in place of it, or one that cuts it off.
+use Rattle.std.specs.Prelude.{◌≡◌, ◌⊎◌, ℕ, ◌==◌, Bool, true, false, List, [], map, Option, Some, None, if◌then◌else◌}
+use Rattle.std.specs.List.{list_any}
+use Rattle.qs_disk.specs.Disk.{DiskState}
+use Rattle.qs_disk.specs.Fuse.{FusedValue}
+use Rattle.qs_host.specs.Host.{effects_at, node_after, log_after, IsLogAfter}
+use Rattle.qs_journal.specs.declared.entry.CrashCause.{CrashCause}
+use Rattle.qs_journal.specs.declared.entry.CrashCause.TheVariants as causes
+use Rattle.qs_log.specs.Log.{LogValue, Stands}
+use Rattle.qs_step.specs.declared.event.ClientAnswer.{ClientAnswer}
+use Rattle.qs_step.specs.declared.event.Effects.{Effects}
+use Rattle.qs_step.specs.declared.trace.Did.{Did}
+use Rattle.qs_step.specs.declared.trace.Did.TheVariants as dids
+use Rattle.qs_chronicle.specs.declared.occasion.Occasion.{Occasion}
+use Rattle.qs_chronicle.specs.declared.carried.Carried.{Carried}
+use Rattle.qs_points.specs.declared.points.Watched.{Watched}
+use Rattle.qs_cell.specs.declared.running.Outcome.{Outcome}
+use Rattle.qs_cell.specs.declared.running.Outcome.TheVariants as outcomes
+use Rattle.qs_cell.specs.declared.running.Running.{Running}
+use Rattle.qs_cell.specs.declared.stopped.Stopped.{Stopped}
+use Rattle.qs_chronicle.specs.Carried.{Seen, seen, answered, is_replaced}
+use Rattle.qs_chronicle.specs.Occasions.{event_of, did_of, taken}
+use Rattle.qs_chronicle.specs.Chronicle.{Told, counted, last_stamp, is_last, stamped, numbered, noted, crashed}
+use Rattle.qs_points.specs.Points.{stops_before, stops_after, spent, after_entries}
+
+-- ---- what it does to what the cell carries
+
+-- the event has its number, and the step its stamp, whether it is made or not
+abbrev pub begun : Told → Told
+begun told = stamped (numbered told)
+
+-- the step stands whole
+abbrev pub stepped : Occasion → ℕ → Effects → Seen → Seen
+stepped occasion inc out s = record s {
+  told = noted (did_of occasion) out.entries None (begun s.told);
+  commands = answered out.answers (taken occasion inc s.commands);
+  points = map (after_entries out.entries) s.points;
+}
+
+-- ---- why it is not made
+
+-- the stamp stands at its last value, or a line of the script names the event's number
+abbrev pub why_not : Bool → Bool → Option CrashCause
+why_not at_last replaced = if at_last then Some (causes.Last last_stamp) else if replaced then Some causes.Plan else None
+
+abbrev pub ordered : Seen → Option CrashCause
+ordered s = why_not (is_last s.told) (is_replaced (counted s.told.events) s.crashes)
+
+-- or a line names the first entry of its kind, and the whole step would make it
+abbrev pub planned_after : Effects → Seen → Option CrashCause → Option CrashCause
+planned_after out s (Some cause) = Some cause
+planned_after out s None = if list_any (stops_before out.entries) s.points then Some causes.Plan else None
+
+abbrev pub planned : Effects → Seen → Option CrashCause
+planned out s = planned_after out s (ordered s)
+
+-- that line stops the node once
+abbrev pub spent_after : Effects → Seen → Option CrashCause → List Watched
+spent_after out s (Some cause) = s.points
+spent_after out s None = spent out.entries s.points
+
+-- a fault of the disk is by plan where the fuse before it tripped, and else the disk's own
+abbrev pub fault_cause : {D : Type 0} → (D → ℕ) → FusedValue D → FusedValue D → CrashCause
+fault_cause own before now =
+    if before.fuse.trips == now.fuse.trips then causes.Disk (own before.disk) (own now.disk) else causes.Plan
+
+-- ---- what comes of an event
+
+abbrev pub out_of : {D F X : Type 0} → ℕ → Occasion → Running D F X → Effects
+out_of size occasion old = effects_at size old.host (event_of occasion)
+
+-- no crash is to stand in place of it
+abbrev pub IsUnplanned : {D F X : Type 0} → ℕ → Occasion → Running D F X → Type 0
+IsUnplanned size occasion old = planned (out_of size occasion old) (seen old.carried) ≡ None
+
+-- a line stops the node right behind it
+abbrev pub is_followed : {D F X : Type 0} → ℕ → Occasion → Running D F X → Bool
+is_followed size occasion old = list_any (stops_after (out_of size occasion old).entries) old.carried.points.items
+
+-- a whole step: no crash was to stand in place of it or behind it
+pub record IsWhole {D F X : Type 0} (size : ℕ) (occasion : Occasion) (old new : Running D F X) (answers : List ClientAnswer) : Type 0 where
+  pub node : new.host.node ≡ node_after size old.host (event_of occasion)
+  pub log : IsLogAfter (out_of size occasion old) old.host.log new.host.log
+  pub answers : answers ≡ (out_of size occasion old).answers
+  pub seen : seen new.carried ≡ stepped occasion old.carried.setting.inc (out_of size occasion old) (seen old.carried)
+  pub setting : new.carried.setting ≡ old.carried.setting
+  pub unplanned : IsUnplanned size occasion old
+  pub unfollowed : is_followed size occasion old ≡ false
+
+-- a node stops behind a step: it is a step of its own, in which nothing is done
+abbrev pub stopped_behind : Seen → Seen
+stopped_behind s = record s { told = crashed dids.Nothing causes.Plan s.told }
+
+-- a whole step, and a crash right behind it
+pub record IsFollowed {D F X : Type 0} (size : ℕ) (occasion : Occasion) (old : Running D F X) (new : Stopped D) (answers : List ClientAnswer) : Type 0 where
+  pub kept : new.kept ≡ (node_after size old.host (event_of occasion)).kept.saved
+  pub answers : answers ≡ (out_of size occasion old).answers
+  pub cause : new.cause ≡ causes.Plan
+  pub seen : seen new.carried ≡ stopped_behind (stepped occasion old.carried.setting.inc (out_of size occasion old) (seen old.carried))
+  pub setting : new.carried.setting ≡ old.carried.setting
+  pub unplanned : IsUnplanned size occasion old
+  pub followed : is_followed size occasion old ≡ true
+
+-- as the script or the last stamp has it
+pub record IsAsPlanned {D F X : Type 0} (size : ℕ) (occasion : Occasion) (old : Running D F X) (new : Stopped D) : Type 0 where
+  pub cause : planned (out_of size occasion old) (seen old.carried) ≡ Some new.cause
+  pub commands : new.carried.commands ≡ taken occasion old.carried.setting.inc old.carried.commands
+  pub points : new.carried.points.items ≡ spent_after (out_of size occasion old) (seen old.carried) (ordered (seen old.carried))
+
+-- a crash in place of the event: nothing of it is done, and the disk is as it was
+pub record IsReplaced {D F X : Type 0} (size : ℕ) (occasion : Occasion) (old : Running D F X) (new : Stopped D) : Type 0 where
+  pub disk : new.disk ≡ old.host.log.disk
+  pub kept : new.kept ≡ old.host.node.kept.saved
+  pub told : new.carried.chronicle.told ≡ crashed (did_of occasion) new.cause (begun old.carried.chronicle.told)
+  pub crashes : new.carried.crashes ≡ old.carried.crashes
+  pub setting : new.carried.setting ≡ old.carried.setting
+  pub why : (new.cause ≡ causes.Memory) ⊎ IsAsPlanned size occasion old new
+
+-- a crash within the step: it makes no entry but its own, and is answered by none
+pub record IsCutOff {D F X : Type 0} (own : D → ℕ) (size : ℕ) (occasion : Occasion) (old : Running D F X) (new : Stopped D) : Type 0 where
+  pub kept : new.kept ≡ old.host.node.kept.saved
+  pub told : new.carried.chronicle.told ≡ crashed (did_of occasion) new.cause (begun old.carried.chronicle.told)
+  pub commands : new.carried.commands ≡ taken occasion old.carried.setting.inc old.carried.commands
+  pub crashes : new.carried.crashes ≡ old.carried.crashes
+  pub points : new.carried.points.items ≡ old.carried.points.items
+  pub setting : new.carried.setting ≡ old.carried.setting
+  pub unplanned : IsUnplanned size occasion old
+  pub why : (new.cause ≡ causes.Memory) ⊎ (new.cause ≡ fault_cause own old.host.log.disk new.disk)
+
+abbrev pub IsOutcome : {D F X : Type 0} → (D → ℕ) → ℕ → Occasion → Running D F X → Outcome D F X → Type 0
+IsOutcome own size occasion old (outcomes.Whole running answers) = IsWhole size occasion old running answers
+IsOutcome own size occasion old (outcomes.Followed stopped answers) = IsFollowed size occasion old stopped answers
+IsOutcome own size occasion old (outcomes.Replaced stopped) = IsReplaced size occasion old stopped
+IsOutcome own size occasion old (outcomes.CutOff stopped) = IsCutOff own size occasion old stopped
+
+-- the disk after it
+abbrev pub disk_after : {D F X : Type 0} → Outcome D F X → FusedValue D
+disk_after (outcomes.Whole running answers) = running.host.log.disk
+disk_after (outcomes.Followed stopped answers) = stopped.disk
+disk_after (outcomes.Replaced stopped) = stopped.disk
+disk_after (outcomes.CutOff stopped) = stopped.disk
+
+-- where the step stands, the disk after it has this
+abbrev pub IfStands : {D F X : Type 0} → Outcome D F X → (FusedValue D → Type 0) → Type 0
+IfStands (outcomes.Whole running answers) P = P running.host.log.disk
+IfStands (outcomes.Followed stopped answers) P = P stopped.disk
+IfStands outcome P = Unit {0}
+
+-- and with it the log after the step
+abbrev pub StandsAfter : {D : Type 0} → Effects → LogValue (FusedValue D) → FusedValue D → DiskState → Type 0
+StandsAfter out old disk state = Stands (record (log_after out old) { disk = disk }) state

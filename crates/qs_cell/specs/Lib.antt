@@ -1,0 +1,6 @@
+-- What an event of a cell does: a whole step, and the crashes in place of it, within it and behind it.
+pub mod Cell
+-- What a restart finds, and what it makes of the cell.
+pub mod Restart
+-- Stages of an event.
+pub mod Within

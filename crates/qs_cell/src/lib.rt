@@ -1,0 +1,19 @@
+//! The cell of a node: the node over its disk and log, with the crashes and restarts that a script asks for.
+#![tactic(auto)]
+
+mod cell;
+mod ends;
+mod opened;
+mod running;
+mod starting;
+mod state;
+mod stopped;
+#[cfg(test)]
+mod tests;
+
+pub use cell::{NodeCell, Visited};
+pub use ends::NodeEnds;
+pub use running::{Outcome, Running};
+pub use starting::{CellOpen, NodePlan};
+pub use state::{NodeState, RestartFault};
+pub use stopped::{Restarted, Stopped};

@@ -1,0 +1,309 @@
+//! A node that is down: how it stops, and how it starts again.
+ghost use Rattle.std.specs.Prelude.{◌≡◌, ◌≤◌, ◌∷◌, [], map, None, IfOk, IfErr, OnOk};
+ghost use Rattle.qs_base.specs.Causes.{Rose};
+ghost use Rattle.qs_log.specs.Log.{Stands, records_of, disk_of};
+ghost use Rattle.qs_log.specs.declared.fault.OpenFault.TheVariants as open_faults;
+ghost use Rattle.qs_ops.specs.declared.server.Kind.TheVariants as kinds;
+ghost use Rattle.qs_servers.specs.Kinds.{empty_server};
+ghost use Rattle.qs_step.specs.Opening.{recovered_of};
+ghost use Rattle.qs_step.specs.declared.trace.Did.TheVariants as dids;
+ghost use Rattle.qs_chronicle.specs.Chronicle.{HasRoom, noted, stamped};
+ghost use Rattle.qs_cell.specs.Within.{IsStopped};
+ghost use Rattle.qs_cell.specs.Restart.{IsReopened, IsRestarted, IsRefused, Begins, IfUp, restarted_disk, faults_of, found_of, restart_of};
+
+use crate::running::Running;
+use qs_base::{List, NoMemory};
+use qs_chronicle::Carried;
+use qs_disk::{Disk, DiskFailed, Fused};
+use qs_host::{Host, HostOpen};
+use qs_journal::{Act, CrashCause, Found};
+use qs_kept::Kept;
+use qs_log::{Log, LogOpen, OpenFault};
+use qs_ops::Server;
+use qs_restart::{OpenVote, Recovered, recover};
+use qs_step::{Did, Setting};
+use std::alloc::Global;
+
+/// Slots stand below this where a node restarts.
+const REOPEN_LIMIT: u64 = (1 << 62) - 1;
+
+/// A node that is down, and what its cell carries.
+#[derive(Drop)]
+pub struct Stopped<D: Disk> {
+    pub disk: Fused<D>,
+    /// What the node keeps for its clients.
+    pub kept: Kept,
+    /// Why it stopped.
+    pub cause: CrashCause,
+    pub carried: Carried,
+}
+
+/// The node stops in such a step. It takes no memory.
+pub fn stop<D: Disk, F: Server, X: Server>(
+    host: Host<Fused<D>, F, X>,
+    carried: Carried,
+    did: Did,
+    cause: CrashCause,
+) -> Stopped<D>
+    requires room { HasRoom 1 1 carried.chronicle }
+    ensures { IsStopped host.log.disk host.node.kept.saved did cause carried result }
+{
+    let (disk, kept, _) = host.into_parts();
+    stopped_with(disk, kept, carried, did, cause)
+}
+
+/// The node stopped in such a step, and this is left of it. It takes no memory.
+pub fn stopped_with<D: Disk>(
+    disk: Fused<D>,
+    kept: Kept,
+    carried: Carried,
+    did: Did,
+    cause: CrashCause,
+) -> Stopped<D>
+    requires room { HasRoom 1 1 carried.chronicle }
+    ensures { IsStopped disk kept did cause carried result }
+{
+    let mut carried = carried;
+    carried.chronicle.note_crash(did, cause);
+    Stopped {
+        disk,
+        kept,
+        cause,
+        carried,
+    }
+}
+
+/// What comes of a restart.
+#[derive(Drop)]
+pub enum Restarted<D: Disk, F: Server, X: Server> {
+    /// The node is up.
+    Up { running: Running<D, F, X> },
+    /// The fuse tripped: the node is still down.
+    Tripped { stopped: Stopped<D> },
+    /// A call of the disk failed: the node is still down.
+    DiskFailed { stopped: Stopped<D> },
+    /// Memory was refused, or the log is damaged: the node is still down.
+    NoMemory { stopped: Stopped<D> },
+}
+
+impl<D: Disk> Stopped<D> {
+    /// The power is cut, the log of what that leaves is opened and its incarnation raised, and the node begins it with what
+    /// the log says and what it kept for its clients. Its files and the further server are empty.
+    ///
+    /// `Tripped` comes exactly where the fuse tripped in this call; `DiskFailed` only where the disk's count of faults
+    /// rose. A log that opens as damaged is answered `NoMemory`.
+    pub fn restart<F: Server, X: Server>(
+        self,
+        alloc: Global,
+        files: F,
+        extra: X,
+    ) -> Restarted<D, F, X>
+        requires files { F.state files ≡ empty_server (kinds.Files self.carried.setting.quota) }
+        requires extra { X.state extra ≡ empty_server kinds.Nothing }
+        requires batch { self.carried.setting.extra ≤ 8 }
+        requires keep { self.carried.setting.keep ≤ 144 }
+        ensures restarted { IsRestarted D.fault_count alloc self result }
+        ensures reopened { D.told → IfUp result (IsReopened (D.state self.disk.disk)) }
+        ensures stands { D.told → IfUp result (λ log. Stands log (D.state log.disk.disk)) }
+        ensures size { D.byte_count (restarted_disk result).disk ≡ D.byte_count self.disk.disk }
+    {
+        let Stopped {
+            disk,
+            kept,
+            cause,
+            mut carried,
+        } = self;
+        let trips = disk.trips();
+        carried.chronicle.begin_round();
+        let rest = Rest {
+            kept,
+            cause,
+            carried,
+        };
+        match reopen(alloc, disk) {
+            Ok(log) => begin_incarnation(alloc, log, files, extra, rest, trips),
+            Err(LogOpen { disk, why }) => refused(rest.over(disk), why, trips),
+        }
+    }
+}
+
+/// A node that is down, without its disk.
+#[derive(Drop)]
+struct Rest {
+    kept: Kept,
+    cause: CrashCause,
+    carried: Carried,
+}
+
+impl Rest {
+    fn over<D: Disk>(self, disk: Fused<D>) -> Stopped<D>
+        ensures { result ≡ record { disk = disk; kept = self.kept; cause = self.cause; carried = self.carried } }
+    {
+        let Rest {
+            kept,
+            cause,
+            carried,
+        } = self;
+        Stopped {
+            disk,
+            kept,
+            cause,
+            carried,
+        }
+    }
+}
+
+/// The node begins the incarnation of its log, unless memory is refused.
+fn begin_incarnation<D: Disk, F: Server, X: Server>(
+    alloc: Global,
+    log: Log<Fused<D>>,
+    files: F,
+    extra: X,
+    rest: Rest,
+    trips: u64,
+) -> Restarted<D, F, X>
+    requires files { F.state files ≡ empty_server (kinds.Files rest.carried.setting.quota) }
+    requires extra { X.state extra ≡ empty_server kinds.Nothing }
+    requires batch { rest.carried.setting.extra ≤ 8 }
+    requires keep { rest.carried.setting.keep ≤ 144 }
+    ensures begins { Begins alloc log rest trips result }
+    ensures up { IfUp result (λ new. new ≡ log) }
+    ensures disk { restarted_disk result ≡ log.disk }
+{
+    let inc = log.inc();
+    let mut rest = rest;
+    let (found, act) = match read(alloc, &mut rest.carried, &log) {
+        Ok(read) => read,
+        Err(NoMemory) => return refused(rest.over(log.into_disk()), OpenFault::NoMemory, trips),
+    };
+    let Rest {
+        kept,
+        cause,
+        carried,
+    } = rest;
+    let setting = Setting {
+        inc,
+        ..carried.setting
+    };
+    match Host::open(alloc, log, found, setting, kept, files, extra) {
+        Ok(host) => Restarted::Up {
+            running: Running {
+                host,
+                carried: risen(carried, setting, act),
+            },
+        },
+        Err(HostOpen { log, kept, .. }) => {
+            let rest = Rest {
+                kept,
+                cause,
+                carried,
+            };
+            refused(rest.over(log.into_disk()), OpenFault::NoMemory, trips)
+        },
+    }
+}
+
+/// What the log says, and the entry that tells it, for which room is made.
+fn read<D: Disk>(
+    alloc: Global,
+    carried: &mut Carried,
+    log: &Log<D>,
+) -> Result<(Recovered, Act), NoMemory>
+    ensures found { IfOk result (λ read. read.0 ≡ recovered_of (records_of log.now)) }
+    ensures act { IfOk result (λ read. read.1 ≡ restart_of log.now.slots.present.value.inc (recovered_of (records_of log.now))) }
+    ensures room { OnOk result (HasRoom 1 1 carried.new.chronicle) }
+    ensures told { carried.new.chronicle.told ≡ carried.old.chronicle.told }
+    ensures commands { carried.new.commands ≡ carried.old.commands }
+    ensures crashes { carried.new.crashes ≡ carried.old.crashes }
+    ensures points { carried.new.points ≡ carried.old.points }
+    ensures setting { carried.new.setting ≡ carried.old.setting }
+{
+    let found = recover(alloc, log.records())?;
+    let act = restart_of(alloc, log.inc(), &found)?;
+    carried.chronicle.make_room(1, 1)?;
+    Ok((found, act))
+}
+
+/// What is carried takes the restart in.
+fn risen(carried: Carried, setting: Setting, act: Act) -> Carried
+    requires room { HasRoom 1 1 carried.chronicle }
+    ensures told { result.chronicle.told ≡ noted (dids.Restart setting.inc) (act ∷ []) None (stamped carried.chronicle.told) }
+    ensures commands { result.commands ≡ carried.commands }
+    ensures crashes { result.crashes ≡ carried.crashes }
+    ensures points { result.points ≡ carried.points }
+    ensures setting { result.setting ≡ setting }
+{
+    let mut carried = carried;
+    carried.setting = setting;
+    carried.chronicle.next_stamp();
+    carried
+        .chronicle
+        .note_one(Did::Restart { inc: setting.inc }, act);
+    carried
+}
+
+/// The log that a power cut leaves, in the next incarnation.
+fn reopen<D: Disk>(alloc: Global, disk: Fused<D>) -> Result<Log<Fused<D>>, LogOpen<Fused<D>>>
+    ensures reopened { D.told → IfOk result (IsReopened (D.state disk.disk)) }
+    ensures stands { D.told → IfOk result (λ log. Stands log (D.state log.disk.disk)) }
+    ensures failed { IfErr result (λ back. back.why ≡ open_faults.DiskFailed → Rose (faults_of D.fault_count disk) (faults_of D.fault_count back.disk)) }
+    ensures size { D.byte_count (disk_of result).disk ≡ D.byte_count disk.disk }
+{
+    let mut disk = disk;
+    if let Err(DiskFailed) = disk.power_cut() {
+        return Err(LogOpen {
+            disk,
+            why: OpenFault::DiskFailed,
+        });
+    }
+    let mut log = Log::open(alloc, disk, REOPEN_LIMIT)?;
+    match log.raise() {
+        Ok(_) => Ok(log),
+        Err(DiskFailed) => Err(LogOpen {
+            disk: log.into_disk(),
+            why: OpenFault::DiskFailed,
+        }),
+    }
+}
+
+/// The node is still down: the fuse tripped, whose trips were so many before, or the log was not opened.
+fn refused<D: Disk, F: Server, X: Server>(
+    stopped: Stopped<D>,
+    why: OpenFault,
+    trips: u64,
+) -> Restarted<D, F, X>
+    ensures { IsRefused why trips stopped result }
+{
+    if stopped.disk.trips() != trips {
+        return Restarted::Tripped { stopped };
+    }
+    match why {
+        OpenFault::DiskFailed => Restarted::DiskFailed { stopped },
+        OpenFault::Damaged { .. } | OpenFault::NoMemory => Restarted::NoMemory { stopped },
+    }
+}
+
+/// What a restart tells of the log.
+fn restart_of(alloc: Global, inc: u64, found: &Recovered) -> Result<Act, NoMemory>
+    ensures { IfOk result (λ act. act ≡ restart_of inc found.now) }
+{
+    Ok(Act::Restart {
+        inc,
+        pend: found_votes(alloc, found.votes.as_slice())?,
+        done: found.committed.copy()?,
+    })
+}
+
+fn found_votes(alloc: Global, votes: &[OpenVote]) -> Result<List<Found>, NoMemory>
+    ensures { IfOk result (λ found. found ≡ map found_of votes.now) }
+{
+    let mut found = List::new(alloc);
+    for vote in votes {
+        found.push(Found {
+            tid: vote.tid,
+            server: vote.server,
+            covers: vote.covers,
+        })?;
+    }
+    Ok(found)
+}
