@@ -1,1 +1,2 @@
 pub mod ConformingLemmas
+pub mod QueueLemmas

@@ -1,11 +1,10 @@
 -- What a script asks of one node and of one client.
-use Rattle.std.specs.Prelude.{ℕ, ◌==◌, List, [], ◌∷◌, false, None, if◌then◌else◌}
+use Rattle.std.specs.Prelude.{ℕ, ◌==◌, List, [], ◌∷◌, None, if◌then◌else◌}
 use Rattle.std.specs.List.{flat_map}
 use Rattle.qs_base.specs.declared.identifiers.ClientNo.{ClientNo}
 use Rattle.qs_base.specs.declared.identifiers.NodeNo.{NodeNo}
 use Rattle.qs_journal.specs.declared.script_line.Point.{Point}
 use Rattle.qs_journal.specs.declared.script_line.ScriptLine.{ScriptLine}
-use Rattle.qs_points.specs.declared.points.Watched.{Watched}
 use Rattle.qs_statements.specs.declared.script.FaultLine.{FaultLine}
 use Rattle.qs_statements.specs.declared.script.Planned.{Planned}
 use Rattle.qs_statements.specs.declared.script.Planned.TheVariants as faults
@@ -53,13 +52,9 @@ abbrev pub stop_in : NodeNo → Planned → List ℕ
 stop_in node (faults.Stop at call) = if at.0 == node.0 then call ∷ [] else []
 stop_in node _ = []
 
--- a line that names an entry which did not come yet
-abbrev pub watched : Point → Watched
-watched point = record { point = point; tid = None; passed = false }
-
 -- the entry before or after which the line stops it
-abbrev pub point_in : NodeNo → Planned → List Watched
-point_in node (faults.At at point) = if at.0 == node.0 then watched point ∷ [] else []
+abbrev pub point_in : NodeNo → Planned → List Point
+point_in node (faults.At at point) = if at.0 == node.0 then point ∷ [] else []
 point_in node _ = []
 
 -- each in the order of the lines
@@ -69,7 +64,7 @@ crashes_of node lines = flat_map (λ line. crash_in node line.fault) lines
 abbrev pub stops_of : NodeNo → List FaultLine → List ℕ
 stops_of node lines = flat_map (λ line. stop_in node line.fault) lines
 
-abbrev pub points_of : NodeNo → List FaultLine → List Watched
+abbrev pub points_of : NodeNo → List FaultLine → List Point
 points_of node lines = flat_map (λ line. point_in node line.fault) lines
 
 -- ---- what a client is to say

@@ -1,10 +1,10 @@
 //! What a script asks of the nodes and clients of a run, in which order they are visited, and how many rounds they have.
 #![tactic(auto)]
 
-mod budget;
 mod order;
 mod plan;
+mod spending;
 
-pub use budget::budget;
 pub use order::Orders;
 pub use plan::{commands_of, crashes_of, points_of, setting_of, stops_of};
+pub use spending::budget;

@@ -1,6 +1,7 @@
 //! The order in which the actors of a run are visited in a round.
-ghost use Rattle.std.specs.Prelude.{◌≡◌, IfOk};
-ghost use Rattle.std.specs.List.{range_with_len};
+ghost use Rattle.std.specs.Prelude.{◌≡◌, ◌<◌, ◌+◌, ◌-◌, ◌%◌, IfOk, length};
+ghost use Rattle.std.specs.List.{range_with_len, swap};
+ghost use Rattle.rand_pcg.specs.Pcg.{pcg32};
 ghost use Rattle.qs_plans.specs.Order.{seeded, shuffled, drawn_order};
 
 use qs_base::NoMemory;
@@ -47,9 +48,20 @@ fn places(alloc: Global, count: usize) -> Result<Vec<usize>, NoMemory>
 }
 
 /// Each place from the last one down to place 1 changes with one that is drawn from it and those before it.
-fn shuffle(rng: &mut Lcg64Xsh32, places: &mut [usize]) {
-    for last in (1..places.len()).rev() {
-        let other = rng.next_word() as usize % (last + 1);
-        places.swap(last, other);
+fn shuffle(rng: &mut Lcg64Xsh32, places: &mut [usize])
+    ensures { (places.new, rng.new) ≡ shuffled (length places.old - 1) rng.old places.old }
+{
+    for back in 1..places.len() {
+        swap_drawn(rng, places, places.len() - back);
     }
+}
+
+/// A place changes with one that is drawn from it and those before it.
+fn swap_drawn(rng: &mut Lcg64Xsh32, places: &mut [usize], last: usize)
+    requires { last < length places.old }
+    ensures rng { rng.new ≡ (pcg32 rng.old).1 }
+    ensures places { places.new ≡ swap places.old last ((pcg32 rng.old).0 % (last + 1)) }
+{
+    let other = rng.next_word() as usize % (last + 1);
+    places.swap(last, other);
 }

@@ -1,10 +1,9 @@
 //! What a script asks of one node and of one client.
 ghost use Rattle.std.specs.Prelude.{◌≡◌, IfOk};
-ghost use Rattle.qs_plans.specs.Plan.{quota_of, setting_of, crashes_of, stops_of, points_of, watched, commands_of};
+ghost use Rattle.qs_plans.specs.Plan.{quota_of, setting_of, crashes_of, stops_of, points_of, commands_of};
 
 use qs_base::{ClientNo, Copied, List, NoMemory, NodeNo};
 use qs_journal::{Point, ScriptLine};
-use qs_points::Watched;
 use qs_statements::{FaultLine, Planned, Quota, Script};
 use qs_step::Setting;
 use std::alloc::Global;
@@ -77,37 +76,28 @@ pub fn stops_of(alloc: Global, lines: &[FaultLine], node: NodeNo) -> Result<List
     Ok(calls)
 }
 
-/// The lines that stop the node before or after an entry.
-pub fn points_of(
-    alloc: Global,
-    lines: &[FaultLine],
-    node: NodeNo,
-) -> Result<Vec<Watched>, NoMemory>
-    ensures { IfOk result (λ points. points.items ≡ points_of node lines.now) }
+/// The entries before or after which the node stops.
+pub fn points_of(alloc: Global, lines: &[FaultLine], node: NodeNo) -> Result<List<Point>, NoMemory>
+    ensures { IfOk result (λ points. points ≡ points_of node lines.now) }
 {
-    let mut points = Vec::new(alloc);
+    let mut points = List::new(alloc);
     for line in lines {
         if let Planned::At { node: at, point } = &line.fault {
             if *at == node {
-                points.push(watched(point)?)?;
+                points.push(copied(point)?)?;
             }
         }
     }
     Ok(points)
 }
 
-/// A line that names an entry which did not come yet.
-fn watched(point: &Point) -> Result<Watched, NoMemory>
-    ensures { IfOk result (λ line. line ≡ watched point.now) }
+fn copied(point: &Point) -> Result<Point, NoMemory>
+    ensures { IfOk result (λ copy. copy ≡ point.now) }
 {
-    Ok(Watched {
-        point: Point {
-            after: point.after,
-            kind: point.kind,
-            label: point.label.copy()?,
-        },
-        tid: None,
-        passed: false,
+    Ok(Point {
+        after: point.after,
+        kind: point.kind,
+        label: point.label.copy()?,
     })
 }
 

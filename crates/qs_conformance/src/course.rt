@@ -1,0 +1,108 @@
+//! The course of a run: what its script and its journal so far say.
+ghost use Rattle.std.specs.Prelude.{◌≡◌, slice_get};
+ghost use Rattle.std.specs.Option.{option_copied};
+
+mod effects;
+mod judging;
+mod starting;
+
+use crate::client::ClientCourse;
+use crate::values::{Made, Mark, NodeCourse, Sought};
+use qs_base::{ClientNo, List, NodeNo};
+use qs_book::Book;
+use qs_journal::ScriptLine;
+use qs_ops::Reply;
+use std::alloc::Global;
+use std::collections::BTreeMap;
+use std::marker::Model;
+
+/// What the script and the journal so far say, as far as the next entry hangs on it.
+#[derive(Debug, Drop)]
+pub struct Course {
+    alloc: Global,
+    book: Book,
+    audit: Option<NodeNo>,
+    clients: Vec<ClientCourse>,
+    nodes: Vec<NodeCourse>,
+    marks: BTreeMap<Mark, u32>,
+    replies: BTreeMap<Sought, List<Reply>>,
+}
+
+impl Model for Course {
+    ghost use Rattle.qs_conformance.specs.Course.{CourseValue};
+
+    ghost Value = { CourseValue };
+
+    ghost view = { λ c. record {
+      book = c.book;
+      audit = c.audit;
+      clients = c.clients.items;
+      nodes = c.nodes.items;
+      marks = c.marks.entries;
+      replies = c.replies.entries;
+    } };
+}
+
+impl Course {
+    ghost use Rattle.qs_conformance.specs.Course.{first_at, made_by, replies_to};
+
+    /// The first command of the client that is not answered, where the client sits at this node.
+    pub fn first_at(&self, here: NodeNo, client: ClientNo) -> Option<&ScriptLine>
+        ensures { option_copied result ≡ first_at self.now here.0 client }
+    {
+        self.clients.get(usize::from(client.0))?.seated_first(here)
+    }
+
+    /// What that command has made.
+    pub fn made_by(&self, client: ClientNo) -> Made
+        ensures { result ≡ made_by self.now client }
+    {
+        match self.clients.get(usize::from(client.0)) {
+            Some(state) => state.made(),
+            None => Made::Nothing,
+        }
+    }
+
+    /// Where it takes its memory.
+    pub fn alloc(&self) -> Global {
+        self.alloc
+    }
+
+    /// The node that keeps the audit notes.
+    pub fn audit(&self) -> Option<NodeNo>
+        ensures { result ≡ self.now.audit }
+    {
+        self.audit
+    }
+
+    /// The reference machine.
+    pub fn book(&self) -> &Book
+        ensures { result.now ≡ self.now.book }
+    {
+        &self.book
+    }
+
+    /// What is said of a client.
+    pub fn client(&self, client: ClientNo) -> Option<&ClientCourse>
+        ensures { option_copied result ≡ slice_get self.now.clients client.0 }
+    {
+        self.clients.get(usize::from(client.0))
+    }
+
+    /// What is said of a node.
+    pub fn node(&self, node: NodeNo) -> Option<&NodeCourse>
+        ensures { option_copied result ≡ slice_get self.now.nodes node.0 }
+    {
+        self.nodes.get(usize::from(node.0))
+    }
+
+    /// The replies to a request of a client, since it was issued.
+    pub fn replies_to(&self, sought: Sought) -> &[Reply]
+        ensures { result.now ≡ replies_to self.now sought }
+    {
+        match self.replies.get(&sought) {
+            Some(replies) => replies.as_slice(),
+            None => &[],
+        }
+    }
+}

@@ -1,0 +1,120 @@
+//! A script is run on one node over its disk, its journal is judged, and its output made.
+
+use crate::judging::judged;
+use qs_base::{Bytes, List, NoMemory, copy_list};
+use qs_cell::CellOpen;
+use qs_disk::{Disk, Fused};
+use qs_journal::Entry;
+use qs_log::OpenFault;
+use qs_rounds::{Actors, Ending, NODE, RoundFault, rounds_of, start};
+use qs_step::Step;
+use qs_text::{Script, Status, out_text};
+use std::alloc::Global;
+
+/// What a run came to before anything was given.
+#[derive(Drop)]
+pub struct Made {
+    pub status: Status,
+    pub journal: List<Entry>,
+    pub trace: List<Step>,
+    /// What is to be given, where anything is.
+    pub output: Option<Bytes>,
+}
+
+/// A run that ended before it made an entry.
+pub fn nothing_made(alloc: Global, status: Status) -> Made {
+    Made {
+        status,
+        journal: List::new(alloc),
+        trace: List::new(alloc),
+        output: None,
+    }
+}
+
+/// What a run is made of.
+#[derive(Clone, Copy, Drop)]
+pub struct Plan<'a> {
+    pub script: &'a Script,
+    pub seed: u64,
+    pub journal: bool,
+}
+
+/// Runs a script on one node over the log of its disk.
+pub fn run_over<D: Disk>(alloc: Global, disk: D, plan: Plan<'_>) -> (D, Made) {
+    match start(alloc, plan.script, Fused::new(disk)) {
+        Ok(actors) => run_actors(alloc, actors, plan),
+        Err(CellOpen { disk, why }) => (disk.into_inner(), nothing_made(alloc, not_opened(why))),
+    }
+}
+
+/// The status of a run whose node's disk was not opened.
+fn not_opened(why: OpenFault) -> Status {
+    match why {
+        OpenFault::DiskFailed => Status::DiskFault { node: NODE },
+        OpenFault::Damaged { at } => Status::Damaged { node: NODE, at },
+        OpenFault::NoMemory => Status::NoMemory,
+    }
+}
+
+fn run_actors<D: Disk>(alloc: Global, actors: Actors<D>, plan: Plan<'_>) -> (D, Made) {
+    let mut actors = actors;
+    let made = match rounds_and_verdict(alloc, &mut actors, plan) {
+        Ok(made) => made,
+        Err(status) => nothing_made(alloc, status),
+    };
+    (actors.node.into_disk().into_inner(), made)
+}
+
+/// All rounds of the run, and what came of them, judged; else the status of a run of which nothing is told.
+fn rounds_and_verdict<D: Disk>(
+    alloc: Global,
+    actors: &mut Actors<D>,
+    plan: Plan<'_>,
+) -> Result<Made, Status> {
+    let ending = rounds_of(alloc, plan.script, plan.seed, actors);
+    let Ok(status) = status_of(alloc, actors, ending) else {
+        return Err(Status::NoMemory);
+    };
+    if let Status::NoMemory = status {
+        return Err(status);
+    }
+    let Ok(opened) = actors.node.opened() else {
+        return Err(Status::NoMemory);
+    };
+    let course = judged(alloc, plan.script, opened, actors.node.journal())?;
+    let Ok(journal) = copy_list(alloc, actors.node.journal()) else {
+        return Err(Status::NoMemory);
+    };
+    let gives = !matches!(status, Status::DiskFault { .. });
+    let output = if gives {
+        let Ok(output) = out_text(alloc, plan.script, &journal, course.book(), plan.journal) else {
+            return Err(Status::NoMemory);
+        };
+        Some(output)
+    } else {
+        None
+    };
+    Ok(Made {
+        status,
+        journal,
+        trace: List::new(alloc),
+        output,
+    })
+}
+
+/// How the run ended.
+fn status_of<D: Disk>(
+    alloc: Global,
+    actors: &Actors<D>,
+    ending: Result<Ending, RoundFault>,
+) -> Result<Status, NoMemory> {
+    Ok(match ending {
+        Ok(Ending::Settled) => Status::Finished,
+        Ok(Ending::Left { rounds }) => Status::Unfinished {
+            rounds,
+            waiting: actors.waiting(alloc)?,
+        },
+        Err(RoundFault::DiskFault { node }) => Status::DiskFault { node },
+        Err(RoundFault::NoMemory) => Status::NoMemory,
+    })
+}
