@@ -2,13 +2,11 @@
 
 use crate::faults::RoundFault;
 use crate::seating::NODE;
-use qs_base::{List, NoMemory};
+use qs_base::NoMemory;
 use qs_cell::{NodeCell, RestartFault};
 use qs_client::ClientCell;
 use qs_disk::Disk;
 use qs_journal::CrashCause;
-use qs_statements::Waiting;
-use std::alloc::Global;
 
 /// The node, and its clients by number. In the order of a round the node has place 0, and the clients have the places behind
 /// it.
@@ -65,19 +63,9 @@ impl<D: Disk> Actors<D> {
         self.clients.iter().all(|client| client.at().is_none())
     }
 
-    /// The clients whose scripts have not ended, by number, each with the line that it stands at. The only error is a refusal
-    /// of memory.
-    pub fn waiting(&self, alloc: Global) -> Result<List<Waiting>, NoMemory> {
-        let mut waiting = List::new(alloc);
-        for client in self.clients.iter() {
-            if let Some(line) = client.at() {
-                waiting.push(Waiting {
-                    client: client.client(),
-                    line,
-                })?;
-            }
-        }
-        Ok(waiting)
+    /// Whether each client stands at the end of its script, and no transaction is unended at the node.
+    pub fn are_settled(&self) -> bool {
+        self.all_ended() && self.node.settled()
     }
 }
 

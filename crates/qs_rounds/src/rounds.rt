@@ -9,15 +9,15 @@ use std::alloc::Global;
 
 /// How the rounds of a run ended.
 #[derive(Clone, Copy, Debug, PartialEq, Eq)]
-pub enum Ending {
-    /// A quiet round passed, each script ended, and no transaction is unended at the node.
-    Settled,
-    /// After so many rounds a quiet round had passed and a script had not ended, or no more rounds were left.
-    Left { rounds: u64 },
+pub struct Ending {
+    /// How many there were.
+    pub rounds: u64,
+    /// The last one was quiet, each client stands at the end of its script, and no transaction is unended at the node.
+    pub settled: bool,
 }
 
-/// Round after round, in orders that are drawn from the seed, until a quiet round has passed and the run can go no further,
-/// or all rounds that the script has are spent.
+/// Round after round, in orders that are drawn from the seed, until a quiet round has passed with a script that has not ended,
+/// or with nothing left to do, or until all rounds that the script has are spent.
 pub fn rounds_of<D: Disk>(
     alloc: Global,
     script: &Script,
@@ -30,20 +30,19 @@ pub fn rounds_of<D: Disk>(
     for rounds in 1..u64::MAX {
         let order = orders.draw(alloc, count)?;
         let end = actors.round(order.as_slice())?;
-        if end.quiet {
-            if !actors.all_ended() {
-                return Ok(Ending::Left { rounds });
-            }
-            if actors.node.settled() {
-                return Ok(Ending::Settled);
-            }
+        let settled = end.quiet && actors.are_settled();
+        if settled || end.quiet && !actors.all_ended() {
+            return Ok(Ending { rounds, settled });
         }
         if most <= rounds {
             most = budget(script, actors.node.journal());
             if most <= rounds {
-                return Ok(Ending::Left { rounds });
+                return Ok(Ending { rounds, settled });
             }
         }
     }
-    Ok(Ending::Left { rounds: u64::MAX })
+    Ok(Ending {
+        rounds: u64::MAX,
+        settled: false,
+    })
 }

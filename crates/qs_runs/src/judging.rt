@@ -21,26 +21,30 @@ const SPARE_BYTES: u64 = 65_536;
 /// How many disks a run is given.
 const DISK_COUNT: u64 = 8;
 
-/// The first disk that the last row left, by its seed.
+/// The first disk that the last row left, by its seed, and the other disks, which no run uses.
 #[derive(Drop)]
 pub struct Disks {
     left: BTreeMap<u64, MemDisk>,
+    spare: Vec<MemDisk>,
 }
 
 impl Disks {
-    pub fn new(alloc: Global) -> Disks {
-        Disks {
-            left: BTreeMap::new(alloc),
+    pub fn new(alloc: Global) -> Result<Disks, Error> {
+        let mut spare = Vec::new(alloc);
+        for other in 1..DISK_COUNT {
+            spare.push(made(MemDisk::new(alloc, SPARE_BYTES, other, &[]))?)?;
         }
+        Ok(Disks {
+            left: BTreeMap::new(alloc),
+            spare,
+        })
     }
 
     /// The disks of a run: the first as the row says.
     fn take(&mut self, alloc: Global, row: &Row, seed: u64) -> Result<Vec<MemDisk>, Error> {
         let mut disks = Vec::new(alloc);
         disks.push(self.first(alloc, row, seed)?)?;
-        for other in 1..DISK_COUNT {
-            disks.push(made(MemDisk::new(alloc, SPARE_BYTES, other, &[]))?)?;
-        }
+        disks.append(&mut self.spare)?;
         Ok(disks)
     }
 
@@ -63,12 +67,13 @@ impl Disks {
         made(MemDisk::from_bytes(alloc, bytes.as_slice(), seed, row.disk_fails.as_slice()))
     }
 
-    /// Keeps the first of the disks for the next row.
+    /// Keeps the disks for the next row.
     fn keep(&mut self, disks: Vec<MemDisk>, seed: u64) -> Result<(), Error> {
         let mut disks = disks;
         if !disks.is_empty() {
-            self.left.insert(seed, disks.swap_remove(0))?;
+            self.left.insert(seed, disks.remove(0))?;
         }
+        self.spare.append(&mut disks)?;
         Ok(())
     }
 }

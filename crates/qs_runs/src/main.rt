@@ -43,7 +43,7 @@ where
 
 fn main(rt: HostRuntime) -> Result<(), Error> {
     let alloc = rt.alloc();
-    let mut disks = Disks::new(alloc);
+    let mut disks = Disks::new(alloc)?;
     let mut row: Option<Row> = None;
     for line in BufReader::new(alloc, rt.reader())?.lines(alloc) {
         let line = line?;

@@ -1,9 +1,11 @@
 -- How a run judges its own journal, and how it ends.
-use Rattle.std.specs.Prelude.{◌≡◌, ℕ, ◌+◌, ◌-◌, ◌^◌, List, [], ◌∷◌, Option, Some, None, min}
+use Rattle.std.specs.Prelude.{◌≡◌, ℕ, ◌+◌, ◌-◌, ◌^◌, List, [], ◌∷◌, fold, Option, Some, None, Result, Err, OnOk, IfErr, min, ⊤, ⊥, ◌×◌}
 use Rattle.std.specs.List.{flat_map, range_with_len}
 use Rattle.qs_base.specs.declared.identifiers.ClientNo.{ClientNo}
-use Rattle.qs_conformance.specs.Conforming.{first_misfit}
+use Rattle.qs_conformance.specs.Begun.{at_start}
+use Rattle.qs_conformance.specs.Conforming.{first_misfit, first_misfit_from, fault_of}
 use Rattle.qs_conformance.specs.Course.{CourseValue, first_at}
+use Rattle.qs_conformance.specs.Effects.{course_after}
 use Rattle.qs_conformance.specs.declared.fault.Fault.{Fault}
 use Rattle.qs_conformance.specs.declared.fault.Fault.TheVariants as faults
 use Rattle.qs_conformance.specs.declared.fault.Misfit.{Misfit}
@@ -11,7 +13,10 @@ use Rattle.qs_journal.specs.declared.entry.Entry.{Entry}
 use Rattle.qs_journal.specs.declared.script_line.ScriptLine.{ScriptLine}
 use Rattle.qs_machine.specs.Book.{BookValue}
 use Rattle.qs_statements.specs.declared.script.Script.{Script}
+use Rattle.qs_statements.specs.declared.status.Status.{Status}
+use Rattle.qs_statements.specs.declared.status.Status.TheVariants as statuses
 use Rattle.qs_statements.specs.declared.status.Waiting.{Waiting}
+use Rattle.std.specs.Option.{IsSomeAnd}
 
 -- ---- where it is refused
 
@@ -51,3 +56,36 @@ waiting_in course number = waiting_at (record { 0 = number }) (first_at course 0
 -- all clients of the node whose scripts have not ended, by number
 abbrev pub waiting_of : CourseValue → List Waiting
 waiting_of course = flat_map (waiting_in course) (range_with_len 0 client_count)
+
+-- ---- what the judge knows
+
+-- what the script and the machine say after a journal that conforms
+abbrev pub course_of : Script → BookValue → List Entry → CourseValue
+course_of script book journal = fold course_after (at_start script book) journal
+
+-- who waits after it
+abbrev pub waiting_after : Script → BookValue → List Entry → List Waiting
+waiting_after script book journal = waiting_of (course_of script book journal)
+
+-- ---- within the judging
+
+-- why a run of which nothing is told ends there
+abbrev pub IsRefusal : Status → Type 0
+IsRefusal (statuses.Unlawful line clause) = ⊤
+IsRefusal statuses.NoMemory = ⊤
+IsRefusal _ = ⊥
+
+-- an entry was taken in, or refused at its line
+pub record IsJudged (old : CourseValue) (entry : Entry) (line : ℕ) (new : CourseValue) (res : Result Unit Status) : Type 0 where
+  pub conforms : OnOk res (fault_of old entry ≡ None)
+  pub taken : OnOk res (new ≡ course_after old entry)
+  pub refused : (at clause : ℕ) → res ≡ Err (statuses.Unlawful at clause) → (at ≡ line) × IsSomeAnd (fault_of old entry) (λ fault. clause ≡ clause_of fault)
+  pub refusal : IfErr res IsRefusal
+
+-- entries of which the first has this place were taken in, or the first that does not conform was refused
+pub record IsTakenIn (place : ℕ) (old : CourseValue) (entries : List Entry) (new : CourseValue) (res : Result Unit Status) : Type 0 where
+  pub conforms : OnOk res (first_misfit_from place old entries ≡ None)
+  pub taken : OnOk res (new ≡ fold course_after old entries)
+  pub refused : (at clause : ℕ) → res ≡ Err (statuses.Unlawful at clause)
+      → IsSomeAnd (first_misfit_from place old entries) (λ misfit. (at ≡ line_of misfit.place) × (clause ≡ clause_of misfit.fault))
+  pub refusal : IfErr res IsRefusal

@@ -1,2 +1,4 @@
-pub mod Verdict
+pub mod Asking
+pub mod Judged
 pub mod Run
+pub mod Verdict

@@ -1,10 +1,9 @@
 //! A run judges its own journal.
-ghost use Rattle.std.specs.Prelude.{◌≡◌, ◌→◌, ℕ, [], ◌∷◌, Err, IfOk, IfErr, None};
+ghost use Rattle.std.specs.Prelude.{◌≡◌, ℕ, [], ◌∷◌, Err, IfOk, IfErr};
 ghost use Rattle.qs_conformance.specs.Begun.{at_start};
-ghost use Rattle.qs_conformance.specs.Conforming.{Conforms, fault_of};
-ghost use Rattle.qs_conformance.specs.Effects.{course_after};
+ghost use Rattle.qs_conformance.specs.Conforming.{Conforms};
 ghost use Rattle.qs_machine.specs.Opening.{opening};
-ghost use Rattle.qs_top.specs.Judged.{course_of, clause_of, line_of, IsRefusedAt, IsRefusalOf, IsJudged, IsTakenIn};
+ghost use Rattle.qs_top.specs.Judged.{course_of, clause_of, IsRefusedAt, IsRefusal, IsJudged, IsTakenIn};
 
 use qs_base::NoMemory;
 use qs_book::{Book, Opened};
@@ -27,7 +26,7 @@ pub fn judged(
     ensures conforms { IfOk result (λ course. Conforms script.now (opening (opened ∷ [])) journal.now) }
     ensures course { IfOk result (λ course. course ≡ course_of script.now (opening (opened ∷ [])) journal.now) }
     ensures refused { (line clause : ℕ) → result ≡ Err (Status.Unlawful line clause) → IsRefusedAt script.now (opening (opened ∷ [])) journal.now line clause }
-    ensures status { IfErr result (λ status. IsRefusalOf status) }
+    ensures status { IfErr result (λ status. IsRefusal status) }
 {
     let mut course = match begin(alloc, script, opened) {
         Ok(course) => course,
@@ -46,7 +45,7 @@ fn begin(alloc: Global, script: &Script, opened: Opened) -> Result<Course, NoMem
 
 /// Takes the entries in, up to the first that does not conform.
 fn take_in(course: &mut Course, journal: &[Entry]) -> Result<(), Status>
-    ensures taken { IsTakenIn course.old journal.now course.new result }
+    ensures { IsTakenIn 0 course.old journal.now course.new result }
 {
     let mut line = 0_u32;
     let mut rest = journal;
@@ -60,7 +59,7 @@ fn take_in(course: &mut Course, journal: &[Entry]) -> Result<(), Status>
 
 /// Judges an entry, which has that line in the history.
 fn judge(course: &mut Course, entry: &Entry, line: u32) -> Result<(), Status>
-    ensures judged { IsJudged course.old entry.now line course.new result }
+    ensures { IsJudged course.old entry.now line course.new result }
 {
     match course.judge(entry) {
         Ok(None) => Ok(()),

@@ -8,6 +8,7 @@ mod outcome;
 mod running;
 #[cfg(test)]
 mod tests;
+mod waiting;
 mod whole;
 
 pub use outcome::Run;

@@ -1,14 +1,16 @@
 //! A script is run on one node over its disk, its journal is judged, and its output made.
 
 use crate::judging::judged;
-use qs_base::{Bytes, List, NoMemory, copy_list};
+use crate::waiting::waiting_of;
+use qs_base::{Bytes, List, copy_list};
 use qs_cell::CellOpen;
+use qs_conformance::Course;
 use qs_disk::{Disk, Fused};
 use qs_journal::Entry;
 use qs_log::OpenFault;
 use qs_rounds::{Actors, Ending, NODE, RoundFault, rounds_of, start};
 use qs_step::Step;
-use qs_text::{Script, Status, out_text};
+use qs_text::{Script, Status, Waiting, out_text};
 use std::alloc::Global;
 
 /// What a run came to before anything was given.
@@ -71,50 +73,74 @@ fn rounds_and_verdict<D: Disk>(
     actors: &mut Actors<D>,
     plan: Plan<'_>,
 ) -> Result<Made, Status> {
-    let ending = rounds_of(alloc, plan.script, plan.seed, actors);
-    let Ok(status) = status_of(alloc, actors, ending) else {
-        return Err(Status::NoMemory);
-    };
-    if let Status::NoMemory = status {
-        return Err(status);
+    match rounds_of(alloc, plan.script, plan.seed, actors) {
+        Ok(ending) => {
+            let (journal, course) = verdict(alloc, actors, plan.script)?;
+            whole(alloc, plan, ending, journal, &course)
+        }
+        Err(RoundFault::DiskFault { node }) => {
+            let (journal, _) = verdict(alloc, actors, plan.script)?;
+            Ok(cut_short(alloc, Status::DiskFault { node }, journal))
+        }
+        Err(RoundFault::NoMemory) => Err(Status::NoMemory),
     }
-    let Ok(opened) = actors.node.opened() else {
+}
+
+/// The journal, and what the reference machine and the script say after it; else why they refuse it.
+fn verdict<D: Disk>(
+    alloc: Global,
+    actors: &Actors<D>,
+    script: &Script,
+) -> Result<(List<Entry>, Course), Status> {
+    let (Ok(opened), Ok(journal)) = (
+        actors.node.opened(),
+        copy_list(alloc, actors.node.journal()),
+    ) else {
         return Err(Status::NoMemory);
     };
-    let course = judged(alloc, plan.script, opened, actors.node.journal())?;
-    let Ok(journal) = copy_list(alloc, actors.node.journal()) else {
+    let course = judged(alloc, script, opened, journal.as_slice())?;
+    Ok((journal, course))
+}
+
+/// A run that came to its end, with its output.
+fn whole(
+    alloc: Global,
+    plan: Plan<'_>,
+    ending: Ending,
+    journal: List<Entry>,
+    course: &Course,
+) -> Result<Made, Status> {
+    let Ok(waiting) = waiting_of(alloc, course) else {
         return Err(Status::NoMemory);
     };
-    let gives = !matches!(status, Status::DiskFault { .. });
-    let output = if gives {
-        let Ok(output) = out_text(alloc, plan.script, &journal, course.book(), plan.journal) else {
-            return Err(Status::NoMemory);
-        };
-        Some(output)
-    } else {
-        None
+    let Ok(output) = out_text(alloc, plan.script, &journal, course.book(), plan.journal) else {
+        return Err(Status::NoMemory);
     };
     Ok(Made {
-        status,
+        status: status_of(ending, waiting),
         journal,
         trace: List::new(alloc),
-        output,
+        output: Some(output),
     })
 }
 
-/// How the run ended.
-fn status_of<D: Disk>(
-    alloc: Global,
-    actors: &Actors<D>,
-    ending: Result<Ending, RoundFault>,
-) -> Result<Status, NoMemory> {
-    Ok(match ending {
-        Ok(Ending::Settled) => Status::Finished,
-        Ok(Ending::Left { rounds }) => Status::Unfinished {
-            rounds,
-            waiting: actors.waiting(alloc)?,
-        },
-        Err(RoundFault::DiskFault { node }) => Status::DiskFault { node },
-        Err(RoundFault::NoMemory) => Status::NoMemory,
-    })
+/// A run whose node's disk failed as the node was started again.
+fn cut_short(alloc: Global, status: Status, journal: List<Entry>) -> Made {
+    Made {
+        status,
+        journal,
+        trace: List::new(alloc),
+        output: None,
+    }
+}
+
+/// How a run ended, some of whose clients wait for an answer.
+fn status_of(ending: Ending, waiting: List<Waiting>) -> Status {
+    if ending.settled && waiting.is_empty() {
+        return Status::Finished;
+    }
+    Status::Unfinished {
+        rounds: ending.rounds,
+        waiting,
+    }
 }
