@@ -22,14 +22,13 @@ pub fn deliver_all(ends: &mut [NodeEnds], answers: List<ClientAnswer>) -> Result
     Ok(())
 }
 
-/// Puts an answer into the lane of its client. A client that has none here is sent nothing.
+/// Puts an answer into the lane of its client. A client that has none here is sent nothing. After `NoMemory`, which comes
+/// where memory was refused, all is as it was.
 fn deliver(ends: &mut [NodeEnds], said: ClientAnswer) -> Result<(), NoMemory> {
-    for end in ends.iter_mut() {
-        if end.client == said.client {
-            return put(&mut end.answers, said.answer);
-        }
+    match place(ends, said.client) {
+        Some(at) => put(&mut ends[at].answers, said.answer),
+        None => Ok(()),
     }
-    Ok(())
 }
 
 fn put(answers: &mut Feed<LineAnswer>, answer: LineAnswer) -> Result<(), NoMemory> {
@@ -37,4 +36,21 @@ fn put(answers: &mut Feed<LineAnswer>, answer: LineAnswer) -> Result<(), NoMemor
         Ok(()) => Ok(()),
         Err(_) => Err(NoMemory),
     }
+}
+
+/// Takes the next command of the client that was carried.
+pub fn take_line(ends: &mut [NodeEnds], client: ClientNo) -> Option<ScriptLine> {
+    match place(ends, client) {
+        Some(at) => take(&mut ends[at].commands),
+        None => None,
+    }
+}
+
+fn take(commands: &mut Draw<ScriptLine>) -> Option<ScriptLine> {
+    commands.take_carried()
+}
+
+/// The place of the lanes of a client: the first with its number.
+pub fn place(ends: &[NodeEnds], client: ClientNo) -> Option<usize> {
+    ends.iter().position(|end| end.client == client)
 }
