@@ -1,12 +1,12 @@
 -- The lanes between a node and its clients: the commands that come by them, and the answers that go.
-use Rattle.std.specs.Prelude.{◌≡◌, ◌==◌, ℕ, Bool, List, [], ◌∷◌, ◌++◌, head, drop, fold, length, Option, Some, None, if◌then◌else◌}
+use Rattle.std.specs.Prelude.{◌≡◌, ◌==◌, Bool, List, [], ◌∷◌, ◌++◌, drop, fold, Option, Some, None, if◌then◌else◌}
 use Rattle.std.specs.List.{find}
 use Rattle.qs_base.specs.declared.identifiers.ClientNo.{ClientNo}
 use Rattle.qs_journal.specs.declared.script_line.LineAnswer.{LineAnswer}
 use Rattle.qs_journal.specs.declared.script_line.ScriptLine.{ScriptLine}
 use Rattle.qs_link.specs.Lane.{FeedValue, DrawValue, IsLane, IsFront, on_way}
 use Rattle.qs_step.specs.declared.event.ClientAnswer.{ClientAnswer}
-use Rattle.qs_cell.specs.declared.ends.NodeEnds.{NodeEnds}
+use Rattle.qs_lanes.specs.declared.ends.NodeEnds.{NodeEnds}
 use Rattle.rtrb.specs.Ring.{SameProducer, SameConsumer}
 
 abbrev pub is_of : ClientNo → NodeEnds → Bool
@@ -37,10 +37,14 @@ all_delivered answers ends = fold delivered ends answers
 
 -- ---- commands
 
+abbrev pub first_of : List ScriptLine → Option ScriptLine
+first_of [] = None
+first_of (line ∷ lines) = Some line
+
 -- the first that was carried
 abbrev pub line_of : Option NodeEnds → Option ScriptLine
 line_of None = None
-line_of (Some end) = head end.commands.inbox
+line_of (Some end) = first_of end.commands.inbox
 
 abbrev pub next_line : ClientNo → List NodeEnds → Option ScriptLine
 next_line client ends = line_of (ends_of client ends)
