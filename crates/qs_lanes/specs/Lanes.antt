@@ -1,11 +1,10 @@
 -- The lanes between a node and its clients: the commands that come by them, and the answers that go.
-use Rattle.std.specs.Prelude.{◌≡◌, ◌==◌, Bool, List, [], ◌∷◌, ◌++◌, drop, fold, Option, Some, None, if◌then◌else◌}
+use Rattle.std.specs.Prelude.{◌≡◌, ◌==◌, Bool, List, [], ◌∷◌, ◌++◌, drop, Option, Some, None, if◌then◌else◌}
 use Rattle.std.specs.List.{find}
 use Rattle.qs_base.specs.declared.identifiers.ClientNo.{ClientNo}
 use Rattle.qs_journal.specs.declared.script_line.LineAnswer.{LineAnswer}
 use Rattle.qs_journal.specs.declared.script_line.ScriptLine.{ScriptLine}
 use Rattle.qs_link.specs.Lane.{FeedValue, DrawValue, IsLane, IsFront, on_way}
-use Rattle.qs_step.specs.declared.event.ClientAnswer.{ClientAnswer}
 use Rattle.qs_lanes.specs.declared.ends.NodeEnds.{NodeEnds}
 use Rattle.rtrb.specs.Ring.{SameProducer, SameConsumer}
 
@@ -28,12 +27,8 @@ put_to answer feed = record feed { outbox = feed.outbox ++ answer ∷ [] }
 abbrev pub with_answer : LineAnswer → NodeEnds → NodeEnds
 with_answer answer end = record end { answers = put_to answer end.answers }
 
-abbrev pub delivered : List NodeEnds → ClientAnswer → List NodeEnds
-delivered ends said = at_client said.client (with_answer said.answer) ends
-
--- each to its client, in order
-abbrev pub all_delivered : List ClientAnswer → List NodeEnds → List NodeEnds
-all_delivered answers ends = fold delivered ends answers
+abbrev pub delivered : ClientNo → LineAnswer → List NodeEnds → List NodeEnds
+delivered client answer ends = at_client client (with_answer answer) ends
 
 -- ---- commands
 

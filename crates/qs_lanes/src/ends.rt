@@ -1,12 +1,11 @@
 //! The lanes between a node and its clients.
 ghost use Rattle.std.specs.Prelude.{◌≡◌, OnOk, OnErr};
 ghost use Rattle.std.specs.List.{position};
-ghost use Rattle.qs_lanes.specs.Lanes.{is_of, delivered, all_delivered, put_to, taken_from, first_of, next_line, at_client, without_line};
+ghost use Rattle.qs_lanes.specs.Lanes.{is_of, delivered, put_to, taken_from, first_of, next_line, at_client, without_line};
 
-use qs_base::{ClientNo, List, NoMemory};
+use qs_base::{ClientNo, NoMemory};
 use qs_journal::{LineAnswer, ScriptLine};
 use qs_link::{Draw, Feed};
-use qs_step::ClientAnswer;
 
 /// The node's ends of the lanes of one of its clients: the commands come from there, the answers go there.
 #[derive(Drop)]
@@ -25,23 +24,18 @@ fn place(ends: &[NodeEnds], client: ClientNo) -> Option<usize>
 
 // ---- answers
 
-/// Puts answers into the lanes of their clients, in order. An answer to a client that has no lanes is dropped. After
-/// `NoMemory`, which comes where memory was refused, a front was put.
-pub fn deliver_all(ends: &mut [NodeEnds], answers: List<ClientAnswer>) -> Result<(), NoMemory>
-    ensures ok { OnOk result (ends.new ≡ all_delivered answers ends.old) }
+/// Puts an answer into the lane of its client; where the client has no lanes it is dropped. After `NoMemory`, which comes
+/// where memory was refused, all is as it was.
+pub fn deliver(
+    ends: &mut [NodeEnds],
+    client: ClientNo,
+    answer: LineAnswer,
+) -> Result<(), NoMemory>
+    ensures ok { OnOk result (ends.new ≡ delivered client answer ends.old) }
+    ensures err { OnErr result (ends.new ≡ ends.old) }
 {
-    for said in answers.into_vec() {
-        deliver(ends, said)?;
-    }
-    Ok(())
-}
-
-/// Puts an answer into the lane of its client. After a refusal all is as it was.
-fn deliver(ends: &mut [NodeEnds], said: ClientAnswer) -> Result<(), NoMemory>
-    ensures ok { OnOk result (ends.new ≡ delivered ends.old said) }
-{
-    match place(ends, said.client) {
-        Some(at) => put(&mut ends[at].answers, said.answer),
+    match place(ends, client) {
+        Some(at) => put(&mut ends[at].answers, answer),
         None => Ok(()),
     }
 }

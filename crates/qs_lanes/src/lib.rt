@@ -3,4 +3,4 @@
 
 mod ends;
 
-pub use ends::{NodeEnds, deliver_all, take_line};
+pub use ends::{NodeEnds, deliver, take_line};

@@ -1,6 +1,0 @@
-use Rattle.std.proofs.Common.{◌≡◌}
-use Rattle.qs_lanes.specs.Lanes.{all_delivered}
-use Rattle.qs_lanes.proofs.ends.deliver_all.Given as goal
-
-abbrev pub invariant-loop-said : goal.invariant-loop-said
-invariant-loop-said l = l.ends ≡ all_delivered l.yielded l.initial.ends
