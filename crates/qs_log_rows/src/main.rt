@@ -4,20 +4,14 @@
 //! digests that another program reckoned.
 #![tactic(auto)]
 
-ghost use Rattle.std.specs.Prelude.{IfOk, OnOk};
-ghost use Rattle.qs_log.specs.Log.{Stands};
-ghost use Rattle.qs_record.specs.Grammar.{IsRecord};
+mod tried;
 
+use crate::tried::{Spelled, TriedLog};
 use anyhow::{Error, bail};
 use qs_base::{List, ServerNo};
-use qs_codec::Reader;
 use qs_disk::{Disk, Fused, MemDisk};
-use qs_log::{AppendFault, Log, LogOpen, Lsn};
-use qs_record::{Record, decode};
+use qs_log::{AppendFault, Lsn};
 use std::alloc::Global;
-
-/// Every number of a slot is below it.
-const LIMIT: u64 = 1 << 61;
 
 /// The bytes of each disk.
 const SIZE: u64 = 65_536;
@@ -43,18 +37,8 @@ const TWO_BATCHES: usize = 136;
 /// How many disks each disk call is tried with, whose power cuts differ.
 const SEEDS: u64 = 8;
 
-fn record_of(alloc: Global, bytes: &[u8]) -> Result<Record, Error>
-    ensures { IfOk result IsRecord }
-{
-    let mut reader = Reader::new(bytes);
-    let rec = decode(alloc, &mut reader)?;
-    Ok(rec)
-}
-
 /// A Prepare of six changes with texts of 4,096 bytes and one of 4,004.
-fn long_prepare(alloc: Global) -> Result<Record, Error>
-    ensures { IfOk result IsRecord }
-{
+fn long_prepare(alloc: Global) -> Result<Spelled, Error> {
     let mut bytes = Vec::from_slice(alloc, &PREPARE[..FRONT])?;
     bytes.push(7)?;
     for length in [4_096, 4_096, 4_096, 4_096, 4_096, 4_096, 4_004u32] {
@@ -64,7 +48,7 @@ fn long_prepare(alloc: Global) -> Result<Record, Error>
             bytes.push(b'x')?;
         }
     }
-    record_of(alloc, bytes.as_slice())
+    Spelled::read(alloc, bytes.as_slice())
 }
 
 fn fresh(alloc: Global, seed: u64) -> Result<Fused<MemDisk>, Error> {
@@ -74,46 +58,31 @@ fn fresh(alloc: Global, seed: u64) -> Result<Fused<MemDisk>, Error> {
     Ok(Fused::new(disk))
 }
 
-fn opened(alloc: Global, disk: Fused<MemDisk>) -> Result<Log<Fused<MemDisk>>, Error>
-    ensures { IfOk result (λ log. Stands log log.disk.disk.disk) }
-{
-    match Log::open(alloc, disk, LIMIT) {
+/// A log with the Prepare forced.
+fn prepared(alloc: Global, seed: u64) -> Result<TriedLog, Error> {
+    let mut log = TriedLog::open(alloc, fresh(alloc, seed)?)?;
+    log.add(alloc, &PREPARE)?;
+    forced(log)
+}
+
+/// The log once what waits is forced.
+fn forced(log: TriedLog) -> Result<TriedLog, Error> {
+    match log.force() {
         Ok(log) => Ok(log),
-        Err(LogOpen { disk: _, why }) => Err(why.into()),
+        Err(_) => bail!("a disk call failed"),
     }
 }
 
-/// Appends the record that the bytes spell.
-fn add(alloc: Global, log: &mut Log<Fused<MemDisk>>, bytes: &[u8]) -> Result<Lsn, Error>
-    requires { Stands log.old log.old.disk.disk.disk }
-    ensures { OnOk result (Stands log.new log.new.disk.disk.disk) }
-{
-    let rec = record_of(alloc, bytes)?;
-    let lsn = log.append(&rec)?;
-    Ok(lsn)
-}
-
-/// A log with the Prepare forced.
-fn prepared(alloc: Global, seed: u64) -> Result<Log<Fused<MemDisk>>, Error>
-    ensures { IfOk result (λ log. Stands log log.disk.disk.disk) }
-{
-    let mut log = opened(alloc, fresh(alloc, seed)?)?;
-    add(alloc, &mut log, &PREPARE)?;
-    log.force()?;
-    Ok(log)
-}
-
 /// And then the Commit.
-fn committed(alloc: Global) -> Result<Log<Fused<MemDisk>>, Error> {
+fn committed(alloc: Global) -> Result<TriedLog, Error> {
     let mut log = prepared(alloc, 1)?;
-    add(alloc, &mut log, &COMMIT)?;
-    log.force()?;
-    Ok(log)
+    log.add(alloc, &COMMIT)?;
+    forced(log)
 }
 
 /// Appends the long Prepare, which is to be refused.
 fn show_refusal<R: AllocGlobal + Print>(rt: &R) -> Result<(), Error> {
-    let mut log = opened(rt.alloc(), fresh(rt.alloc(), 1)?)?;
+    let mut log = TriedLog::open(rt.alloc(), fresh(rt.alloc(), 1)?)?;
     let long = long_prepare(rt.alloc())?;
     match log.append(&long) {
         Err(AppendFault::LogFull { need, room }) => {
@@ -127,14 +96,14 @@ fn show_refusal<R: AllocGlobal + Print>(rt: &R) -> Result<(), Error> {
 /// Prints the room of a fresh log, and as records wait and are forced.
 fn show_room<R: AllocGlobal + Print>(rt: &R) -> Result<(), Error> {
     let alloc = rt.alloc();
-    let mut log = opened(alloc, fresh(alloc, 1)?)?;
+    let mut log = TriedLog::open(alloc, fresh(alloc, 1)?)?;
     println!(rt; "room {}", log.room())?;
-    let lsn = add(alloc, &mut log, &PREPARE)?;
+    let lsn = log.add(alloc, &PREPARE)?;
     println!(rt; "record {lsn}, room {}", log.room())?;
     let mut log = prepared(alloc, 1)?;
     println!(rt; "forced, room {}", log.room())?;
-    add(alloc, &mut log, &PREPARE)?;
-    let lsn = add(alloc, &mut log, &PREPARE)?;
+    log.add(alloc, &PREPARE)?;
+    let lsn = log.add(alloc, &PREPARE)?;
     println!(rt; "record {lsn}, room {}", log.room())?;
     Ok(())
 }
@@ -150,23 +119,16 @@ fn show_bytes<R: AllocGlobal + Print>(rt: &R) -> Result<(), Error> {
 }
 
 /// Prints how many records of a server a scan from a place finds.
-fn show_scan<R: Print>(
-    rt: &R,
-    log: &Log<Fused<MemDisk>>,
-    server: u8,
-    from: Lsn,
-) -> Result<(), Error> {
-    let Ok(found) = log.scan(ServerNo(server), from) else {
-        bail!("no memory");
-    };
-    println!(rt; "server {server} from {from}: {}", found.len())?;
+fn show_scan<R: Print>(rt: &R, log: &TriedLog, server: u8, from: Lsn) -> Result<(), Error> {
+    let found = log.count(ServerNo(server), from)?;
+    println!(rt; "server {server} from {from}: {found}")?;
     Ok(())
 }
 
 /// Prints what scans find of a Prepare of server 0 and a Commit.
 fn show_scans<R: AllocGlobal + Print>(rt: &R) -> Result<(), Error> {
     let mut log = prepared(rt.alloc(), 1)?;
-    add(rt.alloc(), &mut log, &COMMIT)?;
+    log.add(rt.alloc(), &COMMIT)?;
     for (server, from) in [(7, 0), (7, 1), (7, 2), (0, 0), (1, 0)] {
         show_scan(rt, &log, server, from)?;
     }
@@ -175,23 +137,19 @@ fn show_scans<R: AllocGlobal + Print>(rt: &R) -> Result<(), Error> {
 
 /// Prints what the slots of a fresh disk say.
 fn show_fresh<R: AllocGlobal + Print>(rt: &R) -> Result<(), Error> {
-    let log = opened(rt.alloc(), fresh(rt.alloc(), 1)?)?;
+    let log = TriedLog::open(rt.alloc(), fresh(rt.alloc(), 1)?)?;
+    let said = log.slots();
     println!(rt;
         "generation {} format {} incarnation {} top {}",
-        log.generation(),
-        log.format(),
-        log.inc(),
-        log.top()
+        said.generation, said.format, said.inc, said.top
     )?;
     Ok(())
 }
 
 /// A disk with the Prepare forced, the Commit waiting, and a disk call to trip at.
-fn armed(alloc: Global, seed: u64, call: u64) -> Result<Log<Fused<MemDisk>>, Error>
-    ensures { IfOk result (λ log. Stands log log.disk.disk.disk) }
-{
+fn armed(alloc: Global, seed: u64, call: u64) -> Result<TriedLog, Error> {
     let mut log = prepared(alloc, seed)?;
-    add(alloc, &mut log, &COMMIT)?;
+    log.add(alloc, &COMMIT)?;
     let mut plan = List::new(alloc);
     if plan.push(call).is_err() {
         bail!("no memory");
@@ -204,29 +162,27 @@ fn armed(alloc: Global, seed: u64, call: u64) -> Result<Log<Fused<MemDisk>>, Err
 type Left = (usize, u64);
 
 /// What stands after a power cut.
-fn after_cut(alloc: Global, log: Log<Fused<MemDisk>>) -> Result<Left, Error> {
-    let mut disk = log.into_disk();
+fn after_cut(alloc: Global, disk: Fused<MemDisk>) -> Result<Left, Error> {
+    let mut disk = disk;
     disk.power_cut()?;
-    let again = opened(alloc, disk)?;
-    Ok((again.records().len(), again.inc()))
+    let again = TriedLog::open(alloc, disk)?;
+    Ok((again.len(), again.slots().inc))
 }
 
 /// The same after a force that tripped.
 fn after_force(alloc: Global, seed: u64, call: u64) -> Result<Left, Error> {
-    let mut log = armed(alloc, seed, call)?;
-    if log.force().is_ok() {
-        bail!("no disk call tripped");
+    match armed(alloc, seed, call)?.force() {
+        Ok(_) => bail!("no disk call tripped"),
+        Err(disk) => after_cut(alloc, disk),
     }
-    after_cut(alloc, log)
 }
 
 /// The same after a raise that tripped.
 fn after_raise(alloc: Global, seed: u64, call: u64) -> Result<Left, Error> {
-    let mut log = armed(alloc, seed, call)?;
-    if log.top() > 0 || log.raise().is_ok() {
-        bail!("no disk call tripped");
+    match armed(alloc, seed, call)?.raise() {
+        Ok(_) => bail!("no disk call tripped"),
+        Err(disk) => after_cut(alloc, disk),
     }
-    after_cut(alloc, log)
 }
 
 /// Which of two outcomes were seen, and whether another one was.

@@ -1,0 +1,5 @@
+pub mod ClosedOutcomes
+pub mod FurtherServer
+pub mod TakenUp
+mod Refused
+mod Told

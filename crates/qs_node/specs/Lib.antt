@@ -1,1 +1,4 @@
 pub mod Labelled
+pub mod Closed
+pub mod Contents
+pub mod Begun

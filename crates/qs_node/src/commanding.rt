@@ -3,8 +3,10 @@ ghost use Rattle.std.specs.Prelude.{◌≡◌, fold, map, IfOk, OnOk};
 ghost use Rattle.qs_step.specs.Step.{is_owner, obey, with_command, command_came, request_waits, owner_waits, borrower_waits, wait_command, wait_on, waiting_clients, answer_waiting};
 ghost use Rattle.qs_node.specs.Labelled.{obeyed, on_label, waited};
 
+use crate::beginning::begin_command;
+use crate::borrowing::{borrower_command, is_aborted};
+use crate::owning::{decided_answer, owner_command};
 use qs_base::{ClientNo, Copied, List, NoMemory, Tid};
-use qs_commands::{begin_command, borrower_command, decided_answer, is_aborted, owner_command};
 use qs_journal::{Command, ScriptLine};
 use qs_ops::{Answer, Server};
 use qs_servers::Servers;

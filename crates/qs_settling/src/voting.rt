@@ -16,11 +16,10 @@ use qs_journal::Act;
 use qs_ops::servers::{AUDIT, FILES};
 use qs_ops::{Op, Server, Vote};
 use qs_record::Record;
-use qs_requests::issue;
 use qs_servers::Servers;
 use qs_step::{NodeState, Work};
 use qs_tm::Due;
-use qs_work::{enter, log, member_here, note_prepared, note_voted};
+use qs_work::{enter, issue, log, member_here, note_prepared, note_voted};
 use std::alloc::Global;
 
 /// The bytes of a batch beside its records.

@@ -8,7 +8,7 @@ use Rattle.qs_base.specs.declared.identifiers.NodeNo.{NodeNo}
 use Rattle.qs_base.specs.declared.identifiers.ServerNo.{ServerNo}
 use Rattle.qs_engage.specs.Engage as engage
 use Rattle.qs_engage.specs.Engage.{new_engage, is_passive, is_open_to, is_node, last_number}
-use Rattle.qs_engage.specs.Nodes.{no_nodes, put_node, drop_node, joined, same_node}
+use Rattle.qs_engage.specs.Nodes.{no_nodes, is_no_node, put_node, drop_node, joined, same_node}
 use Rattle.qs_ops.specs.Members.{is_two_phase}
 use Rattle.qs_ops.specs.declared.answer.Cause.{Cause}
 use Rattle.qs_ops.specs.declared.answer.Cause.TheVariants as causes
@@ -202,11 +202,11 @@ has_read_at part server = has_read server (member_of part server)
 abbrev pub only_read : Participant → Bool
 only_read part = list_all (has_read_at part) all_servers
 
--- elsewhere than at the home, it only read, answers to nobody and is not to be told
+-- elsewhere than at the home, it only read, answers to nobody, is not to be told and knows of nobody who is
 abbrev pub is_forgotten : Participant → Bool
 is_forgotten part =
     (is_undecided part && not part.engage.home)
-    && ((is_none part.engage.superior && not part.involved) && only_read part)
+    && ((is_none part.engage.superior && not part.involved) && (is_no_node part.told && only_read part))
 
 -- ---- another node restarted
 

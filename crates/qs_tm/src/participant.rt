@@ -393,12 +393,13 @@ impl Participant {
     }
 
     /// Whether it may be forgotten here: elsewhere than at the home, not decided, with no superior, not
-    /// to be told, and only read.
+    /// to be told, with nobody to be told, and only read.
     pub fn is_forgotten(&self) -> bool
         ensures { result ≡ is_forgotten self.now }
     {
         (self.outcome.is_none() && !self.engage.home)
-            && ((self.engage.superior.is_none() && !self.involved) && self.only_read())
+            && ((self.engage.superior.is_none() && !self.involved)
+                && (self.told.is_empty() && self.only_read()))
     }
 
     // ---- another node's restart

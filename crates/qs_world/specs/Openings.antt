@@ -109,9 +109,9 @@ all_labels o = all_below client_count (λ k. labels_begun (o.clients k).1)
 
 -- ---- logs
 
--- what began at a node began in an earlier incarnation
-abbrev pub is_earlier : Opening → ℕ → Tid → Bool
-is_earlier o n tid = not (tid.home.0 == n) || nat_lt tid.inc (o.settings n).inc
+-- what began at a node of the run began in an earlier incarnation of it
+abbrev pub is_earlier : Opening → Tid → Bool
+is_earlier o tid = not (is_in_run o.size tid.home) || nat_lt tid.inc (o.settings tid.home.0).inc
 
 abbrev pub is_commit_of : Tid → Record → Bool
 is_commit_of tid (records.Prepare other server covers changes) = false
@@ -134,10 +134,10 @@ is_list n tid (first ∷ others) = (tid.home.0 == n) && not (has_node (first ∷
 -- a record in the log of node n
 abbrev pub is_record : Opening → ℕ → Record → Bool
 is_record o n (records.Prepare tid server covers changes) =
-    is_earlier o n tid && (is_recoverable server.0 && list_all (is_for server) changes)
-is_record o n (records.Commit tid told) = is_earlier o n tid && (is_committed_at_home o tid && is_list n tid told)
-is_record o n (records.Aborted tid) = is_earlier o n tid
-is_record o n (records.End tid) = is_earlier o n tid
+    is_earlier o tid && (is_recoverable server.0 && list_all (is_for server) changes)
+is_record o n (records.Commit tid told) = is_earlier o tid && (is_committed_at_home o tid && is_list n tid told)
+is_record o n (records.Aborted tid) = is_earlier o tid
+is_record o n (records.End tid) = is_earlier o tid
 
 -- a Commit that is not ended names the node
 abbrev pub names_it : Tid → ℕ → Untold → Bool

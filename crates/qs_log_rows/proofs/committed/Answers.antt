@@ -1,4 +1,0 @@
-use Rattle.qs_log_rows.proofs.committed.Goals as goal
-
-pub force-requires : goal.force-requires
-force-requires c = λ told. c.in_ok-add.ensures

@@ -1,0 +1,77 @@
+//! How clients begin transactions.
+ghost use Rattle.std.specs.Prelude.{◌≡◌, OnOk};
+ghost use Rattle.qs_step.specs.Commands.{refuse_begin, begin_command};
+ghost use Rattle.qs_node.specs.Begun.{has_begun};
+
+use qs_base::{Copied, NoMemory, Tid};
+use qs_journal::{Act, ScriptLine};
+use qs_kept::Begun;
+use qs_ops::{Answer, Server};
+use qs_servers::Servers;
+use qs_step::Work;
+use qs_tm::BeginFault;
+use qs_work::{answer, enter, put_label};
+
+/// The transaction has begun: its label is met, and its client is answered.
+fn has_begun<F: Server, X: Server>(
+    work: &mut Work<Servers<F, X>>,
+    line: &ScriptLine,
+    tid: Tid,
+) -> Result<(), NoMemory>
+    ensures ok { OnOk result (work.new ≡ has_begun line.now tid work.old) }
+    ensures saved { work.new.node.kept.saved ≡ work.old.node.kept.saved }
+{
+    put_label(
+        work,
+        Begun {
+            label: line.label.copy()?,
+            tid: Some(tid),
+            owner: Some(line.client),
+        },
+    )?;
+    let act = Act::Begin {
+        tid,
+        label: line.label.copy()?,
+        client: line.client,
+    };
+    enter(work, act)?;
+    answer(work, line.client, Answer::Done)
+}
+
+/// The log has no room for another transaction.
+fn refuse_begin<F: Server, X: Server>(
+    work: &mut Work<Servers<F, X>>,
+    line: &ScriptLine,
+    need: u64,
+    room: u64,
+) -> Result<(), NoMemory>
+    ensures ok { OnOk result (work.new ≡ refuse_begin line.now need room work.old) }
+    ensures saved { work.new.node.kept.saved ≡ work.old.node.kept.saved }
+{
+    put_label(
+        work,
+        Begun {
+            label: line.label.copy()?,
+            tid: None,
+            owner: Some(line.client),
+        },
+    )?;
+    answer(work, line.client, Answer::LogFull { need, room })
+}
+
+/// A client begins a transaction. Where the log has no room for its records the client is told so; where
+/// the last number of a transaction was given nothing happens.
+pub fn begin_command<F: Server, X: Server>(
+    work: &mut Work<Servers<F, X>>,
+    line: &ScriptLine,
+) -> Result<(), NoMemory>
+    ensures ok { OnOk result (work.new ≡ begin_command line.now work.old) }
+    ensures saved { work.new.node.kept.saved ≡ work.old.node.kept.saved }
+{
+    match work.node.manager.begin(line.client, work.room) {
+        Ok(tid) => has_begun(work, line, tid),
+        Err(BeginFault::LogFull { need, room }) => refuse_begin(work, line, need, room),
+        Err(BeginFault::Last { .. }) => Ok(()),
+        Err(BeginFault::NoMemory) => Err(NoMemory),
+    }
+}

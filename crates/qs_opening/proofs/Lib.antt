@@ -1,3 +1,0 @@
-pub mod ClosedOutcomes
-pub mod FurtherServer
-pub mod TakenUp
