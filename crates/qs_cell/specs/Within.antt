@@ -1,18 +1,30 @@
--- Stages of an event: it has begun, it is worked out, and it is done with the log.
-use Rattle.std.specs.Prelude.{◌≡◌, ℕ}
+-- Stages of an event, which has begun, is worked out and is done with the log, and of a restart.
+use Rattle.std.specs.Prelude.{◌≡◌, ◌≢◌, ◌↔◌, ⊥, ℕ, [], ◌∷◌, None}
+use Rattle.std.specs.Global.{Global}
+use Rattle.qs_base.specs.Causes.{Rose}
 use Rattle.qs_disk.specs.Fuse.{FusedValue}
-use Rattle.qs_host.specs.Host.{HostValue, node_after, worked_node, IsLogAfter}
+use Rattle.qs_host.specs.Host.{HostValue, node_after, worked_node, opened_host, IsLogAfter}
+use Rattle.qs_incarnation.specs.declared.counts.Counts.{Counts}
+use Rattle.qs_incarnation.specs.declared.incarnation.ReopenFault.{ReopenFault}
+use Rattle.qs_incarnation.specs.declared.incarnation.ReopenFault.TheVariants as reopen_faults
 use Rattle.qs_journal.specs.declared.entry.CrashCause.{CrashCause}
 use Rattle.qs_kept.specs.declared.kept.Kept.{Kept}
+use Rattle.qs_log.specs.Log.{LogValue}
 use Rattle.qs_step.specs.declared.event.Effects.{Effects}
+use Rattle.qs_step.specs.declared.trace.Did.TheVariants as dids
 use Rattle.qs_step.specs.declared.trace.Did.{Did}
 use Rattle.qs_chronicle.specs.declared.occasion.Occasion.{Occasion}
 use Rattle.qs_chronicle.specs.declared.carried.Carried.{Carried}
 use Rattle.qs_chronicle.specs.Occasions.{event_of, taken}
-use Rattle.qs_chronicle.specs.Chronicle.{crashed}
+use Rattle.qs_chronicle.specs.Carried.{seen}
+use Rattle.qs_chronicle.specs.Chronicle.{crashed, noted, stamped}
 use Rattle.qs_cell.specs.declared.running.Running.{Running}
 use Rattle.qs_cell.specs.declared.stopped.Stopped.{Stopped}
 use Rattle.qs_cell.specs.Cell.{begun, out_of, IsUnplanned}
+use Rattle.qs_cell.specs.Restart.{inc_of, found_in, restart_of}
+use Rattle.qs_cell.specs.declared.stopped.Rest.{Rest}
+use Rattle.qs_cell.specs.declared.stopped.Restarted.{Restarted}
+use Rattle.qs_cell.specs.declared.stopped.Restarted.TheVariants as restarts
 
 -- it has its number and its stamp, and its command is in hand
 pub record HasBegun (occasion : Occasion) (old new : Carried) : Type 0 where
@@ -49,3 +61,30 @@ pub record IsStopped {D : Type 0} (disk : FusedValue D) (kept : Kept) (did : Did
   pub crashes : new.carried.crashes ≡ old.crashes
   pub points : new.carried.points.items ≡ old.points.items
   pub setting : new.carried.setting ≡ old.setting
+
+-- the node is still down with what it carries, over this disk
+pub record IsLeft {D : Type 0} (own : D → ℕ) (rest : Rest) (before : Counts) (disk : FusedValue D) (stopped : Stopped D) (why : ReopenFault) : Type 0 where
+  pub disk : stopped.disk ≡ disk
+  pub kept : stopped.kept ≡ rest.kept
+  pub cause : stopped.cause ≡ rest.cause
+  pub setting : stopped.carried.setting ≡ rest.carried.setting
+  pub seen : seen stopped.carried ≡ seen rest.carried
+  pub tripped : (why ≡ reopen_faults.Tripped) ↔ (disk.fuse.trips ≢ before.trips)
+  pub failed : why ≡ reopen_faults.DiskFailed → Rose before.own (own disk.disk)
+
+abbrev pub IsLeftDown : {D F X : Type 0} → (D → ℕ) → Rest → Counts → FusedValue D → Restarted D F X → Type 0
+IsLeftDown own rest before disk (restarts.Up running) = ⊥
+IsLeftDown own rest before disk (restarts.Down stopped why) = IsLeft own rest before disk stopped why
+
+-- the node is up in the incarnation of its log, with what that says
+pub record IsBegun {D F X : Type 0} (alloc : Global) (log : LogValue (FusedValue D)) (rest : Rest) (new : Running D F X) : Type 0 where
+  pub setting : new.carried.setting ≡ record rest.carried.setting { inc = inc_of log }
+  pub host : new.host ≡ opened_host alloc new.carried.setting rest.kept log
+  pub told : new.carried.chronicle.told ≡ noted (dids.Restart (inc_of log)) (restart_of (inc_of log) (found_in log) ∷ []) None (stamped rest.carried.chronicle.told)
+  pub commands : new.carried.commands ≡ rest.carried.commands
+  pub crashes : new.carried.crashes ≡ rest.carried.crashes
+  pub points : new.carried.points.items ≡ rest.carried.points.items
+
+abbrev pub Begins : {D F X : Type 0} → (D → ℕ) → Global → LogValue (FusedValue D) → Rest → Counts → Restarted D F X → Type 0
+Begins own alloc log rest before (restarts.Up running) = IsBegun alloc log rest running
+Begins own alloc log rest before (restarts.Down stopped why) = IsLeft own rest before log.disk stopped why

@@ -1,12 +1,12 @@
 //! The cell of a node: its visits and restarts, between its clients and its disk.
 
-use crate::ends::{NodeEnds, deliver_all};
+use crate::ends::{NodeEnds, deliver_all, place, take_line};
 use crate::opened::opened_with;
 use crate::starting::{CellOpen, NodePlan, Started, begin, open_log};
 use crate::state::{NodeState, RestartFault};
 use core::mem;
 use qs_base::{ClientNo, Copied, List, NoMemory};
-use qs_chronicle::Occasion;
+use qs_chronicle::{Carried, Held, Occasion};
 use qs_disk::{Disk, Fused};
 use qs_journal::{Act, CrashCause, Entry, LineAnswer, ScriptLine};
 use qs_link::{Draw, Feed, carry};
@@ -38,8 +38,8 @@ pub struct Visited {
 /// Where the next event of a visit comes from.
 #[derive(Clone, Copy, Debug, PartialEq, Eq)]
 enum Source {
-    /// The client at that place of the ends.
-    Client(usize),
+    /// The commands of that client.
+    Client(ClientNo),
     /// The requests that wait in the queues.
     Queues,
     /// Time that passes.
@@ -82,13 +82,13 @@ impl<D: Disk> NodeCell<D> {
         self.begin_round();
         let before = self.journal().len();
         for at in 0..self.ends.len() {
-            self.turn(Source::Client(at))?;
+            self.turn(Source::Client(self.ends[at].client))?;
         }
         self.turn(Source::Queues)?;
         self.turn(Source::Clock)?;
         Ok(Visited {
             sent: false,
-            noted: has_noted(&self.journal()[before..]),
+            noted: has_noted(self.journal(), before),
         })
     }
 
@@ -105,30 +105,17 @@ impl<D: Disk> NodeCell<D> {
         deliver_all(self.ends.as_mut_slice(), answers)
     }
 
-    /// The event of that source, for which room is made.
+    /// The event that is due of that source, for which room is made.
     fn next(&mut self, source: Source) -> Result<Option<Occasion>, NoMemory> {
         if self.cause().is_some() {
             return Ok(None);
         }
         self.state.make_room()?;
         match source {
-            Source::Client(at) => self.next_command(at),
+            Source::Client(client) => next_command(self.state.carried(), &mut self.ends, client),
             Source::Queues if self.state.queued() => Ok(Some(Occasion::Queues)),
             Source::Queues => Ok(None),
             Source::Clock => Ok(Some(Occasion::Clock)),
-        }
-    }
-
-    /// The command of a client: one that an earlier incarnation took, or, where none is in hand, the next of its lane.
-    fn next_command(&mut self, at: usize) -> Result<Option<Occasion>, NoMemory> {
-        let end = &mut self.ends[at];
-        let carried = self.state.carried();
-        match carried.commands.get(&end.client) {
-            Some(held) if held.inc == carried.setting.inc => Ok(None),
-            Some(held) => Ok(Some(Occasion::Command {
-                line: held.line.copy()?,
-            })),
-            None => Ok(command_of(end.commands.take_carried())),
         }
     }
 
@@ -150,12 +137,10 @@ impl<D: Disk> NodeCell<D> {
         client: ClientNo,
         from: &mut Feed<ScriptLine>,
     ) -> Result<usize, NoMemory> {
-        for end in self.ends.iter_mut() {
-            if end.client == client {
-                return carry(from, &mut end.commands);
-            }
+        match place(self.ends.as_slice(), client) {
+            Some(at) => carry(from, &mut self.ends[at].commands),
+            None => Ok(0),
         }
-        Ok(0)
     }
 
     /// Moves what was sent to the client into the inbox of its lane there, as `carry_commands`.
@@ -164,12 +149,10 @@ impl<D: Disk> NodeCell<D> {
         client: ClientNo,
         to: &mut Draw<LineAnswer>,
     ) -> Result<usize, NoMemory> {
-        for end in self.ends.iter_mut() {
-            if end.client == client {
-                return carry(&mut end.answers, to);
-            }
+        match place(self.ends.as_slice(), client) {
+            Some(at) => carry(&mut self.ends[at].answers, to),
+            None => Ok(0),
         }
-        Ok(0)
     }
 
     /// Whether the node is up.
@@ -224,14 +207,44 @@ impl<D: Disk> NodeCell<D> {
     }
 }
 
-fn command_of(line: Option<ScriptLine>) -> Option<Occasion> {
+/// The command of a client: one that an earlier incarnation took, or, where none is in hand, the next of its lane. After
+/// `NoMemory`, which comes where memory was refused, all is as it was.
+fn next_command(
+    carried: &Carried,
+    ends: &mut Vec<NodeEnds>,
+    client: ClientNo,
+) -> Result<Option<Occasion>, NoMemory> {
+    match carried.commands.get(&client) {
+        Some(held) => held_command(held, carried.setting.inc),
+        None => Ok(as_command(take_line(ends.as_mut_slice(), client))),
+    }
+}
+
+/// A command in hand is due again where an earlier incarnation took it.
+fn held_command(held: &Held, inc: u64) -> Result<Option<Occasion>, NoMemory> {
+    if held.inc == inc {
+        return Ok(None);
+    }
+    Ok(Some(Occasion::Command {
+        line: held.line.copy()?,
+    }))
+}
+
+fn as_command(line: Option<ScriptLine>) -> Option<Occasion> {
     match line {
         Some(line) => Some(Occasion::Command { line }),
         None => None,
     }
 }
 
-/// Whether some entry is not that of a tick.
-fn has_noted(entries: &[Entry]) -> bool {
-    entries.iter().any(|entry| !matches!(&entry.act, Act::Tick))
+/// Whether some entry behind so many is not that of a tick.
+fn has_noted(entries: &[Entry], before: usize) -> bool {
+    match entries.get(before..) {
+        Some(entries) => entries.iter().any(is_noted),
+        None => false,
+    }
+}
+
+fn is_noted(entry: &Entry) -> bool {
+    !matches!(&entry.act, Act::Tick)
 }

@@ -1,31 +1,32 @@
 //! A node that is down: how it stops, and how it starts again.
-ghost use Rattle.std.specs.Prelude.{◌≡◌, ◌≤◌, ◌∷◌, [], map, None, IfOk, IfErr, OnOk};
-ghost use Rattle.qs_base.specs.Causes.{Rose};
-ghost use Rattle.qs_log.specs.Log.{Stands, records_of, disk_of};
-ghost use Rattle.qs_log.specs.declared.fault.OpenFault.TheVariants as open_faults;
+ghost use Rattle.std.specs.Prelude.{◌≡◌, ◌⊎◌, ◌≤◌, ◌∷◌, List, [], map, None, IfOk, OnOk};
+ghost use Rattle.qs_chronicle.specs.Chronicle.{HasRoom, noted, stamped};
+ghost use Rattle.qs_cell.specs.Restart.{IsRestarted, IsWhyDown, IfUp, restarted_disk, found_of, restart_of};
+ghost use Rattle.qs_cell.specs.Within.{IsStopped, IsLeftDown, Begins};
+ghost use Rattle.qs_cell.specs.declared.stopped.Restarted.TheVariants as restarts;
+ghost use Rattle.qs_disk.specs.Disk.{EachImage};
+ghost use Rattle.qs_disk.specs.Moments.{Keeps};
+ghost use Rattle.qs_incarnation.specs.Incarnation.{IsReopened, HasOneOf};
+ghost use Rattle.qs_log.specs.Log.{Stands, records_of};
 ghost use Rattle.qs_ops.specs.declared.server.Kind.TheVariants as kinds;
+ghost use Rattle.qs_record.specs.declared.record.Record.{Record};
 ghost use Rattle.qs_servers.specs.Kinds.{empty_server};
 ghost use Rattle.qs_step.specs.Opening.{recovered_of};
 ghost use Rattle.qs_step.specs.declared.trace.Did.TheVariants as dids;
-ghost use Rattle.qs_chronicle.specs.Chronicle.{HasRoom, noted, stamped};
-ghost use Rattle.qs_cell.specs.Within.{IsStopped};
-ghost use Rattle.qs_cell.specs.Restart.{IsReopened, IsRestarted, IsRefused, Begins, IfUp, restarted_disk, faults_of, found_of, restart_of};
 
 use crate::running::Running;
 use qs_base::{List, NoMemory};
 use qs_chronicle::Carried;
-use qs_disk::{Disk, DiskFailed, Fused};
+use qs_disk::{Disk, Fused};
 use qs_host::{Host, HostOpen};
+use qs_incarnation::{Counts, LogReopen, ReopenFault, begin_again, not_begun};
 use qs_journal::{Act, CrashCause, Found};
 use qs_kept::Kept;
-use qs_log::{Log, LogOpen, OpenFault};
+use qs_log::{Log, OpenFault};
 use qs_ops::Server;
 use qs_restart::{OpenVote, Recovered, recover};
 use qs_step::{Did, Setting};
 use std::alloc::Global;
-
-/// Slots stand below this where a node restarts.
-const REOPEN_LIMIT: u64 = (1 << 62) - 1;
 
 /// A node that is down, and what its cell carries.
 #[derive(Drop)]
@@ -78,20 +79,19 @@ pub fn stopped_with<D: Disk>(
 pub enum Restarted<D: Disk, F: Server, X: Server> {
     /// The node is up.
     Up { running: Running<D, F, X> },
-    /// The fuse tripped: the node is still down.
-    Tripped { stopped: Stopped<D> },
-    /// A call of the disk failed: the node is still down.
-    DiskFailed { stopped: Stopped<D> },
-    /// Memory was refused, or the log is damaged: the node is still down.
-    NoMemory { stopped: Stopped<D> },
+    /// It is still down.
+    Down {
+        stopped: Stopped<D>,
+        why: ReopenFault,
+    },
 }
 
 impl<D: Disk> Stopped<D> {
     /// The power is cut, the log of what that leaves is opened and its incarnation raised, and the node begins it with what
     /// the log says and what it kept for its clients. Its files and the further server are empty.
     ///
-    /// `Tripped` comes exactly where the fuse tripped in this call; `DiskFailed` only where the disk's count of faults
-    /// rose. A log that opens as damaged is answered `NoMemory`.
+    /// Of a node that is still down `Tripped` is told exactly where the fuse tripped in this call, and `DiskFailed` only
+    /// where the disk's own count of faults rose. A log that opens as damaged is told as `NoMemory`.
     pub fn restart<F: Server, X: Server>(
         self,
         alloc: Global,
@@ -103,8 +103,15 @@ impl<D: Disk> Stopped<D> {
         requires batch { self.carried.setting.extra ≤ 8 }
         requires keep { self.carried.setting.keep ≤ 144 }
         ensures restarted { IsRestarted D.fault_count alloc self result }
+
+        // The log of a node that is up.
         ensures reopened { D.told → IfUp result (IsReopened (D.state self.disk.disk)) }
         ensures stands { D.told → IfUp result (λ log. Stands log (D.state log.disk.disk)) }
+        ensures found { D.told → IfUp result (λ log. (a b : List Record) → EachImage (HasOneOf a b) (D.state self.disk.disk).now → (records_of log ≡ a) ⊎ (records_of log ≡ b)) }
+
+        // At each moment each image has the records that images had before.
+        ensures moments { D.told → (a b : List Record) → EachImage (HasOneOf a b) (D.state self.disk.disk).now
+            → Keeps (HasOneOf a b) (D.state self.disk.disk) (D.state (restarted_disk result).disk) }
         ensures size { D.byte_count (restarted_disk result).disk ≡ D.byte_count self.disk.disk }
     {
         let Stopped {
@@ -113,16 +120,16 @@ impl<D: Disk> Stopped<D> {
             cause,
             mut carried,
         } = self;
-        let trips = disk.trips();
+        let before = Counts::of(&disk);
         carried.chronicle.begin_round();
         let rest = Rest {
             kept,
             cause,
             carried,
         };
-        match reopen(alloc, disk) {
-            Ok(log) => begin_incarnation(alloc, log, files, extra, rest, trips),
-            Err(LogOpen { disk, why }) => refused(rest.over(disk), why, trips),
+        match begin_again(alloc, disk) {
+            Ok(log) => begin_incarnation(alloc, log, files, extra, rest, before),
+            Err(back) => refused(rest, back),
         }
     }
 }
@@ -160,13 +167,13 @@ fn begin_incarnation<D: Disk, F: Server, X: Server>(
     files: F,
     extra: X,
     rest: Rest,
-    trips: u64,
+    before: Counts,
 ) -> Restarted<D, F, X>
     requires files { F.state files ≡ empty_server (kinds.Files rest.carried.setting.quota) }
     requires extra { X.state extra ≡ empty_server kinds.Nothing }
     requires batch { rest.carried.setting.extra ≤ 8 }
     requires keep { rest.carried.setting.keep ≤ 144 }
-    ensures begins { Begins alloc log rest trips result }
+    ensures begins { Begins D.fault_count alloc log rest before result }
     ensures up { IfUp result (λ new. new ≡ log) }
     ensures disk { restarted_disk result ≡ log.disk }
 {
@@ -174,7 +181,7 @@ fn begin_incarnation<D: Disk, F: Server, X: Server>(
     let mut rest = rest;
     let (found, act) = match read(alloc, &mut rest.carried, &log) {
         Ok(read) => read,
-        Err(NoMemory) => return refused(rest.over(log.into_disk()), OpenFault::NoMemory, trips),
+        Err(NoMemory) => return without_memory(rest, before, log),
     };
     let Rest {
         kept,
@@ -198,8 +205,28 @@ fn begin_incarnation<D: Disk, F: Server, X: Server>(
                 cause,
                 carried,
             };
-            refused(rest.over(log.into_disk()), OpenFault::NoMemory, trips)
-        },
+            without_memory(rest, before, log)
+        }
+    }
+}
+
+fn without_memory<D: Disk, F: Server, X: Server>(
+    rest: Rest,
+    before: Counts,
+    log: Log<Fused<D>>,
+) -> Restarted<D, F, X>
+    ensures { IsLeftDown D.fault_count rest before log.disk result }
+{
+    refused(rest, not_begun(before, log.into_disk(), OpenFault::NoMemory))
+}
+
+/// The node is still down.
+fn refused<D: Disk, F: Server, X: Server>(rest: Rest, back: LogReopen<D>) -> Restarted<D, F, X>
+    ensures { result ≡ restarts.Down (record { disk = back.disk; kept = rest.kept; cause = rest.cause; carried = rest.carried }) back.why }
+{
+    Restarted::Down {
+        stopped: rest.over(back.disk),
+        why: back.why,
     }
 }
 
@@ -240,47 +267,6 @@ fn risen(carried: Carried, setting: Setting, act: Act) -> Carried
         .chronicle
         .note_one(Did::Restart { inc: setting.inc }, act);
     carried
-}
-
-/// The log that a power cut leaves, in the next incarnation.
-fn reopen<D: Disk>(alloc: Global, disk: Fused<D>) -> Result<Log<Fused<D>>, LogOpen<Fused<D>>>
-    ensures reopened { D.told → IfOk result (IsReopened (D.state disk.disk)) }
-    ensures stands { D.told → IfOk result (λ log. Stands log (D.state log.disk.disk)) }
-    ensures failed { IfErr result (λ back. back.why ≡ open_faults.DiskFailed → Rose (faults_of D.fault_count disk) (faults_of D.fault_count back.disk)) }
-    ensures size { D.byte_count (disk_of result).disk ≡ D.byte_count disk.disk }
-{
-    let mut disk = disk;
-    if let Err(DiskFailed) = disk.power_cut() {
-        return Err(LogOpen {
-            disk,
-            why: OpenFault::DiskFailed,
-        });
-    }
-    let mut log = Log::open(alloc, disk, REOPEN_LIMIT)?;
-    match log.raise() {
-        Ok(_) => Ok(log),
-        Err(DiskFailed) => Err(LogOpen {
-            disk: log.into_disk(),
-            why: OpenFault::DiskFailed,
-        }),
-    }
-}
-
-/// The node is still down: the fuse tripped, whose trips were so many before, or the log was not opened.
-fn refused<D: Disk, F: Server, X: Server>(
-    stopped: Stopped<D>,
-    why: OpenFault,
-    trips: u64,
-) -> Restarted<D, F, X>
-    ensures { IsRefused why trips stopped result }
-{
-    if stopped.disk.trips() != trips {
-        return Restarted::Tripped { stopped };
-    }
-    match why {
-        OpenFault::DiskFailed => Restarted::DiskFailed { stopped },
-        OpenFault::Damaged { .. } | OpenFault::NoMemory => Restarted::NoMemory { stopped },
-    }
 }
 
 /// What a restart tells of the log.

@@ -1,0 +1,83 @@
+-- A node that is up, or down.
+use Rattle.std.specs.Prelude.{◌≡◌, ◌×◌, ◌≤◌, ⊥, ℕ, Bool, true, false, List, [], Option, Some, None}
+use Rattle.qs_disk.specs.Disk.{DiskState}
+use Rattle.qs_disk.specs.Fuse.{FusedValue}
+use Rattle.qs_files.specs.declared.files.Files.{Files}
+use Rattle.qs_host.specs.Host.{is_settled}
+use Rattle.qs_ipc.specs.Ipc as ipc
+use Rattle.qs_journal.specs.declared.entry.CrashCause.{CrashCause}
+use Rattle.qs_log.specs.Log.{Stands}
+use Rattle.qs_ops.specs.declared.no_server.NoServer.{NoServer}
+use Rattle.qs_step.specs.declared.event.ClientAnswer.{ClientAnswer}
+use Rattle.qs_tm.specs.Manager as tm
+use Rattle.qs_chronicle.specs.Carried.{Seen, seen}
+use Rattle.qs_chronicle.specs.declared.carried.Carried.{Carried}
+use Rattle.qs_cell.specs.declared.running.Outcome.{Outcome}
+use Rattle.qs_cell.specs.declared.running.Outcome.TheVariants as outcomes
+use Rattle.qs_cell.specs.declared.running.Running.{Running}
+use Rattle.qs_cell.specs.declared.state.NodeState.{NodeState}
+use Rattle.qs_cell.specs.declared.state.NodeState.TheVariants as states
+
+-- a node that is up, with the servers that it has
+abbrev pub Up : Type 0 → Type 0
+Up D = Running D Files NoServer
+
+abbrev pub carried_of : {D : Type 0} → NodeState D → Carried
+carried_of (states.Up running) = running.carried
+carried_of (states.Down stopped) = stopped.carried
+
+abbrev pub cause_of : {D : Type 0} → NodeState D → Option CrashCause
+cause_of (states.Up running) = None
+cause_of (states.Down stopped) = Some stopped.cause
+
+abbrev pub disk_of : {D : Type 0} → NodeState D → FusedValue D
+disk_of (states.Up running) = running.host.log.disk
+disk_of (states.Down stopped) = stopped.disk
+
+abbrev pub is_queued : {D : Type 0} → NodeState D → Bool
+is_queued (states.Up running) = ipc.queued running.host.node.queues
+is_queued (states.Down stopped) = false
+
+abbrev pub has_undecided : {D : Type 0} → NodeState D → Bool
+has_undecided (states.Up running) = tm.has_undecided running.host.node.manager
+has_undecided (states.Down stopped) = false
+
+abbrev pub is_settled_node : {D : Type 0} → NodeState D → Bool
+is_settled_node (states.Up running) = is_settled running.host
+is_settled_node (states.Down stopped) = false
+
+-- what is seen of the cell is this, and else all of the node is as it was
+abbrev pub IsSeenAs : {D : Type 0} → (Seen → Seen) → NodeState D → NodeState D → Type 0
+IsSeenAs f (states.Up old) (states.Up new) =
+    (new.host ≡ old.host) × ((seen new.carried ≡ f (seen old.carried)) × (new.carried.setting ≡ old.carried.setting))
+IsSeenAs f (states.Down old) (states.Down new) =
+    (new.disk ≡ old.disk) × ((new.kept ≡ old.kept) × ((new.cause ≡ old.cause)
+    × ((seen new.carried ≡ f (seen old.carried)) × (new.carried.setting ≡ old.carried.setting))))
+IsSeenAs f old new = ⊥
+
+-- ---- after an event
+
+abbrev pub state_of : {D : Type 0} → Outcome D Files NoServer → NodeState D
+state_of (outcomes.Whole running answers) = states.Up running
+state_of (outcomes.Followed stopped answers) = states.Down stopped
+state_of (outcomes.Replaced stopped) = states.Down stopped
+state_of (outcomes.CutOff stopped) = states.Down stopped
+
+-- a step that does not stand whole has no answers
+abbrev pub answers_of : {D : Type 0} → Outcome D Files NoServer → List ClientAnswer
+answers_of (outcomes.Whole running answers) = answers
+answers_of (outcomes.Followed stopped answers) = answers
+answers_of (outcomes.Replaced stopped) = []
+answers_of (outcomes.CutOff stopped) = []
+
+-- ---- what holds of each
+
+-- the log stands on the disk of a node that is up
+abbrev pub LogStands : {D : Type 0} → (D → DiskState) → NodeState D → Type 0
+LogStands state (states.Up running) = Stands running.host.log (state running.host.log.disk.disk)
+LogStands state (states.Down stopped) = Unit {0}
+
+-- the numbers of the setting keep their limits
+pub record IsAllowed (carried : Carried) : Type 0 where
+  pub batch : carried.setting.extra ≤ 8
+  pub keep : carried.setting.keep ≤ 144

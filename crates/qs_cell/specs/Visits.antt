@@ -1,0 +1,142 @@
+-- The events of a visit: of each source the one that is due, one after the other, as long as the node is up.
+use Rattle.std.specs.Prelude.{◌≡◌, ◌×◌, ⊥, ℕ, Bool, true, false, not, List, [], ◌∷◌, ◌++◌, map, drop, length, Option, Some, None, if◌then◌else◌}
+use Rattle.std.specs.List.{list_any}
+use Rattle.std.specs.Map.{lookup}
+use Rattle.std.specs.BTreeMap.{is_at}
+use Rattle.qs_base.specs.declared.identifiers.ClientNo.{ClientNo}
+use Rattle.qs_disk.specs.Disk.{DiskState}
+use Rattle.qs_disk.specs.Moments.{Keeps}
+use Rattle.qs_files.specs.declared.files.Files.{Files}
+use Rattle.qs_host.specs.Host.{IsOldOrAfter}
+use Rattle.qs_journal.specs.declared.entry.Act.{Act}
+use Rattle.qs_journal.specs.declared.entry.Act.TheVariants as acts
+use Rattle.qs_journal.specs.declared.entry.Entry.{Entry}
+use Rattle.qs_journal.specs.declared.script_line.ScriptLine.{ScriptLine}
+use Rattle.qs_ops.specs.declared.no_server.NoServer.{NoServer}
+use Rattle.qs_step.specs.State.{client_cmp}
+use Rattle.qs_step.specs.declared.event.ClientAnswer.{ClientAnswer}
+use Rattle.qs_chronicle.specs.Carried.{Seen, Commands, is_due_again}
+use Rattle.qs_chronicle.specs.Chronicle.{in_round}
+use Rattle.qs_chronicle.specs.declared.carried.Carried.{Carried}
+use Rattle.qs_chronicle.specs.declared.carried.Held.{Held}
+use Rattle.qs_chronicle.specs.declared.occasion.Occasion.{Occasion}
+use Rattle.qs_chronicle.specs.declared.occasion.Occasion.TheVariants as occasions
+use Rattle.qs_cell.specs.Cell.{IsOutcome, out_of}
+use Rattle.qs_cell.specs.Lanes.{next_line, at_client, without_line, all_delivered}
+use Rattle.qs_cell.specs.State.{Up, IsSeenAs, disk_of, carried_of, is_queued, state_of, answers_of}
+use Rattle.qs_cell.specs.declared.cell.Source.{Source}
+use Rattle.qs_cell.specs.declared.cell.Source.TheVariants as sources
+use Rattle.qs_cell.specs.declared.ends.NodeEnds.{NodeEnds}
+use Rattle.qs_cell.specs.declared.running.Outcome.{Outcome}
+use Rattle.qs_cell.specs.declared.state.NodeState.{NodeState}
+use Rattle.qs_cell.specs.declared.state.NodeState.TheVariants as states
+
+-- ---- which event is due
+
+abbrev pub held_by : ClientNo → Carried → Option Held
+held_by client carried = lookup (is_at (client_cmp client)) carried.commands
+
+-- a command that an earlier incarnation took, or, where the client has none in hand, the next of its lane
+abbrev pub due_line : ℕ → Option Held → Option ScriptLine → Option ScriptLine
+due_line inc None next = next
+due_line inc (Some held) next = if is_due_again inc held then Some held.line else None
+
+abbrev pub as_command : Option ScriptLine → Option Occasion
+as_command None = None
+as_command (Some line) = Some (occasions.Command line)
+
+abbrev pub due_command : ClientNo → Carried → List NodeEnds → Option Occasion
+due_command client carried ends = as_command (due_line carried.setting.inc (held_by client carried) (next_line client ends))
+
+abbrev pub due_from : {D : Type 0} → Source → NodeState D → List NodeEnds → Option Occasion
+due_from (sources.Client client) state ends = due_command client (carried_of state) ends
+due_from sources.Queues state ends = if is_queued state then Some occasions.Queues else None
+due_from sources.Clock state ends = Some occasions.Clock
+
+-- nothing is due of a node that is down
+abbrev pub due : {D : Type 0} → Source → NodeState D → List NodeEnds → Option Occasion
+due source (states.Up running) ends = due_from source (states.Up running) ends
+due source (states.Down stopped) ends = None
+
+-- the lanes once it is taken from them
+abbrev pub left_of : ClientNo → Option Held → List NodeEnds → List NodeEnds
+left_of client None ends = at_client client without_line ends
+left_of client (Some held) ends = ends
+
+abbrev pub left_by : {D : Type 0} → Source → NodeState D → List NodeEnds → List NodeEnds
+left_by (sources.Client client) (states.Up running) ends = left_of client (held_by client running.carried) ends
+left_by source state ends = ends
+
+-- ---- an event
+
+-- the node made it: at each moment each image has the records of before the step, or those of after it
+pub record Makes {D : Type 0} (told : Type 0) (state : D → DiskState) (own size : D → ℕ) (occasion : Occasion) (old : Up D) (new : NodeState D) (answers : List ClientAnswer) : Type 0 where
+  pub outcome : Outcome D Files NoServer
+  pub is : IsOutcome own (size old.host.log.disk.disk) occasion old outcome
+  pub new : new ≡ state_of outcome
+  pub answers : answers ≡ answers_of outcome
+  pub moments : told → Keeps (IsOldOrAfter (out_of (size old.host.log.disk.disk) occasion old) old.host.log)
+      (state old.host.log.disk.disk) (state (disk_of new).disk)
+
+-- a node that is down makes none
+abbrev pub MakesIn : {D : Type 0} → Type 0 → (D → DiskState) → (D → ℕ) → (D → ℕ) → Occasion → NodeState D → NodeState D → List ClientAnswer → Type 0
+MakesIn told state own size occasion (states.Up old) new answers = Makes told state own size occasion old new answers
+MakesIn told state own size occasion (states.Down old) new answers = ⊥
+
+-- ---- a source's turn
+
+-- the node and its lanes
+pub record Seat (D : Type 0) : Type 0 where
+  pub node : NodeState D
+  pub ends : List NodeEnds
+
+-- where an event is due it is made, and its answers go out
+abbrev pub TakesTurn : {D : Type 0} → Type 0 → (D → DiskState) → (D → ℕ) → (D → ℕ) → Option Occasion → List NodeEnds → Seat D → Seat D → Type 0
+TakesTurn told state own size None left old new = new ≡ old
+TakesTurn told state own size (Some occasion) left old new =
+    (answers : List ClientAnswer) × (MakesIn told state own size occasion old.node new.node answers × (new.ends ≡ all_delivered answers left))
+
+-- the node is the same but for the room that is made for a crash
+abbrev pub IsSameNode : {D : Type 0} → NodeState D → NodeState D → Type 0
+IsSameNode old new = IsSeenAs (λ s. s) old new
+
+pub record Turns {D : Type 0} (told : Type 0) (state : D → DiskState) (own size : D → ℕ) (source : Source) (old new : Seat D) : Type 0 where
+  pub ready : NodeState D
+  pub same : IsSameNode old.node ready
+  pub turn : TakesTurn told state own size (due source ready old.ends) (left_by source ready old.ends) (record { node = ready; ends = old.ends }) new
+
+-- ---- a visit
+
+abbrev pub TurnsAll : {D : Type 0} → Type 0 → (D → DiskState) → (D → ℕ) → (D → ℕ) → List Source → Seat D → Seat D → Type 0
+TurnsAll told state own size [] old new = new ≡ old
+TurnsAll told state own size (source ∷ sources) old new =
+    (mid : Seat _) × (Turns told state own size source old mid × TurnsAll told state own size sources mid new)
+
+-- the clients by number, then the queues, then the clock
+abbrev pub client_source : NodeEnds → Source
+client_source end = sources.Client end.client
+
+abbrev pub sources_of : List NodeEnds → List Source
+sources_of ends = map client_source ends ++ (sources.Queues ∷ sources.Clock ∷ [])
+
+-- one more round
+abbrev pub in_round_as : Seen → Seen
+in_round_as s = record s { told = in_round s.told }
+
+pub record Visits {D : Type 0} (told : Type 0) (state : D → DiskState) (own size : D → ℕ) (old new : Seat D) : Type 0 where
+  pub begun : NodeState D
+  pub round : IsSeenAs in_round_as old.node begun
+  pub turns : TurnsAll told state own size (sources_of old.ends) (record { node = begun; ends = old.ends }) new
+
+-- ---- what came of it
+
+abbrev pub is_tick : Act → Bool
+is_tick acts.Tick = true
+is_tick act = false
+
+abbrev pub is_noted : Entry → Bool
+is_noted entry = not (is_tick entry.act)
+
+-- an entry other than that of a tick was made
+abbrev pub has_noted : List Entry → List Entry → Bool
+has_noted before now = list_any is_noted (drop (length before) now)

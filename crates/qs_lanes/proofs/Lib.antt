@@ -1,0 +1,2 @@
+-- The lanes of a client, by their place.
+pub mod Places
