@@ -1,6 +1,6 @@
 -- The order in which the actors of a run are visited in a round: drawn anew for each round from the seed of the run.
-use Rattle.std.specs.Prelude.{ℕ, zero, suc, ◌+◌, ◌-◌, ◌%◌, List}
-use Rattle.std.specs.List.{swap, range_with_len}
+use Rattle.std.specs.Prelude.{ℕ, zero, suc, ◌+◌, ◌-◌, ◌%◌, List, [], ◌∷◌, ◌++◌}
+use Rattle.std.specs.List.{swap}
 use Rattle.rand_pcg.specs.Lcg.{Lcg, started, increment_of}
 use Rattle.rand_pcg.specs.Pcg.{multiplier_64, pcg32}
 
@@ -13,6 +13,11 @@ unfoldable pub shuffled : ℕ → Lcg → List ℕ → List ℕ × Lcg
 shuffled zero rng places = (places, rng)
 shuffled (suc i) rng places = shuffled i (pcg32 rng).1 (swap places (suc i) ((pcg32 rng).0 % (suc i + 1)))
 
+-- the places below a number, in order
+abbrev pub places_below : ℕ → List ℕ
+places_below zero = []
+places_below (suc n) = places_below n ++ n ∷ []
+
 -- the places of so many actors in the order of their visits, and the generator for the next round
 abbrev pub drawn_order : ℕ → Lcg → List ℕ × Lcg
-drawn_order count rng = shuffled (count - 1) rng (range_with_len 0 count)
+drawn_order count rng = shuffled (count - 1) rng (places_below count)

@@ -6,5 +6,5 @@ mod plan;
 mod spending;
 
 pub use order::Orders;
-pub use plan::{commands_of, crashes_of, points_of, setting_of, stops_of};
+pub use plan::{NODE, NODE_COUNT, commands_of, crashes_of, points_of, setting_of, stops_of};
 pub use spending::budget;

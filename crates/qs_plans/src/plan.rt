@@ -8,6 +8,12 @@ use qs_statements::{FaultLine, Planned, Quota, Script};
 use qs_step::Setting;
 use std::alloc::Global;
 
+/// The node of a run of one node.
+pub const NODE: NodeNo = NodeNo(0);
+
+/// How many nodes such a run has.
+pub const NODE_COUNT: u8 = 1;
+
 /// The bytes that the files of a node may have where no line says so.
 const DEFAULT_QUOTA: u64 = 1_048_576;
 
@@ -43,11 +49,7 @@ pub fn setting_of(script: &Script, nodes: u8, node: NodeNo, inc: u64) -> Setting
 }
 
 /// The numbers of the events in place of which the node stops.
-pub fn crashes_of(
-    alloc: Global,
-    lines: &[FaultLine],
-    node: NodeNo,
-) -> Result<List<u64>, NoMemory>
+pub fn crashes_of(alloc: Global, lines: &[FaultLine], node: NodeNo) -> Result<List<u64>, NoMemory>
     ensures { IfOk result (λ events. events ≡ crashes_of node lines.now) }
 {
     let mut events = List::new(alloc);

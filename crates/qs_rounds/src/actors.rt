@@ -1,12 +1,12 @@
 //! The actors of a run of one node: the node and its clients. In a round each is visited once.
 
 use crate::faults::RoundFault;
-use crate::seating::NODE;
 use qs_base::NoMemory;
 use qs_cell::{NodeCell, RestartFault};
 use qs_client::ClientCell;
 use qs_disk::Disk;
 use qs_journal::CrashCause;
+use qs_plans::NODE;
 
 /// The node, and its clients by number. In the order of a round the node has place 0, and the clients have the places behind
 /// it.

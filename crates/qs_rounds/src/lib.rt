@@ -9,4 +9,5 @@ mod seating;
 pub use actors::{Actors, RoundEnd};
 pub use faults::RoundFault;
 pub use rounds::{Ending, rounds_of};
-pub use seating::{NODE, NODE_COUNT, start};
+pub use qs_plans::{NODE, NODE_COUNT};
+pub use seating::start;

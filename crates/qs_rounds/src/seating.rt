@@ -1,21 +1,15 @@
 //! The actors of a script as a run begins: the node over its disk, and its clients at their seats.
 
 use crate::actors::Actors;
-use qs_base::{ClientNo, List, NoMemory, NodeNo};
+use qs_base::{ClientNo, NoMemory};
 use qs_cell::{CellOpen, NodeCell, NodeEnds, NodePlan};
 use qs_client::{ClientCell, ClientEnds};
 use qs_disk::{Disk, Fused};
 use qs_link::lane;
 use qs_log::OpenFault;
-use qs_plans::{commands_of, crashes_of, points_of, setting_of, stops_of};
+use qs_plans::{NODE, NODE_COUNT, commands_of, crashes_of, points_of, setting_of, stops_of};
 use qs_statements::{Script, Seat};
 use std::alloc::Global;
-
-/// The node of a run of one node.
-pub const NODE: NodeNo = NodeNo(0);
-
-/// How many nodes a run of one node has.
-pub const NODE_COUNT: u8 = 1;
 
 /// No client of a script has a number as great as this.
 const CLIENT_COUNT: u8 = 32;

@@ -1,6 +1,9 @@
-use Rattle.std.proofs.Common.{◌≡◌}
-use Rattle.std.specs.List.{range_with_len}
+use Rattle.std.proofs.Common.{◌≡◌, length}
+use Rattle.qs_plans.specs.Order.{places_below}
 use Rattle.qs_plans.proofs.order.places.Given as goal
 
 abbrev pub invariant-loop-place : goal.invariant-loop-place
-invariant-loop-place l = l.places.items ≡ range_with_len 0 l.place-index
+invariant-loop-place l = record {
+  places : l.places.items ≡ places_below l.place;
+  count : length l.places.items ≡ l.place;
+}

@@ -4,6 +4,6 @@ use Rattle.qs_plans.proofs.order.shuffle.Given as goal
 
 abbrev pub invariant-loop-back : goal.invariant-loop-back
 invariant-loop-back l = record {
-  drawn : shuffled (length l.places - l.back) l.rng l.places ≡ shuffled (length l.initial.places - 1) l.initial.rng l.initial.places;
-  long : length l.places ≡ length l.initial.places;
+  drawn : shuffled (length l.places.items - l.back) l.rng l.places.items ≡ shuffled (length l.initial.places.items - 1) l.initial.rng l.initial.places.items;
+  long : length l.places.items ≡ length l.initial.places.items;
 }

@@ -9,6 +9,8 @@ use Rattle.qs_conformance.specs.Effects.{course_after}
 use Rattle.qs_conformance.specs.declared.fault.Fault.{Fault}
 use Rattle.qs_conformance.specs.declared.fault.Fault.TheVariants as faults
 use Rattle.qs_conformance.specs.declared.fault.Misfit.{Misfit}
+use Rattle.qs_conforming.specs.declared.fault.CheckFault.{CheckFault}
+use Rattle.qs_conforming.specs.declared.fault.CheckFault.TheVariants as checks
 use Rattle.qs_journal.specs.declared.entry.Entry.{Entry}
 use Rattle.qs_journal.specs.declared.script_line.ScriptLine.{ScriptLine}
 use Rattle.qs_machine.specs.Book.{BookValue}
@@ -68,6 +70,12 @@ abbrev pub waiting_after : Script → BookValue → List Entry → List Waiting
 waiting_after script book journal = waiting_of (course_of script book journal)
 
 -- ---- within the judging
+
+-- the status of a run that is refused at this line
+abbrev pub refused : CheckFault → ℕ → Status
+refused (checks.Unlawful clause) line = statuses.Unlawful line clause
+refused (checks.Broken rule) line = statuses.Unlawful line rule_of_script
+refused checks.NoMemory line = statuses.NoMemory
 
 -- why a run of which nothing is told ends there
 abbrev pub IsRefusal : Status → Type 0

@@ -1,12 +1,11 @@
 //! Which clients have commands that are not answered.
 ghost use Rattle.std.specs.Prelude.{◌≡◌, ◌++◌, IfOk, OnOk};
-ghost use Rattle.qs_conformance.specs.Course.{first_at};
-ghost use Rattle.qs_top.specs.Judged.{waiting_at, waiting_in, waiting_of};
+ghost use Rattle.qs_verdict.specs.Verdicts.{waiting_in, waiting_of};
 
 use qs_base::{ClientNo, List, NoMemory};
-use qs_conformance::Course;
-use qs_rounds::NODE;
-use qs_text::Waiting;
+use qs_course::Course;
+use qs_plans::NODE;
+use qs_statements::Waiting;
 use std::alloc::Global;
 
 /// The numbers of clients are below this.

@@ -1,0 +1,74 @@
+//! A run judges its own journal.
+ghost use Rattle.std.specs.Prelude.{◌≡◌, ℕ, [], ◌∷◌, Err, IfOk, IfErr};
+ghost use Rattle.qs_conformance.specs.Conforming.{Conforms};
+ghost use Rattle.qs_machine.specs.Opening.{opening};
+ghost use Rattle.qs_verdict.specs.Verdicts.{course_of, refused, IsRefusedAt, IsRefusal, IsJudged, IsTakenIn};
+
+use qs_base::NoMemory;
+use qs_book::Opened;
+use qs_conforming::{CheckFault, Checker};
+use qs_journal::Entry;
+use qs_statements::{Script, Status};
+use std::alloc::Global;
+
+/// The clause that stands for the rules of the script, which have no numbers.
+const RULE_OF_SCRIPT: u16 = 0;
+
+/// What the reference machine and the script say after the journal, from what the log held as the node was started; else the
+/// status of a run whose journal they refuse.
+pub fn judged(
+    alloc: Global,
+    script: &Script,
+    opened: Opened,
+    journal: &[Entry],
+) -> Result<Checker, Status>
+    ensures conforms { IfOk result (λ checker. Conforms script.now (opening (opened ∷ [])) journal.now) }
+    ensures course { IfOk result (λ checker. checker ≡ course_of script.now (opening (opened ∷ [])) journal.now) }
+    ensures refused { (line clause : ℕ) → result ≡ Err (Status.Unlawful line clause) → IsRefusedAt script.now (opening (opened ∷ [])) journal.now line clause }
+    ensures status { IfErr result (λ status. IsRefusal status) }
+{
+    let mut checker = match Checker::new(alloc, script, &[opened]) {
+        Ok(checker) => checker,
+        Err(NoMemory) => return Err(Status::NoMemory),
+    };
+    take_in(&mut checker, journal)?;
+    Ok(checker)
+}
+
+/// Takes the entries in, up to the first that does not conform.
+fn take_in(checker: &mut Checker, journal: &[Entry]) -> Result<(), Status>
+    ensures { IsTakenIn 0 checker.old journal.now checker.new result }
+{
+    let mut line = 0_u32;
+    let mut rest = journal;
+    while let [entry, more @ ..] = rest {
+        line = line.saturating_add(1);
+        judge(checker, entry, line)?;
+        rest = more;
+    }
+    Ok(())
+}
+
+/// Judges an entry, which has that line in the history.
+fn judge(checker: &mut Checker, entry: &Entry, line: u32) -> Result<(), Status>
+    ensures { IsJudged checker.old entry.now line checker.new result }
+{
+    match checker.take_entry(entry) {
+        Ok(()) => Ok(()),
+        Err(fault) => Err(refused(fault, line)),
+    }
+}
+
+/// The status of a run that is refused at this line.
+fn refused(fault: CheckFault, line: u32) -> Status
+    ensures { result ≡ refused fault line }
+{
+    match fault {
+        CheckFault::Unlawful { clause } => Status::Unlawful { line, clause },
+        CheckFault::Broken { .. } => Status::Unlawful {
+            line,
+            clause: RULE_OF_SCRIPT,
+        },
+        CheckFault::NoMemory => Status::NoMemory,
+    }
+}
