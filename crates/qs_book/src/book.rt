@@ -21,6 +21,7 @@ use qs_book_transactions::Transaction;
 use qs_journal::{Act, Entry};
 use qs_machine::{Cell, Owner};
 use qs_ops::File;
+pub use restarting::is_new_vote;
 use std::alloc::Global;
 use std::collections::BTreeMap;
 use std::marker::Model;
@@ -160,7 +161,7 @@ impl Book {
     }
 
     /// The incarnation of a node; 0 where it is none of the run's.
-    fn inc_at(&self, node: NodeNo) -> u64
+    pub fn inc_at(&self, node: NodeNo) -> u64
         ensures { result ≡ inc_at self.now node }
     {
         match self.nodes.get(usize::from(node.0)) {

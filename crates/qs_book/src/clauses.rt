@@ -11,7 +11,7 @@ pub use ending::{
     borrower_at, broken_answer, broken_crash, broken_ending, broken_learn, broken_loan,
     broken_yield,
 };
-pub use issuing::{Issue, broken_begin, broken_issue};
+pub use issuing::{Issue, broken_begin, broken_issue, files_note};
 pub use serving::{Serve, broken_serve};
 pub use voting::{Ballot, broken_vote, has_vote};
 

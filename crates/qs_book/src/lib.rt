@@ -7,6 +7,7 @@ mod found;
 mod node;
 mod opening;
 
-pub use book::{Book, BookFault};
+pub use book::{Book, BookFault, is_new_vote};
+pub use clauses::files_note;
 pub use node::NodeState;
 pub use qs_machine::{Asking, Causes, OnRecord, Opened, Owner, Pending, Reopened, Voter};

@@ -231,15 +231,23 @@ impl Table {
         vote_locked(self.alloc, &self.locks, &mut self.shares, tid, voted)
     }
 
-    /// Whether the contents that the transaction sees have just so many bytes. It looks at its
-    /// pending changes alone, and copies their texts; the only error is a refusal of that memory,
-    /// for which a count of bytes at its end stands too.
-    pub fn has_view_bytes(&self, tid: Tid, bytes: u64) -> Result<bool, NoMemory>
-        ensures { IfOk result (λ yes. IsTrue yes ↔ (view_bytes self.now tid ≡ bytes)) }
+    /// How many bytes the contents have that the transaction sees. It looks at its pending changes
+    /// alone, and copies their texts; the only error is a refusal of that memory, for which a count
+    /// of bytes at its end stands too.
+    pub fn view_bytes(&self, tid: Tid) -> Result<u64, NoMemory>
+        ensures { IfOk result (λ bytes. bytes ≡ view_bytes self.now tid) }
     {
         let files = self.contents.as_slice();
         let (_, seen) = stage(self.alloc, files, self.bytes, self.pending(tid))?;
-        Ok(seen == bytes)
+        Ok(seen)
+    }
+
+    /// Whether the contents that the transaction sees have just so many bytes. It costs and fails as
+    /// `view_bytes` does.
+    pub fn has_view_bytes(&self, tid: Tid, bytes: u64) -> Result<bool, NoMemory>
+        ensures { IfOk result (λ yes. IsTrue yes ↔ (view_bytes self.now tid ≡ bytes)) }
+    {
+        Ok(self.view_bytes(tid)? == bytes)
     }
 
     /// Whether a Prepare record of the transaction's pending changes has just so many bytes. It

@@ -65,6 +65,8 @@ fn could_vote(here: NodeNo, node: &NodeState, tx: &Transaction, found: Found) ->
         && (tx.was_crossed(node.stopped(), member) || has_pending(node, found))
 }
 
+/// Whether a vote that a restart finds was made in the step that the crash cut off: it is not on
+/// record, and the member could have made it then.
 pub fn is_new_vote(here: NodeNo, node: &NodeState, tx: Option<&Transaction>, found: Found) -> bool
     ensures { result ≡ is_new_vote here.0 node.now (option_copied tx.entry) found }
 {

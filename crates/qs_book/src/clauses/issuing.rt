@@ -1,7 +1,7 @@
 //! Begin and issue.
 ghost use Rattle.std.specs.Prelude.{◌≡◌, ◌==◌, IfOk, length};
 ghost use Rattle.std.specs.Option.{option_copied};
-ghost use Rattle.qs_machine.specs.Clauses.{broken_begin, is_next_tid, broken_issue, broken_issuer, is_numbered, is_for, is_client_here, is_files_here, is_owner_of, may_issue, may_issue_as_owner, may_issue_as_borrower, note_text, is_note, is_note_due, files_count, link_to};
+ghost use Rattle.qs_machine.specs.Clauses.{broken_begin, is_next_tid, broken_issue, broken_issuer, is_numbered, is_for, is_client_here, is_files_here, is_owner_of, may_issue, may_issue_as_owner, may_issue_as_borrower, note_text, is_note, is_note_due, note_here, files_count, link_to};
 
 use crate::clauses::{
     AUDIT_NOTE_DUE, CLIENT_MAY_ISSUE, FRESH_LABEL, ISSUE_NUMBERING, NEXT_IDENTIFIER,
@@ -191,6 +191,25 @@ fn files_count(here: NodeNo, node: &NodeState, tx: &Transaction) -> u64
     tx.part(files, node.inc()).pending
 }
 
+/// The note that tells how many changes of the transaction files at its node hold now. The only
+/// error is a refusal of memory.
+pub fn files_note(
+    alloc: Global,
+    here: NodeNo,
+    node: &NodeState,
+    tid: Tid,
+    tx: &Transaction,
+) -> Result<Noted, NoMemory>
+    ensures { IfOk result (λ note. note ≡ note_here here.0 node.now (note_text tid here.0 (files_count here.0 node.now tx.now))) }
+{
+    let text = note_text(alloc, tid, here, files_count(here, node, tx))?;
+    Ok(Noted {
+        node: here,
+        inc: node.inc(),
+        text,
+    })
+}
+
 fn is_note_due(
     alloc: Global,
     here: NodeNo,
@@ -201,18 +220,9 @@ fn is_note_due(
 ) -> Result<bool, NoMemory>
     ensures { IfOk result (λ due. due ≡ is_note_due here.0 node.now tid tx.now op.now) }
 {
-    let count = files_count(here, node, tx);
-    if !tx.is_asked() || count == 0 {
+    if !tx.is_asked() || files_count(here, node, tx) == 0 {
         return Ok(false);
     }
-    let text = note_text(alloc, tid, here, count)?;
-    if !is_note(&text, op) {
-        return Ok(false);
-    }
-    let note = Noted {
-        node: here,
-        inc: node.inc(),
-        text,
-    };
-    Ok(!tx.has_note(&note))
+    let note = files_note(alloc, here, node, tid, tx)?;
+    Ok(is_note(&note.text, op) && !tx.has_note(&note))
 }
