@@ -1,2 +1,1 @@
 pub mod ConformingLemmas
-pub mod QueueLemmas

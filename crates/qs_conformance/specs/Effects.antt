@@ -1,6 +1,6 @@
 -- What an entry makes of the course.
 use Rattle.std.specs.Prelude.{ℕ, ◌+◌, ◌-◌, ◌==◌, Bool, true, false, ◌&&◌, List, [], ◌∷◌, ◌++◌, Option, Some, None, is_some, if◌then◌else◌}
-use Rattle.std.specs.Map.{lookup, remove_entry, set_value}
+use Rattle.std.specs.Map.{lookup, remove_entry}
 use Rattle.std.specs.BTreeMap.{insert_entry, is_at}
 use Rattle.std.specs.BTreeSet.{insert_key}
 use Rattle.qs_base.specs.Order.{bytes_cmp, tid_cmp}
@@ -22,7 +22,7 @@ use Rattle.qs_machine.specs.Lawful.{effect}
 use Rattle.qs_machine.specs.Transaction.{TransactionValue, changed_value}
 use Rattle.qs_conformance.specs.Borrowing.{node_no}
 use Rattle.qs_conformance.specs.Commands.{is_take}
-use Rattle.qs_conformance.specs.Course.{BorrowingValue, ClientValue, CourseValue, no_borrowing, first_of, mark_cmp, sought_cmp}
+use Rattle.qs_conformance.specs.Course.{BorrowingValue, ClientValue, CourseValue, first_of, borrowing_of, mark_cmp, sought_cmp}
 use Rattle.qs_conformance.specs.Crashes.{stopped, passed_by}
 use Rattle.qs_conformance.specs.Rules.{client_of}
 use Rattle.qs_conformance.specs.declared.values.Deed.{Deed}
@@ -53,25 +53,16 @@ owner_makes (Some client) made course = makes_it client made course
 abbrev pub owner_of_makes : Tid → Made → CourseValue → CourseValue
 owner_of_makes tid made course = owner_makes (owner_of (find_transaction course.book tid)) made course
 
--- what a client borrowed of a transaction is changed, where it borrowed
+-- what a client borrowed of a transaction is changed
 abbrev pub with_borrowing : Tid → (BorrowingValue → BorrowingValue) → ClientValue → ClientValue
-with_borrowing tid f client = record client { borrowed = changed_value (is_at (tid_cmp tid)) f client.borrowed }
+with_borrowing tid f client = record client { borrowed = insert_entry tid_cmp client.borrowed tid (f (borrowing_of client tid)) }
 
 -- a loan is made in this incarnation of the node
 abbrev pub lent_in : ℕ → BorrowingValue → BorrowingValue
 lent_in inc borrowing = record borrowing { loans = borrowing.loans ++ record { inc = inc; given_back = false } ∷ [] }
 
-abbrev pub with_loan : ℕ → Tid → List (Tid × BorrowingValue) → List (Tid × BorrowingValue)
-with_loan inc tid borrowed = elim (lookup (is_at (tid_cmp tid)) borrowed) [
-  | None ↦ insert_entry tid_cmp borrowed tid (lent_in inc no_borrowing)
-  | Some borrowing ↦ set_value (is_at (tid_cmp tid)) borrowed (lent_in inc borrowing)
-]
-
-abbrev pub lent_to : ℕ → Tid → ClientValue → ClientValue
-lent_to inc tid client = record client { borrowed = with_loan inc tid client.borrowed }
-
 abbrev pub lent : ℕ → Tid → ClientNo → CourseValue → CourseValue
-lent here tid client course = with_client client.0 (lent_to (inc_at course.book (node_no here)) tid) course
+lent here tid client course = with_client client.0 (with_borrowing tid (lent_in (inc_at course.book (node_no here)))) course
 
 -- the present loan is given back
 abbrev pub given_back : Loan → Loan
@@ -80,11 +71,9 @@ given_back loan = record loan { given_back = true }
 abbrev pub gave_back : BorrowingValue → BorrowingValue
 gave_back borrowing = record borrowing { loans = changed_at (borrowing.taken - 1) given_back borrowing.loans }
 
-abbrev pub yielded_by : Tid → ClientValue → ClientValue
-yielded_by tid client = record (with_borrowing tid gave_back client) { made = makes.GaveBack }
-
 abbrev pub yielded : Tid → ClientNo → CourseValue → CourseValue
-yielded tid client course = with_client client.0 (yielded_by tid) course
+yielded tid client course =
+    with_client client.0 (λ state. record (with_borrowing tid gave_back state) { made = makes.GaveBack }) course
 
 -- ---- requests and replies
 

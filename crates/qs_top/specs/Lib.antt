@@ -1,4 +1,3 @@
 pub mod Asking
-pub mod Judged
 pub mod Run
 pub mod Verdict

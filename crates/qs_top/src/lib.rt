@@ -3,12 +3,10 @@
 
 mod asking;
 mod checking;
-mod judging;
 mod outcome;
 mod running;
 #[cfg(test)]
 mod tests;
-mod waiting;
 mod whole;
 
 pub use outcome::Run;

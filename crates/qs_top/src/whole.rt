@@ -1,16 +1,15 @@
 //! A script is run on one node over its disk, its journal is judged, and its output made.
 
-use crate::judging::judged;
-use crate::waiting::waiting_of;
 use qs_base::{Bytes, List, copy_list};
 use qs_cell::CellOpen;
-use qs_conformance::Course;
+use qs_conforming::Checker;
 use qs_disk::{Disk, Fused};
 use qs_journal::Entry;
 use qs_log::OpenFault;
 use qs_rounds::{Actors, Ending, NODE, RoundFault, rounds_of, start};
 use qs_step::Step;
 use qs_text::{Script, Status, Waiting, out_text};
+use qs_verdict::{judged, waiting_of};
 use std::alloc::Global;
 
 /// What a run came to before anything was given.
@@ -75,8 +74,8 @@ fn rounds_and_verdict<D: Disk>(
 ) -> Result<Made, Status> {
     match rounds_of(alloc, plan.script, plan.seed, actors) {
         Ok(ending) => {
-            let (journal, course) = verdict(alloc, actors, plan.script)?;
-            whole(alloc, plan, ending, journal, &course)
+            let (journal, checker) = verdict(alloc, actors, plan.script)?;
+            whole(alloc, plan, ending, journal, &checker)
         }
         Err(RoundFault::DiskFault { node }) => {
             let (journal, _) = verdict(alloc, actors, plan.script)?;
@@ -91,15 +90,15 @@ fn verdict<D: Disk>(
     alloc: Global,
     actors: &Actors<D>,
     script: &Script,
-) -> Result<(List<Entry>, Course), Status> {
+) -> Result<(List<Entry>, Checker), Status> {
     let (Ok(opened), Ok(journal)) = (
         actors.node.opened(),
         copy_list(alloc, actors.node.journal()),
     ) else {
         return Err(Status::NoMemory);
     };
-    let course = judged(alloc, script, opened, journal.as_slice())?;
-    Ok((journal, course))
+    let checker = judged(alloc, script, opened, journal.as_slice())?;
+    Ok((journal, checker))
 }
 
 /// A run that came to its end, with its output.
@@ -108,12 +107,12 @@ fn whole(
     plan: Plan<'_>,
     ending: Ending,
     journal: List<Entry>,
-    course: &Course,
+    checker: &Checker,
 ) -> Result<Made, Status> {
-    let Ok(waiting) = waiting_of(alloc, course) else {
+    let Ok(waiting) = waiting_of(alloc, checker.course()) else {
         return Err(Status::NoMemory);
     };
-    let Ok(output) = out_text(alloc, plan.script, &journal, course.book(), plan.journal) else {
+    let Ok(output) = out_text(alloc, plan.script, &journal, checker.book(), plan.journal) else {
         return Err(Status::NoMemory);
     };
     Ok(Made {
