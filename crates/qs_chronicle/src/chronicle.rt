@@ -180,6 +180,14 @@ impl Chronicle {
         self.trace.items()
     }
 
+    /// The entries and the steps, in order, by value. It takes no memory.
+    pub fn into_parts(self) -> (List<Entry>, List<Step>)
+        ensures journal { result.0 ≡ self.told.journal }
+        ensures trace { result.1 ≡ self.told.trace }
+    {
+        (self.journal.into_list(), self.trace.into_list())
+    }
+
     /// How many acts it made in bursts.
     pub fn acts(&self) -> u64
         ensures { result ≡ self.now.told.acts }

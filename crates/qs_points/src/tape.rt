@@ -38,6 +38,13 @@ impl<T: Drop> Tape<T> {
         self.items.as_slice()
     }
 
+    /// The items in order, by value. It takes no memory.
+    pub fn into_list(self) -> List<T>
+        ensures { result ≡ self.items }
+    {
+        List::from_vec(self.items)
+    }
+
     /// Room for so many more.
     pub fn make_room(&mut self, more: usize) -> Result<(), NoMemory>
         ensures items { self.new.items ≡ self.old.items }

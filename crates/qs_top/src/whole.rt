@@ -1,8 +1,8 @@
 //! A script is run on one node over its disk, its journal is judged, and its output made.
 
-use qs_base::{Bytes, List, copy_list};
+use qs_base::{Bytes, List, NoMemory, NodeNo};
+use qs_book::Opened;
 use qs_cell::CellOpen;
-use qs_conforming::Checker;
 use qs_disk::{Disk, Fused};
 use qs_journal::Entry;
 use qs_log::OpenFault;
@@ -57,83 +57,63 @@ fn not_opened(why: OpenFault) -> Status {
     }
 }
 
+/// All rounds of the run, and what came of them. The disk is handed back.
 fn run_actors<D: Disk>(alloc: Global, actors: Actors<D>, plan: Plan<'_>) -> (D, Made) {
     let mut actors = actors;
-    let made = match rounds_and_verdict(alloc, &mut actors, plan) {
-        Ok(made) => made,
-        Err(status) => nothing_made(alloc, status),
-    };
-    (actors.node.into_disk().into_inner(), made)
-}
-
-/// All rounds of the run, and what came of them, judged; else the status of a run of which nothing is told.
-fn rounds_and_verdict<D: Disk>(
-    alloc: Global,
-    actors: &mut Actors<D>,
-    plan: Plan<'_>,
-) -> Result<Made, Status> {
-    match rounds_of(alloc, plan.script, plan.seed, actors) {
-        Ok(ending) => {
-            let (journal, checker) = verdict(alloc, actors, plan.script)?;
-            whole(alloc, plan, ending, journal, &checker)
+    let ending = rounds_of(alloc, plan.script, plan.seed, &mut actors);
+    let opened = actors.node.opened();
+    let (disk, journal, trace) = actors.node.into_parts();
+    let made = match (ending, opened) {
+        (Ok(ending), Ok(opened)) => ended(alloc, plan, ending, opened, journal, trace),
+        (Err(RoundFault::DiskFault { node }), Ok(opened)) => {
+            cut_short(alloc, plan.script, node, opened, journal, trace)
         }
-        Err(RoundFault::DiskFault { node }) => {
-            let (journal, _) = verdict(alloc, actors, plan.script)?;
-            Ok(cut_short(alloc, Status::DiskFault { node }, journal))
+        (Err(RoundFault::NoMemory), _) | (_, Err(NoMemory)) => {
+            nothing_made(alloc, Status::NoMemory)
         }
-        Err(RoundFault::NoMemory) => Err(Status::NoMemory),
-    }
-}
-
-/// The journal, and what the reference machine and the script say after it; else why they refuse it.
-fn verdict<D: Disk>(
-    alloc: Global,
-    actors: &Actors<D>,
-    script: &Script,
-) -> Result<(List<Entry>, Checker), Status> {
-    let (Ok(opened), Ok(journal)) = (
-        actors.node.opened(),
-        copy_list(alloc, actors.node.journal()),
-    ) else {
-        return Err(Status::NoMemory);
     };
-    let checker = judged(alloc, script, opened, journal.as_slice())?;
-    Ok((journal, checker))
+    (disk.into_inner(), made)
 }
 
-/// A run that came to its end, with its output.
-fn whole(
+/// A run that came to its end: it is judged, and its output made.
+fn ended(
     alloc: Global,
     plan: Plan<'_>,
     ending: Ending,
+    opened: Opened,
     journal: List<Entry>,
-    checker: &Checker,
-) -> Result<Made, Status> {
-    let Ok(waiting) = waiting_of(alloc, checker.course()) else {
-        return Err(Status::NoMemory);
-    };
-    let Ok(output) = out_text(alloc, plan.script, &journal, checker.book(), plan.journal) else {
-        return Err(Status::NoMemory);
-    };
-    Ok(Made {
-        status: status_of(ending, waiting),
-        journal,
-        trace: List::new(alloc),
-        output: Some(output),
-    })
-}
-
-/// A run whose node's disk failed as the node was started again.
-fn cut_short(alloc: Global, status: Status, journal: List<Entry>) -> Made {
-    Made {
-        status,
-        journal,
-        trace: List::new(alloc),
-        output: None,
+    trace: List<Step>,
+) -> Made {
+    match told(alloc, plan, ending, opened, &journal) {
+        Ok((status, output)) => Made {
+            status,
+            journal,
+            trace,
+            output: Some(output),
+        },
+        Err(status) => nothing_made(alloc, status),
     }
 }
 
-/// How a run ended, some of whose clients wait for an answer.
+/// How a run ended, and its output; else why nothing is told of it.
+fn told(
+    alloc: Global,
+    plan: Plan<'_>,
+    ending: Ending,
+    opened: Opened,
+    journal: &List<Entry>,
+) -> Result<(Status, Bytes), Status> {
+    let checker = judged(alloc, plan.script, opened, journal.as_slice())?;
+    let (Ok(waiting), Ok(output)) = (
+        waiting_of(alloc, checker.course()),
+        out_text(alloc, plan.script, journal, checker.book(), plan.journal),
+    ) else {
+        return Err(Status::NoMemory);
+    };
+    Ok((status_of(ending, waiting), output))
+}
+
+/// How a run ended, some of whose clients may wait for an answer.
 fn status_of(ending: Ending, waiting: List<Waiting>) -> Status {
     if ending.settled && waiting.is_empty() {
         return Status::Finished;
@@ -141,5 +121,25 @@ fn status_of(ending: Ending, waiting: List<Waiting>) -> Status {
     Status::Unfinished {
         rounds: ending.rounds,
         waiting,
+    }
+}
+
+/// A run whose node's disk failed as the node was started again. It is judged too, and gives nothing.
+fn cut_short(
+    alloc: Global,
+    script: &Script,
+    node: NodeNo,
+    opened: Opened,
+    journal: List<Entry>,
+    trace: List<Step>,
+) -> Made {
+    match judged(alloc, script, opened, journal.as_slice()) {
+        Ok(_) => Made {
+            status: Status::DiskFault { node },
+            journal,
+            trace,
+            output: None,
+        },
+        Err(status) => nothing_made(alloc, status),
     }
 }
