@@ -4,8 +4,6 @@ pub mod Cell
 pub mod Restart
 -- Stages of an event.
 pub mod Within
--- The lanes between a node and its clients.
-pub mod Lanes
 -- A node that is up, or down.
 pub mod State
 -- The events of a visit, one after the other.

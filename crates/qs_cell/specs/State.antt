@@ -1,12 +1,18 @@
 -- A node that is up, or down.
-use Rattle.std.specs.Prelude.{◌≡◌, ◌×◌, ◌≤◌, ⊥, ℕ, Bool, true, false, List, [], Option, Some, None}
-use Rattle.qs_disk.specs.Disk.{DiskState}
+use Rattle.std.specs.Prelude.{◌≡◌, ◌⊎◌, ◌≤◌, ⊥, ℕ, Bool, true, false, List, [], Option, Some, None, Result, Ok, Err}
+use Rattle.std.specs.Global.{Global}
+use Rattle.qs_disk.specs.Disk.{DiskState, EachImage}
 use Rattle.qs_disk.specs.Fuse.{FusedValue}
+use Rattle.qs_disk.specs.Moments.{Keeps}
 use Rattle.qs_files.specs.declared.files.Files.{Files}
 use Rattle.qs_host.specs.Host.{is_settled}
 use Rattle.qs_ipc.specs.Ipc as ipc
 use Rattle.qs_journal.specs.declared.entry.CrashCause.{CrashCause}
-use Rattle.qs_log.specs.Log.{Stands}
+use Rattle.qs_incarnation.specs.Incarnation.{IsReopened, HasOneOf}
+use Rattle.qs_incarnation.specs.declared.incarnation.ReopenFault.{ReopenFault}
+use Rattle.qs_incarnation.specs.declared.incarnation.ReopenFault.TheVariants as reopen_faults
+use Rattle.qs_log.specs.Log.{Stands, records_of}
+use Rattle.qs_record.specs.declared.record.Record.{Record}
 use Rattle.qs_ops.specs.declared.no_server.NoServer.{NoServer}
 use Rattle.qs_step.specs.declared.event.ClientAnswer.{ClientAnswer}
 use Rattle.qs_tm.specs.Manager as tm
@@ -15,7 +21,13 @@ use Rattle.qs_chronicle.specs.declared.carried.Carried.{Carried}
 use Rattle.qs_cell.specs.declared.running.Outcome.{Outcome}
 use Rattle.qs_cell.specs.declared.running.Outcome.TheVariants as outcomes
 use Rattle.qs_cell.specs.declared.running.Running.{Running}
+use Rattle.qs_cell.specs.Restart.{IsRestarted, IfUp}
 use Rattle.qs_cell.specs.declared.state.NodeState.{NodeState}
+use Rattle.qs_cell.specs.declared.state.RestartFault.{RestartFault}
+use Rattle.qs_cell.specs.declared.state.RestartFault.TheVariants as restart_faults
+use Rattle.qs_cell.specs.declared.stopped.Restarted.{Restarted}
+use Rattle.qs_cell.specs.declared.stopped.Restarted.TheVariants as restarts
+use Rattle.qs_cell.specs.declared.stopped.Stopped.{Stopped}
 use Rattle.qs_cell.specs.declared.state.NodeState.TheVariants as states
 
 -- a node that is up, with the servers that it has
@@ -69,6 +81,39 @@ answers_of (outcomes.Whole running answers) = answers
 answers_of (outcomes.Followed stopped answers) = answers
 answers_of (outcomes.Replaced stopped) = []
 answers_of (outcomes.CutOff stopped) = []
+
+-- ---- after a restart
+
+abbrev pub state_after : {D : Type 0} → Restarted D Files NoServer → NodeState D
+state_after (restarts.Up running) = states.Up running
+state_after (restarts.Down stopped why) = states.Down stopped
+
+-- false exactly where the fuse tripped
+abbrev pub answer_of : ReopenFault → Result Bool RestartFault
+answer_of reopen_faults.Tripped = Ok false
+answer_of reopen_faults.DiskFailed = Err restart_faults.DiskFailed
+answer_of reopen_faults.NoMemory = Err restart_faults.NoMemory
+
+abbrev pub answer_after : {D : Type 0} → Restarted D Files NoServer → Result Bool RestartFault
+answer_after (restarts.Up running) = Ok true
+answer_after (restarts.Down stopped why) = answer_of why
+
+-- the node that was down is started again, over what a power cut leaves: each image keeps the records that images had, and
+-- the log of a node that is up has those of one
+pub record Restarts {D : Type 0} (told : Type 0) (state : D → DiskState) (own : D → ℕ) (alloc : Global) (old : Stopped D) (new : NodeState D) (answer : Result Bool RestartFault) : Type 0 where
+  pub restarted : Restarted D Files NoServer
+  pub is : IsRestarted own alloc old restarted
+  pub new : new ≡ state_after restarted
+  pub answer : answer ≡ answer_after restarted
+  pub reopened : told → IfUp restarted (IsReopened (state old.disk.disk))
+  pub found : told → IfUp restarted (λ log. (a b : List Record) → EachImage (HasOneOf a b) (state old.disk.disk).now → (records_of log ≡ a) ⊎ (records_of log ≡ b))
+  pub moments : told → (a b : List Record) → EachImage (HasOneOf a b) (state old.disk.disk).now
+      → Keeps (HasOneOf a b) (state old.disk.disk) (state (disk_of new).disk)
+
+-- a node that is up is left alone
+abbrev pub StartsAgain : {D : Type 0} → Type 0 → (D → DiskState) → (D → ℕ) → Global → NodeState D → NodeState D → Result Bool RestartFault → Type 0
+StartsAgain told state own alloc (states.Up running) new answer = (new ≡ states.Up running) × (answer ≡ Ok true)
+StartsAgain told state own alloc (states.Down stopped) new answer = Restarts told state own alloc stopped new answer
 
 -- ---- what holds of each
 

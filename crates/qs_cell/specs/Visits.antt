@@ -1,5 +1,5 @@
 -- The events of a visit: of each source the one that is due, one after the other, as long as the node is up.
-use Rattle.std.specs.Prelude.{◌≡◌, ◌×◌, ⊥, ℕ, Bool, true, false, not, List, [], ◌∷◌, ◌++◌, map, drop, length, Option, Some, None, if◌then◌else◌}
+use Rattle.std.specs.Prelude.{◌≡◌, ◌⊎◌, ⊥, ℕ, Bool, true, false, not, List, [], ◌∷◌, ◌++◌, map, drop, fold, length, Option, Some, None, if◌then◌else◌}
 use Rattle.std.specs.List.{list_any}
 use Rattle.std.specs.Map.{lookup}
 use Rattle.std.specs.BTreeMap.{is_at}
@@ -15,18 +15,18 @@ use Rattle.qs_journal.specs.declared.script_line.ScriptLine.{ScriptLine}
 use Rattle.qs_ops.specs.declared.no_server.NoServer.{NoServer}
 use Rattle.qs_step.specs.State.{client_cmp}
 use Rattle.qs_step.specs.declared.event.ClientAnswer.{ClientAnswer}
-use Rattle.qs_chronicle.specs.Carried.{Seen, Commands, is_due_again}
-use Rattle.qs_chronicle.specs.Chronicle.{in_round}
+use Rattle.qs_chronicle.specs.Carried.{is_due_again}
 use Rattle.qs_chronicle.specs.declared.carried.Carried.{Carried}
 use Rattle.qs_chronicle.specs.declared.carried.Held.{Held}
 use Rattle.qs_chronicle.specs.declared.occasion.Occasion.{Occasion}
 use Rattle.qs_chronicle.specs.declared.occasion.Occasion.TheVariants as occasions
 use Rattle.qs_cell.specs.Cell.{IsOutcome, out_of}
-use Rattle.qs_cell.specs.Lanes.{next_line, at_client, without_line, all_delivered}
+use Rattle.qs_lanes.specs.Lanes.{next_line, at_client, without_line, delivered}
+use Rattle.qs_cell.specs.Restart.{in_round_as}
 use Rattle.qs_cell.specs.State.{Up, IsSeenAs, disk_of, carried_of, is_queued, state_of, answers_of}
 use Rattle.qs_cell.specs.declared.cell.Source.{Source}
 use Rattle.qs_cell.specs.declared.cell.Source.TheVariants as sources
-use Rattle.qs_cell.specs.declared.ends.NodeEnds.{NodeEnds}
+use Rattle.qs_lanes.specs.declared.ends.NodeEnds.{NodeEnds}
 use Rattle.qs_cell.specs.declared.running.Outcome.{Outcome}
 use Rattle.qs_cell.specs.declared.state.NodeState.{NodeState}
 use Rattle.qs_cell.specs.declared.state.NodeState.TheVariants as states
@@ -36,17 +36,21 @@ use Rattle.qs_cell.specs.declared.state.NodeState.TheVariants as states
 abbrev pub held_by : ClientNo → Carried → Option Held
 held_by client carried = lookup (is_at (client_cmp client)) carried.commands
 
--- a command that an earlier incarnation took, or, where the client has none in hand, the next of its lane
-abbrev pub due_line : ℕ → Option Held → Option ScriptLine → Option ScriptLine
-due_line inc None next = next
-due_line inc (Some held) next = if is_due_again inc held then Some held.line else None
-
 abbrev pub as_command : Option ScriptLine → Option Occasion
 as_command None = None
 as_command (Some line) = Some (occasions.Command line)
 
+-- a command in hand is due again where an earlier incarnation took it
+abbrev pub due_again : ℕ → Held → Option Occasion
+due_again inc held = if is_due_again inc held then Some (occasions.Command held.line) else None
+
+-- where the client has none in hand, the next of its lane is due
+abbrev pub due_of : ℕ → Option Held → Option ScriptLine → Option Occasion
+due_of inc None next = as_command next
+due_of inc (Some held) next = due_again inc held
+
 abbrev pub due_command : ClientNo → Carried → List NodeEnds → Option Occasion
-due_command client carried ends = as_command (due_line carried.setting.inc (held_by client carried) (next_line client ends))
+due_command client carried ends = due_of carried.setting.inc (held_by client carried) (next_line client ends)
 
 abbrev pub due_from : {D : Type 0} → Source → NodeState D → List NodeEnds → Option Occasion
 due_from (sources.Client client) state ends = due_command client (carried_of state) ends
@@ -67,6 +71,13 @@ abbrev pub left_by : {D : Type 0} → Source → NodeState D → List NodeEnds �
 left_by (sources.Client client) (states.Up running) ends = left_of client (held_by client running.carried) ends
 left_by source state ends = ends
 
+-- answers go out, each to its client, in order
+abbrev pub deliver : List NodeEnds → ClientAnswer → List NodeEnds
+deliver ends said = delivered said.client said.answer ends
+
+abbrev pub all_delivered : List ClientAnswer → List NodeEnds → List NodeEnds
+all_delivered answers ends = fold deliver ends answers
+
 -- ---- an event
 
 -- the node made it: at each moment each image has the records of before the step, or those of after it
@@ -78,10 +89,10 @@ pub record Makes {D : Type 0} (told : Type 0) (state : D → DiskState) (own siz
   pub moments : told → Keeps (IsOldOrAfter (out_of (size old.host.log.disk.disk) occasion old) old.host.log)
       (state old.host.log.disk.disk) (state (disk_of new).disk)
 
--- a node that is down makes none
+-- a node that is down makes nothing of it
 abbrev pub MakesIn : {D : Type 0} → Type 0 → (D → DiskState) → (D → ℕ) → (D → ℕ) → Occasion → NodeState D → NodeState D → List ClientAnswer → Type 0
 MakesIn told state own size occasion (states.Up old) new answers = Makes told state own size occasion old new answers
-MakesIn told state own size occasion (states.Down old) new answers = ⊥
+MakesIn told state own size occasion (states.Down old) new answers = (new ≡ states.Down old) × (answers ≡ [])
 
 -- ---- a source's turn
 
@@ -112,6 +123,20 @@ TurnsAll told state own size [] old new = new ≡ old
 TurnsAll told state own size (source ∷ sources) old new =
     (mid : Seat _) × (Turns told state own size source old mid × TurnsAll told state own size sources mid new)
 
+-- memory was refused within a turn: the node is as it was but for room, or the event was made
+abbrev pub IsBroken : {D : Type 0} → Type 0 → (D → DiskState) → (D → ℕ) → (D → ℕ) → Source → Seat D → Seat D → Type 0
+IsBroken told state own size source old new =
+    (IsSameNode old.node new.node × (new.ends ≡ old.ends))
+    ⊎ ((ready : NodeState _) × (IsSameNode old.node ready × ((occasion : Occasion) × ((due source ready old.ends ≡ Some occasion)
+    × ((answers : List ClientAnswer) × MakesIn told state own size occasion ready new.node answers)))))
+
+-- those before the refusal were taken
+abbrev pub TurnsSome : {D : Type 0} → Type 0 → (D → DiskState) → (D → ℕ) → (D → ℕ) → List Source → Seat D → Seat D → Type 0
+TurnsSome told state own size [] old new = ⊥
+TurnsSome told state own size (source ∷ sources) old new =
+    IsBroken told state own size source old new
+    ⊎ ((mid : Seat _) × (Turns told state own size source old mid × TurnsSome told state own size sources mid new))
+
 -- the clients by number, then the queues, then the clock
 abbrev pub client_source : NodeEnds → Source
 client_source end = sources.Client end.client
@@ -119,14 +144,16 @@ client_source end = sources.Client end.client
 abbrev pub sources_of : List NodeEnds → List Source
 sources_of ends = map client_source ends ++ (sources.Queues ∷ sources.Clock ∷ [])
 
--- one more round
-abbrev pub in_round_as : Seen → Seen
-in_round_as s = record s { told = in_round s.told }
-
 pub record Visits {D : Type 0} (told : Type 0) (state : D → DiskState) (own size : D → ℕ) (old new : Seat D) : Type 0 where
   pub begun : NodeState D
   pub round : IsSeenAs in_round_as old.node begun
   pub turns : TurnsAll told state own size (sources_of old.ends) (record { node = begun; ends = old.ends }) new
+
+-- memory was refused within it, or before it began
+pub record Breaks {D : Type 0} (told : Type 0) (state : D → DiskState) (own size : D → ℕ) (old new : Seat D) : Type 0 where
+  pub begun : NodeState D
+  pub round : IsSeenAs in_round_as old.node begun
+  pub turns : TurnsSome told state own size (sources_of old.ends) (record { node = begun; ends = old.ends }) new
 
 -- ---- what came of it
 

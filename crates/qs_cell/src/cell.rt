@@ -1,19 +1,35 @@
 //! The cell of a node: its visits and restarts, between its clients and its disk.
+ghost use Rattle.std.specs.Prelude.{◌≡◌, ◌≤◌, ℕ, false, drop, is_none, IfOk, IfErr, OnOk, OnErr};
+ghost use Rattle.std.specs.List.{list_any};
+ghost use Rattle.qs_base.specs.Causes.{Rose};
+ghost use Rattle.qs_cell.specs.Starts.{IsStarted, started_disk, journal_of, trace_of};
+ghost use Rattle.qs_cell.specs.Restart.{in_round_as};
+ghost use Rattle.qs_cell.specs.State.{IsSeenAs, LogStands, IsAllowed, StartsAgain, carried_of, cause_of, disk_of, has_undecided, is_settled_node};
+ghost use Rattle.qs_cell.specs.Visits.{Turns, IsBroken, TurnsAll, TurnsSome, Visits, Breaks, sources_of, due, left_by, held_by, as_command, due_command, due_again, left_of, all_delivered, has_noted, is_noted, MakesIn};
+ghost use Rattle.qs_chronicle.specs.Chronicle.{HasRoom};
+ghost use Rattle.qs_disk.specs.Moments.{Keeps};
+ghost use Rattle.qs_incarnation.specs.Incarnation.{open_limit, IsTouched};
+ghost use Rattle.qs_lanes.specs.Lanes.{ends_of, SendsTo, SendsFrom, CarriesIn, CarriesOut};
+ghost use Rattle.qs_log.specs.Image.{IsDamaged};
+ghost use Rattle.qs_log.specs.declared.fault.OpenFault.TheVariants as open_faults;
 
-use crate::ends::{NodeEnds, deliver_all, place, take_line};
-use crate::opened::opened_with;
-use crate::starting::{CellOpen, NodePlan, Started, begin, open_log};
+use crate::starting::{CellOpen, NodePlan, Started, begin};
 use crate::state::{NodeState, RestartFault};
 use core::mem;
 use qs_base::{ClientNo, Copied, List, NoMemory};
 use qs_chronicle::{Carried, Held, Occasion};
 use qs_disk::{Disk, Fused};
+use qs_incarnation::begin_run;
 use qs_journal::{Act, CrashCause, Entry, LineAnswer, ScriptLine};
-use qs_link::{Draw, Feed, carry};
+use qs_lanes::{NodeEnds, carry_in, carry_out, deliver, take_line};
+use qs_link::{Draw, Feed};
+use qs_log::LogOpen;
 use qs_machine::Opened;
+use qs_opened::opened_with;
 use qs_restart::Recovered;
-use qs_step::{Setting, Step};
+use qs_step::{ClientAnswer, Setting, Step};
 use std::alloc::Global;
+use std::marker::Model;
 
 /// The cell of a node: the node over its disk and log, the ends of its lanes, and what goes through crashes.
 #[derive(Drop)]
@@ -35,34 +51,61 @@ pub struct Visited {
     pub noted: bool,
 }
 
-/// Where the next event of a visit comes from.
+/// Where an event of a visit comes from.
 #[derive(Clone, Copy, Debug, PartialEq, Eq)]
 enum Source {
     /// The commands of that client.
-    Client(ClientNo),
+    Client { client: ClientNo },
     /// The requests that wait in the queues.
     Queues,
     /// Time that passes.
     Clock,
 }
 
+impl<D: Disk> Model for NodeCell<D> {
+    ghost use Rattle.qs_cell.specs.Starts.{CellValue, IsSound};
+    ghost use Rattle.qs_world.specs.Histories.{opened_with};
+
+    ghost Value = { CellValue D };
+
+    ghost view = { λ c. record { alloc = c.alloc; seat = record { node = c.state; ends = c.ends.items }; opened = opened_with c.first c.found } };
+
+    ghost invariant = { λ c. IsSound D.told D.state c.state };
+}
+
 impl<D: Disk> NodeCell<D> {
     /// The log of the disk is opened, whose slots stand below 2^61, and its incarnation raised, which is that of the setting
     /// from then on; the fuse is armed with the planned stops; and the node begins with what the log says. The ends are those
-    /// of its clients, by number.
+    /// of its clients, by number. `DiskFailed` comes only where the disk's own count of faults rose, `NoMemory` where memory
+    /// was refused or the fuse tripped.
     pub fn start(
         alloc: Global,
         disk: Fused<D>,
         setting: Setting,
         ends: Vec<NodeEnds>,
         plan: NodePlan,
-    ) -> Result<NodeCell<D>, CellOpen<D>> {
+    ) -> Result<NodeCell<D>, CellOpen<D>>
+        requires batch { setting.extra ≤ 8 }
+        requires keep { setting.keep ≤ 144 }
+        ensures started { IfOk result (IsStarted D.told D.state alloc disk.disk setting ends.items plan) }
+
+        // Why it is not started.
+        ensures damaged { D.told → IfErr result (λ back. (at : ℕ) → back.why ≡ open_faults.Damaged at → IsDamaged open_limit (D.state disk.disk).content at) }
+        ensures failed { IfErr result (λ back. back.why ≡ open_faults.DiskFailed → Rose (D.fault_count disk.disk) (D.fault_count back.disk.disk)) }
+
+        // The disk is changed at most by the raise.
+        ensures moments { D.told → Keeps (IsTouched (D.state disk.disk)) (D.state disk.disk) (D.state (started_disk result).disk) }
+        ensures size { D.byte_count (started_disk result).disk ≡ D.byte_count disk.disk }
+    {
         let NodePlan {
             crashes,
             stops,
             points,
         } = plan;
-        let log = open_log(alloc, disk, stops)?;
+        let log = match begin_run(alloc, disk, stops) {
+            Ok(log) => log,
+            Err(LogOpen { disk, why }) => return Err(CellOpen { disk, why }),
+        };
         let Started { running, found } = begin(alloc, log, setting, crashes, points)?;
         let first = running.carried.setting;
         Ok(NodeCell {
@@ -77,70 +120,104 @@ impl<D: Disk> NodeCell<D> {
     /// The events of one visit in a round, as long as the node is up: the command of each client, by number, that a crash
     /// left unanswered or that was carried, where no other is in hand; the requests in the queues, where there are any; and
     /// a tick. Nothing is pushed into a ring. After `NoMemory`, which comes where memory was refused, the events that were
-    /// made stand.
-    pub fn visit(&mut self) -> Result<Visited, NoMemory> {
-        self.begin_round();
+    /// made stand, but the answers of the last may not have gone out.
+    pub fn visit(&mut self) -> Result<Visited, NoMemory>
+        ensures visits { OnOk result (Visits D.told D.state D.fault_count D.byte_count self.old.seat self.new.seat) }
+        ensures sent { IfOk result (λ visited. visited.sent ≡ false) }
+        ensures noted { IfOk result (λ visited. visited.noted ≡ has_noted (journal_of self.old) (journal_of self.new)) }
+        ensures breaks { OnErr result (Breaks D.told D.state D.fault_count D.byte_count self.old.seat self.new.seat) }
+        ensures opened { self.new.opened ≡ self.old.opened }
+    {
         let before = self.journal().len();
-        for at in 0..self.ends.len() {
-            self.turn(Source::Client(self.ends[at].client))?;
-        }
-        self.turn(Source::Queues)?;
-        self.turn(Source::Clock)?;
+        self.begin_round();
+        self.turn_all()?;
         Ok(Visited {
             sent: false,
             noted: has_noted(self.journal(), before),
         })
     }
 
-    /// The event of that source, if there is one and the node is up, with its answers.
-    fn turn(&mut self, source: Source) -> Result<(), NoMemory> {
-        let Some(occasion) = self.next(source)? else {
+    /// One more visit.
+    fn begin_round(&mut self)
+        ensures node { IsSeenAs in_round_as self.old.seat.node self.new.seat.node }
+        ensures ends { self.new.seat.ends ≡ self.old.seat.ends }
+        ensures opened { self.new.opened ≡ self.old.opened }
+    {
+        self.state.begin_round();
+    }
+
+    /// The turn of each source of a visit.
+    fn turn_all(&mut self) -> Result<(), NoMemory>
+        ensures turns { OnOk result (TurnsAll D.told D.state D.fault_count D.byte_count (sources_of self.old.seat.ends) self.old.seat self.new.seat) }
+        ensures breaks { OnErr result (TurnsSome D.told D.state D.fault_count D.byte_count (sources_of self.old.seat.ends) self.old.seat self.new.seat) }
+        ensures opened { self.new.opened ≡ self.old.opened }
+    {
+        let sources = sources_of(self.alloc, self.ends.as_slice())?;
+        for source in sources.as_slice() {
+            self.turn(*source)?;
+        }
+        Ok(())
+    }
+
+    /// The event of that source, if one is due, and its answers.
+    fn turn(&mut self, source: Source) -> Result<(), NoMemory>
+        ensures turns { OnOk result (Turns D.told D.state D.fault_count D.byte_count source self.old.seat self.new.seat) }
+        ensures breaks { OnErr result (IsBroken D.told D.state D.fault_count D.byte_count source self.old.seat self.new.seat) }
+        ensures opened { self.new.opened ≡ self.old.opened }
+    {
+        self.state.make_room()?;
+        let Some(occasion) = next(&self.state, &mut self.ends, source)? else {
             return Ok(());
         };
         let answers = mem::replace_with(
             &mut self.state,
             (self.alloc, occasion),
-            |state, made| state.event(made.0, made.1),
+            |state, made|
+                requires stands { D.told → LogStands D.state state }
+                requires room { HasRoom 1 1 (carried_of state).chronicle }
+                ensures makes { MakesIn D.told D.state D.fault_count D.byte_count made.1 state result.0 result.1 }
+                ensures stands { D.told → LogStands D.state result.0 }
+                ensures setting { (carried_of result.0).setting ≡ (carried_of state).setting }
+            { state.event(made.0, made.1) },
         );
         deliver_all(self.ends.as_mut_slice(), answers)
     }
 
-    /// The event that is due of that source, for which room is made.
-    fn next(&mut self, source: Source) -> Result<Option<Occasion>, NoMemory> {
-        if self.cause().is_some() {
-            return Ok(None);
-        }
-        self.state.make_room()?;
-        match source {
-            Source::Client(client) => next_command(self.state.carried(), &mut self.ends, client),
-            Source::Queues if self.state.queued() => Ok(Some(Occasion::Queues)),
-            Source::Queues => Ok(None),
-            Source::Clock => Ok(Some(Occasion::Clock)),
-        }
-    }
-
     /// A node that is down starts again, and the answer says whether it is up: it is not exactly where the fuse tripped in
-    /// this call. A node that is up is left alone.
-    pub fn restart(&mut self) -> Result<bool, RestartFault> {
+    /// this call. `DiskFailed` comes only where the disk's own count of faults rose, `NoMemory` where memory was refused or
+    /// the log is damaged; the node is still down then. A node that is up is left alone.
+    pub fn restart(&mut self) -> Result<bool, RestartFault>
+        ensures starts { StartsAgain D.told D.state D.fault_count self.old.alloc self.old.seat.node self.new.seat.node result }
+        ensures ends { self.new.seat.ends ≡ self.old.seat.ends }
+        ensures opened { self.new.opened ≡ self.old.opened }
+    {
         mem::replace_with(
             &mut self.state,
             self.alloc,
-            |state, alloc| state.restart(alloc),
+            |state, alloc|
+                requires stands { D.told → LogStands D.state state }
+                requires allowed { IsAllowed (carried_of state) }
+                ensures starts { StartsAgain D.told D.state D.fault_count alloc state result.0 result.1 }
+                ensures stands { D.told → LogStands D.state result.0 }
+                ensures allowed { IsAllowed (carried_of result.0) }
+            { state.restart(alloc) },
         )
     }
 
     /// Moves what the client has sent into the inbox of its lane here, and says how many commands that then holds. After
-    /// `NoMemory`, which comes where memory was refused, a front was moved and nothing is lost. A client that has no lane
+    /// `NoMemory`, which comes where memory was refused, a front was moved and nothing is lost. A client that has no lanes
     /// here has sent nothing.
     pub fn carry_commands(
         &mut self,
         client: ClientNo,
         from: &mut Feed<ScriptLine>,
-    ) -> Result<usize, NoMemory> {
-        match place(self.ends.as_slice(), client) {
-            Some(at) => carry(from, &mut self.ends[at].commands),
-            None => Ok(0),
-        }
+    ) -> Result<usize, NoMemory>
+        requires { SendsTo from.old (ends_of client self.old.seat.ends) }
+        ensures carries { CarriesIn client from.old from.new self.old.seat.ends self.new.seat.ends result (ends_of client self.old.seat.ends) }
+        ensures node { self.new.seat.node ≡ self.old.seat.node }
+        ensures opened { self.new.opened ≡ self.old.opened }
+    {
+        carry_in(self.ends.as_mut_slice(), client, from)
     }
 
     /// Moves what was sent to the client into the inbox of its lane there, as `carry_commands`.
@@ -148,72 +225,126 @@ impl<D: Disk> NodeCell<D> {
         &mut self,
         client: ClientNo,
         to: &mut Draw<LineAnswer>,
-    ) -> Result<usize, NoMemory> {
-        match place(self.ends.as_slice(), client) {
-            Some(at) => carry(&mut self.ends[at].answers, to),
-            None => Ok(0),
-        }
+    ) -> Result<usize, NoMemory>
+        requires { SendsFrom (ends_of client self.old.seat.ends) to.old }
+        ensures carries { CarriesOut client to.old to.new self.old.seat.ends self.new.seat.ends result (ends_of client self.old.seat.ends) }
+        ensures node { self.new.seat.node ≡ self.old.seat.node }
+        ensures opened { self.new.opened ≡ self.old.opened }
+    {
+        carry_out(self.ends.as_mut_slice(), client, to)
     }
 
     /// Whether the node is up.
-    pub fn is_up(&self) -> bool {
+    pub fn is_up(&self) -> bool
+        ensures { result ≡ is_none (cause_of self.now.seat.node) }
+    {
         self.cause().is_none()
     }
 
     /// Why the node is down; `None` exactly where it is up.
-    pub fn cause(&self) -> Option<CrashCause> {
+    pub fn cause(&self) -> Option<CrashCause>
+        ensures { result ≡ cause_of self.now.seat.node }
+    {
         self.state.cause()
     }
 
     /// The entries so far, in order.
-    pub fn journal(&self) -> &[Entry] {
+    pub fn journal(&self) -> &[Entry]
+        ensures { result.now ≡ journal_of self.now }
+    {
         self.state.carried().chronicle.journal()
     }
 
     /// The steps so far, in order.
-    pub fn trace(&self) -> &[Step] {
+    pub fn trace(&self) -> &[Step]
+        ensures { result.now ≡ trace_of self.now }
+    {
         self.state.carried().chronicle.trace()
     }
 
     /// How often it was visited or restarted.
-    pub fn rounds(&self) -> u64 {
+    pub fn rounds(&self) -> u64
+        ensures { result ≡ (carried_of self.now.seat.node).chronicle.told.rounds }
+    {
         self.state.carried().chronicle.rounds()
     }
 
     /// What its log held as it was started, with the incarnation that it was raised to. The only error is a refusal of
     /// memory.
-    pub fn opened(&self) -> Result<Opened, NoMemory> {
+    pub fn opened(&self) -> Result<Opened, NoMemory>
+        ensures { IfOk result (λ opened. opened ≡ self.now.opened) }
+    {
         opened_with(self.alloc, &self.first, &self.found)
     }
 
     /// Whether the node is up and the home of a transaction that it has not decided.
-    pub fn undecided(&self) -> bool {
+    pub fn undecided(&self) -> bool
+        ensures { result ≡ has_undecided self.now.seat.node }
+    {
         self.state.undecided()
     }
 
-    /// Whether the node is up, has decided each transaction of which it is the home, and its log has no records of a
+    /// Whether the node is up, has decided each transaction of which it is the home, and its log has no record of a
     /// transaction that is not ended.
-    pub fn settled(&self) -> bool {
+    pub fn settled(&self) -> bool
+        ensures { result ≡ is_settled_node self.now.seat.node }
+    {
         self.state.settled()
     }
 
     /// The disk of its log.
-    pub fn into_disk(self) -> Fused<D> {
+    pub fn into_disk(self) -> Fused<D>
+        ensures { result ≡ disk_of self.seat.node }
+    {
         self.state.into_disk()
-    }
-
-    fn begin_round(&mut self) {
-        self.state.carried_mut().chronicle.begin_round();
     }
 }
 
-/// The command of a client: one that an earlier incarnation took, or, where none is in hand, the next of its lane. After
-/// `NoMemory`, which comes where memory was refused, all is as it was.
+/// The clients in order, then the queues, then the clock.
+fn sources_of(alloc: Global, ends: &[NodeEnds]) -> Result<Vec<Source>, NoMemory>
+    ensures { IfOk result (λ sources. sources.items ≡ sources_of ends.now) }
+{
+    let mut sources = Vec::new(alloc);
+    for end in ends {
+        sources.push(Source::Client { client: end.client })?;
+    }
+    sources.push(Source::Queues)?;
+    sources.push(Source::Clock)?;
+    Ok(sources)
+}
+
+/// The event that is due of that source; none of a node that is down. After `NoMemory`, which comes where memory was
+/// refused, all is as it was.
+fn next<D: Disk>(
+    state: &NodeState<D>,
+    ends: &mut Vec<NodeEnds>,
+    source: Source,
+) -> Result<Option<Occasion>, NoMemory>
+    ensures due { IfOk result (λ occasion. occasion ≡ due source state.now ends.old.items) }
+    ensures left { OnOk result (ends.new.items ≡ left_by source state.now ends.old.items) }
+    ensures err { OnErr result (ends.new.items ≡ ends.old.items) }
+{
+    if state.cause().is_some() {
+        return Ok(None);
+    }
+    match source {
+        Source::Client { client } => next_command(state.carried(), ends, client),
+        Source::Queues if state.queued() => Ok(Some(Occasion::Queues)),
+        Source::Queues => Ok(None),
+        Source::Clock => Ok(Some(Occasion::Clock)),
+    }
+}
+
+/// The command of a client: one that an earlier incarnation took, or, where none is in hand, the next of its lane.
 fn next_command(
     carried: &Carried,
     ends: &mut Vec<NodeEnds>,
     client: ClientNo,
-) -> Result<Option<Occasion>, NoMemory> {
+) -> Result<Option<Occasion>, NoMemory>
+    ensures due { IfOk result (λ occasion. occasion ≡ due_command client carried.now ends.old.items) }
+    ensures left { OnOk result (ends.new.items ≡ left_of client (held_by client carried.now) ends.old.items) }
+    ensures err { OnErr result (ends.new.items ≡ ends.old.items) }
+{
     match carried.commands.get(&client) {
         Some(held) => held_command(held, carried.setting.inc),
         None => Ok(as_command(take_line(ends.as_mut_slice(), client))),
@@ -221,7 +352,9 @@ fn next_command(
 }
 
 /// A command in hand is due again where an earlier incarnation took it.
-fn held_command(held: &Held, inc: u64) -> Result<Option<Occasion>, NoMemory> {
+fn held_command(held: &Held, inc: u64) -> Result<Option<Occasion>, NoMemory>
+    ensures { IfOk result (λ occasion. occasion ≡ due_again inc held.now) }
+{
     if held.inc == inc {
         return Ok(None);
     }
@@ -230,21 +363,38 @@ fn held_command(held: &Held, inc: u64) -> Result<Option<Occasion>, NoMemory> {
     }))
 }
 
-fn as_command(line: Option<ScriptLine>) -> Option<Occasion> {
+fn as_command(line: Option<ScriptLine>) -> Option<Occasion>
+    ensures { result ≡ as_command line }
+{
     match line {
         Some(line) => Some(Occasion::Command { line }),
         None => None,
     }
 }
 
+/// Puts answers into the lanes of their clients, in order. After `NoMemory`, which comes where memory was refused, a front
+/// was put.
+fn deliver_all(ends: &mut [NodeEnds], answers: List<ClientAnswer>) -> Result<(), NoMemory>
+    ensures { OnOk result (ends.new ≡ all_delivered answers ends.old) }
+{
+    for said in answers.into_vec() {
+        deliver(ends, said.client, said.answer)?;
+    }
+    Ok(())
+}
+
 /// Whether some entry behind so many is not that of a tick.
-fn has_noted(entries: &[Entry], before: usize) -> bool {
+fn has_noted(entries: &[Entry], before: usize) -> bool
+    ensures { result ≡ list_any is_noted (drop before entries.now) }
+{
     match entries.get(before..) {
         Some(entries) => entries.iter().any(is_noted),
         None => false,
     }
 }
 
-fn is_noted(entry: &Entry) -> bool {
+fn is_noted(entry: &Entry) -> bool
+    ensures { result ≡ is_noted entry.now }
+{
     !matches!(&entry.act, Act::Tick)
 }

@@ -2,8 +2,6 @@
 #![tactic(auto)]
 
 mod cell;
-mod ends;
-mod opened;
 mod running;
 mod starting;
 mod state;
@@ -12,7 +10,7 @@ mod stopped;
 mod tests;
 
 pub use cell::{NodeCell, Visited};
-pub use ends::NodeEnds;
+pub use qs_lanes::NodeEnds;
 pub use running::{Outcome, Running};
 pub use starting::{CellOpen, NodePlan};
 pub use state::{NodeState, RestartFault};

@@ -1,23 +1,26 @@
 //! The start of a cell: the log of its disk is opened and its incarnation raised, and the node begins with what that says.
+ghost use Rattle.std.specs.Prelude.{◌≡◌, ◌≤◌, [], map, IfOk, IfErr};
+ghost use Rattle.qs_cell.specs.Restart.{inc_of, found_in};
+ghost use Rattle.qs_cell.specs.Starts.{Begins, seen_first, setting_in, watched_of};
+ghost use Rattle.qs_chronicle.specs.Carried.{seen};
+ghost use Rattle.qs_kept.specs.Keeping.{no_kept};
+ghost use Rattle.qs_log.specs.declared.fault.OpenFault.TheVariants as open_faults;
 
 use crate::running::Running;
 use qs_base::{List, NoMemory};
 use qs_chronicle::{Carried, Chronicle};
-use qs_disk::{Disk, DiskFailed, Fused};
+use qs_disk::{Disk, Fused};
 use qs_files::Files;
 use qs_host::{Host, HostOpen};
 use qs_journal::Point;
 use qs_kept::Kept;
-use qs_log::{Log, LogOpen, OpenFault};
+use qs_log::{Log, OpenFault};
 use qs_map::Map;
 use qs_ops::NoServer;
 use qs_points::Watched;
 use qs_restart::{Recovered, recover};
 use qs_step::Setting;
 use std::alloc::Global;
-
-/// Slots stand below this as a run begins.
-const OPEN_LIMIT: u64 = 1 << 61;
 
 /// What a script has planned for a node.
 #[derive(Drop)]
@@ -41,40 +44,25 @@ pub struct CellOpen<D: Disk> {
 #[derive(Drop)]
 pub struct Started<D: Disk> {
     pub running: Running<D, Files, NoServer>,
-    /// What its log said.
+    /// What its log says.
     pub found: Recovered,
 }
 
-/// The log is opened and its incarnation raised; from then on the fuse trips at the planned calls.
-pub fn open_log<D: Disk>(
-    alloc: Global,
-    disk: Fused<D>,
-    stops: List<u64>,
-) -> Result<Log<Fused<D>>, CellOpen<D>> {
-    let mut log = match Log::open(alloc, disk, OPEN_LIMIT) {
-        Ok(log) => log,
-        Err(LogOpen { disk, why }) => return Err(CellOpen { disk, why }),
-    };
-    match log.raise() {
-        Ok(_) => {
-            log.arm(stops);
-            Ok(log)
-        }
-        Err(DiskFailed) => Err(CellOpen {
-            disk: log.into_disk(),
-            why: OpenFault::DiskFailed,
-        }),
-    }
-}
-
-/// The node begins the incarnation of its log.
+/// The node begins the incarnation of its log, unless memory is refused.
 pub fn begin<D: Disk>(
     alloc: Global,
     log: Log<Fused<D>>,
     setting: Setting,
     crashes: List<u64>,
     points: List<Point>,
-) -> Result<Started<D>, CellOpen<D>> {
+) -> Result<Started<D>, CellOpen<D>>
+    requires batch { setting.extra ≤ 8 }
+    requires keep { setting.keep ≤ 144 }
+    ensures begins { IfOk result (λ started. Begins alloc setting crashes points log started.running) }
+    ensures found { IfOk result (λ started. started.found ≡ found_in log) }
+    ensures disk { IfErr result (λ back. back.disk ≡ log.disk) }
+    ensures why { IfErr result (λ back. back.why ≡ open_faults.NoMemory) }
+{
     let (found, carried) = match read(alloc, &log, setting, crashes, points) {
         Ok(read) => read,
         Err(NoMemory) => return Err(without_memory(log)),
@@ -85,15 +73,8 @@ pub fn begin<D: Disk>(
     };
     let setting = carried.setting;
     let files = Files::new(alloc, setting.quota);
-    match Host::open(
-        alloc,
-        log,
-        again,
-        setting,
-        no_kept(alloc),
-        files,
-        NoServer::new(alloc),
-    ) {
+    let kept = no_kept(alloc);
+    match Host::open(alloc, log, again, setting, kept, files, NoServer::new(alloc)) {
         Ok(host) => Ok(Started {
             running: Running { host, carried },
             found,
@@ -102,7 +83,10 @@ pub fn begin<D: Disk>(
     }
 }
 
-fn without_memory<D: Disk>(log: Log<Fused<D>>) -> CellOpen<D> {
+fn without_memory<D: Disk>(log: Log<Fused<D>>) -> CellOpen<D>
+    ensures disk { result.disk ≡ log.disk }
+    ensures why { result.why ≡ open_faults.NoMemory }
+{
     CellOpen {
         disk: log.into_disk(),
         why: OpenFault::NoMemory,
@@ -116,7 +100,11 @@ fn read<D: Disk>(
     setting: Setting,
     crashes: List<u64>,
     points: List<Point>,
-) -> Result<(Recovered, Carried), NoMemory> {
+) -> Result<(Recovered, Carried), NoMemory>
+    ensures found { IfOk result (λ read. read.0 ≡ found_in log.now) }
+    ensures setting { IfOk result (λ read. read.1.setting ≡ setting_in log.now setting) }
+    ensures seen { IfOk result (λ read. seen read.1 ≡ seen_first setting.node crashes points) }
+{
     let found = recover(alloc, log.records())?;
     let carried = Carried {
         setting: Setting {
@@ -132,7 +120,9 @@ fn read<D: Disk>(
 }
 
 /// The lines that stop the node at an entry, of which none has come.
-fn watch(alloc: Global, points: List<Point>) -> Result<Vec<Watched>, NoMemory> {
+fn watch(alloc: Global, points: List<Point>) -> Result<Vec<Watched>, NoMemory>
+    ensures { IfOk result (λ watched. watched.items ≡ map watched_of points) }
+{
     let mut watched = Vec::new(alloc);
     for point in points.into_vec() {
         watched.push(Watched {
@@ -145,7 +135,9 @@ fn watch(alloc: Global, points: List<Point>) -> Result<Vec<Watched>, NoMemory> {
 }
 
 /// A node keeps nothing for its clients as a run begins.
-fn no_kept(alloc: Global) -> Kept {
+fn no_kept(alloc: Global) -> Kept
+    ensures { result ≡ no_kept }
+{
     Kept {
         labels: List::new(alloc),
         loans: List::new(alloc),

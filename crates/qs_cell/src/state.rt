@@ -1,4 +1,9 @@
 //! A node that is up, or down.
+ghost use Rattle.std.specs.Prelude.{◌≡◌, [], OnOk};
+ghost use Rattle.qs_cell.specs.State.{carried_of, cause_of, disk_of, is_queued, has_undecided, is_settled_node, IsSeenAs, LogStands, IsAllowed, StartsAgain, state_of, answers_of, state_after, answer_of, answer_after};
+ghost use Rattle.qs_cell.specs.Visits.{MakesIn};
+ghost use Rattle.qs_cell.specs.Restart.{in_round_as};
+ghost use Rattle.qs_chronicle.specs.Chronicle.{HasRoom};
 
 use crate::running::{Outcome, Running};
 use crate::stopped::{Restarted, Stopped};
@@ -6,6 +11,7 @@ use qs_base::{List, NoMemory};
 use qs_chronicle::{Carried, Occasion};
 use qs_disk::{Disk, Fused};
 use qs_files::Files;
+use qs_incarnation::ReopenFault;
 use qs_journal::CrashCause;
 use qs_ops::NoServer;
 use qs_step::ClientAnswer;
@@ -26,7 +32,7 @@ pub enum NodeState<D: Disk> {
 /// Why a node that is down could not be started again.
 #[derive(Clone, Copy, Debug, PartialEq, Eq, Error)]
 pub enum RestartFault {
-    /// A call of the disk itself failed.
+    /// The disk itself failed a call.
     #[error("a disk call failed")]
     DiskFailed,
     /// Memory was refused, or the log is damaged.
@@ -36,27 +42,19 @@ pub enum RestartFault {
 
 impl<D: Disk> NodeState<D> {
     /// What the cell carries.
-    pub fn carried(&self) -> &Carried {
+    pub fn carried(&self) -> &Carried
+        ensures { result.now ≡ carried_of self.now }
+    {
         match self {
             NodeState::Up { running } => &running.carried,
             NodeState::Down { stopped } => &stopped.carried,
         }
     }
 
-    pub fn carried_mut(&mut self) -> &mut Carried {
-        match self {
-            NodeState::Up { running } => &mut running.carried,
-            NodeState::Down { stopped } => &mut stopped.carried,
-        }
-    }
-
-    /// Room for an entry and a step, as those of a crash. `NoMemory` comes where memory was refused.
-    pub fn make_room(&mut self) -> Result<(), NoMemory> {
-        self.carried_mut().chronicle.make_room(1, 1)
-    }
-
     /// Why the node is down; `None` exactly where it is up.
-    pub fn cause(&self) -> Option<CrashCause> {
+    pub fn cause(&self) -> Option<CrashCause>
+        ensures { result ≡ cause_of self.now }
+    {
         match self {
             NodeState::Up { .. } => None,
             NodeState::Down { stopped } => Some(stopped.cause),
@@ -64,7 +62,9 @@ impl<D: Disk> NodeState<D> {
     }
 
     /// Whether some queue of the node has an item.
-    pub fn queued(&self) -> bool {
+    pub fn queued(&self) -> bool
+        ensures { result ≡ is_queued self.now }
+    {
         match self {
             NodeState::Up { running } => running.host.queued(),
             NodeState::Down { .. } => false,
@@ -72,7 +72,9 @@ impl<D: Disk> NodeState<D> {
     }
 
     /// Whether the node is up and the home of a transaction that it has not decided.
-    pub fn undecided(&self) -> bool {
+    pub fn undecided(&self) -> bool
+        ensures { result ≡ has_undecided self.now }
+    {
         match self {
             NodeState::Up { running } => running.host.undecided(),
             NodeState::Down { .. } => false,
@@ -80,49 +82,71 @@ impl<D: Disk> NodeState<D> {
     }
 
     /// Whether the node is up and has nothing left to do for a transaction.
-    pub fn settled(&self) -> bool {
+    pub fn settled(&self) -> bool
+        ensures { result ≡ is_settled_node self.now }
+    {
         match self {
             NodeState::Up { running } => running.host.settled(),
             NodeState::Down { .. } => false,
         }
     }
 
-    /// The event comes to a node that is up, and its answers go out.
-    pub fn event(self, alloc: Global, occasion: Occasion) -> (NodeState<D>, List<ClientAnswer>) {
+    /// Room for an entry and a step, as those of a crash. `NoMemory` comes where memory was refused.
+    pub fn make_room(&mut self) -> Result<(), NoMemory>
+        ensures same { IsSeenAs (λ s. s) self.old self.new }
+        ensures room { OnOk result (HasRoom 1 1 (carried_of self.new).chronicle) }
+    {
+        match self {
+            NodeState::Up { running } => running.carried.chronicle.make_room(1, 1),
+            NodeState::Down { stopped } => stopped.carried.chronicle.make_room(1, 1),
+        }
+    }
+
+    /// One more visit.
+    pub fn begin_round(&mut self)
+        ensures { IsSeenAs in_round_as self.old self.new }
+    {
+        match self {
+            NodeState::Up { running } => running.carried.chronicle.begin_round(),
+            NodeState::Down { stopped } => stopped.carried.chronicle.begin_round(),
+        }
+    }
+
+    /// The event comes to the node, if it is up, and its answers go out. Room for a crash is to be made before.
+    pub fn event(self, alloc: Global, occasion: Occasion) -> (NodeState<D>, List<ClientAnswer>)
+        requires stands { D.told → LogStands D.state self }
+        requires room { HasRoom 1 1 (carried_of self).chronicle }
+        ensures makes { MakesIn D.told D.state D.fault_count D.byte_count occasion self result.0 result.1 }
+        ensures stands { D.told → LogStands D.state result.0 }
+        ensures setting { (carried_of result.0).setting ≡ (carried_of self).setting }
+    {
         let running = match self {
             NodeState::Up { running } => running,
             NodeState::Down { .. } => return (self, List::new(alloc)),
         };
-        match running.event(occasion) {
-            Outcome::Whole { running, answers } => (NodeState::Up { running }, answers),
-            Outcome::Followed { stopped, answers } => (NodeState::Down { stopped }, answers),
-            Outcome::Replaced { stopped } | Outcome::CutOff { stopped } => {
-                (NodeState::Down { stopped }, List::new(alloc))
-            }
-        }
+        after_event(alloc, running.event(occasion))
     }
 
-    /// A node that is down starts again, and the answer says whether it is up.
-    pub fn restart(self, alloc: Global) -> (NodeState<D>, Result<bool, RestartFault>) {
+    /// A node that is down starts again, and the answer says whether it is up. A node that is up is left alone.
+    pub fn restart(self, alloc: Global) -> (NodeState<D>, Result<bool, RestartFault>)
+        requires stands { D.told → LogStands D.state self }
+        requires allowed { IsAllowed (carried_of self) }
+        ensures starts { StartsAgain D.told D.state D.fault_count alloc self result.0 result.1 }
+        ensures stands { D.told → LogStands D.state result.0 }
+        ensures allowed { IsAllowed (carried_of result.0) }
+    {
         let stopped = match self {
             NodeState::Up { .. } => return (self, Ok(true)),
             NodeState::Down { stopped } => stopped,
         };
         let files = Files::new(alloc, stopped.carried.setting.quota);
-        match stopped.restart(alloc, files, NoServer::new(alloc)) {
-            Restarted::Up { running } => (NodeState::Up { running }, Ok(true)),
-            Restarted::Tripped { stopped } => (NodeState::Down { stopped }, Ok(false)),
-            Restarted::DiskFailed { stopped } => {
-                (NodeState::Down { stopped }, Err(RestartFault::DiskFailed))
-            }
-            Restarted::NoMemory { stopped } => {
-                (NodeState::Down { stopped }, Err(RestartFault::NoMemory))
-            }
-        }
+        after_restart(stopped.restart(alloc, files, NoServer::new(alloc)))
     }
 
     /// The disk of its log.
-    pub fn into_disk(self) -> Fused<D> {
+    pub fn into_disk(self) -> Fused<D>
+        ensures { result ≡ disk_of self }
+    {
         match self {
             NodeState::Up { running } => {
                 let (disk, _, _) = running.host.into_parts();
@@ -130,5 +154,44 @@ impl<D: Disk> NodeState<D> {
             }
             NodeState::Down { stopped } => stopped.disk,
         }
+    }
+}
+
+fn after_event<D: Disk>(
+    alloc: Global,
+    outcome: Outcome<D, Files, NoServer>,
+) -> (NodeState<D>, List<ClientAnswer>)
+    ensures state { result.0 ≡ state_of outcome }
+    ensures answers { result.1 ≡ answers_of outcome }
+{
+    match outcome {
+        Outcome::Whole { running, answers } => (NodeState::Up { running }, answers),
+        Outcome::Followed { stopped, answers } => (NodeState::Down { stopped }, answers),
+        Outcome::Replaced { stopped } | Outcome::CutOff { stopped } => {
+            (NodeState::Down { stopped }, List::new(alloc))
+        }
+    }
+}
+
+fn after_restart<D: Disk>(
+    restarted: Restarted<D, Files, NoServer>,
+) -> (NodeState<D>, Result<bool, RestartFault>)
+    ensures state { result.0 ≡ state_after restarted }
+    ensures answer { result.1 ≡ answer_after restarted }
+{
+    match restarted {
+        Restarted::Up { running } => (NodeState::Up { running }, Ok(true)),
+        Restarted::Down { stopped, why } => (NodeState::Down { stopped }, answer_of(why)),
+    }
+}
+
+/// What is answered of a node that is still down.
+fn answer_of(why: ReopenFault) -> Result<bool, RestartFault>
+    ensures { result ≡ answer_of why }
+{
+    match why {
+        ReopenFault::Tripped => Ok(false),
+        ReopenFault::DiskFailed => Err(RestartFault::DiskFailed),
+        ReopenFault::NoMemory => Err(RestartFault::NoMemory),
     }
 }

@@ -1,6 +1,6 @@
 //! A client with one transaction, over a node that a line of its script stops.
 use crate::cell::NodeCell;
-use crate::ends::NodeEnds;
+use qs_lanes::NodeEnds;
 use crate::starting::NodePlan;
 use qs_base::{Bytes, ClientNo, List, Member, NoMemory, NodeNo};
 use qs_disk::{Fused, MemDisk};

@@ -1,17 +1,21 @@
 -- What stands on the disk while the log of a node begins an incarnation: the records of before, whatever is opened and raised.
-use Rattle.std.proofs.Common.{◌≡◌, ◌⊎◌, ◌∙◌, ap, subst, sym, refl, inl, inr, ℕ, Bool, List, IsTrue}
-use Rattle.std.specs.Prelude.{Result, Ok, Err}
+use Rattle.std.proofs.Common.{◌≡◌, ◌⊎◌, ◌∙◌, ap, subst, sym, refl, inl, inr, ℕ, Bool, List, [], IsTrue}
+use Rattle.std.specs.Prelude.{Result, Ok, Err, IfOk, IfErr, is_ok}
 use Rattle.qs_batch.proofs.AreaLemmas.{counted_one}
 use Rattle.qs_batch.specs.Batch.{IsCounted}
 use Rattle.qs_disk.proofs.Moments.{keeps_trans, keeps_weaken, cut_keeps, cut_content}
 use Rattle.qs_disk.specs.Disk.{DiskState, IsImage, EachImage, Cuts}
 use Rattle.qs_disk.specs.Moments.{Keeps}
-use Rattle.qs_incarnation.specs.Incarnation.{IsRaisedLog, IsOldOrRaised, IsTouched, HasLogOf, HasOneOf}
+use Rattle.qs_disk.specs.Fuse.{FusedValue}
+use Rattle.qs_incarnation.specs.Incarnation.{reopen_limit, IsRaisedLog, IsReopened, IsOldOrRaised, IsTouched, HasLogOf, HasOneOf}
 use Rattle.qs_log.specs.Image.{IsLog, live_area}
-use Rattle.qs_log.specs.Log.{LogValue, Stands, HasSameRecords, raised_of}
+use Rattle.qs_log.specs.Log.{LogValue, Stands, HasSameRecords, IsSameButFuse, raised_of}
 use Rattle.qs_log.specs.Log.{IsOldOrRaised as IsOldOrRaisedLog}
+use Rattle.qs_log.specs.declared.fault.LogOpen.{LogOpen}
+use Rattle.qs_log.specs.declared.fault.OpenFault.TheVariants as open_faults
 use Rattle.qs_record.specs.declared.record.Record.{Record}
 use Rattle.qs_slot.specs.Slot.{Present, slots_in}
+use Rattle.qs_slot.specs.Turning.{SlotsValue}
 
 -- ---- an image has one log
 
@@ -38,6 +42,33 @@ raised_log limit old new a b stands content slots waiting raised same = record {
       (subst (λ (c : List ℕ). IsLog old.slots.present old.forced old.used c) content stands.forced));
   raised = raised;
   waiting = same.waiting ∙ waiting;
+}
+
+pub raised_if : {D E : Type 0} (limit : ℕ) (old : LogValue D) (result : Result (LogValue D) E) (a b : DiskState) → Stands old b → b.content ≡ a.content
+    → slots_in limit a.content ≡ Ok old.slots.present → old.waiting ≡ [] → IfOk result (λ new. new.slots.present ≡ raised_of old.slots.present)
+    → IfOk result (HasSameRecords old) → IfOk result (IsRaisedLog limit a.content)
+raised_if limit old (Ok new) a b stands content slots waiting raised same = raised_log limit old new a b stands content slots waiting raised same
+raised_if limit old (Err e) a b stands content slots waiting raised same = raised
+
+pub waiting_if : {D E : Type 0} (old : LogValue D) (result : Result (LogValue D) E) → old.waiting ≡ [] → IfOk result (HasSameRecords old) → IfOk result (λ new. new.waiting ≡ [])
+waiting_if old (Ok new) waiting same = same.waiting ∙ waiting
+waiting_if old (Err e) waiting same = same
+
+-- a raise that fails finds no damage
+pub not_damaged : {D T : Type 0} (P : ℕ → Type 0) (result : Result T (LogOpen D)) → IfErr result (λ back. back.why ≡ open_faults.DiskFailed)
+    → IfErr result (λ back. (at : ℕ) → back.why ≡ open_faults.Damaged at → P at)
+not_damaged P (Ok new) failed = failed
+not_damaged P (Err back) failed = λ at damaged. absurd (cc (sym failed ∙ damaged))
+
+-- another fuse before the disk changes nothing of it
+pub armed_log : {D : Type 0} (limit : ℕ) (content : List ℕ) (old new : LogValue (FusedValue D)) → IsSameButFuse old new → IsRaisedLog limit content old → IsRaisedLog limit content new
+armed_log limit content old new same raised = record {
+  present = raised.present;
+  slots = raised.slots;
+  records = subst (λ (records : List Record). IsLog raised.present records new.used content) (sym same.records.forced)
+      (subst (λ (used : ℕ). IsLog raised.present old.forced used content) (sym same.records.used) raised.records);
+  raised = ap (λ (s : SlotsValue). s.present) same.slots ∙ raised.raised;
+  waiting = same.records.waiting ∙ raised.waiting;
 }
 
 -- whatever the opening left is an image of before, or its content
@@ -93,3 +124,24 @@ pub found_holds : {D : Type 0} (limit : ℕ) (a b : List Record) (content : List
     → (log.forced ≡ a) ⊎ (log.forced ≡ b)
 found_holds limit a b content log (inl has) raised = inl (one_log raised.present has.present log.forced a log.used has.used content raised.records has.log)
 found_holds limit a b content log (inr has) raised = inr (one_log raised.present has.present log.forced b log.used has.used content raised.records has.log)
+
+-- ---- a power cut that did not fail
+
+cut_is_done : {A E : Type 0} (cut : Result A E) (x : A) → cut ≡ Ok x → IsTrue (is_ok cut)
+cut_is_done cut x e = rw e refl
+
+pub reopened_if : {D A E F : Type 0} (s t : DiskState) (cut : Result A E) (x : A) (result : Result (LogValue D) F) → cut ≡ Ok x → Cuts (is_ok cut) s t
+    → IfOk result (IsRaisedLog reopen_limit t.content) → IfOk result (IsReopened s)
+reopened_if s t cut x (Ok log) done cuts raised = record { content = t.content; image = cuts.left (cut_is_done cut x done); raised = raised }
+reopened_if s t cut x (Err e) done cuts raised = raised
+
+pub found_if : {D A E F : Type 0} (s t : DiskState) (cut : Result A E) (x : A) (result : Result (LogValue D) F) → cut ≡ Ok x → Cuts (is_ok cut) s t
+    → IfOk result (IsRaisedLog reopen_limit t.content)
+    → IfOk result (λ log. (a b : List Record) → EachImage (HasOneOf a b) s.now → (log.forced ≡ a) ⊎ (log.forced ≡ b))
+found_if s t cut x (Ok log) done cuts raised = λ a b here.
+    found_holds reopen_limit a b t.content log (cut_content (HasOneOf a b) (is_ok cut) s t here cuts (cut_is_done cut x done)) raised
+found_if s t cut x (Err e) done cuts raised = raised
+
+pub kept_moments : {A E : Type 0} (s t u : DiskState) (cut : Result A E) (x : A) → cut ≡ Ok x → Cuts (is_ok cut) s t → Keeps (IsTouched t) t u
+    → (a b : List Record) → EachImage (HasOneOf a b) s.now → Keeps (HasOneOf a b) s u
+kept_moments s t u cut x done cuts keeps a b here = touched_holds a b s t u (is_ok cut) here cuts (cut_is_done cut x done) keeps

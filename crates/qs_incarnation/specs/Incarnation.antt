@@ -30,7 +30,7 @@ pub record IsRaisedLog {D : Type 0} (limit : ℕ) (content : List ℕ) (log : Lo
 pub record IsReopened {D : Type 0} (old : DiskState) (log : LogValue D) : Type 0 where
   pub content : List ℕ
   pub image : IsImage old.now content
-  pub log : IsRaisedLog reopen_limit content log
+  pub raised : IsRaisedLog reopen_limit content log
 
 -- ---- what stands on the disk meanwhile
 

@@ -1,12 +1,12 @@
 //! The log of a node in its next incarnation.
-ghost use Rattle.std.specs.Prelude.{◌≡◌, ◌≢◌, ◌↔◌, ◌⊎◌, ◌<◌, ◌^◌, ℕ, List, [], IfOk, IfErr};
+ghost use Rattle.std.specs.Prelude.{◌≡◌, ◌≢◌, ◌↔◌, ◌⊎◌, ◌<◌, ◌-◌, ◌^◌, ℕ, List, [], IfOk, IfErr};
 ghost use Rattle.qs_base.specs.Causes.{Rose};
 ghost use Rattle.qs_disk.specs.Disk.{EachImage};
 ghost use Rattle.qs_disk.specs.Moments.{Keeps};
 ghost use Rattle.qs_incarnation.specs.Incarnation.{open_limit, IsRaisedLog, IsReopened, IsTouched, HasOneOf, IsArmed, HasTripped, disk_of};
 ghost use Rattle.qs_incarnation.specs.declared.incarnation.ReopenFault.TheVariants as reopen_faults;
 ghost use Rattle.qs_log.specs.Image.{IsDamaged};
-ghost use Rattle.qs_log.specs.Log.{Stands};
+ghost use Rattle.qs_log.specs.Log.{Stands, HasSameRecords, IsOldOrRaised, raised_of, top_of};
 ghost use Rattle.qs_log.specs.Log.{disk_of as log_disk};
 ghost use Rattle.qs_log.specs.declared.fault.OpenFault.TheVariants as open_faults;
 ghost use Rattle.qs_record.specs.declared.record.Record.{Record};
@@ -59,7 +59,24 @@ fn next_incarnation<D: Disk>(
     ensures moments { D.told → Keeps (IsTouched (D.state disk.disk)) (D.state disk.disk) (D.state (log_disk result).disk) }
     ensures size { D.byte_count (log_disk result).disk ≡ D.byte_count disk.disk }
 {
-    let mut log = Log::open(alloc, disk, limit)?;
+    match Log::open(alloc, disk, limit) {
+        Ok(log) => raise(log),
+        Err(back) => Err(back),
+    }
+}
+
+/// The incarnation of the log is raised.
+fn raise<D: Disk>(log: Log<Fused<D>>) -> Result<Log<Fused<D>>, LogOpen<Fused<D>>>
+    requires below { top_of log.slots.present < 2 ^ 62 - 1 }
+    requires stands { D.told → Stands log (D.state log.disk.disk) }
+    ensures raised { IfOk result (λ new. new.slots.present ≡ raised_of log.slots.present) }
+    ensures same { IfOk result (HasSameRecords log) }
+    ensures stands { D.told → IfOk result (λ new. Stands new (D.state new.disk.disk)) }
+    ensures failed { IfErr result (λ back. back.why ≡ open_faults.DiskFailed) }
+    ensures moments { D.told → Keeps (IsOldOrRaised log) (D.state log.disk.disk) (D.state (log_disk result).disk) }
+    ensures size { D.byte_count (log_disk result).disk ≡ D.byte_count log.disk.disk }
+{
+    let mut log = log;
     match log.raise() {
         Ok(_) => Ok(log),
         Err(DiskFailed) => Err(LogOpen {
@@ -110,8 +127,10 @@ fn own_fault(before: Counts, now: Counts, why: OpenFault) -> OpenFault
     ensures failed { result ≡ open_faults.DiskFailed → Rose before.own now.own }
     ensures damaged { (at : ℕ) → result ≡ open_faults.Damaged at → why ≡ open_faults.Damaged at }
 {
+    if before.has_failed(now) {
+        return why;
+    }
     match why {
-        OpenFault::DiskFailed if before.has_failed(now) => OpenFault::DiskFailed,
         OpenFault::DiskFailed | OpenFault::NoMemory => OpenFault::NoMemory,
         OpenFault::Damaged { at } => OpenFault::Damaged { at },
     }
@@ -136,13 +155,32 @@ pub fn begin_again<D: Disk>(alloc: Global, disk: Fused<D>) -> Result<Log<Fused<D
     ensures size { D.byte_count (disk_of result).disk ≡ D.byte_count disk.disk }
 {
     let before = Counts::of(&disk);
-    let mut disk = disk;
-    if let Err(DiskFailed) = disk.power_cut() {
-        return Err(not_begun(before, disk, OpenFault::DiskFailed));
-    }
-    match next_incarnation(alloc, disk, REOPEN_LIMIT) {
+    match after_power_cut(alloc, disk) {
         Ok(log) => Ok(log),
         Err(LogOpen { disk, why }) => Err(not_begun(before, disk, why)),
+    }
+}
+
+/// The log that a power cut leaves is opened and its incarnation raised.
+fn after_power_cut<D: Disk>(
+    alloc: Global,
+    disk: Fused<D>,
+) -> Result<Log<Fused<D>>, LogOpen<Fused<D>>>
+    ensures reopened { D.told → IfOk result (IsReopened (D.state disk.disk)) }
+    ensures stands { D.told → IfOk result (λ log. Stands log (D.state log.disk.disk)) }
+    ensures waiting { IfOk result (λ log. log.waiting ≡ []) }
+    ensures found { D.told → IfOk result (λ log. (a b : List Record) → EachImage (HasOneOf a b) (D.state disk.disk).now → (log.forced ≡ a) ⊎ (log.forced ≡ b)) }
+    ensures moments { D.told → (a b : List Record) → EachImage (HasOneOf a b) (D.state disk.disk).now
+        → Keeps (HasOneOf a b) (D.state disk.disk) (D.state (log_disk result).disk) }
+    ensures size { D.byte_count (log_disk result).disk ≡ D.byte_count disk.disk }
+{
+    let mut disk = disk;
+    match disk.power_cut() {
+        Ok(()) => next_incarnation(alloc, disk, REOPEN_LIMIT),
+        Err(DiskFailed) => Err(LogOpen {
+            disk,
+            why: OpenFault::DiskFailed,
+        }),
     }
 }
 
@@ -165,7 +203,17 @@ fn reopen_fault(before: Counts, now: Counts, why: OpenFault) -> ReopenFault
         return ReopenFault::Tripped;
     }
     match why {
-        OpenFault::DiskFailed if before.has_failed(now) => ReopenFault::DiskFailed,
-        _ => ReopenFault::NoMemory,
+        OpenFault::DiskFailed => failed_or_refused(before, now),
+        OpenFault::Damaged { .. } | OpenFault::NoMemory => ReopenFault::NoMemory,
     }
+}
+
+fn failed_or_refused(before: Counts, now: Counts) -> ReopenFault
+    ensures tripped { result ≢ reopen_faults.Tripped }
+    ensures failed { result ≡ reopen_faults.DiskFailed → Rose before.own now.own }
+{
+    if before.has_failed(now) {
+        return ReopenFault::DiskFailed;
+    }
+    ReopenFault::NoMemory
 }

@@ -3,4 +3,4 @@
 
 mod ends;
 
-pub use ends::{NodeEnds, deliver, take_line};
+pub use ends::{NodeEnds, carry_in, carry_out, deliver, take_line};

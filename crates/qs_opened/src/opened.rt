@@ -1,4 +1,8 @@
-//! What the log of a node holds as the run begins, as the reference machine reads it.
+//! What the log of a node holds as a run begins: its committed contents, and what is pending.
+ghost use Rattle.std.specs.Prelude.{◌≡◌, [], fold, IfOk};
+ghost use Rattle.std.specs.List.{flat_map};
+ghost use Rattle.qs_ops.specs.Table.{no_table, applied, apply_change, apply_note};
+ghost use Rattle.qs_world.specs.Histories.{opened_with, format_of, pending_of};
 
 use qs_base::{Bytes, Copied, List, NoMemory};
 use qs_book_tables::Table;
@@ -16,11 +20,9 @@ const PLAIN_FORMAT: u32 = 1;
 const SPACED_FORMAT: u32 = 2;
 
 /// What a log that says `found` holds for a node with this setting. The only error is a refusal of memory.
-pub fn opened_with(
-    alloc: Global,
-    setting: &Setting,
-    found: &Recovered,
-) -> Result<Opened, NoMemory> {
+pub fn opened_with(alloc: Global, setting: &Setting, found: &Recovered) -> Result<Opened, NoMemory>
+    ensures { IfOk result (λ opened. opened ≡ opened_with setting.now found.now) }
+{
     Ok(Opened {
         inc: setting.inc,
         format: format_of(setting.extra),
@@ -32,7 +34,9 @@ pub fn opened_with(
     })
 }
 
-fn format_of(extra: u64) -> u32 {
+fn format_of(extra: u64) -> u32
+    ensures { result ≡ format_of extra }
+{
     if extra == 0 {
         PLAIN_FORMAT
     } else {
@@ -40,25 +44,33 @@ fn format_of(extra: u64) -> u32 {
     }
 }
 
-/// The files once these changes are applied to none.
-fn files_of(alloc: Global, changes: &Changes) -> Result<List<File>, NoMemory> {
+/// The files once these changes are made.
+fn files_of(alloc: Global, changes: &Changes) -> Result<List<File>, NoMemory>
+    ensures { IfOk result (λ files. files ≡ fold apply_change [] changes.now) }
+{
     let table = table_of(alloc, changes)?;
     copied_files(alloc, table.contents().as_slice())
 }
 
-/// The notes once these changes are applied to none.
-fn notes_of(alloc: Global, changes: &Changes) -> Result<List<Bytes>, NoMemory> {
+/// The notes once these changes are made.
+fn notes_of(alloc: Global, changes: &Changes) -> Result<List<Bytes>, NoMemory>
+    ensures { IfOk result (λ notes. notes ≡ fold apply_note [] changes.now) }
+{
     let table = table_of(alloc, changes)?;
     table.notes().copy()
 }
 
-fn table_of(alloc: Global, changes: &Changes) -> Result<Table, NoMemory> {
+fn table_of(alloc: Global, changes: &Changes) -> Result<Table, NoMemory>
+    ensures { IfOk result (λ table. table ≡ applied no_table changes.now) }
+{
     let mut table = Table::new(alloc);
     table.restart(changes, &List::new(alloc))?;
     Ok(table)
 }
 
-fn copied_files(alloc: Global, files: &[File]) -> Result<List<File>, NoMemory> {
+fn copied_files(alloc: Global, files: &[File]) -> Result<List<File>, NoMemory>
+    ensures { IfOk result (λ copies. copies ≡ files.now) }
+{
     let mut copies = List::new(alloc);
     for file in files {
         copies.push(File {
@@ -70,7 +82,9 @@ fn copied_files(alloc: Global, files: &[File]) -> Result<List<File>, NoMemory> {
 }
 
 /// The Prepares that are not ended and have no Commit.
-fn pending_of(alloc: Global, in_doubt: &[Record]) -> Result<List<Pending>, NoMemory> {
+fn pending_of(alloc: Global, in_doubt: &[Record]) -> Result<List<Pending>, NoMemory>
+    ensures { IfOk result (λ pending. pending ≡ flat_map pending_of in_doubt.now) }
+{
     let mut pending = List::new(alloc);
     for rec in in_doubt {
         if let Record::Prepare {

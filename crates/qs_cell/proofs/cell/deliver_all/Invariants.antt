@@ -1,0 +1,6 @@
+use Rattle.std.proofs.Common.{◌≡◌}
+use Rattle.qs_cell.specs.Visits.{all_delivered}
+use Rattle.qs_cell.proofs.cell.deliver_all.Given as goal
+
+abbrev pub invariant-loop-said : goal.invariant-loop-said
+invariant-loop-said l = l.ends ≡ all_delivered l.yielded l.initial.ends

@@ -1,0 +1,78 @@
+-- The start of a cell: its node begins with what the log of its disk says.
+use Rattle.std.specs.Prelude.{◌≡◌, ℕ, false, List, [], map, None, Result, Ok, Err}
+use Rattle.std.specs.Global.{Global}
+use Rattle.qs_base.specs.declared.identifiers.NodeNo.{NodeNo}
+use Rattle.qs_disk.specs.Disk.{DiskState}
+use Rattle.qs_disk.specs.Fuse.{FusedValue}
+use Rattle.qs_host.specs.Host.{opened_host}
+use Rattle.qs_incarnation.specs.Incarnation.{open_limit, IsRaisedLog, IsArmed}
+use Rattle.qs_journal.specs.declared.entry.Entry.{Entry}
+use Rattle.qs_journal.specs.declared.script_line.Point.{Point}
+use Rattle.qs_kept.specs.Keeping.{no_kept}
+use Rattle.qs_lanes.specs.declared.ends.NodeEnds.{NodeEnds}
+use Rattle.qs_log.specs.Log.{LogValue}
+use Rattle.qs_machine.specs.declared.opened.Opened.{Opened}
+use Rattle.qs_points.specs.declared.points.Watched.{Watched}
+use Rattle.qs_step.specs.declared.setting.Setting.{Setting}
+use Rattle.qs_step.specs.declared.trace.Step.{Step}
+use Rattle.qs_world.specs.Histories.{opened_with}
+use Rattle.qs_chronicle.specs.Carried.{Seen, seen}
+use Rattle.qs_chronicle.specs.Chronicle.{new_told}
+use Rattle.qs_cell.specs.Restart.{inc_of, found_in}
+use Rattle.qs_cell.specs.State.{Up, LogStands, IsAllowed, carried_of, disk_of}
+use Rattle.qs_cell.specs.Visits.{Seat}
+use Rattle.qs_cell.specs.declared.starting.CellOpen.{CellOpen}
+use Rattle.qs_cell.specs.declared.starting.NodePlan.{NodePlan}
+use Rattle.qs_cell.specs.declared.state.NodeState.{NodeState}
+use Rattle.qs_cell.specs.declared.state.NodeState.TheVariants as states
+
+-- what contracts see of a cell
+pub record CellValue (D : Type 0) : Type 0 where
+  pub alloc : Global
+  pub seat : Seat D
+  pub opened : Opened  -- what its log held as it was started
+
+-- what holds of each
+pub record IsSound {D : Type 0} (told : Type 0) (state : D → DiskState) (node : NodeState D) : Type 0 where
+  pub stands : told → LogStands state node
+  pub allowed : IsAllowed (carried_of node)
+
+abbrev pub journal_of : {D : Type 0} → CellValue D → List Entry
+journal_of cell = (carried_of cell.seat.node).chronicle.told.journal
+
+abbrev pub trace_of : {D : Type 0} → CellValue D → List Step
+trace_of cell = (carried_of cell.seat.node).chronicle.told.trace
+
+-- ---- as it begins
+
+-- a line of the script of which no entry has come
+abbrev pub watched_of : Point → Watched
+watched_of point = record { point = point; tid = None; passed = false }
+
+abbrev pub seen_first : NodeNo → List ℕ → List Point → Seen
+seen_first node crashes points = record { told = new_told node; commands = []; crashes = crashes; points = map watched_of points }
+
+-- the incarnation is that of the log
+abbrev pub setting_in : {D : Type 0} → LogValue D → Setting → Setting
+setting_in log setting = record setting { inc = inc_of log }
+
+-- a node begins with what its log says
+pub record Begins {D : Type 0} (alloc : Global) (setting : Setting) (crashes : List ℕ) (points : List Point) (log : LogValue (FusedValue D)) (new : Up D) : Type 0 where
+  pub host : new.host ≡ opened_host alloc (setting_in log setting) no_kept log
+  pub setting : new.carried.setting ≡ setting_in log setting
+  pub seen : seen new.carried ≡ seen_first setting.node crashes points
+
+-- the log of the disk was opened and raised, and the node begins with what it says
+pub record IsStarted {D : Type 0} (told : Type 0) (state : D → DiskState) (alloc : Global) (disk : D) (setting : Setting) (ends : List NodeEnds) (plan : NodePlan) (new : CellValue D) : Type 0 where
+  pub running : Up D
+  pub node : new.seat.node ≡ states.Up running
+  pub begins : Begins alloc setting plan.crashes plan.points running.host.log running
+  pub raised : told → IsRaisedLog open_limit (state disk).content running.host.log
+  pub armed : IsArmed plan.stops running.host.log.disk.fuse
+  pub ends : new.seat.ends ≡ ends
+  pub opened : new.opened ≡ opened_with (setting_in running.host.log setting) (found_in running.host.log)
+
+-- the disk, whether it is started or not
+abbrev pub started_disk : {D : Type 0} → Result (CellValue D) (CellOpen D) → FusedValue D
+started_disk (Ok cell) = disk_of cell.seat.node
+started_disk (Err back) = back.disk
