@@ -78,10 +78,10 @@ abbrev pub is_followed : {D F X : Type 0} → ℕ → Occasion → Running D F X
 is_followed size occasion old = list_any (stops_after (out_of size occasion old).entries) old.carried.points.items
 
 -- a whole step: no crash was to stand in place of it or behind it
-pub record IsWhole {D F X : Type 0} (size : ℕ) (occasion : Occasion) (old new : Running D F X) (answers : List ClientAnswer) : Type 0 where
+pub record IsWhole {D F X : Type 0} (size : ℕ) (occasion : Occasion) (old new : Running D F X) (said : List ClientAnswer) : Type 0 where
   pub node : new.host.node ≡ node_after size old.host (event_of occasion)
   pub log : IsLogAfter (out_of size occasion old) old.host.log new.host.log
-  pub answers : answers ≡ (out_of size occasion old).answers
+  pub answers : said ≡ (out_of size occasion old).answers
   pub seen : seen new.carried ≡ stepped occasion old.carried.setting.inc (out_of size occasion old) (seen old.carried)
   pub setting : new.carried.setting ≡ old.carried.setting
   pub unplanned : IsUnplanned size occasion old
@@ -92,9 +92,9 @@ abbrev pub stopped_behind : Seen → Seen
 stopped_behind s = record s { told = crashed dids.Nothing causes.Plan s.told }
 
 -- a whole step, and a crash right behind it
-pub record IsFollowed {D F X : Type 0} (size : ℕ) (occasion : Occasion) (old : Running D F X) (new : Stopped D) (answers : List ClientAnswer) : Type 0 where
+pub record IsFollowed {D F X : Type 0} (size : ℕ) (occasion : Occasion) (old : Running D F X) (new : Stopped D) (said : List ClientAnswer) : Type 0 where
   pub kept : new.kept ≡ (node_after size old.host (event_of occasion)).kept.saved
-  pub answers : answers ≡ (out_of size occasion old).answers
+  pub answers : said ≡ (out_of size occasion old).answers
   pub cause : new.cause ≡ causes.Plan
   pub seen : seen new.carried ≡ stopped_behind (stepped occasion old.carried.setting.inc (out_of size occasion old) (seen old.carried))
   pub setting : new.carried.setting ≡ old.carried.setting

@@ -57,10 +57,10 @@ abbrev pub setting_in : {D : Type 0} → LogValue D → Setting → Setting
 setting_in log setting = record setting { inc = inc_of log }
 
 -- a node begins with what its log says
-pub record Begins {D : Type 0} (alloc : Global) (setting : Setting) (crashes : List ℕ) (points : List Point) (log : LogValue (FusedValue D)) (new : Up D) : Type 0 where
-  pub host : new.host ≡ opened_host alloc (setting_in log setting) no_kept log
-  pub setting : new.carried.setting ≡ setting_in log setting
-  pub seen : seen new.carried ≡ seen_first setting.node crashes points
+pub record Begins {D : Type 0} (alloc : Global) (given : Setting) (crashes : List ℕ) (points : List Point) (log : LogValue (FusedValue D)) (new : Up D) : Type 0 where
+  pub host : new.host ≡ opened_host alloc (setting_in log given) no_kept log
+  pub setting : new.carried.setting ≡ setting_in log given
+  pub seen : seen new.carried ≡ seen_first given.node crashes points
 
 -- the log of the disk was opened and raised, and the node begins with what it says
 pub record IsStarted {D : Type 0} (told : Type 0) (state : D → DiskState) (alloc : Global) (disk : D) (setting : Setting) (ends : List NodeEnds) (plan : NodePlan) (new : CellValue D) : Type 0 where
@@ -69,7 +69,7 @@ pub record IsStarted {D : Type 0} (told : Type 0) (state : D → DiskState) (all
   pub begins : Begins alloc setting plan.crashes plan.points running.host.log running
   pub raised : told → IsRaisedLog open_limit (state disk).content running.host.log
   pub armed : IsArmed plan.stops running.host.log.disk.fuse
-  pub ends : new.seat.ends ≡ ends
+  pub lanes : new.seat.ends ≡ ends
   pub opened : new.opened ≡ opened_with (setting_in running.host.log setting) (found_in running.host.log)
 
 -- the disk, whether it is started or not

@@ -1,5 +1,5 @@
 -- A node that is up, or down.
-use Rattle.std.specs.Prelude.{◌≡◌, ◌⊎◌, ◌≤◌, ⊥, ℕ, Bool, true, false, List, [], Option, Some, None, Result, Ok, Err}
+use Rattle.std.specs.Prelude.{◌≡◌, ◌⊎◌, ◌≤◌, ℕ, Bool, true, false, List, [], Option, Some, None, Result, Ok, Err}
 use Rattle.std.specs.Global.{Global}
 use Rattle.qs_disk.specs.Disk.{DiskState, EachImage}
 use Rattle.qs_disk.specs.Fuse.{FusedValue}
@@ -103,8 +103,8 @@ answer_after (restarts.Down stopped why) = answer_of why
 pub record Restarts {D : Type 0} (told : Type 0) (state : D → DiskState) (own : D → ℕ) (alloc : Global) (old : Stopped D) (new : NodeState D) (answer : Result Bool RestartFault) : Type 0 where
   pub restarted : Restarted D Files NoServer
   pub is : IsRestarted own alloc old restarted
-  pub new : new ≡ state_after restarted
-  pub answer : answer ≡ answer_after restarted
+  pub node : new ≡ state_after restarted
+  pub said : answer ≡ answer_after restarted
   pub reopened : told → IfUp restarted (IsReopened (state old.disk.disk))
   pub found : told → IfUp restarted (λ log. (a b : List Record) → EachImage (HasOneOf a b) (state old.disk.disk).now → (records_of log ≡ a) ⊎ (records_of log ≡ b))
   pub moments : told → (a b : List Record) → EachImage (HasOneOf a b) (state old.disk.disk).now

@@ -1,5 +1,5 @@
 -- The events of a visit: of each source the one that is due, one after the other, as long as the node is up.
-use Rattle.std.specs.Prelude.{◌≡◌, ◌⊎◌, ⊥, ℕ, Bool, true, false, not, List, [], ◌∷◌, ◌++◌, map, drop, fold, length, Option, Some, None, if◌then◌else◌}
+use Rattle.std.specs.Prelude.{◌≡◌, ◌⊎◌, ℕ, Bool, true, false, not, List, [], ◌∷◌, ◌++◌, map, drop, fold, length, Option, Some, None, if◌then◌else◌}
 use Rattle.std.specs.List.{list_any}
 use Rattle.std.specs.Map.{lookup}
 use Rattle.std.specs.BTreeMap.{is_at}
@@ -84,8 +84,8 @@ all_delivered answers ends = fold deliver ends answers
 pub record Makes {D : Type 0} (told : Type 0) (state : D → DiskState) (own size : D → ℕ) (occasion : Occasion) (old : Up D) (new : NodeState D) (answers : List ClientAnswer) : Type 0 where
   pub outcome : Outcome D Files NoServer
   pub is : IsOutcome own (size old.host.log.disk.disk) occasion old outcome
-  pub new : new ≡ state_of outcome
-  pub answers : answers ≡ answers_of outcome
+  pub node : new ≡ state_of outcome
+  pub said : answers ≡ answers_of outcome
   pub moments : told → Keeps (IsOldOrAfter (out_of (size old.host.log.disk.disk) occasion old) old.host.log)
       (state old.host.log.disk.disk) (state (disk_of new).disk)
 

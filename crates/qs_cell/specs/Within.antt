@@ -1,5 +1,5 @@
 -- Stages of an event, which has begun, is worked out and is done with the log, and of a restart.
-use Rattle.std.specs.Prelude.{◌≡◌, ◌≢◌, ◌↔◌, ⊥, ℕ, [], ◌∷◌, None}
+use Rattle.std.specs.Prelude.{◌≡◌, ◌≢◌, ◌↔◌, ℕ, [], ◌∷◌, None}
 use Rattle.std.specs.Global.{Global}
 use Rattle.qs_base.specs.Causes.{Rose}
 use Rattle.qs_disk.specs.Fuse.{FusedValue}
@@ -35,42 +35,42 @@ pub record HasBegun (occasion : Occasion) (old new : Carried) : Type 0 where
   pub setting : new.setting ≡ old.setting
 
 -- the node worked out what it brings about, and no crash is to stand in place of it
-pub record IsWorkedOut {D F X : Type 0} (size : ℕ) (occasion : Occasion) (old : Running D F X) (host : HostValue (FusedValue D)) (carried : Carried) (out : Effects) : Type 0 where
+pub record IsWorkedOut {D F X : Type 0} (size : ℕ) (occasion : Occasion) (old : Running D F X) (host : HostValue (FusedValue D)) (carried : Carried) (effects : Effects) : Type 0 where
   pub node : host.node ≡ worked_node size old.host (event_of occasion)
   pub saved : host.node.kept.saved ≡ old.host.node.kept.saved
   pub log : host.log ≡ old.host.log
-  pub out : out ≡ out_of size occasion old
+  pub out : effects ≡ out_of size occasion old
   pub begun : HasBegun occasion old.carried carried
   pub unplanned : IsUnplanned size occasion old
 
 -- and did it with the log
-pub record HasStepped {D F X : Type 0} (size : ℕ) (occasion : Occasion) (old : Running D F X) (host : HostValue (FusedValue D)) (carried : Carried) (out : Effects) : Type 0 where
+pub record HasStepped {D F X : Type 0} (size : ℕ) (occasion : Occasion) (old : Running D F X) (host : HostValue (FusedValue D)) (carried : Carried) (effects : Effects) : Type 0 where
   pub node : host.node ≡ node_after size old.host (event_of occasion)
   pub log : IsLogAfter (out_of size occasion old) old.host.log host.log
-  pub out : out ≡ out_of size occasion old
+  pub out : effects ≡ out_of size occasion old
   pub begun : HasBegun occasion old.carried carried
   pub unplanned : IsUnplanned size occasion old
 
 -- the node stopped, and this is left of it
-pub record IsStopped {D : Type 0} (disk : FusedValue D) (kept : Kept) (did : Did) (cause : CrashCause) (old : Carried) (new : Stopped D) : Type 0 where
-  pub disk : new.disk ≡ disk
-  pub kept : new.kept ≡ kept
-  pub cause : new.cause ≡ cause
-  pub told : new.carried.chronicle.told ≡ crashed did cause old.chronicle.told
+pub record IsStopped {D : Type 0} (left : FusedValue D) (keeps : Kept) (did : Did) (why : CrashCause) (old : Carried) (new : Stopped D) : Type 0 where
+  pub disk : new.disk ≡ left
+  pub kept : new.kept ≡ keeps
+  pub cause : new.cause ≡ why
+  pub told : new.carried.chronicle.told ≡ crashed did why old.chronicle.told
   pub commands : new.carried.commands ≡ old.commands
   pub crashes : new.carried.crashes ≡ old.crashes
   pub points : new.carried.points.items ≡ old.points.items
   pub setting : new.carried.setting ≡ old.setting
 
 -- the node is still down with what it carries, over this disk
-pub record IsLeft {D : Type 0} (own : D → ℕ) (rest : Rest) (before : Counts) (disk : FusedValue D) (stopped : Stopped D) (why : ReopenFault) : Type 0 where
-  pub disk : stopped.disk ≡ disk
+pub record IsLeft {D : Type 0} (own : D → ℕ) (rest : Rest) (before : Counts) (left : FusedValue D) (stopped : Stopped D) (why : ReopenFault) : Type 0 where
+  pub disk : stopped.disk ≡ left
   pub kept : stopped.kept ≡ rest.kept
   pub cause : stopped.cause ≡ rest.cause
   pub setting : stopped.carried.setting ≡ rest.carried.setting
   pub seen : seen stopped.carried ≡ seen rest.carried
-  pub tripped : (why ≡ reopen_faults.Tripped) ↔ (disk.fuse.trips ≢ before.trips)
-  pub failed : why ≡ reopen_faults.DiskFailed → Rose before.own (own disk.disk)
+  pub tripped : (why ≡ reopen_faults.Tripped) ↔ (left.fuse.trips ≢ before.trips)
+  pub failed : why ≡ reopen_faults.DiskFailed → Rose before.own (own left.disk)
 
 abbrev pub IsLeftDown : {D F X : Type 0} → (D → ℕ) → Rest → Counts → FusedValue D → Restarted D F X → Type 0
 IsLeftDown own rest before disk (restarts.Up running) = ⊥
