@@ -1,5 +1,5 @@
 -- A node over its log is a host of the world: by cases on whether the step forces.
-use Rattle.std.proofs.Common.{◌≡◌, ◌⊎◌, ◌∙◌, ap, subst, refl, inl, inr, ℕ, Bool, true, false, List, [], ◌++◌}
+use Rattle.std.proofs.Common.{◌≡◌, ◌⊎◌, ◌∙◌, ap, subst, refl, sym, inl, inr, ℕ, Bool, true, false, List, [], ◌++◌}
 use Rattle.std.proofs.lemmas.List.{append-nil}
 use Rattle.std.specs.Global.{Global}
 use Rattle.std.specs.Prelude.{if◌then◌else◌}
@@ -14,7 +14,7 @@ use Rattle.qs_world.specs.World.{Host}
 use Rattle.qs_world.specs.Moves.{stepped_host, cut_log}
 use Rattle.qs_host.specs.Host as own
 use Rattle.qs_host.specs.Host.{HostValue, HasForced, IsOldOrAfter, appended}
-use Rattle.qs_local.specs.InWorld.{BeginsAsHost, HasRecords, IsCutAsHost, host_of}
+use Rattle.qs_local.specs.InWorld.{BeginsAsHost, RisesAsHost, HasRecords, IsCutAsHost, host_of}
 
 -- none waits as it begins
 pub begins : {D : Type 0} (alloc : Global) (setting : Setting) (log : LogValue D) → BeginsAsHost alloc setting log
@@ -43,3 +43,19 @@ cut stamp out host image (inr after) = inr (by out.force refl)
     by : (force : Bool) → out.force ≡ force → HasRecords host.log (cut_log (host_of stamp host) true out) image
     by true yes = rw yes (_, subst (λ (force : Bool). HasForced (if force then forced_of (appended out.records host.log) else appended out.records host.log) image) yes after)
     by false no = rw no (_, subst (λ (force : Bool). HasForced (if force then forced_of (appended out.records host.log) else appended out.records host.log) image) no after)
+
+-- what a node begins again with
+pub rises : {D : Type 0} (stamp inc : ℕ) (before : Host) (log : LogValue D) → RisesAsHost stamp inc before log
+rises stamp inc before log forced waiting none =
+    ap (λ (all : List Record). host_with (log.forced ++ all) log.forced all) waiting
+    ∙ ap (λ (all : List Record). host_with all log.forced []) (append-nil log.forced)
+    ∙ ap (λ (all : List Record). host_with all all []) forced
+    ∙ ap (λ (all : List Record). host_with before.log before.log all) (sym none)
+  where
+    host_with : List Record → List Record → List Record → Host
+    host_with all stood left = record {
+      node = opened_node before.node.manager.alloc (record before.node.setting { inc = inc }) (recovered_of all) before.node.kept.saved;
+      log = stood;
+      waiting = left;
+      stamp = stamp;
+    }

@@ -10,7 +10,8 @@ use Rattle.qs_step.specs.declared.event.Event.{Event}
 use Rattle.qs_step.specs.declared.setting.Setting.{Setting}
 use Rattle.qs_world.specs.World.{Host}
 use Rattle.qs_world.specs.World as world
-use Rattle.qs_world.specs.Moves.{stepped_host, cut_log}
+use Rattle.qs_step.specs.Opening.{recovered_of}
+use Rattle.qs_world.specs.Moves.{stepped_host, risen_host, cut_log}
 use Rattle.qs_host.specs.Host.{HostValue, opened_host, free_of, effects_at, node_after, log_after, IsOldOrAfter}
 
 -- the host of the world, with the stamp of its last step
@@ -40,3 +41,11 @@ abbrev pub IsCutAsHost : {D : Type 0} → ℕ → Effects → HostValue D → Ty
 IsCutAsHost stamp out host = (image : List ℕ) → IsOldOrAfter out host.log image
     → HasRecords host.log (cut_log (host_of stamp host) false out) image
     ⊎ HasRecords host.log (cut_log (host_of stamp host) true out) image
+
+-- a node that starts again over a log with the records of the host that stopped, with its allocator, its setting and what it
+-- kept, rises as a host of the world does
+abbrev pub RisesAsHost : {D : Type 0} → ℕ → ℕ → Host → LogValue D → Type 0
+RisesAsHost stamp inc before log =
+    log.forced ≡ before.log → log.waiting ≡ [] → before.waiting ≡ []
+    → host_of stamp (opened_host before.node.manager.alloc (record before.node.setting { inc = inc }) before.node.kept.saved log)
+    ≡ risen_host stamp inc (recovered_of before.log) before
