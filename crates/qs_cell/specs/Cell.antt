@@ -87,9 +87,9 @@ pub record IsWhole {D F X : Type 0} (size : ℕ) (occasion : Occasion) (old new 
   pub unplanned : IsUnplanned size occasion old
   pub unfollowed : is_followed size occasion old ≡ false
 
--- a node stops behind a step: it is a step of its own, in which nothing is done
+-- a node stops behind a step: it is a step of its own with the next stamp, in which nothing is done
 abbrev pub stopped_behind : Seen → Seen
-stopped_behind s = record s { told = crashed dids.Nothing causes.Plan s.told }
+stopped_behind s = record s { told = crashed dids.Nothing causes.Plan (stamped s.told) }
 
 -- a whole step, and a crash right behind it
 pub record IsFollowed {D F X : Type 0} (size : ℕ) (occasion : Occasion) (old : Running D F X) (new : Stopped D) (said : List ClientAnswer) : Type 0 where

@@ -157,6 +157,14 @@ pub record Breaks {D : Type 0} (told : Type 0) (state : D → DiskState) (own si
 
 -- ---- what came of it
 
+abbrev pub entries_in : {D : Type 0} → NodeState D → List Entry
+entries_in node = (carried_of node).chronicle.told.journal
+
+-- entries were only added
+pub record Grows (old new : List Entry) : Type 0 where
+  pub made : List Entry
+  pub is : new ≡ old ++ made
+
 abbrev pub is_tick : Act → Bool
 is_tick acts.Tick = true
 is_tick act = false

@@ -264,6 +264,7 @@ fn whole<D: Disk, F: Server, X: Server>(
     note(&mut carried, occasion, &out, entries);
     let answers = out.answers;
     if stops {
+        carried.chronicle.next_stamp();
         return Outcome::Followed {
             stopped: stop(host, carried, Did::Nothing, CrashCause::Plan),
             answers,

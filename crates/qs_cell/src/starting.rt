@@ -74,7 +74,15 @@ pub fn begin<D: Disk>(
     let setting = carried.setting;
     let files = Files::new(alloc, setting.quota);
     let kept = no_kept(alloc);
-    match Host::open(alloc, log, again, setting, kept, files, NoServer::new(alloc)) {
+    match Host::open(
+        alloc,
+        log,
+        again,
+        setting,
+        kept,
+        files,
+        NoServer::new(alloc),
+    ) {
         Ok(host) => Ok(Started {
             running: Running { host, carried },
             found,

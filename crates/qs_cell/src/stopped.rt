@@ -78,7 +78,9 @@ pub fn stopped_with<D: Disk>(
 #[derive(Drop)]
 pub enum Restarted<D: Disk, F: Server, X: Server> {
     /// The node is up.
-    Up { running: Running<D, F, X> },
+    Up {
+        running: Running<D, F, X>,
+    },
     /// It is still down.
     Down {
         stopped: Stopped<D>,
@@ -217,7 +219,10 @@ fn without_memory<D: Disk, F: Server, X: Server>(
 ) -> Restarted<D, F, X>
     ensures { IsLeftDown D.fault_count rest before log.disk result }
 {
-    refused(rest, not_begun(before, log.into_disk(), OpenFault::NoMemory))
+    refused(
+        rest,
+        not_begun(before, log.into_disk(), OpenFault::NoMemory),
+    )
 }
 
 /// The node is still down.

@@ -1,10 +1,10 @@
 //! A client with one transaction, over a node that a line of its script stops.
 use crate::cell::NodeCell;
-use qs_lanes::NodeEnds;
 use crate::starting::NodePlan;
 use qs_base::{Bytes, ClientNo, List, Member, NoMemory, NodeNo};
 use qs_disk::{Fused, MemDisk};
 use qs_journal::{Command, Kind, LineAnswer, Point, ScriptLine};
+use qs_lanes::NodeEnds;
 use qs_link::{Draw, Feed, lane};
 use qs_ops::servers::FILES;
 use qs_ops::{Answer, Op};

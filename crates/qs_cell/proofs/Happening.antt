@@ -1,0 +1,111 @@
+-- What an event does with the log and leaves on the disk, by its stages.
+use Rattle.std.proofs.Common.{◌≡◌, ◌∙◌, ap, subst, sym, refl, ℕ, Bool, true, false, List}
+use Rattle.std.specs.Prelude.{None, Some, if◌then◌else◌}
+use Rattle.std.specs.List.{list_any}
+use Rattle.qs_disk.specs.Disk.{DiskState}
+use Rattle.qs_disk.specs.Fuse.{FusedValue}
+use Rattle.qs_disk.specs.Moments.{Keeps}
+use Rattle.qs_host.proofs.Carrying.{unwritten}
+use Rattle.qs_host.specs.Host.{HostValue, IsLogAfter, IsOldOrAfter, log_after, effects_at, worked_node}
+use Rattle.qs_journal.specs.declared.entry.Act.{Act}
+use Rattle.qs_journal.specs.declared.entry.CrashCause.TheVariants as causes
+use Rattle.qs_log.specs.Log.{LogValue, Stands}
+use Rattle.qs_points.specs.Points.{stops_before}
+use Rattle.qs_points.specs.declared.points.Watched.{Watched}
+use Rattle.qs_step.specs.Step.{accept}
+use Rattle.qs_step.specs.declared.event.Effects.{Effects}
+use Rattle.qs_chronicle.specs.Carried.{Seen, seen}
+use Rattle.qs_chronicle.specs.Occasions.{event_of}
+use Rattle.qs_chronicle.specs.declared.carried.Carried.{Carried}
+use Rattle.qs_chronicle.specs.declared.occasion.Occasion.{Occasion}
+use Rattle.qs_cell.specs.Cell.{IfStands, StandsAfter, disk_after, ordered, planned, planned_after, out_of}
+use Rattle.qs_cell.specs.Within.{HasBegun, IsWorkedOut, HasStepped}
+use Rattle.qs_cell.specs.declared.running.Outcome.{Outcome}
+use Rattle.qs_cell.specs.declared.running.Outcome.TheVariants as outcomes
+use Rattle.qs_cell.specs.declared.running.Running.{Running}
+
+-- ---- a disk that nothing was written to
+
+pub untouched : {D : Type 0} (out : Effects) (log : LogValue (FusedValue D)) (state : D → DiskState) (disk : FusedValue D) → disk ≡ log.disk
+    → Stands log (state log.disk.disk) → Keeps (IsOldOrAfter out log) (state log.disk.disk) (state disk.disk)
+untouched {D} out log state disk is stands =
+    unwritten log (log_after out log) (state log.disk.disk) (state disk.disk) (ap (λ (d : FusedValue D). state d.disk) is) stands
+
+-- the log is the same one all along
+pub disk_of_log : {D : Type 0} (left : FusedValue D) (mid old : LogValue (FusedValue D)) → left ≡ mid.disk → mid ≡ old → left ≡ old.disk
+disk_of_log {D} left mid old is same = is ∙ ap (λ (l : LogValue (FusedValue D)). l.disk) same
+
+-- ---- the step is worked out
+
+pub unplanned_by : (out out_as : Effects) (s : Seen) (entries : List Act) (points : List Watched) (stops : Bool) → ordered s ≡ None → out ≡ out_as → entries ≡ out.entries
+    → points ≡ s.points → stops ≡ list_any (stops_before entries) points → stops ≡ false → planned out_as s ≡ None
+unplanned_by out out_as s entries points stops none same is_entries is_points is false_is =
+    ap (planned_after out_as s) none ∙ ap (λ (b : Bool). if b then Some causes.Plan else None) never
+  where
+    never : list_any (stops_before out_as.entries) s.points ≡ false
+    never = sym (ap (λ (es : List Act). list_any (stops_before es) s.points) (is_entries ∙ ap (λ (e : Effects). e.entries) same))
+        ∙ sym (ap (list_any (stops_before entries)) is_points) ∙ sym is ∙ false_is
+
+pub begun_on : (occasion : Occasion) (old mid new : Carried) → HasBegun occasion old mid → new.chronicle.told ≡ mid.chronicle.told → new.commands ≡ mid.commands
+    → new.crashes ≡ mid.crashes → new.points.items ≡ mid.points.items → new.setting ≡ mid.setting → HasBegun occasion old new
+begun_on occasion old mid new begun told commands crashes points setting = record {
+  told = told ∙ begun.told;
+  commands = commands ∙ begun.commands;
+  crashes = crashes ∙ begun.crashes;
+  points = points ∙ begun.points;
+  setting = setting ∙ begun.setting;
+}
+
+pub worked : {D F X : Type 0} (size : ℕ) (occasion : Occasion) (old : Running D F X) (host new : HostValue (FusedValue D)) (carried ready : Carried) (out : Effects)
+    → host ≡ old.host → new.node ≡ worked_node size host (event_of occasion) → new.node.kept.saved ≡ host.node.kept.saved → new.log ≡ host.log
+    → out ≡ effects_at size host (event_of occasion) → HasBegun occasion old.carried ready → planned (out_of size occasion old) (seen old.carried) ≡ None
+    → IsWorkedOut size occasion old new ready out
+worked {D} size occasion old host new carried ready out same node saved log is begun unplanned = record {
+  node = node ∙ ap (λ (h : HostValue (FusedValue D)). worked_node size h (event_of occasion)) same;
+  saved = saved ∙ ap (λ (h : HostValue (FusedValue D)). h.node.kept.saved) same;
+  log = log ∙ ap (λ (h : HostValue (FusedValue D)). h.log) same;
+  out = is ∙ ap (λ (h : HostValue (FusedValue D)). effects_at size h (event_of occasion)) same;
+  begun = begun;
+  unplanned = unplanned;
+}
+
+-- what it does is that of the log that it began with
+pub stands_as : {D F X : Type 0} (state : D → DiskState) (outcome : Outcome D F X) (out out_as : Effects) (mid log : LogValue (FusedValue D)) → out ≡ out_as → mid ≡ log
+    → IfStands outcome (λ disk. StandsAfter out mid disk (state disk.disk)) → IfStands outcome (λ disk. StandsAfter out_as log disk (state disk.disk))
+stands_as {D} state outcome out out_as mid log is same stands =
+    subst (λ (o : Effects). IfStands outcome (λ disk. StandsAfter o log disk (state disk.disk))) is
+    (subst (λ (l : LogValue (FusedValue D)). IfStands outcome (λ disk. StandsAfter out l disk (state disk.disk))) same stands)
+
+pub moments_as : {D : Type 0} (state : D → DiskState) (disk : FusedValue D) (out out_as : Effects) (mid log : LogValue (FusedValue D)) → out ≡ out_as → mid ≡ log
+    → Keeps (IsOldOrAfter out mid) (state mid.disk.disk) (state disk.disk) → Keeps (IsOldOrAfter out_as log) (state log.disk.disk) (state disk.disk)
+moments_as {D} state disk out out_as mid log is same keeps =
+    subst (λ (o : Effects). Keeps (IsOldOrAfter o log) (state log.disk.disk) (state disk.disk)) is
+    (subst (λ (l : LogValue (FusedValue D)). Keeps (IsOldOrAfter out l) (state l.disk.disk) (state disk.disk)) same keeps)
+
+-- ---- the step is done with the log
+
+pub has_stepped : {D F X : Type 0} (size : ℕ) (occasion : Occasion) (old : Running D F X) (host new : HostValue (FusedValue D)) (carried : Carried) (out : Effects)
+    → IsWorkedOut size occasion old host carried out → new.node ≡ accept host.node → IsLogAfter out host.log new.log → HasStepped size occasion old new carried out
+has_stepped {D} size occasion old host new carried out work node log = record {
+  node = node ∙ ap accept work.node;
+  log = subst (λ (o : Effects). IsLogAfter o old.host.log new.log) work.out (subst (λ (l : LogValue (FusedValue D)). IsLogAfter out l new.log) work.log log);
+  out = work.out;
+  begun = work.begun;
+  unplanned = work.unplanned;
+}
+
+if_stands : {D F X : Type 0} (outcome : Outcome D F X) (P : FusedValue D → Type 0) → P (disk_after outcome) → IfStands outcome P
+if_stands (outcomes.Whole running answers) P p = p
+if_stands (outcomes.Followed stopped answers) P p = p
+if_stands (outcomes.Replaced stopped) P p = tt
+if_stands (outcomes.CutOff stopped) P p = tt
+
+pub stands_on : {D F X : Type 0} (state : D → DiskState) (outcome : Outcome D F X) (out : Effects) (old new : LogValue (FusedValue D)) → IsLogAfter out old new
+    → disk_after outcome ≡ new.disk → Stands new (state new.disk.disk) → IfStands outcome (λ disk. StandsAfter out old disk (state disk.disk))
+stands_on {D} state outcome out old new is disk stands =
+    if_stands outcome (λ d. StandsAfter out old d (state d.disk))
+    (subst (λ (d : FusedValue D). StandsAfter out old d (state d.disk)) (sym disk) (subst (λ (l : LogValue (FusedValue D)). Stands l (state new.disk.disk)) is stands))
+
+pub moments_on : {D : Type 0} (state : D → DiskState) (out : Effects) (log : LogValue (FusedValue D)) (here there : FusedValue D) → there ≡ here
+    → Keeps (IsOldOrAfter out log) (state log.disk.disk) (state here.disk) → Keeps (IsOldOrAfter out log) (state log.disk.disk) (state there.disk)
+moments_on {D} state out log here there is keeps = subst (λ (d : FusedValue D). Keeps (IsOldOrAfter out log) (state log.disk.disk) (state d.disk)) (sym is) keeps

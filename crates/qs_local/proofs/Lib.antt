@@ -1,0 +1,2 @@
+-- A node over its log is a host of the world.
+pub mod AsHost
