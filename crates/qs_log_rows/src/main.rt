@@ -6,7 +6,7 @@
 
 mod tried;
 
-use crate::tried::{Spelled, TriedLog};
+use crate::tried::{Slots, Spelled, TriedLog};
 use anyhow::{Error, bail};
 use qs_base::{List, ServerNo};
 use qs_disk::{Disk, Fused, MemDisk};
@@ -80,37 +80,60 @@ fn committed(alloc: Global) -> Result<TriedLog, Error> {
     forced(log)
 }
 
-/// Appends the long Prepare, which is to be refused.
-fn show_refusal<R: AllocGlobal + Print>(rt: &R) -> Result<(), Error> {
-    let mut log = TriedLog::open(rt.alloc(), fresh(rt.alloc(), 1)?)?;
-    let long = long_prepare(rt.alloc())?;
-    match log.append(&long) {
-        Err(AppendFault::LogFull { need, room }) => {
-            println!(rt; "a record needs {need} bytes of {room}")?;
-            Ok(())
-        }
+/// The bytes that the long Prepare needs, which is to be refused, and those that a fresh log has.
+fn refusal(alloc: Global) -> Result<(u64, u64), Error> {
+    let mut log = TriedLog::open(alloc, fresh(alloc, 1)?)?;
+    match log.append(&long_prepare(alloc)?) {
+        Err(AppendFault::LogFull { need, room }) => Ok((need, room)),
         Ok(_) | Err(AppendFault::NoMemory) => bail!("not refused"),
     }
+}
+
+/// The room of a fresh log.
+fn fresh_room(alloc: Global) -> Result<u64, Error> {
+    let log = TriedLog::open(alloc, fresh(alloc, 1)?)?;
+    Ok(log.room())
+}
+
+/// The number of the last of so many Prepares that wait in the log, and the room that it has then.
+fn room_behind(alloc: Global, log: TriedLog, count: usize) -> Result<(Lsn, u64), Error> {
+    let mut log = log;
+    let mut last = 0;
+    for _prepare in 0..count {
+        last = log.add(alloc, &PREPARE)?;
+    }
+    Ok((last, log.room()))
+}
+
+/// The same of a fresh log with one.
+fn waiting_room(alloc: Global) -> Result<(Lsn, u64), Error> {
+    let log = TriedLog::open(alloc, fresh(alloc, 1)?)?;
+    room_behind(alloc, log, 1)
 }
 
 /// Prints the room of a fresh log, and as records wait and are forced.
 fn show_room<R: AllocGlobal + Print>(rt: &R) -> Result<(), Error> {
     let alloc = rt.alloc();
-    let mut log = TriedLog::open(alloc, fresh(alloc, 1)?)?;
-    println!(rt; "room {}", log.room())?;
-    let lsn = log.add(alloc, &PREPARE)?;
-    println!(rt; "record {lsn}, room {}", log.room())?;
-    let mut log = prepared(alloc, 1)?;
-    println!(rt; "forced, room {}", log.room())?;
-    log.add(alloc, &PREPARE)?;
-    let lsn = log.add(alloc, &PREPARE)?;
-    println!(rt; "record {lsn}, room {}", log.room())?;
+    let (need, room) = refusal(alloc)?;
+    println!(rt; "a record needs {need} bytes of {room}")?;
+    println!(rt; "room {}", fresh_room(alloc)?)?;
+    let (lsn, room) = waiting_room(alloc)?;
+    println!(rt; "record {lsn}, room {room}")?;
+    let (_, room) = room_behind(alloc, prepared(alloc, 1)?, 0)?;
+    println!(rt; "forced, room {room}")?;
+    let (lsn, room) = room_behind(alloc, prepared(alloc, 1)?, 2)?;
+    println!(rt; "record {lsn}, room {room}")?;
     Ok(())
+}
+
+/// The disk of a log with two batches.
+fn committed_disk(alloc: Global) -> Result<MemDisk, Error> {
+    Ok(committed(alloc)?.into_disk().into_inner())
 }
 
 /// Prints the bytes of two batches, and of the gate behind them.
 fn show_bytes<R: AllocGlobal + Print>(rt: &R) -> Result<(), Error> {
-    let mem = committed(rt.alloc())?.into_disk().into_inner();
+    let mem = committed_disk(rt.alloc())?;
     for byte in mem.bytes().iter().skip(AREA).take(TWO_BATCHES) {
         print!(rt; "{byte:02x}")?;
     }
@@ -118,27 +141,37 @@ fn show_bytes<R: AllocGlobal + Print>(rt: &R) -> Result<(), Error> {
     Ok(())
 }
 
-/// Prints how many records of a server a scan from a place finds.
-fn show_scan<R: Print>(rt: &R, log: &TriedLog, server: u8, from: Lsn) -> Result<(), Error> {
-    let found = log.count(ServerNo(server), from)?;
-    println!(rt; "server {server} from {from}: {found}")?;
-    Ok(())
+/// A log with a Prepare of server 0 forced and a Commit waiting.
+fn scanned(alloc: Global) -> Result<TriedLog, Error> {
+    let mut log = prepared(alloc, 1)?;
+    log.add(alloc, &COMMIT)?;
+    Ok(log)
 }
 
-/// Prints what scans find of a Prepare of server 0 and a Commit.
+/// How many records of a server a scan from a place finds in it.
+fn found(alloc: Global, server: u8, from: Lsn) -> Result<usize, Error> {
+    scanned(alloc)?.count(ServerNo(server), from)
+}
+
+/// Prints how many records scans find.
 fn show_scans<R: AllocGlobal + Print>(rt: &R) -> Result<(), Error> {
-    let mut log = prepared(rt.alloc(), 1)?;
-    log.add(rt.alloc(), &COMMIT)?;
     for (server, from) in [(7, 0), (7, 1), (7, 2), (0, 0), (1, 0)] {
-        show_scan(rt, &log, server, from)?;
+        println!(rt;
+            "server {server} from {from}: {}",
+            found(rt.alloc(), server, from)?
+        )?;
     }
     Ok(())
 }
 
+/// What the slots of a fresh disk say.
+fn fresh_slots(alloc: Global) -> Result<Slots, Error> {
+    Ok(TriedLog::open(alloc, fresh(alloc, 1)?)?.slots())
+}
+
 /// Prints what the slots of a fresh disk say.
 fn show_fresh<R: AllocGlobal + Print>(rt: &R) -> Result<(), Error> {
-    let log = TriedLog::open(rt.alloc(), fresh(rt.alloc(), 1)?)?;
-    let said = log.slots();
+    let said = fresh_slots(rt.alloc())?;
     println!(rt;
         "generation {} format {} incarnation {} top {}",
         said.generation, said.format, said.inc, said.top
@@ -219,29 +252,33 @@ impl Seen {
     }
 }
 
-/// Cuts the power at each disk call of a force, and of a raise, and prints which outcomes were seen.
-fn show_cuts<R: AllocGlobal + Print>(rt: &R) -> Result<(), Error> {
+/// Which outcomes are seen where the power is cut at each disk call of a force.
+fn force_cuts(alloc: Global) -> Result<Seen, Error> {
     let mut lists = Seen::NONE;
     for call in 1..5 {
         for seed in 0..SEEDS {
-            lists.see(after_force(rt.alloc(), seed, call)?, (1, 0), (2, 0));
+            lists.see(after_force(alloc, seed, call)?, (1, 0), (2, 0));
         }
     }
-    lists.show(rt, "a force")?;
+    Ok(lists)
+}
+
+/// And of a raise.
+fn raise_cuts(alloc: Global) -> Result<Seen, Error> {
     let mut incs = Seen::NONE;
     for call in 1..7 {
         for seed in 0..SEEDS {
-            incs.see(after_raise(rt.alloc(), seed, call)?, (1, 0), (1, 1));
+            incs.see(after_raise(alloc, seed, call)?, (1, 0), (1, 1));
         }
     }
-    incs.show(rt, "a raise")
+    Ok(incs)
 }
 
 fn main(rt: HostRuntime) -> Result<(), Error> {
     show_fresh(&rt)?;
-    show_refusal(&rt)?;
     show_room(&rt)?;
     show_bytes(&rt)?;
     show_scans(&rt)?;
-    show_cuts(&rt)
+    force_cuts(rt.alloc())?.show(&rt, "a force")?;
+    raise_cuts(rt.alloc())?.show(&rt, "a raise")
 }
