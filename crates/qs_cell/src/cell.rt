@@ -292,6 +292,17 @@ impl<D: Disk> NodeCell<D> {
         self.state.settled()
     }
 
+    /// The disk of its log, its entries and its steps, in order. It takes no memory.
+    pub fn into_parts(self) -> (Fused<D>, List<Entry>, List<Step>)
+        ensures disk { result.0 ≡ disk_of self.seat.node }
+        ensures journal { result.1 ≡ journal_of self }
+        ensures trace { result.2 ≡ trace_of self }
+    {
+        let (disk, carried) = self.state.into_parts();
+        let (journal, trace) = carried.chronicle.into_parts();
+        (disk, journal, trace)
+    }
+
     /// The disk of its log.
     pub fn into_disk(self) -> Fused<D>
         ensures { result ≡ disk_of self.seat.node }

@@ -143,6 +143,21 @@ impl<D: Disk> NodeState<D> {
         after_restart(stopped.restart(alloc, files, NoServer::new(alloc)))
     }
 
+    /// The disk of its log, and what the cell carries. It takes no memory.
+    pub fn into_parts(self) -> (Fused<D>, Carried)
+        ensures disk { result.0 ≡ disk_of self }
+        ensures carried { result.1 ≡ carried_of self }
+    {
+        match self {
+            NodeState::Up { running } => {
+                let Running { host, carried } = running;
+                let (disk, _, _) = host.into_parts();
+                (disk, carried)
+            }
+            NodeState::Down { stopped } => (stopped.disk, stopped.carried),
+        }
+    }
+
     /// The disk of its log.
     pub fn into_disk(self) -> Fused<D>
         ensures { result ≡ disk_of self }
