@@ -91,6 +91,10 @@ pub record IsDamageOf {D : Type 0} (told : Type 0) (state : D → DiskState) (no
 abbrev pub AreLogged : {D : Type 0} → Type 0 → (D → DiskState) → List D → List D → Type 0
 AreLogged told state old new = OfFirst (λ first after. told → EachImage HasLog (state after).now) old new
 
+-- the disks are as they were, but for the first of them at most
+abbrev pub AreBesides : {D : Type 0} → List D → List D → Type 0
+AreBesides old new = (new ≡ old) ⊎ OfFirst (λ first after. ⊤) old new
+
 -- ---- the journal
 
 -- the reference machine over what the log of the node held

@@ -1,4 +1,7 @@
 //! What the words ask for.
+ghost use Rattle.std.specs.Prelude.{◌≡◌};
+ghost use Rattle.qs_script.specs.Words.{form_of};
+ghost use Rattle.qs_top.specs.Asking.{asked_in, asked_by};
 
 use qs_rounds::NODE_COUNT;
 use qs_text::{Form, read_words};
@@ -13,7 +16,9 @@ pub enum Asked {
 }
 
 /// What words ask for; `None` where they are of no form, or of one that is not carried out yet.
-pub fn asked_by(words: &[String]) -> Option<Asked> {
+pub fn asked_by(words: &[String]) -> Option<Asked>
+    ensures { result ≡ asked_by (form_of words.now) }
+{
     match read_words(words) {
         Ok(form) => asked_in(form),
         Err(_) => None,
@@ -21,7 +26,9 @@ pub fn asked_by(words: &[String]) -> Option<Asked> {
 }
 
 /// What a form asks for: of runs that of one node with a seed.
-fn asked_in(form: Form) -> Option<Asked> {
+fn asked_in(form: Form) -> Option<Asked>
+    ensures { result ≡ asked_in form }
+{
     match form {
         Form::Run {
             nodes: NODE_COUNT,

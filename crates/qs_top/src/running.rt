@@ -11,7 +11,7 @@ ghost use Rattle.qs_script.specs.declared.reading.ScriptFailed.TheVariants.{Faul
 ghost use Rattle.qs_statements.specs.declared.status.ScriptFault.{ScriptFault};
 ghost use Rattle.qs_statements.specs.declared.status.Waiting.{Waiting};
 ghost use Rattle.qs_top.specs.Asking.{asked_by};
-ghost use Rattle.qs_top.specs.Run.{ReadWhole, OfScript, IsRunOf, HasLawful, IsFaultOf, IsDamageOf, IsRefused, IsOver, AreWaiting, GivesWhole, GivesFront, IsEarly, IsPastScript, IsPastOpening, IsOfRun, Gives, Tells, IfNot, AreLogged, node_count};
+ghost use Rattle.qs_top.specs.Run.{ReadWhole, OfScript, IsRunOf, HasLawful, IsFaultOf, IsDamageOf, IsRefused, IsOver, AreWaiting, GivesWhole, GivesFront, IsEarly, IsPastScript, IsPastOpening, IsOfRun, Gives, Tells, IfNot, AreBesides, AreLogged, node_count};
 ghost use Rattle.qs_top.specs.Verdict.{IsUnlawfulText, IsVerdict, IsOfCheck};
 
 use crate::asking::{Asked, asked_by};
@@ -202,6 +202,7 @@ pub fn run<R: Threads + Sync, S: Source, K: Sink, D: Disk>(
     // The disks: as they were before the log is opened. Afterwards each image of the first has a log, and the others are as
     // they were.
     ensures early { IsEarly result.status → disks.new.items ≡ disks.old.items }
+    ensures others { AreBesides disks.old.items disks.new.items }
     ensures logged { asked_by (form_of words.now) ≢ Some Asked.Check → IsPastOpening result.status
         → AreLogged D.told D.state disks.old.items disks.new.items }
 
