@@ -1,10 +1,13 @@
-//! What a script asks of the nodes and clients of a run, in which order they are visited, and how many rounds they have.
+//! What a script asks of the nodes and clients of a run, in which order they are visited, how many rounds they
+//! have, and who waits.
 #![tactic(auto)]
 
 mod order;
 mod plan;
 mod spending;
+mod waits;
 
 pub use order::Orders;
 pub use plan::{NODE, NODE_COUNT, commands_of, crashes_of, points_of, setting_of, stops_of};
 pub use spending::budget;
+pub use waits::waiting_of;

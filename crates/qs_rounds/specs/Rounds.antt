@@ -9,7 +9,6 @@ use Rattle.qs_client.specs.Turns.{Turns}
 use Rattle.qs_client.specs.declared.cell.ClientCell.{ClientCell}
 use Rattle.qs_disk.specs.Disk.{DiskState}
 use Rattle.qs_lanes.specs.Lanes.{ends_of, CarriesIn, CarriesOut}
-use Rattle.qs_link.specs.Lane.{FeedValue, DrawValue}
 use Rattle.qs_plans.specs.Order.{drawn_order}
 use Rattle.rand_pcg.specs.Lcg.{Lcg}
 

@@ -1,4 +1,10 @@
 //! The actors of a run of one node: the node and its clients. In a round each is visited once.
+ghost use Rattle.std.specs.Prelude.{◌≡◌, ◌×◌, IfOk, IfErr};
+ghost use Rattle.qs_base.specs.Causes.{Rose};
+ghost use Rattle.qs_cell.specs.State.{disk_of};
+ghost use Rattle.qs_rounds.specs.Lanes.{AreJoined};
+ghost use Rattle.qs_rounds.specs.Rounds.{IsRound, VisitAt, NodeVisit, CarriesAll, CarriesBoth, all_ended, are_settled, count_of};
+ghost use Rattle.qs_rounds.specs.declared.faults.RoundFault.TheVariants as faults;
 
 use crate::faults::RoundFault;
 use qs_base::NoMemory;
@@ -7,13 +13,14 @@ use qs_client::ClientCell;
 use qs_disk::Disk;
 use qs_journal::CrashCause;
 use qs_plans::NODE;
+use std::marker::Model;
 
 /// The node, and its clients by number. In the order of a round the node has place 0, and the clients have the places behind
 /// it.
 #[derive(Drop)]
 pub struct Actors<D: Disk> {
-    pub node: NodeCell<D>,
-    pub clients: Vec<ClientCell>,
+    node: NodeCell<D>,
+    clients: Vec<ClientCell>,
 }
 
 /// How a round ended.
@@ -23,14 +30,51 @@ pub struct RoundEnd {
     pub quiet: bool,
 }
 
+impl<D: Disk> Model for Actors<D> {
+    ghost use Rattle.qs_rounds.specs.Lanes.{AreJoined};
+    ghost use Rattle.qs_rounds.specs.Rounds.{Cast};
+
+    ghost Value = { Cast D };
+
+    ghost view = { λ a. record { node = a.node; clients = a.clients.items } };
+
+    ghost invariant = { λ a. AreJoined a.node.seat.ends a.clients.items };
+}
+
 impl<D: Disk> Actors<D> {
+    /// The node and its clients, by number, whose lanes are joined.
+    pub fn new(node: NodeCell<D>, clients: Vec<ClientCell>) -> Actors<D>
+        requires { AreJoined node.seat.ends clients.items }
+        ensures { result ≡ record { node = node; clients = clients.items } }
+    {
+        Actors { node, clients }
+    }
+
+    /// The node.
+    pub fn node(&self) -> &NodeCell<D>
+        ensures { result.now ≡ self.now.node }
+    {
+        &self.node
+    }
+
+    /// The node, by value.
+    pub fn into_node(self) -> NodeCell<D>
+        ensures { result ≡ self.node }
+    {
+        self.node
+    }
+
     /// How many they are.
-    pub fn count(&self) -> usize {
+    pub fn count(&self) -> usize
+        ensures { result ≡ count_of self.now }
+    {
         self.clients.len().saturating_add(1)
     }
 
     /// What stands in the lanes is carried to their ends, and each actor is visited once, in the order of these places.
-    pub fn round(&mut self, order: &[usize]) -> Result<RoundEnd, RoundFault> {
+    pub fn round(&mut self, order: &[usize]) -> Result<RoundEnd, RoundFault>
+        ensures round { IfOk result (λ end. IsRound D.told D.state D.fault_count D.byte_count order.now self.old self.new end.quiet) }
+    {
         self.carry()?;
         let mut quiet = self.node.is_up();
         for place in order {
@@ -59,12 +103,16 @@ impl<D: Disk> Actors<D> {
     }
 
     /// Whether each client stands at the end of its script.
-    pub fn all_ended(&self) -> bool {
+    pub fn all_ended(&self) -> bool
+        ensures { result ≡ all_ended self.now }
+    {
         self.clients.iter().all(|client| client.at().is_none())
     }
 
     /// Whether each client stands at the end of its script, and no transaction is unended at the node.
-    pub fn are_settled(&self) -> bool {
+    pub fn are_settled(&self) -> bool
+        ensures { result ≡ are_settled self.now }
+    {
         self.all_ended() && self.node.settled()
     }
 }

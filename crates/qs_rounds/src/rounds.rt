@@ -1,4 +1,6 @@
 //! The rounds of a run, up to its end.
+ghost use Rattle.std.specs.Prelude.{◌≡◌, IfOk};
+ghost use Rattle.qs_rounds.specs.Endings.{IsEnding};
 
 use crate::actors::Actors;
 use crate::faults::RoundFault;
@@ -23,10 +25,12 @@ pub fn rounds_of<D: Disk>(
     script: &Script,
     seed: u64,
     actors: &mut Actors<D>,
-) -> Result<Ending, RoundFault> {
+) -> Result<Ending, RoundFault>
+    ensures ending { IfOk result (λ ending. IsEnding D.told D.state D.fault_count D.byte_count script.now seed actors.old actors.new ending) }
+{
     let mut orders = Orders::new(seed);
     let count = actors.count();
-    let mut most = budget(script, actors.node.journal());
+    let mut most = budget(script, actors.node().journal());
     for rounds in 1..u64::MAX {
         let order = orders.draw(alloc, count)?;
         let end = actors.round(order.as_slice())?;
@@ -35,7 +39,7 @@ pub fn rounds_of<D: Disk>(
             return Ok(Ending { rounds, settled });
         }
         if most <= rounds {
-            most = budget(script, actors.node.journal());
+            most = budget(script, actors.node().journal());
             if most <= rounds {
                 return Ok(Ending { rounds, settled });
             }

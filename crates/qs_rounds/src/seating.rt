@@ -39,7 +39,7 @@ pub fn start<D: Disk>(
     };
     let setting = setting_of(script, NODE_COUNT, NODE, NOT_RAISED);
     let node = NodeCell::start(alloc, disk, setting, ends, plan)?;
-    Ok(Actors { node, clients })
+    Ok(Actors::new(node, clients))
 }
 
 fn made_ready(alloc: Global, script: &Script) -> Result<(Seated, NodePlan), NoMemory> {

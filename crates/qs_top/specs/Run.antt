@@ -1,6 +1,8 @@
 -- What the top call promises: of the text that was read, of the journal, of how it ends, of what was given, and of the disks.
 use Rattle.std.specs.Prelude.{◌≡◌, ◌×◌, ◌⊎◌, ◌<◌, ◌≤◌, ◌^◌, ⊤, ⊥, ℕ, ◌+◌, Bool, true, false, List, [], ◌∷◌, length, Option, Ok}
+use Rattle.std.specs.Global.{Global}
 use Rattle.std.specs.Io.KnownBytes.{Consumes, Appends}
+use Rattle.std.specs.List.{All}
 use Rattle.qs_base.specs.Causes.{Rose}
 use Rattle.qs_base.specs.declared.identifiers.NodeNo.{NodeNo}
 use Rattle.qs_conformance.specs.Conforming.{Conforms}
@@ -12,12 +14,15 @@ use Rattle.qs_machine.specs.Book.{BookValue}
 use Rattle.qs_machine.specs.Lawful.{IsLawful, book_after}
 use Rattle.qs_machine.specs.Opening.{opening}
 use Rattle.qs_machine.specs.declared.opened.Opened.{Opened}
-use Rattle.qs_plans.specs.Budget.{budget}
-use Rattle.qs_plans.specs.Order.{seeded}
-use Rattle.qs_plans.specs.Plan.{setting_of}
+use Rattle.qs_plans.specs.Plan.{setting_of, commands_of}
+use Rattle.qs_plans.specs.Waiting.{waiting_of}
+use Rattle.qs_rounds.specs.Seats.{plan_of}
 use Rattle.qs_record.specs.declared.record.Record.{Record}
-use Rattle.qs_rounds.specs.Rounds.{Cast, EndsWith, are_settled, all_ended}
-use Rattle.qs_cell.specs.Starts.{journal_of}
+use Rattle.qs_rounds.specs.Endings.{IsEnding}
+use Rattle.qs_rounds.specs.Rounds.{Cast}
+use Rattle.qs_rounds.specs.declared.rounds.Ending.{Ending}
+use Rattle.qs_cell.specs.Starts.{IsStarted, journal_of}
+use Rattle.qs_client.specs.Progress.{begun}
 use Rattle.qs_script.specs.Script.{script_of}
 use Rattle.qs_slot.specs.Slot.{Present}
 use Rattle.qs_statements.specs.declared.script.Script.{Script}
@@ -26,7 +31,7 @@ use Rattle.qs_statements.specs.declared.status.Status.TheVariants as statuses
 use Rattle.qs_statements.specs.declared.status.Waiting.{Waiting}
 use Rattle.qs_step.specs.Opening.{recovered_of}
 use Rattle.qs_text.specs.Output.{out_of}
-use Rattle.qs_verdict.specs.Verdicts.{IsRefusedAt, waiting_after}
+use Rattle.qs_verdict.specs.Verdicts.{IsRefusedAt}
 use Rattle.qs_world.specs.Histories.{opened_with}
 
 -- how many nodes a run has, and the one
@@ -137,21 +142,27 @@ GivesFront script journal shown before after opened = GivesPart before after (ou
 -- ---- how it ends
 
 -- these wait after the journal
-abbrev pub AreWaiting : Script → List Entry → List Waiting → Opened → Type 0
-AreWaiting script journal waiting opened = waiting ≡ waiting_after script (machine_over opened) journal
+abbrev pub AreWaiting : Script → List Entry → List Waiting → Type 0
+AreWaiting script journal waiting = waiting ≡ waiting_of script journal
 
--- the rounds that the script has are spent
-abbrev pub AreSpent : Script → List Entry → ℕ → Type 0
-AreSpent script journal rounds = budget script journal ≤ rounds
+-- the node began over the first disk, as the script sets it
+pub record HasBegun {D : Type 0} (told : Type 0) (state : D → DiskState) (script : Script) (cast : Cast D) (old : List D) : Type 0 where
+  pub disk : D
+  pub rest : List D
+  pub old_is : old ≡ disk ∷ rest
+  pub alloc : Global
+  pub started : IsStarted told state alloc disk (setting_of script node_count first_node 0) cast.node.seat.ends (plan_of first_node script.faults) cast.node
+  pub fresh : All (λ client. client.progress ≡ begun (commands_of client.client script.lines)) cast.clients
 
 -- after so many rounds, the last of which was quiet, the actors could go no further; or no more rounds were left
-pub record IsOver {D : Type 0} (told : Type 0) (state : D → DiskState) (own size : D → ℕ) (seed : ℕ) (script : Script) (journal : List Entry) (rounds : ℕ) : Type 0 where
+pub record IsOver {D : Type 0} (told : Type 0) (state : D → DiskState) (own size : D → ℕ) (seed : ℕ) (script : Script) (journal : List Entry) (rounds : ℕ) (old : List D) : Type 0 where
   pub first : Cast D
   pub last : Cast D
-  pub quiet : Bool
-  pub ends : EndsWith told state own size (seeded seed) rounds first last quiet
+  pub ending : Ending
+  pub begins : HasBegun told state script first old
+  pub ends : IsEnding told state own size script seed first last ending
+  pub rounds_is : ending.rounds ≡ rounds
   pub journal_is : journal_of last.node ≡ journal
-  pub over : ((quiet ≡ true) × ((all_ended last ≡ false) ⊎ (are_settled last ≡ true))) ⊎ AreSpent script journal rounds
 
 -- ---- the statuses
 

@@ -163,12 +163,12 @@ pub fn run<R: Threads + Sync, S: Source, K: Sink, D: Disk>(
         → result.status ≡ Status.Finished
         → ReadWhole 1048576 (S.left source.old) (S.left source.new) (OfScript (λ script.
         IsRunOf D.told D.state script result.journal disks.old.items disks.new.items (λ opened.
-        AreWaiting script result.journal [] opened × GivesWhole script result.journal shown (K.given sink.old) (K.given sink.new) opened))) }
+        AreWaiting script result.journal [] × GivesWhole script result.journal shown (K.given sink.old) (K.given sink.new) opened))) }
     ensures unfinished { (seed : ℕ) (shown : Bool) → asked_by (form_of words.now) ≡ Some (Asked.Serial seed shown)
         → (rounds : ℕ) (waiting : List Waiting) → result.status ≡ Status.Unfinished rounds waiting
         → ReadWhole 1048576 (S.left source.old) (S.left source.new) (OfScript (λ script.
         IsRunOf D.told D.state script result.journal disks.old.items disks.new.items (λ opened.
-        AreWaiting script result.journal waiting opened × GivesWhole script result.journal shown (K.given sink.old) (K.given sink.new) opened))) }
+        AreWaiting script result.journal waiting × GivesWhole script result.journal shown (K.given sink.old) (K.given sink.new) opened))) }
     ensures cut_off { (seed : ℕ) (shown : Bool) → asked_by (form_of words.now) ≡ Some (Asked.Serial seed shown)
         → result.status ≡ Status.WriteFault
         → ReadWhole 1048576 (S.left source.old) (S.left source.new) (OfScript (λ script.
@@ -182,7 +182,7 @@ pub fn run<R: Threads + Sync, S: Source, K: Sink, D: Disk>(
     ensures over { (seed : ℕ) (shown : Bool) → asked_by (form_of words.now) ≡ Some (Asked.Serial seed shown)
         → (rounds : ℕ) (waiting : List Waiting) → result.status ≡ Status.Unfinished rounds waiting
         → ReadWhole 1048576 (S.left source.old) (S.left source.new) (OfScript (λ script.
-        IsOver D.told D.state D.fault_count D.byte_count seed script result.journal rounds)) }
+        IsOver D.told D.state D.fault_count D.byte_count seed script result.journal rounds disks.old.items)) }
 
     // Where the judge refuses entries that the run made, the line and the clause are told.
     ensures refused { (seed : ℕ) (shown : Bool) → asked_by (form_of words.now) ≡ Some (Asked.Serial seed shown)

@@ -6,10 +6,11 @@ use qs_cell::CellOpen;
 use qs_disk::{Disk, Fused};
 use qs_journal::Entry;
 use qs_log::OpenFault;
+use qs_plans::waiting_of;
 use qs_rounds::{Actors, Ending, NODE, RoundFault, rounds_of, start};
 use qs_step::Step;
 use qs_text::{Script, Status, Waiting, out_text};
-use qs_verdict::{judged, waiting_of};
+use qs_verdict::judged;
 use std::alloc::Global;
 
 /// What a run came to before anything was given.
@@ -61,8 +62,8 @@ fn not_opened(why: OpenFault) -> Status {
 fn run_actors<D: Disk>(alloc: Global, actors: Actors<D>, plan: Plan<'_>) -> (D, Made) {
     let mut actors = actors;
     let ending = rounds_of(alloc, plan.script, plan.seed, &mut actors);
-    let opened = actors.node.opened();
-    let (disk, journal, trace) = actors.node.into_parts();
+    let opened = actors.node().opened();
+    let (disk, journal, trace) = actors.into_node().into_parts();
     let made = match (ending, opened) {
         (Ok(ending), Ok(opened)) => ended(alloc, plan, ending, opened, journal, trace),
         (Err(RoundFault::DiskFault { node }), Ok(opened)) => {
@@ -105,7 +106,7 @@ fn told(
 ) -> Result<(Status, Bytes), Status> {
     let checker = judged(alloc, plan.script, opened, journal.as_slice())?;
     let (Ok(waiting), Ok(output)) = (
-        waiting_of(alloc, checker.course()),
+        waiting_of(alloc, plan.script, journal.as_slice()),
         out_text(alloc, plan.script, journal, checker.book(), plan.journal),
     ) else {
         return Err(Status::NoMemory);

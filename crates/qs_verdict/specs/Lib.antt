@@ -1,2 +1,2 @@
--- How a run judges its own journal, and who waits after it.
+-- How a run judges its own journal.
 pub mod Verdicts

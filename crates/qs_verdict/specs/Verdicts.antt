@@ -1,10 +1,8 @@
--- How a run judges its own journal, and how it ends.
+-- How a run judges its own journal.
 use Rattle.std.specs.Prelude.{◌≡◌, ℕ, ◌+◌, ◌-◌, ◌^◌, List, [], ◌∷◌, fold, Option, Some, None, Result, Err, OnOk, IfErr, min, ⊤, ⊥, ◌×◌}
-use Rattle.std.specs.List.{flat_map, range_with_len}
-use Rattle.qs_base.specs.declared.identifiers.ClientNo.{ClientNo}
 use Rattle.qs_conformance.specs.Begun.{at_start}
 use Rattle.qs_conformance.specs.Conforming.{first_misfit, first_misfit_from, fault_of}
-use Rattle.qs_conformance.specs.Course.{CourseValue, first_at}
+use Rattle.qs_conformance.specs.Course.{CourseValue}
 use Rattle.qs_conformance.specs.Effects.{course_after}
 use Rattle.qs_conformance.specs.declared.fault.Fault.{Fault}
 use Rattle.qs_conformance.specs.declared.fault.Fault.TheVariants as faults
@@ -12,12 +10,10 @@ use Rattle.qs_conformance.specs.declared.fault.Misfit.{Misfit}
 use Rattle.qs_conforming.specs.declared.fault.CheckFault.{CheckFault}
 use Rattle.qs_conforming.specs.declared.fault.CheckFault.TheVariants as checks
 use Rattle.qs_journal.specs.declared.entry.Entry.{Entry}
-use Rattle.qs_journal.specs.declared.script_line.ScriptLine.{ScriptLine}
 use Rattle.qs_machine.specs.Book.{BookValue}
 use Rattle.qs_statements.specs.declared.script.Script.{Script}
 use Rattle.qs_statements.specs.declared.status.Status.{Status}
 use Rattle.qs_statements.specs.declared.status.Status.TheVariants as statuses
-use Rattle.qs_statements.specs.declared.status.Waiting.{Waiting}
 use Rattle.std.specs.Option.{IsSomeAnd}
 
 -- ---- where it is refused
@@ -41,33 +37,11 @@ pub record IsRefusedAt (script : Script) (book : BookValue) (journal : List Entr
   pub line_is : line ≡ line_of misfit.place
   pub clause_is : clause ≡ clause_of misfit.fault
 
--- ---- who waits
-
--- the numbers of clients are below this
-abbrev pub client_count : ℕ
-client_count = 32
-
-abbrev pub waiting_at : ClientNo → Option ScriptLine → List Waiting
-waiting_at client None = []
-waiting_at client (Some line) = record { client = client; line = line.line } ∷ []
-
--- the client of this number, where a command of it is not answered, with the first such line
-abbrev pub waiting_in : CourseValue → ℕ → List Waiting
-waiting_in course number = waiting_at (record { 0 = number }) (first_at course 0 (record { 0 = number }))
-
--- all clients of the node whose scripts have not ended, by number
-abbrev pub waiting_of : CourseValue → List Waiting
-waiting_of course = flat_map (waiting_in course) (range_with_len 0 client_count)
-
 -- ---- what the judge knows
 
 -- what the script and the machine say after a journal that conforms
 abbrev pub course_of : Script → BookValue → List Entry → CourseValue
 course_of script book journal = fold course_after (at_start script book) journal
-
--- who waits after it
-abbrev pub waiting_after : Script → BookValue → List Entry → List Waiting
-waiting_after script book journal = waiting_of (course_of script book journal)
 
 -- ---- within the judging
 

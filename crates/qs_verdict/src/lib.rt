@@ -1,8 +1,6 @@
-//! The verdict on a run: its journal is judged, and who waits is told.
+//! The verdict on a run: its journal is judged by the reference machine and by its script.
 #![tactic(auto)]
 
 mod judging;
-mod waiting;
 
 pub use judging::judged;
-pub use waiting::waiting_of;
