@@ -54,13 +54,6 @@ impl Checker {
         self.course.book()
     }
 
-    /// What the script and the entries that were taken in say.
-    pub fn course(&self) -> &Course
-        ensures { result.now ≡ self.now }
-    {
-        &self.course
-    }
-
     /// Why the entry does not conform; `None` exactly where it does. The first clause of the
     /// reference machine that it breaks is told, else the first rule of the script. The only error
     /// is a refusal of memory, for which a count at its end stands too.
