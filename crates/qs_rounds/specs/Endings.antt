@@ -1,5 +1,5 @@
 -- How the rounds of a run end: quietly, where the actors can go no further; or with no rounds left; or cut short.
-use Rattle.std.specs.Prelude.{◌≡◌, ◌⊎◌, ◌×◌, ◌≤◌, ℕ, Bool, true, false, ◌&&◌}
+use Rattle.std.specs.Prelude.{◌≡◌, ◌⊎◌, ◌≤◌, ℕ, Bool, true, false, ◌&&◌}
 use Rattle.qs_cell.specs.Starts.{journal_of}
 use Rattle.qs_disk.specs.Disk.{DiskState}
 use Rattle.qs_plans.specs.Budget.{budget}

@@ -1,5 +1,5 @@
 -- The lanes between the node and its clients are whole, and each client has its own.
-use Rattle.std.specs.Prelude.{◌≡◌, ◌≢◌, ◌×◌, ⊤, ℕ, List, [], ◌∷◌}
+use Rattle.std.specs.Prelude.{◌≡◌, ◌≢◌, ⊤, ℕ, List, [], ◌∷◌}
 use Rattle.std.specs.List.{All}
 use Rattle.qs_base.specs.declared.identifiers.ClientNo.{ClientNo}
 use Rattle.qs_client.specs.declared.cell.ClientCell.{ClientCell}

@@ -1,5 +1,5 @@
 -- The actors of a run of one node, and its rounds: what is carried, who is visited, and when a round is quiet.
-use Rattle.std.specs.Prelude.{◌≡◌, ◌≢◌, ◌×◌, ⊥, ℕ, zero, suc, ◌+◌, ◌-◌, Bool, true, false, not, ◌&&◌, ◌||◌, List, [], ◌∷◌, length, is_none, Option, Some, None, Ok, slice_get}
+use Rattle.std.specs.Prelude.{◌≡◌, ◌≢◌, ℕ, zero, suc, ◌+◌, ◌-◌, Bool, true, false, not, ◌&&◌, ◌||◌, List, [], ◌∷◌, length, is_none, Option, Some, None, Ok, slice_get}
 use Rattle.std.specs.List.{list_all, slice_set}
 use Rattle.qs_cell.specs.Starts.{CellValue, journal_of}
 use Rattle.qs_cell.specs.State.{StartsAgain, cause_of, is_settled_node}

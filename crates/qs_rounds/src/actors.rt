@@ -1,5 +1,5 @@
 //! The actors of a run of one node: the node and its clients. In a round each is visited once.
-ghost use Rattle.std.specs.Prelude.{◌≡◌, ◌×◌, IfOk, IfErr};
+ghost use Rattle.std.specs.Prelude.{◌≡◌, IfOk, IfErr};
 ghost use Rattle.qs_base.specs.Causes.{Rose};
 ghost use Rattle.qs_cell.specs.State.{disk_of};
 ghost use Rattle.qs_rounds.specs.Lanes.{AreJoined};

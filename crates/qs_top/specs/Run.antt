@@ -1,5 +1,5 @@
 -- What the top call promises: of the text that was read, of the journal, of how it ends, of what was given, and of the disks.
-use Rattle.std.specs.Prelude.{◌≡◌, ◌×◌, ◌⊎◌, ◌<◌, ◌≤◌, ◌^◌, ⊤, ⊥, ℕ, ◌+◌, Bool, true, false, List, [], ◌∷◌, length, Option, Ok}
+use Rattle.std.specs.Prelude.{◌≡◌, ◌⊎◌, ◌<◌, ◌≤◌, ◌^◌, ⊤, ℕ, ◌+◌, Bool, true, false, List, [], ◌∷◌, length, Option, Ok}
 use Rattle.std.specs.Global.{Global}
 use Rattle.std.specs.Io.KnownBytes.{Consumes, Appends}
 use Rattle.std.specs.List.{All}

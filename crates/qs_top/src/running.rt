@@ -1,5 +1,5 @@
 //! The top call.
-ghost use Rattle.std.specs.Prelude.{◌≡◌, ◌≢◌, ◌↔◌, ◌≤◌, ◌×◌, ⊤, ℕ, Bool, List, [], Err, None, Some, length};
+ghost use Rattle.std.specs.Prelude.{◌≡◌, ◌≢◌, ◌↔◌, ◌≤◌, ⊤, ℕ, Bool, List, [], Err, None, Some, length};
 ghost use Rattle.std.specs.Io.KnownBytes.{Appends};
 ghost use Rattle.qs_base.specs.Causes.{Rose};
 ghost use Rattle.qs_base.specs.declared.identifiers.NodeNo.{NodeNo};

@@ -1,5 +1,5 @@
 -- How a run judges its own journal.
-use Rattle.std.specs.Prelude.{◌≡◌, ℕ, ◌+◌, ◌-◌, ◌^◌, List, [], ◌∷◌, fold, Option, Some, None, Result, Err, OnOk, IfErr, min, ⊤, ⊥, ◌×◌}
+use Rattle.std.specs.Prelude.{◌≡◌, ℕ, ◌+◌, ◌-◌, ◌^◌, List, [], ◌∷◌, fold, Option, Some, None, Result, Err, OnOk, IfErr, min, ⊤}
 use Rattle.qs_conformance.specs.Begun.{at_start}
 use Rattle.qs_conformance.specs.Conforming.{first_misfit, first_misfit_from, fault_of}
 use Rattle.qs_conformance.specs.Course.{CourseValue}

@@ -1,11 +1,13 @@
 //! A run judges its own journal.
 ghost use Rattle.std.specs.Prelude.{◌≡◌, ℕ, [], ◌∷◌, Err, IfOk, IfErr};
 ghost use Rattle.qs_conformance.specs.Conforming.{Conforms};
+ghost use Rattle.qs_machine.specs.Lawful.{book_after};
 ghost use Rattle.qs_machine.specs.Opening.{opening};
-ghost use Rattle.qs_verdict.specs.Verdicts.{course_of, refused, IsRefusedAt, IsRefusal, IsJudged, IsTakenIn};
+ghost use Rattle.qs_verdict.specs.Verdicts.{course_of, line_of, refused, IsRefusedAt, IsRefusal, IsJudged, IsTakenIn};
 
 use qs_base::NoMemory;
 use qs_book::Opened;
+use qs_conformance::no_misfit_means_conforming;
 use qs_conforming::{CheckFault, Checker};
 use qs_journal::Entry;
 use qs_statements::{Script, Status};
@@ -16,6 +18,7 @@ const RULE_OF_SCRIPT: u16 = 0;
 
 /// What the reference machine and the script say after the journal, from what the log held as the node was started; else the
 /// status of a run whose journal they refuse.
+#[tactic(auto, using(crate::proofs::Books::book_of_course))]
 pub fn judged(
     alloc: Global,
     script: &Script,
@@ -24,9 +27,11 @@ pub fn judged(
 ) -> Result<Checker, Status>
     ensures conforms { IfOk result (λ checker. Conforms script.now (opening (opened ∷ [])) journal.now) }
     ensures course { IfOk result (λ checker. checker ≡ course_of script.now (opening (opened ∷ [])) journal.now) }
+    ensures book { IfOk result (λ checker. checker.book ≡ book_after (opening (opened ∷ [])) journal.now) }
     ensures refused { (line clause : ℕ) → result ≡ Err (Status.Unlawful line clause) → IsRefusedAt script.now (opening (opened ∷ [])) journal.now line clause }
     ensures status { IfErr result (λ status. IsRefusal status) }
 {
+    no_misfit_means_conforming();
     let mut checker = match Checker::new(alloc, script, &[opened]) {
         Ok(checker) => checker,
         Err(NoMemory) => return Err(Status::NoMemory),
@@ -39,14 +44,25 @@ pub fn judged(
 fn take_in(checker: &mut Checker, journal: &[Entry]) -> Result<(), Status>
     ensures { IsTakenIn 0 checker.old journal.now checker.new result }
 {
-    let mut line = 0_u32;
+    let mut place = 0;
     let mut rest = journal;
     while let [entry, more @ ..] = rest {
-        line = line.saturating_add(1);
-        judge(checker, entry, line)?;
+        judge(checker, entry, line_of(place))?;
+        place += 1;
         rest = more;
     }
     Ok(())
+}
+
+/// The line that the entry with this place has where the history is printed; lines end at 32 bits.
+fn line_of(place: usize) -> u32
+    ensures { result ≡ line_of place }
+{
+    if place < u32::MAX as usize {
+        place as u32 + 1
+    } else {
+        u32::MAX
+    }
 }
 
 /// Judges an entry, which has that line in the history.
