@@ -3,7 +3,7 @@ ghost use Rattle.std.specs.Prelude.{◌≡◌, ℕ, [], ◌∷◌, Err, IfOk, If
 ghost use Rattle.qs_conformance.specs.Conforming.{Conforms};
 ghost use Rattle.qs_machine.specs.Lawful.{book_after};
 ghost use Rattle.qs_machine.specs.Opening.{opening};
-ghost use Rattle.qs_verdict.specs.Verdicts.{course_of, line_of, refused, IsRefusedAt, IsRefusal, IsJudged, IsTakenIn};
+ghost use Rattle.qs_verdict.specs.Verdicts.{course_of, line_of, IsRefusedAt, IsRefusal, IsJudged, IsTakenIn};
 
 use qs_base::NoMemory;
 use qs_book::Opened;
@@ -18,7 +18,7 @@ const RULE_OF_SCRIPT: u16 = 0;
 
 /// What the reference machine and the script say after the journal, from what the log held as the node was started; else the
 /// status of a run whose journal they refuse.
-#[tactic(auto, using(crate::proofs::Books::book_of_course))]
+#[tactic(auto, using(crate::proofs::Courses::book_of_course))]
 pub fn judged(
     alloc: Global,
     script: &Script,
@@ -36,18 +36,23 @@ pub fn judged(
         Ok(checker) => checker,
         Err(NoMemory) => return Err(Status::NoMemory),
     };
-    take_in(&mut checker, journal)?;
-    Ok(checker)
+    match take_in(&mut checker, journal) {
+        Ok(()) => Ok(checker),
+        Err(status) => Err(status),
+    }
 }
 
 /// Takes the entries in, up to the first that does not conform.
 fn take_in(checker: &mut Checker, journal: &[Entry]) -> Result<(), Status>
-    ensures { IsTakenIn 0 checker.old journal.now checker.new result }
+    ensures { IsTakenIn checker.old journal.now checker.new result }
 {
     let mut place = 0;
     let mut rest = journal;
     while let [entry, more @ ..] = rest {
-        judge(checker, entry, line_of(place))?;
+        match judge(checker, entry, place) {
+            Ok(()) => {}
+            Err(status) => return Err(status),
+        }
         place += 1;
         rest = more;
     }
@@ -65,26 +70,21 @@ fn line_of(place: usize) -> u32
     }
 }
 
-/// Judges an entry, which has that line in the history.
-fn judge(checker: &mut Checker, entry: &Entry, line: u32) -> Result<(), Status>
-    ensures { IsJudged checker.old entry.now line checker.new result }
+/// Judges the entry with this place.
+#[tactic(auto, using(crate::proofs::Courses::told_of))]
+fn judge(checker: &mut Checker, entry: &Entry, place: usize) -> Result<(), Status>
+    ensures { IsJudged place checker.old entry.now checker.new result }
 {
     match checker.take_entry(entry) {
         Ok(()) => Ok(()),
-        Err(fault) => Err(refused(fault, line)),
-    }
-}
-
-/// The status of a run that is refused at this line.
-fn refused(fault: CheckFault, line: u32) -> Status
-    ensures { result ≡ refused fault line }
-{
-    match fault {
-        CheckFault::Unlawful { clause } => Status::Unlawful { line, clause },
-        CheckFault::Broken { .. } => Status::Unlawful {
-            line,
+        Err(CheckFault::Unlawful { clause }) => Err(Status::Unlawful {
+            line: line_of(place),
+            clause,
+        }),
+        Err(CheckFault::Broken { .. }) => Err(Status::Unlawful {
+            line: line_of(place),
             clause: RULE_OF_SCRIPT,
-        },
-        CheckFault::NoMemory => Status::NoMemory,
+        }),
+        Err(CheckFault::NoMemory) => Err(Status::NoMemory),
     }
 }
