@@ -6,11 +6,10 @@ use qs_cell::CellOpen;
 use qs_disk::{Disk, Fused};
 use qs_journal::Entry;
 use qs_log::OpenFault;
-use qs_plans::waiting_of;
 use qs_rounds::{Actors, Ending, NODE, RoundFault, rounds_of, start};
 use qs_step::Step;
-use qs_text::{Script, Status, Waiting, out_text};
-use qs_verdict::judged;
+use qs_text::{Script, Status};
+use qs_verdict::{judged, told};
 use std::alloc::Global;
 
 /// What a run came to before anything was given.
@@ -85,7 +84,16 @@ fn ended(
     journal: List<Entry>,
     trace: List<Step>,
 ) -> Made {
-    match told(alloc, plan, ending, opened, &journal) {
+    let Ending { rounds, settled } = ending;
+    match told(
+        alloc,
+        plan.script,
+        rounds,
+        settled,
+        opened,
+        &journal,
+        plan.journal,
+    ) {
         Ok((status, output)) => Made {
             status,
             journal,
@@ -93,35 +101,6 @@ fn ended(
             output: Some(output),
         },
         Err(status) => nothing_made(alloc, status),
-    }
-}
-
-/// How a run ended, and its output; else why nothing is told of it.
-fn told(
-    alloc: Global,
-    plan: Plan<'_>,
-    ending: Ending,
-    opened: Opened,
-    journal: &List<Entry>,
-) -> Result<(Status, Bytes), Status> {
-    let checker = judged(alloc, plan.script, opened, journal.as_slice())?;
-    let (Ok(waiting), Ok(output)) = (
-        waiting_of(alloc, plan.script, journal.as_slice()),
-        out_text(alloc, plan.script, journal, checker.book(), plan.journal),
-    ) else {
-        return Err(Status::NoMemory);
-    };
-    Ok((status_of(ending, waiting), output))
-}
-
-/// How a run ended, some of whose clients may wait for an answer.
-fn status_of(ending: Ending, waiting: List<Waiting>) -> Status {
-    if ending.settled && waiting.is_empty() {
-        return Status::Finished;
-    }
-    Status::Unfinished {
-        rounds: ending.rounds,
-        waiting,
     }
 }
 
