@@ -162,6 +162,8 @@ pub mod RisesWell
 pub mod Meeting
 pub mod CoherentOpenings
 pub mod StopsWell
+pub mod OpenedContents
+pub mod OpenedBook
 pub mod OtherNodes
 pub mod StopsWhole
 pub mod OthersTid
