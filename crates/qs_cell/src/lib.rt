@@ -6,8 +6,6 @@ mod running;
 mod starting;
 mod state;
 mod stopped;
-#[cfg(test)]
-mod tests;
 
 pub use cell::{NodeCell, Visited};
 pub use qs_lanes::NodeEnds;
