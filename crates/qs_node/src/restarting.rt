@@ -6,7 +6,7 @@ ghost use Rattle.qs_tm.specs.Outcomes.{is_abort};
 ghost use Rattle.qs_engage.specs.Nodes.{same_node};
 ghost use Rattle.qs_step.specs.Bringing.{send};
 ghost use Rattle.qs_step.specs.Asking.{block};
-ghost use Rattle.qs_step.specs.Restarts.{is_orphaned_by, notice_tid, peer_restarted};
+ghost use Rattle.qs_step.specs.Restarts.{awaits_word, is_orphaned_by, notice_tid, peer_restarted};
 
 use qs_base::{List, NoMemory, NodeNo, Outcome, Tid};
 use qs_ops::{Cause, Server};
@@ -17,12 +17,19 @@ use qs_step::Work;
 use qs_tm::Participant;
 use qs_work::send;
 
-/// Whether the home restarted after the transaction began, or the node that this one answers to, or answered
-/// to last, did.
+/// Whether this node is to be told of the transaction, or answers to a node.
+fn awaits_word(part: &Participant) -> bool
+    ensures { result ≡ awaits_word part.now }
+{
+    part.involved || part.engage.superior().is_some()
+}
+
+/// Whether this node waits for a word, and the home restarted after the transaction began, or the node that this one answers
+/// to, or answered to last, did.
 fn is_orphaned_by(peer: NodeNo, new: u64, tid: Tid, part: &Participant) -> bool
     ensures { result ≡ is_orphaned_by peer new tid part.now }
 {
-    (tid.home == peer && tid.inc < new) || part.answered_to(peer)
+    awaits_word(part) && ((tid.home == peer && tid.inc < new) || part.answered_to(peer))
 }
 
 fn inquires(peer: NodeNo, new: u64, tid: Tid, part: &Participant) -> bool

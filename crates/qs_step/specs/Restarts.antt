@@ -1,5 +1,5 @@
 -- What a node does when another one restarted, and in its own first step.
-use Rattle.std.specs.Prelude.{ℕ, Bool, true, false, not, ◌&&◌, ◌||◌, List, fold, map, Some, None, nat_lt, if◌then◌else◌}
+use Rattle.std.specs.Prelude.{ℕ, Bool, true, false, not, ◌&&◌, ◌||◌, List, fold, map, Some, None, is_some, nat_lt, if◌then◌else◌}
 use Rattle.qs_base.specs.declared.identifiers.NodeNo.{NodeNo}
 use Rattle.qs_base.specs.declared.identifiers.Outcome.{Outcome}
 use Rattle.qs_base.specs.declared.identifiers.Outcome.TheVariants as outcomes
@@ -25,9 +25,13 @@ use Rattle.qs_step.specs.Telling.{record_learnt}
 abbrev pub find_gone : NodeNo → ℕ → Tid → Participant → Work → Work
 find_gone peer old tid part work = if is_owed_by peer part then block tid (causes.Gone peer old) work else work
 
+-- it is to be told, or answers to a node: else it waits for nobody's word, and is kept for the names that it was told alone
+abbrev pub awaits_word : Participant → Bool
+awaits_word part = part.involved || is_some part.engage.superior
+
 -- the home restarted after the transaction began, or the node that this one answers to, or answered to last
 abbrev pub is_orphaned_by : NodeNo → ℕ → Tid → Participant → Bool
-is_orphaned_by peer new tid part = (same_node tid.home peer && nat_lt tid.inc new) || answered_to peer part
+is_orphaned_by peer new tid part = awaits_word part && ((same_node tid.home peer && nat_lt tid.inc new) || answered_to peer part)
 
 -- Event: Inquire where the node is involved, else Inquire_lost or Inquire_home.
 abbrev pub inquire : NodeNo → ℕ → Tid → Participant → Work → Work

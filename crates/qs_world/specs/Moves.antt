@@ -1,9 +1,14 @@
 -- What happens in the world, one step of one node at a time, and in which order. Each move is a list of moves of the channels.
-use Rattle.std.specs.Prelude.{ℕ, ◌==◌, ◌^◌, Bool, false, not, ◌&&◌, ◌||◌, List, [], ◌∷◌, ◌++◌, map, Option, Some, None, is_some, nat_lt, nat_le, if◌then◌else◌}
+use Rattle.std.specs.Prelude.{ℕ, ◌==◌, ◌^◌, ◌+◌, Bool, true, false, not, ◌&&◌, ◌||◌, List, [], ◌∷◌, ◌++◌, map, Option, Some, None, is_some, nat_lt, nat_le, if◌then◌else◌}
+use Rattle.std.specs.List.{list_all}
 use Rattle.qs_base.specs.declared.identifiers.NodeNo.{NodeNo}
+use Rattle.qs_base.specs.declared.identifiers.ServerNo.{ServerNo}
 use Rattle.qs_channels.specs.Channels as channel
 use Rattle.qs_channels.specs.Channels.{Channels}
 use Rattle.qs_channels.specs.Network.{with_at}
+use Rattle.qs_engage.specs.Engage.{last_number}
+use Rattle.qs_ipc.specs.Queue.{QueueValue, count_of}
+use Rattle.qs_ipc.specs.declared.delivery.Delivery.{Delivery}
 use Rattle.qs_journal.specs.declared.entry.Act.TheVariants as acts
 use Rattle.qs_journal.specs.declared.entry.CrashCause.{CrashCause}
 use Rattle.qs_journal.specs.declared.entry.Found.{Found}
@@ -18,6 +23,8 @@ use Rattle.qs_step.specs.declared.event.Event.TheVariants as events
 use Rattle.qs_step.specs.Opening.{recovered_of, opened_node}
 use Rattle.qs_step.specs.State.{NodeValue}
 use Rattle.qs_step.specs.Step.{after_step, effects_of}
+use Rattle.qs_tm.specs.Manager as tm
+use Rattle.qs_tm.specs.Participant.{member_of}
 use Rattle.qs_world.specs.World.{Host, Parcel, Client, World, with_host, inc_of, known_of}
 use Rattle.qs_world.specs.Posting.{post_all, next_parcel, entries_of, clients_after, handed, handed_back, next_line}
 
@@ -191,11 +198,28 @@ is_in_order world n stamp =
 abbrev pub is_later : World → ℕ → ℕ → Bool
 is_later world n stamp = is_in_order world n stamp && nat_lt (world.hosts n).stamp stamp
 
+-- a request that waits can be counted, and those of its transaction that wait beside it, behind those that the server served of it
+abbrev pub is_counted : NodeValue → ServerNo × QueueValue → Delivery → Bool
+is_counted node queue delivery = elim (tm.part_of delivery.tid node.manager) [
+  | None ↦ true
+  | Some part ↦ nat_le ((member_of part queue.0).served + count_of delivery.tid queue.1.waiting) last_number
+]
+
+abbrev pub are_counted : NodeValue → ServerNo × QueueValue → Bool
+are_counted node queue = list_all (is_counted node queue) queue.1.waiting
+
+-- what waits is served where all of it can be counted
+abbrev pub may_serve : NodeValue → Source → Bool
+may_serve node Queues = list_all (are_counted node) node.queues
+may_serve node source = true
+
+abbrev pub may_step : World → ℕ → ℕ → Source → Bool
+may_step world n stamp source =
+    world.channels.up n && (is_later world n stamp && (is_some (event_of world n stamp source) && may_serve (world.hosts n).node source))
+
 abbrev pub may_move : World → Move → Bool
-may_move world (Step n stamp free source) =
-    world.channels.up n && (is_later world n stamp && is_some (event_of world n stamp source))
-may_move world (Cut n stamp free source is_kept cause) =
-    world.channels.up n && (is_later world n stamp && (is_some (event_of world n stamp source) && is_crash cause))
+may_move world (Step n stamp free source) = may_step world n stamp source
+may_move world (Cut n stamp free source is_kept cause) = may_step world n stamp source && is_crash cause
 may_move world (Stop n stamp cause) = world.channels.up n && (is_in_order world n stamp && is_crash cause)
 may_move world (Rise n stamp inc) = not (world.channels.up n) && (is_in_order world n stamp && nat_lt (inc_of world n) inc)
 may_move world (Meet n stamp m inc) =

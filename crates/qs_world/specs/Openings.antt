@@ -152,9 +152,11 @@ is_still_told o n tid =
 abbrev pub is_open_vote : Opening → ℕ → Prepared → Bool
 is_open_vote o n vote = (vote.tid.home.0 == n) || (not (is_in_run o.size vote.tid.home) || is_still_told o n vote.tid)
 
--- a Prepare in doubt is of a transaction, and no Commit of it waits for its End
+-- a Prepare in doubt is of a transaction, and the log has no Commit of it, be it told to all or not
 abbrev pub is_doubt : Recovery → Prepared → Bool
-is_doubt said vote = vote.committed || (names_transaction vote.tid && not (list_any (is_untold_of vote.tid) said.untold))
+is_doubt said vote =
+    vote.committed
+    || (names_transaction vote.tid && (not (list_any (is_untold_of vote.tid) said.untold) && not (list_any (same_tid vote.tid) said.committed)))
 
 -- a Commit that waits for its End is of a transaction
 abbrev pub is_untold : Untold → Bool
