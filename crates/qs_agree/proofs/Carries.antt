@@ -1,6 +1,7 @@
 -- The laws carried to another world, along its runs.
 use Rattle.std.proofs.Common.{inl, inr, List, [], ◌∷◌, ◌++◌, refl, sym, subst}
-use Rattle.qs_agree.specs.World.{World, start}
+use Rattle.qs_agree.specs.World.{World}
+use Rattle.qs_agree.specs.Origins.{first}
 use Rattle.qs_agree.specs.Step.{Event}
 use Rattle.qs_agree.specs.Laws.{Run, IsReached, IsSilenced}
 use Rattle.qs_agree.specs.Carry.{RunOf, Leads, IsLawful, IsShown, Begins, GoesOn, StaysLawful}
@@ -17,7 +18,7 @@ pub lawful : (w : World) → IsReached w → IsLawful w
 lawful w r = let i : Inv w = inv_reached w r in record { reached = r; agreed = agreed_at w i; settled = settled_at w i; answered = answered_at w i; involved = involved_at w i }
 
 pub reached_on : (old new : World) → IsReached old → Leads old new → IsReached new
-reached_on old new r l = record { opening = r.opening; opens = r.opens; events = r.events ++ l.events; run = run_append r.events l.events (start r.opening) old new r.run l.run }
+reached_on old new r l = record { origin = r.origin; begins = r.begins; events = r.events ++ l.events; run = run_append r.events l.events (first r.origin) old new r.run l.run }
 
 pub silenced_on : (old new : World) → IsReached old → Leads old new → IsSilenced old new
 silenced_on old new r l = silenced_at l.events old new (inv_reached old r) l.run
@@ -33,8 +34,8 @@ shown_step : {State Act Tid : Type 0} (does : Act → State → State → Type 0
 shown_step does unbegun shows begins goes_on t a old new (inl none) did = elim (begins t a old new none did) [
   | inl still ↦ inl still
   | inr opened ↦
-      let at_start : IsReached (start opened.0) = record { opening = opened.0; opens = opened.1; events = []; run = refl } in
-      inr (opened.2.0, lawful opened.2.0 (reached_on (start opened.0) opened.2.0 at_start opened.2.1), opened.2.2)
+      let at_start : IsReached (first opened.0) = record { origin = opened.0; begins = opened.1; events = []; run = refl } in
+      inr (opened.2.0, lawful opened.2.0 (reached_on (first opened.0) opened.2.0 at_start opened.2.1), opened.2.2)
 ]
 shown_step does unbegun shows begins goes_on t a old new (inr is) did =
     let more = goes_on t a old new is.0 is.1 is.2 did in

@@ -1,7 +1,8 @@
 -- A run that commits has no abort vote and no refusal among its events.
 use Rattle.std.proofs.Common.{◌≡◌, ◌≢◌, ◌⊎◌, ◌∙◌, ℕ, inl, inr, true, false, List, [], ◌∷◌, ◌++◌, refl, sym, subst, arith}
 use Rattle.std.proofs.lemmas.Bool.Decides.{nat_tests}
-use Rattle.qs_agree.specs.World.{Committed, Aborted, World, Opening, IsOpening, start}
+use Rattle.qs_agree.specs.World.{Committed, Aborted, World}
+use Rattle.qs_agree.specs.Origins.{Origin, IsOrigin, first}
 use Rattle.qs_agree.specs.Step.{Event, Vote_abort, Miss, Refuse, Commit, Commit_cut, Commit_unlogged, Tell, Answer_commit, Learn, Learn_cut, Learn_home, Acknowledge, Take_told, End, Step}
 use Rattle.qs_agree.specs.Laws.{Run}
 use Rattle.qs_agree.specs.Events.{Happens, IsOpposed, NeverCommits}
@@ -9,7 +10,8 @@ use Rattle.qs_agree.proofs.Lasts.{Lasts}
 use Rattle.qs_agree.proofs.LastsTable.{lasts_step}
 use Rattle.qs_agree.proofs.Whole.{Inv}
 use Rattle.qs_agree.proofs.Carries.{run_append}
-use Rattle.qs_agree.proofs.Inv.{inv_step, inv_run, inv_start}
+use Rattle.qs_agree.proofs.Inv.{inv_step, inv_run}
+use Rattle.qs_agree.proofs.Reopened.{inv_first}
 
 -- over a run
 pub lasts_run : (es : List Event) (w v : World) (k : ℕ) → Inv w → Run w es v → Lasts w v k
@@ -89,22 +91,22 @@ clear_engaged v q i (inr waits) is =
     let off = ((i.whole (λ a. cc (a, is))).tree.at q).committed is in
     cc (on, off)
 
-pub heeded : (o : Opening) (es : List Event) (v : World) → IsOpening o → Run (start o) es v → IsOpposed es → NeverCommits es v
+pub heeded : (o : Origin) (es : List Event) (v : World) → IsOrigin o → Run (first o) es v → IsOpposed es → NeverCommits es v
 heeded o es v is r (inl (q, s, has)) =
-    never es (start o) v (inv_start o is) r (clear_abort_vote v q (inv_run es (start o) v (inv_start o is) r)
-    (found (λ x. x.abort_vote q ≡ true) (λ a b j fs t on. (lasts_run fs a b q j t).against on) (Vote_abort q s) (λ a b j t. rw t.1 (grind (arith, nat_tests))) es (start o) v (inv_start o is) r has))
+    never es (first o) v (inv_first o is) r (clear_abort_vote v q (inv_run es (first o) v (inv_first o is) r)
+    (found (λ x. x.abort_vote q ≡ true) (λ a b j fs t on. (lasts_run fs a b q j t).against on) (Vote_abort q s) (λ a b j t. rw t.1 (grind (arith, nat_tests))) es (first o) v (inv_first o is) r has))
 heeded o es v is r (inr (q, has)) =
-    never es (start o) v (inv_start o is) r (clear_gone v q (inv_run es (start o) v (inv_start o is) r)
-    (found (λ x. x.gone q ≡ true) (λ a b j fs t on. (lasts_run fs a b q j t).gone on) (Miss q) (λ a b j t. rw t.2 (grind (arith, nat_tests))) es (start o) v (inv_start o is) r has))
+    never es (first o) v (inv_first o is) r (clear_gone v q (inv_run es (first o) v (inv_first o is) r)
+    (found (λ x. x.gone q ≡ true) (λ a b j fs t on. (lasts_run fs a b q j t).gone on) (Miss q) (λ a b j t. rw t.2 (grind (arith, nat_tests))) es (first o) v (inv_first o is) r has))
 
-pub refused : (o : Opening) (before after : List Event) (q : ℕ) (mid v : World) → IsOpening o → Run (start o) before mid → mid.engaged q ≡ true → Run mid (Refuse q ∷ after) v
+pub refused : (o : Origin) (before after : List Event) (q : ℕ) (mid v : World) → IsOrigin o → Run (first o) before mid → mid.engaged q ≡ true → Run mid (Refuse q ∷ after) v
     → NeverCommits (before ++ Refuse q ∷ after) v
 refused o before after q mid v is r on next =
-    let i : Inv mid = inv_run before (start o) mid (inv_start o is) r in
+    let i : Inv mid = inv_run before (first o) mid (inv_first o is) r in
     let j : Inv next.0 = inv_step (Refuse q) mid next.0 i next.1 in
     let waits : (next.0.engaged q ≡ true) × (next.0.refused q ≡ true) = by_refusal mid next.0 q on next.1 in
     let end : (v.cell ≡ Aborted) ⊎ ((v.engaged q ≡ true) × (v.refused q ≡ true)) = (lasts_run after next.0 v q j next.2).refused waits.0 waits.1 in
-    never (before ++ Refuse q ∷ after) (start o) v (inv_start o is) (run_append before (Refuse q ∷ after) (start o) mid v r next) (clear_engaged v q (inv_run after next.0 v j next.2) end)
+    never (before ++ Refuse q ∷ after) (first o) v (inv_first o is) (run_append before (Refuse q ∷ after) (first o) mid v r next) (clear_engaged v q (inv_run after next.0 v j next.2) end)
   where
     by_refusal : (a b : World) (q : ℕ) → a.engaged q ≡ true → Step (Refuse q) a b → (b.engaged q ≡ true) × (b.refused q ≡ true)
     by_refusal a b q on s = grind (arith, nat_tests, on, s)

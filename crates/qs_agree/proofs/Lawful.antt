@@ -1,12 +1,14 @@
 -- The laws, from the invariant.
 use Rattle.std.proofs.Common.{◌≡◌, ◌≢◌, ◌⊎◌, ℕ, ◌≤◌, inl, inr, false, List, refl, arith}
-use Rattle.qs_agree.specs.World.{Outcome, Open, Committed, Aborted, World, Opening, IsOpening, start}
+use Rattle.qs_agree.specs.World.{Outcome, Open, Committed, Aborted, World}
+use Rattle.qs_agree.specs.Origins.{Origin, IsOrigin, first}
 use Rattle.qs_agree.specs.Guards.{Votes}
 use Rattle.qs_agree.specs.Step.{Event}
 use Rattle.qs_agree.specs.Laws.{Run, IsReached, IsSettled, IsAnswered, IsInvolved, IsAgreed, IsSilenced}
 use Rattle.qs_agree.proofs.Tree.{Tree, sender_engaged}
 use Rattle.qs_agree.proofs.Whole.{Inv, Whole}
-use Rattle.qs_agree.proofs.Inv.{inv_run, inv_start, kept_run}
+use Rattle.qs_agree.proofs.Inv.{inv_run, kept_run}
+use Rattle.qs_agree.proofs.Reopened.{inv_first}
 
 pub settled_at : (w : World) → Inv w → w.cell ≡ Committed → IsSettled w
 settled_at w i is =
@@ -90,23 +92,23 @@ silenced_at es w v i r = record {
   voted = λ q s. (kept_run es w v q i r).voted s;
 }
 
-reach : (o : Opening) (es : List Event) (w : World) → IsOpening o → Run (start o) es w → Inv w
-reach o es w is r = inv_run es (start o) w (inv_start o is) r
+reach : (o : Origin) (es : List Event) (w : World) → IsOrigin o → Run (first o) es w → Inv w
+reach o es w is r = inv_run es (first o) w (inv_first o is) r
 
 pub inv_reached : (w : World) → IsReached w → Inv w
-inv_reached w r = reach r.opening r.events w r.opens r.run
+inv_reached w r = reach r.origin r.events w r.begins r.run
 
-pub settled : (o : Opening) (es : List Event) (v : World) → IsOpening o → Run (start o) es v → v.cell ≡ Committed → IsSettled v
+pub settled : (o : Origin) (es : List Event) (v : World) → IsOrigin o → Run (first o) es v → v.cell ≡ Committed → IsSettled v
 settled o es v is r = settled_at v (reach o es v is r)
 
-pub answered : (o : Opening) (es : List Event) (v : World) → IsOpening o → Run (start o) es v → v.cell ≡ Committed → IsAnswered v
+pub answered : (o : Origin) (es : List Event) (v : World) → IsOrigin o → Run (first o) es v → v.cell ≡ Committed → IsAnswered v
 answered o es v is r = answered_at v (reach o es v is r)
 
-pub involved : (o : Opening) (es : List Event) (v : World) → IsOpening o → Run (start o) es v → v.cell ≡ Committed → IsInvolved v
+pub involved : (o : Origin) (es : List Event) (v : World) → IsOrigin o → Run (first o) es v → v.cell ≡ Committed → IsInvolved v
 involved o es v is r = involved_at v (reach o es v is r)
 
-pub agreed : (o : Opening) (es : List Event) (v : World) → IsOpening o → Run (start o) es v → IsAgreed v
+pub agreed : (o : Origin) (es : List Event) (v : World) → IsOrigin o → Run (first o) es v → IsAgreed v
 agreed o es v is r = agreed_at v (reach o es v is r)
 
-pub silenced : (o : Opening) (before after : List Event) (mid v : World) → IsOpening o → Run (start o) before mid → Run mid after v → IsSilenced mid v
+pub silenced : (o : Origin) (before after : List Event) (mid v : World) → IsOrigin o → Run (first o) before mid → Run mid after v → IsSilenced mid v
 silenced o before after mid v is r next = silenced_at after mid v (reach o before mid is r) next

@@ -1,7 +1,8 @@
 -- A node whose inquiry the home took while the transaction ran is told the outcome.
 use Rattle.std.proofs.Common.{◌≡◌, ◌⊎◌, ◌∙◌, ℕ, Bool, inl, inr, true, false, List, [], ◌∷◌, refl, sym, subst, ap, arith}
 use Rattle.std.proofs.lemmas.Bool.Decides.{nat_tests}
-use Rattle.qs_agree.specs.World.{Open, Committed, World, Opening, IsOpening, start}
+use Rattle.qs_agree.specs.World.{Open, Committed, World}
+use Rattle.qs_agree.specs.Origins.{Origin, IsOrigin, first}
 use Rattle.qs_agree.specs.Step.{Event, Commit_unlogged, Answer_running, Step}
 use Rattle.qs_agree.specs.Laws.{Run}
 use Rattle.qs_agree.specs.Events.{Happens, TookTold, IsRemembered}
@@ -10,7 +11,8 @@ use Rattle.qs_agree.proofs.LastsTable.{lasts_step}
 use Rattle.qs_agree.proofs.Noted.{Noted}
 use Rattle.qs_agree.proofs.NotedTable.{noted_step, ended_step, acknowledged_step}
 use Rattle.qs_agree.proofs.Whole.{Inv}
-use Rattle.qs_agree.proofs.Inv.{inv_step, inv_start}
+use Rattle.qs_agree.proofs.Inv.{inv_step}
+use Rattle.qs_agree.proofs.Reopened.{inv_first}
 use Rattle.qs_agree.proofs.Heeded.{lasts_run, found}
 
 noted_run : (es : List Event) (w v : World) (n : ℕ) → Inv w → Run w es v → Noted w n → Noted v n
@@ -85,13 +87,13 @@ stands_from q (e ∷ es) w v i r (inl same) is =
     later e es v (v.node q) (subst (λ (f : ℕ → ℕ). (v.unended ≡ true) ⊎ TookTold es v (f q)) (sym (lasts_run es r.0 v 0 j r.2).node)
     (stands es r.0 v (r.0.node q) j (notes q w r.0 i s) (λ done. absurd (cc (done, undecided))) (fresh r.0 (r.0.node q) j.outcomes undecided) r.2 is))
 
-pub remembered : (o : Opening) (es : List Event) (q : ℕ) (v : World) → IsOpening o → Run (start o) es v → Happens es (Answer_running q) → IsRemembered es v (v.node q)
+pub remembered : (o : Origin) (es : List Event) (q : ℕ) (v : World) → IsOrigin o → Run (first o) es v → Happens es (Answer_running q) → IsRemembered es v (v.node q)
 remembered o es q v is r has =
-    let h : Noted v (v.node q) = noted q es (start o) v (inv_start o is) r has in
+    let h : Noted v (v.node q) = noted q es (first o) v (inv_first o is) r has in
     record {
       named = h.named;
       listed = h.listed;
-      recorded = recorded q es (start o) v (inv_start o is) r has;
-      stands = stands_from q es (start o) v (inv_start o is) r has;
+      recorded = recorded q es (first o) v (inv_first o is) r has;
+      stands = stands_from q es (first o) v (inv_first o is) r has;
       abort_told = h.abort_told;
     }

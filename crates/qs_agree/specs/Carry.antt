@@ -1,6 +1,7 @@
 -- The laws carried to another world, one machine for each of its transactions.
 use Rattle.std.specs.Prelude.{◌≡◌, ◌⊎◌, List, [], ◌∷◌}
-use Rattle.qs_agree.specs.World.{Committed, World, Opening, IsOpening, start}
+use Rattle.qs_agree.specs.World.{Committed, World}
+use Rattle.qs_agree.specs.Origins.{Origin, IsOrigin, first}
 use Rattle.qs_agree.specs.Step.{Event}
 use Rattle.qs_agree.specs.Laws.{Run, IsReached, IsSettled, IsAnswered, IsInvolved, IsAgreed, IsSilenced}
 
@@ -26,9 +27,9 @@ pub record IsLawful (w : World) : Type 0 where
 abbrev pub IsShown : {State Tid : Type 0} → (Tid → State → Type 0) → (Tid → State → World → Type 0) → Tid → State → Type 0
 IsShown unbegun shows t s = unbegun t s ⊎ ((w : World) × IsLawful w × shows t s w)
 
--- it has not begun still, or it began, and the same act may have gone on with it
+-- it has not begun still, or it began or was found in logs, and the same act may have gone on with it
 abbrev pub Begins : {State Tid : Type 0} → (Tid → State → Type 0) → (Tid → State → World → Type 0) → Tid → State → Type 0
-Begins unbegun shows t s = unbegun t s ⊎ ((o : Opening) × IsOpening o × ((w : World) × Leads (start o) w × shows t s w))
+Begins unbegun shows t s = unbegun t s ⊎ ((o : Origin) × IsOrigin o × ((w : World) × Leads (first o) w × shows t s w))
 
 -- what shows it goes on to what shows it later
 abbrev pub GoesOn : {State Tid : Type 0} → (Tid → State → World → Type 0) → Tid → State → World → Type 0

@@ -1,6 +1,7 @@
 -- What holds of every run.
 use Rattle.std.specs.Prelude.{◌≡◌, ◌≢◌, ℕ, ◌≤◌, true, false, List, [], ◌∷◌}
-use Rattle.qs_agree.specs.World.{Open, Committed, Aborted, OnePhase, World, Opening, IsOpening, start}
+use Rattle.qs_agree.specs.World.{Open, Committed, Aborted, OnePhase, World}
+use Rattle.qs_agree.specs.Origins.{Origin, IsOrigin, first}
 use Rattle.qs_agree.specs.Guards.{NextAt, Votes}
 use Rattle.qs_agree.specs.Step.{Event, Step}
 
@@ -9,12 +10,12 @@ abbrev pub Run : World → List Event → World → Type 0
 Run old [] new = new ≡ old
 Run old (e ∷ es) new = (mid : World) × Step e old mid × Run mid es new
 
--- a world that some run from some opening leads to
+-- a world that some run from some origin leads to
 pub record IsReached (w : World) : Type 0 where
-  pub opening : Opening
-  pub opens : IsOpening opening
+  pub origin : Origin
+  pub begins : IsOrigin origin
   pub events : List Event
-  pub run : Run (start opening) events w
+  pub run : Run (first origin) events w
 
 -- what holds once commit is decided: everybody has voted for all that was ever issued
 pub record IsSettled (w : World) : Type 0 where

@@ -3,6 +3,7 @@ use Rattle.std.specs.Prelude.{◌≡◌, ◌⊎◌, ℕ, ◌==◌, Bool, true, f
 use Rattle.std.proofs.Common.{inl, inr, ◌∙◌, sym, subst, ap}
 use Rattle.std.proofs.lemmas.Bool.{eqb-true}
 use Rattle.qs_agree.specs.World.{World, start, with_at}
+use Rattle.qs_agree.specs.Origins.{Begun}
 use Rattle.qs_agree.specs.Step.{Step}
 use Rattle.qs_agree.specs.Carry.{Leads, IsLawful, Begins, GoesOn}
 use Rattle.qs_agree.specs.Many.{Many, Act, Begin, Own, Common, opening, Does, unbegun, Shows}
@@ -31,7 +32,7 @@ pub begins : (t : ℕ) (a : Act) (old new : Many) → unbegun t old → Does a o
 begins t (Begin u h) old new none did = elim (either (t == u)) [
   | inl is ↦
       let shows : Shows t (record old { began = with_at old.began u true; of = with_at old.of u (start (opening old h)) }) (start (opening old h)) = (at_same old.began u true t is, at_same old.of u (start (opening old h)) t is) in
-      inr (opening old h, did.1, (start (opening old h), stays (start (opening old h)), subst (λ (m : Many). Shows t m (start (opening old h))) (sym did.2) shows))
+      inr (Begun (opening old h), did.1, (start (opening old h), stays (start (opening old h)), subst (λ (m : Many). Shows t m (start (opening old h))) (sym did.2) shows))
   | inr other ↦ inl (subst (λ (m : Many). unbegun t m) (sym did.2) (at_other old.began u true t other ∙ none))
 ]
 begins t (Own u e) old new none did = inl (subst (λ (m : Many). unbegun t m) (sym did.1.3) none)
