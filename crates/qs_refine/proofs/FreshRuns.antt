@@ -1,11 +1,13 @@
 -- Links to places that are not known yet are empty after every run of the machine.
 use Rattle.std.proofs.Common.{◌≡◌, ◌≢◌, ℕ, ◌+◌, ◌<◌, false, List, [], ◌∷◌, arith, sym, subst}
 use Rattle.std.proofs.lemmas.Bool.Decides.{nat_tests}
-use Rattle.qs_agree.specs.World.{World, Open, Opening, IsOpening, start}
+use Rattle.qs_agree.specs.World.{World, Open}
+use Rattle.qs_agree.specs.Origins.{Origin, Begun, Found, IsOrigin, first}
 use Rattle.qs_agree.specs.Laws.{Run}
 use Rattle.qs_agree.specs.Carry.{IsLawful}
 use Rattle.qs_agree.proofs.Whole.{Inv}
-use Rattle.qs_agree.proofs.Inv.{inv_start, inv_step}
+use Rattle.qs_agree.proofs.Inv.{inv_step}
+use Rattle.qs_agree.proofs.Reopened.{inv_first}
 use Rattle.qs_agree.specs.Guards.{carried}
 use Rattle.qs_agree.specs.Step.{Event, Step, Issue, Issue_unmet, Issue_local, Meet, Notice, Engage, Join, Cover, Serve, Serve_told, Lend, Yield, Ask, Vote_read, Vote_volatile, Force, Vote_recoverable, Vote_abort, Yes, Yes_lost, Count, Ignore, Refuse, Miss, Forget, Crash, Restart, Restart_in_doubt, Restart_home, Commit, Commit_cut, Commit_unlogged, Abort, Tell, Learn, Learn_cut, Learn_home, Acknowledge, Take_told, End, Checkpoint, Tell_abort, Learn_abort, Name_again, Take_names, Learn_abort_home, Abort_logged, Drop_engage, Drop_join, Drop_cover, Inquire, Inquire_lost, Inquire_home, Answer_commit, Answer_running, Answer_abort}
 use Rattle.qs_agree.proofs.Counts.{Counts}
@@ -75,12 +77,13 @@ fresh_step (Answer_commit a b) w v c u i s q p = by_answer_commit a b q p w v c 
 fresh_step (Answer_running a) w v c u i s q p = by_answer_running a q p w v c (i q p) (asked a w v (i a w.home) s) s
 fresh_step (Answer_abort a b) w v c u i s q p = by_answer_abort a b q p w v c (i q p) s
 
-fresh_start : (o : Opening) → IsOpening o → (q p : ℕ) → Fresh (start o) q p
-fresh_start o is q p = grind (arith, nat_tests)
+fresh_first : (o : Origin) → IsOrigin o → (q p : ℕ) → Fresh (first o) q p
+fresh_first (Begun o) is q p = grind (arith, nat_tests)
+fresh_first (Found o) is q p = grind (arith, nat_tests)
 
 fresh_run : (es : List Event) (w v : World) → Inv w → ((q p : ℕ) → Fresh w q p) → Run w es v → (q p : ℕ) → Fresh v q p
 fresh_run [] w v inv i r q p = subst (λ (x : World). Fresh x q p) (sym r) (i q p)
 fresh_run (e ∷ es) w v inv i r q p = fresh_run es r.0 v (inv_step e w r.0 inv r.1) (fresh_step e w r.0 inv.counts (λ a. (inv.keeps a).unborn) i r.1) r.2 q p
 
 pub fresh : (w : World) → IsLawful w → (q p : ℕ) → Fresh w q p
-fresh w l q p = fresh_run l.reached.events (start l.reached.opening) w (inv_start l.reached.opening l.reached.opens) (fresh_start l.reached.opening l.reached.opens) l.reached.run q p
+fresh w l q p = fresh_run l.reached.events (first l.reached.origin) w (inv_first l.reached.origin l.reached.begins) (fresh_first l.reached.origin l.reached.begins) l.reached.run q p

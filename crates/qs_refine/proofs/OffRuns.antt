@@ -1,11 +1,13 @@
 -- Who is not engaged has nothing open, after every run of the machine.
 use Rattle.std.proofs.Common.{ℕ, List, [], ◌∷◌, arith, sym, subst}
 use Rattle.std.proofs.lemmas.Bool.Decides.{nat_tests}
-use Rattle.qs_agree.specs.World.{World, Opening, start}
+use Rattle.qs_agree.specs.World.{World}
+use Rattle.qs_agree.specs.Origins.{Origin, Begun, Found, first}
 use Rattle.qs_agree.specs.Laws.{Run}
 use Rattle.qs_agree.specs.Carry.{IsLawful}
 use Rattle.qs_agree.proofs.Whole.{Inv}
-use Rattle.qs_agree.proofs.Inv.{inv_start, inv_step}
+use Rattle.qs_agree.proofs.Inv.{inv_step}
+use Rattle.qs_agree.proofs.Reopened.{inv_first}
 use Rattle.qs_agree.specs.Step.{Event, Step, Issue, Issue_unmet, Issue_local, Meet, Notice, Engage, Join, Cover, Serve, Serve_told, Lend, Yield, Ask, Vote_read, Vote_volatile, Force, Vote_recoverable, Vote_abort, Yes, Yes_lost, Count, Ignore, Refuse, Miss, Forget, Crash, Restart, Restart_in_doubt, Restart_home, Commit, Commit_cut, Commit_unlogged, Abort, Tell, Learn, Learn_cut, Learn_home, Acknowledge, Take_told, End, Checkpoint, Tell_abort, Learn_abort, Name_again, Take_names, Learn_abort_home, Abort_logged, Drop_engage, Drop_join, Drop_cover, Inquire, Inquire_lost, Inquire_home, Answer_commit, Answer_running, Answer_abort}
 use Rattle.qs_agree.proofs.Counts.{Counts}
 use Rattle.qs_refine.proofs.Off.{Off, by_issue, by_issue_unmet, by_issue_local, by_meet, by_notice, by_engage, by_join, by_cover, by_serve, by_serve_told, by_lend, by_yield, by_ask, by_vote_read, by_vote_volatile, by_force, by_vote_recoverable, by_vote_abort, by_yes, by_yes_lost, by_count, by_ignore, by_refuse, by_miss, by_forget, by_crash, by_restart, by_restart_in_doubt, by_restart_home, by_commit, by_commit_cut, by_commit_unlogged, by_abort, by_tell, by_learn, by_learn_cut, by_learn_home, by_acknowledge, by_take_told, by_end, by_checkpoint, by_tell_abort, by_learn_abort, by_name_again, by_take_names, by_learn_abort_home, by_abort_logged, by_drop_engage, by_drop_join, by_drop_cover, by_inquire, by_inquire_lost, by_inquire_home, by_answer_commit, by_answer_running, by_answer_abort}
@@ -68,8 +70,9 @@ off_step (Answer_commit a b) w v c i s q j k = by_answer_commit a b q j k w v (i
 off_step (Answer_running a) w v c i s q j k = by_answer_running a q j k w v (i q j k) s
 off_step (Answer_abort a b) w v c i s q j k = by_answer_abort a b q j k w v (i q j k) s
 
-off_start : (o : Opening) (q j k : ℕ) → Off (start o) q j k
-off_start o q j k = grind (arith, nat_tests)
+off_first : (o : Origin) (q j k : ℕ) → Off (first o) q j k
+off_first (Begun o) q j k = grind (arith, nat_tests)
+off_first (Found o) q j k = grind (arith, nat_tests)
 
 off_run : (es : List Event) (w v : World) → Inv w → ((q j k : ℕ) → Off w q j k) → Run w es v → (q j k : ℕ) → Off v q j k
 off_run [] w v inv i r q j k = subst (λ (x : World). Off x q j k) (sym r) (i q j k)
@@ -78,4 +81,4 @@ off_run (e ∷ es) w v inv i r q j k =
     off_run es r.0 v next (off_step e w r.0 next.counts i r.1) r.2 q j k
 
 pub off : (w : World) → IsLawful w → (q j k : ℕ) → Off w q j k
-off w l q j k = off_run l.reached.events (start l.reached.opening) w (inv_start l.reached.opening l.reached.opens) (off_start l.reached.opening) l.reached.run q j k
+off w l q j k = off_run l.reached.events (first l.reached.origin) w (inv_first l.reached.origin l.reached.begins) (off_first l.reached.origin) l.reached.run q j k

@@ -7,6 +7,7 @@ use Rattle.std.proofs.lemmas.Nat.{mod_low}
 use Rattle.qs_base.specs.declared.identifiers.Tid.{Tid}
 use Rattle.qs_agree.proofs.Carries.{lawful}
 use Rattle.qs_agree.specs.Carry.{IsLawful}
+use Rattle.qs_agree.specs.Origins.{Begun}
 use Rattle.qs_agree.specs.World as machine
 use Rattle.qs_agree.specs.World.{World}
 use Rattle.qs_refine.specs.Faces.{ShowsFace}
@@ -146,7 +147,7 @@ may_begin tid x may = record {
     by_present p m false = grind (arith)
 
 pub begins_lawful : (tid : Tid) (x : Sight) → MayBegin tid x → IsLawful (machine.start (opening_seen tid x))
-begins_lawful tid x may = lawful (machine.start (opening_seen tid x)) (record { opening = opening_seen tid x; opens = may_begin tid x may; events = []; run = refl })
+begins_lawful tid x may = lawful (machine.start (opening_seen tid x)) (record { origin = Begun (opening_seen tid x); begins = may_begin tid x may; events = []; run = refl })
 
 -- a place that has not begun is not its node's present one, and 0 is nowhere
 pub start_placed : StartPlaced

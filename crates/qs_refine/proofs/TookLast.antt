@@ -1,7 +1,8 @@
 -- Whoever is engaged took a request from the place that engaged it, after every run of the machine.
 use Rattle.std.proofs.Common.{◌≡◌, ◌≢◌, ℕ, ◌≤◌, true, List, [], ◌∷◌, arith, sym, subst}
 use Rattle.std.proofs.lemmas.Bool.Decides.{nat_tests}
-use Rattle.qs_agree.specs.World.{World, Opening, start}
+use Rattle.qs_agree.specs.World.{World}
+use Rattle.qs_agree.specs.Origins.{Origin, Begun, Found, first}
 use Rattle.qs_agree.specs.Laws.{Run}
 use Rattle.qs_agree.specs.Carry.{IsLawful}
 use Rattle.qs_agree.specs.Step.{Event, Step, Issue, Issue_unmet, Issue_local, Meet, Notice, Engage, Join, Cover, Serve, Serve_told, Lend, Yield, Ask, Vote_read, Vote_volatile, Force, Vote_recoverable, Vote_abort, Yes, Yes_lost, Count, Ignore, Refuse, Miss, Forget, Crash, Restart, Restart_in_doubt, Restart_home, Commit, Commit_cut, Commit_unlogged, Abort, Tell, Learn, Learn_cut, Learn_home, Acknowledge, Take_told, End, Checkpoint, Tell_abort, Learn_abort, Name_again, Take_names, Learn_abort_home, Abort_logged, Drop_engage, Drop_join, Drop_cover, Inquire, Inquire_lost, Inquire_home, Answer_commit, Answer_running, Answer_abort}
@@ -67,12 +68,13 @@ took_step (Answer_commit a b) w v q i s = grind (arith, nat_tests, i, s)
 took_step (Answer_running a) w v q i s = grind (arith, nat_tests, i, s)
 took_step (Answer_abort a b) w v q i s = grind (arith, nat_tests, i, s)
 
-took_start : (o : Opening) (q : ℕ) → TookLast (start o) q
-took_start o q = grind (arith, nat_tests)
+took_first : (o : Origin) (q : ℕ) → TookLast (first o) q
+took_first (Begun o) q = grind (arith, nat_tests)
+took_first (Found o) q = grind (arith, nat_tests)
 
 took_run : (es : List Event) (w v : World) (q : ℕ) → TookLast w q → Run w es v → TookLast v q
 took_run [] w v q i r = subst (λ (x : World). TookLast x q) (sym r) i
 took_run (e ∷ es) w v q i r = took_run es r.0 v q (took_step e w r.0 q i r.1) r.2
 
 pub took_last : (w : World) → IsLawful w → (q : ℕ) → TookLast w q
-took_last w l q = took_run l.reached.events (start l.reached.opening) w q (took_start l.reached.opening q) l.reached.run
+took_last w l q = took_run l.reached.events (first l.reached.origin) w q (took_first l.reached.origin q) l.reached.run
