@@ -103,7 +103,7 @@ none_forced_of t (r ∷ rs) none = neither (off (is_record_of t r) (is_forced r)
     off true b is = is
     off false b is = refl
 
-filter_none : (rs : List Record) → list_any is_forced rs ≡ false → filter is_forced rs ≡ []
+pub filter_none : (rs : List Record) → list_any is_forced rs ≡ false → filter is_forced rs ≡ []
 filter_none [] none = refl
 filter_none (r ∷ rs) none = by (is_forced r) none (filter_none rs)
   where

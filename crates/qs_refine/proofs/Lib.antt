@@ -284,3 +284,7 @@ pub mod SteadyMoves
 pub mod SteadyMeets
 pub mod SteadyRises
 pub mod SteadyGives
+pub mod UnseenWorlds
+pub mod StepJoined
+pub mod StepAll
+pub mod BegunStep

@@ -67,13 +67,13 @@ taken_up world n free t steady low = record {
 
 -- ---- a transaction that has not begun
 
-none_any : {X : Type 0} (p q : X → Bool) → ((x : X) → q x ≡ true → p x ≡ false) → (xs : List X) → list_all q xs ≡ true → list_any p xs ≡ false
+pub none_any : {X : Type 0} (p q : X → Bool) → ((x : X) → q x ≡ true → p x ≡ false) → (xs : List X) → list_all q xs ≡ true → list_any p xs ≡ false
 none_any p q off [] all = refl
 none_any p q off (x ∷ xs) all = let both : (q x ≡ true) × (list_all q xs ≡ true) = and_both (q x) (list_all q xs) all in rw (off x both.0) (none_any p q off xs both.1)
 
 module _ (tid : Tid) (past : Tid → Bool) (off : past tid ≡ false) where
   -- another one than each that may be known
-  other : (t : Tid) → past t ≡ true → same_tid tid t ≡ false
+  pub other : (t : Tid) → past t ≡ true → same_tid tid t ≡ false
   other t is = by (same_tid tid t) refl
     where
       by : (b : Bool) → same_tid tid t ≡ b → b ≡ false

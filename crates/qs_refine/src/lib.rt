@@ -1,6 +1,7 @@
 //! The world of nodes runs by the agreement machine's events.
 #![tactic(auto)]
 
+pub mod begins;
 pub mod events;
 pub mod moves;
 pub mod rules;
