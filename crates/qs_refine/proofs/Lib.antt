@@ -288,3 +288,4 @@ pub mod UnseenWorlds
 pub mod StepJoined
 pub mod StepAll
 pub mod BegunStep
+pub mod Reopening

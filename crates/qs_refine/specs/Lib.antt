@@ -64,3 +64,5 @@ pub mod Steadies
 pub mod EachRun
 pub mod SteadyFacts
 pub mod BeginLaws
+pub mod Lefts
+pub mod LeftLaws

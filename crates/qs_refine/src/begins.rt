@@ -1,9 +1,19 @@
 //! A transaction whose number is still to be given, and the move in which it begins.
 ghost use Rattle.qs_refine.specs.BeginLaws.{UnbegunUnseen, UnbegunShown, EachBegins};
+ghost use Rattle.qs_refine.specs.LeftLaws.{LeftShown, LeftReopens, LeftLawful, LeftPlaced};
 
 /// Until its home has given a transaction its number nothing is seen of it, and the agreement machine at its start shows it; after
 /// each move that is still so, or what that start leads to shows it.
 pub fn each_begins()
     ensures unseen { UnbegunUnseen }
     ensures shown { UnbegunShown }
+{}
+
+/// Where nothing but logs speaks of a transaction of an earlier incarnation of its home, the agreement machine begins over them, shows
+/// it, and all its laws hold from there.
+pub fn lefts()
+    ensures shown { LeftShown }
+    ensures reopens { LeftReopens }
+    ensures lawful { LeftLawful }
+    ensures placed { LeftPlaced }
 {}

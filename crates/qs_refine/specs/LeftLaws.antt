@@ -1,0 +1,27 @@
+-- The laws of a transaction of which nothing but logs speaks: the agreement machine begins over them, at an opening too.
+use Rattle.std.specs.Prelude.{◌≡◌, ℕ, ◌<◌, ◌≤◌, true}
+use Rattle.qs_base.specs.declared.identifiers.Tid.{Tid}
+use Rattle.qs_restart.specs.Recovery.{names_transaction}
+use Rattle.qs_world.specs.Openings.{IsOpening}
+use Rattle.qs_world.specs.World.{Opening, start}
+use Rattle.qs_agree.specs.Carry.{IsLawful}
+use Rattle.qs_agree.specs.Origins as origins
+use Rattle.qs_refine.specs.EachMove.{ShowsAll}
+use Rattle.qs_refine.specs.Lefts.{IsLeft, reopening_seen}
+use Rattle.qs_refine.specs.RiseLaws.{ArePlaced}
+use Rattle.qs_refine.specs.Shows.{scene_of, sight}
+use Rattle.qs_refine.specs.Sights.{Sight, ShowsSight}
+
+-- the machine over the logs shows it
+abbrev pub LeftShown : Type 0
+LeftShown = (tid : Tid) (x : Sight) → IsLeft tid x → ShowsSight tid x (origins.reopened (reopening_seen tid x))
+
+-- and may begin so; so all its laws hold
+abbrev pub LeftReopens : Type 0
+LeftReopens = (tid : Tid) (x : Sight) → IsLeft tid x → origins.IsReopening (reopening_seen tid x)
+
+abbrev pub LeftLawful : Type 0
+LeftLawful = (tid : Tid) (x : Sight) → IsLeft tid x → IsLawful (origins.reopened (reopening_seen tid x))
+
+abbrev pub LeftPlaced : Type 0
+LeftPlaced = (tid : Tid) (x : Sight) → IsLeft tid x → ((k : ℕ) → k < x.size → 1 ≤ x.inc k) → ArePlaced (origins.reopened (reopening_seen tid x))
