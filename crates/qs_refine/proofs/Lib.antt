@@ -289,3 +289,5 @@ pub mod StepJoined
 pub mod StepAll
 pub mod BegunStep
 pub mod Reopening
+pub mod LeftLogs
+pub mod LeftOpenings

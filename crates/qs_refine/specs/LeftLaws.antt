@@ -25,3 +25,14 @@ LeftLawful = (tid : Tid) (x : Sight) → IsLeft tid x → IsLawful (origins.reop
 
 abbrev pub LeftPlaced : Type 0
 LeftPlaced = (tid : Tid) (x : Sight) → IsLeft tid x → ((k : ℕ) → k < x.size → 1 ≤ x.inc k) → ArePlaced (origins.reopened (reopening_seen tid x))
+
+-- ---- as a world begins
+
+-- each transaction of an earlier incarnation of its home, which the logs may name, is shown by it, with all that nodes know: in doubt, committed with a list still to be told, or
+-- aborted, where the home's log has no Commit
+abbrev pub OpeningLeft : Type 0
+OpeningLeft = (tid : Tid) (o : Opening) → IsOpening o → names_transaction tid ≡ true → tid.home.0 < o.size → tid.inc < (o.settings tid.home.0).inc → IsLeft tid (sight tid (scene_of (start o)))
+
+abbrev pub OpeningShown : Type 0
+OpeningShown = (tid : Tid) (o : Opening) → IsOpening o → names_transaction tid ≡ true → tid.home.0 < o.size → tid.inc < (o.settings tid.home.0).inc
+    → ShowsAll tid (start o) (origins.reopened (reopening_seen tid (sight tid (scene_of (start o)))))

@@ -1,6 +1,6 @@
 //! A transaction whose number is still to be given, and the move in which it begins.
 ghost use Rattle.qs_refine.specs.BeginLaws.{UnbegunUnseen, UnbegunShown, EachBegins};
-ghost use Rattle.qs_refine.specs.LeftLaws.{LeftShown, LeftReopens, LeftLawful, LeftPlaced};
+ghost use Rattle.qs_refine.specs.LeftLaws.{LeftShown, LeftReopens, LeftLawful, LeftPlaced, OpeningLeft, OpeningShown};
 
 /// Until its home has given a transaction its number nothing is seen of it, and the agreement machine at its start shows it; after
 /// each move that is still so, or what that start leads to shows it.
@@ -16,4 +16,11 @@ pub fn lefts()
     ensures reopens { LeftReopens }
     ensures lawful { LeftLawful }
     ensures placed { LeftPlaced }
+{}
+
+/// So it is where a world begins: of each transaction of an earlier incarnation of its home, in doubt, still to be told or aborted, the
+/// machine over the logs shows all that nodes have and know.
+pub fn openings()
+    ensures left { OpeningLeft }
+    ensures shown { OpeningShown }
 {}

@@ -1,0 +1,5 @@
+use Rattle.qs_refine.proofs.LeftOpenings.{opening_left, opening_shows_all}
+use Rattle.qs_refine.proofs.begins.openings.Goals as goal
+
+pub returns : goal.returns
+returns c = record { left = opening_left; shown = opening_shows_all }
