@@ -291,3 +291,5 @@ pub mod BegunStep
 pub mod Reopening
 pub mod LeftLogs
 pub mod LeftOpenings
+pub mod StillSteps
+pub mod PassedOver

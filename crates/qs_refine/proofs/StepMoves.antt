@@ -38,7 +38,7 @@ all_append tid n q w [] ys first second = second
 all_append tid n q w (x ∷ xs) ys first second = (first.0, all_append tid n q w xs ys first.1 second)
 
 -- those of other transactions
-all_other : (tid : Tid) (n q : ℕ) (w : machine.World) (recs : List Record) → list_any (is_record_of tid) recs ≡ false → AllClose tid n q w recs
+pub all_other : (tid : Tid) (n q : ℕ) (w : machine.World) (recs : List Record) → list_any (is_record_of tid) recs ≡ false → AllClose tid n q w recs
 all_other tid n q w [] none = tt
 all_other tid n q w (rec ∷ recs) none = (one rec (off (is_record_of tid rec) (list_any (is_record_of tid) recs) none).0, all_other tid n q w recs (off (is_record_of tid rec) (list_any (is_record_of tid) recs) none).1)
   where

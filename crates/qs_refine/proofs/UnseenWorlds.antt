@@ -26,7 +26,7 @@ use Rattle.qs_refine.specs.Begun.{may_be_known, has_begun, inc_in, count_in, fit
 use Rattle.qs_refine.specs.EachMove.{ShowsAll, ShowsOutcome, KeepsDecided}
 use Rattle.qs_refine.specs.Links.{Said, node_no}
 use Rattle.qs_refine.specs.Messages.{said, all_said}
-use Rattle.qs_refine.specs.MoveLaws.{ShowsWorld, MayClose, AllClose, is_record_of}
+use Rattle.qs_refine.specs.MoveLaws.{is_record_of}
 use Rattle.qs_refine.specs.NodeFaces.{face_at, began_here, is_past_commit}
 use Rattle.qs_refine.specs.Places.{place}
 use Rattle.qs_refine.specs.Shows.{message_of, scene_of, sight}
@@ -42,6 +42,7 @@ use Rattle.qs_refine.proofs.StartWorlds.{unknown_is_new}
 use Rattle.qs_refine.proofs.Starting.{unseen_shown, begins_lawful, start_placed}
 use Rattle.qs_refine.proofs.SteadyGives.{unbegun_unknown, none_any, other}
 use Rattle.qs_refine.proofs.SteadyGrows.{begun_past}
+use Rattle.qs_refine.proofs.StepMoves.{all_other}
 
 -- ---- what fits says nothing of it
 
@@ -77,7 +78,7 @@ module _ (tid : Tid) (world : World) (steady : IsSteadyWorld world) (numbered : 
   abbrev node : ℕ → NodeValue
   node n = (world.hosts n).node
 
-  nothing_known : (n : ℕ) → n < world.size → KnowsNothing tid world n
+  pub nothing_known : (n : ℕ) → n < world.size → KnowsNothing tid world n
   nothing_known n n_in = unbegun_unknown tid world n steady n_in numbered off
 
   -- ---- nodes
@@ -109,7 +110,7 @@ module _ (tid : Tid) (world : World) (steady : IsSteadyWorld world) (numbered : 
   here_is : (n : ℕ) → n < world.size → began_here (node n) tid ≡ begins_at tid x n
   here_is n n_in = rw (steady.seated.node n n_in, steady.seated.inc n n_in) refl
 
-  new_face : (n : ℕ) → n < world.size → IsNewFace (begins_at tid x n) (x.face n)
+  pub new_face : (n : ℕ) → n < world.size → IsNewFace (begins_at tid x n) (x.face n)
   new_face n n_in = subst (λ (b : Bool). IsNewFace b (face_at (node n) tid)) (here_is n n_in)
       (unknown_is_new (node n) tid (nothing_known n n_in).part (past n n_in) (λ s. none_waits tid (node n).queues (Rattle.qs_refine.specs.Sights.server_no s) (nothing_known n n_in).waits)
       (none_lent _ (node n).kept.now.loans (nothing_known n n_in).lent))
@@ -157,25 +158,6 @@ module _ (tid : Tid) (world : World) (steady : IsSteadyWorld world) (numbered : 
   pub none_waiting : (n : ℕ) → n < world.size → list_any (is_record_of tid) (world.hosts n).waiting ≡ false
   none_waiting n n_in = none_any (is_record_of tid) (is_tidy_record (stage_of world n)) (fit_apart tid (may_be_known world) (has_begun world) off inside (node n).setting.node) (world.hosts n).waiting (steady.nodes n n_in).waiting
 
--- those may close whatever becomes of it
-pub others_close : (tid : Tid) (n q : ℕ) (w : machine.World) (rs : List Record) → list_any (is_record_of tid) rs ≡ false → AllClose tid n q w rs
-others_close tid n q w [] none = tt
-others_close tid n q w (r ∷ rs) none = (one r (first (is_record_of tid r) _ none), others_close tid n q w rs (last (is_record_of tid r) _ none))
-  where
-    first : (a b : Bool) → (a || b) ≡ false → a ≡ false
-    first true b is = absurd (cc (is))
-    first false b is = refl
-
-    last : (a b : Bool) → (a || b) ≡ false → b ≡ false
-    last true b is = absurd (cc (is))
-    last false b is = is
-
-    one : (r : Record) → is_record_of tid r ≡ false → MayClose tid n q w r
-    one (records.Prepare u server covers changes) apart = apart
-    one (records.Commit u told) apart = apart
-    one (records.Aborted u) apart = λ same. absurd (cc (apart, same))
-    one (records.End u) apart = λ same. absurd (cc (apart, same))
-
 -- ---- where its home runs
 
 module _ (tid : Tid) (world : World) (steady : IsSteadyWorld world) (numbered : names_transaction tid ≡ true) (home_in : tid.home.0 < world.size) (off : may_be_known world tid ≡ false) (up : world.channels.up tid.home.0 ≡ true)
@@ -198,7 +180,7 @@ module _ (tid : Tid) (world : World) (steady : IsSteadyWorld world) (numbered : 
       lawful = begins_lawful tid (sight tid (scene_of world)) may_begin;
       placed = start_placed tid (sight tid (scene_of world)) may_begin (λ k k_in. steady.seated.begun k k_in);
       shown = unseen_shown tid (sight tid (scene_of world)) (world_unseen tid world steady numbered home_in off);
-      closes = λ n n_in on. others_close tid n (place n (world.channels.inc n)) started (world.hosts n).waiting (none_waiting tid world steady numbered home_in off n n_in);
+      closes = λ n n_in on. all_other tid n (place n (world.channels.inc n)) started (world.hosts n).waiting (none_waiting tid world steady numbered home_in off n n_in);
     };
     outcome = record {
       learnt = λ n part n_in on known decided. unknown_part n n_in part known;

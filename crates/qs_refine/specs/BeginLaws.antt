@@ -3,9 +3,9 @@
 use Rattle.std.specs.Prelude.{◌≡◌, ℕ, ◌<◌, true, false}
 use Rattle.qs_base.specs.declared.identifiers.Tid.{Tid}
 use Rattle.qs_restart.specs.Recovery.{names_transaction}
-use Rattle.qs_world.specs.Moves.{Move, may_move, moved}
+use Rattle.qs_world.specs.Moves.{Move, Rise, may_move, moved}
 use Rattle.qs_world.specs.World.{World}
-use Rattle.qs_agree.specs.Carry.{Begins}
+use Rattle.qs_agree.specs.Carry.{IsLawful, Begins}
 use Rattle.qs_agree.specs.World as machine
 use Rattle.qs_refine.specs.Begun.{may_be_known}
 use Rattle.qs_refine.specs.EachMove.{ShowsAll}
@@ -33,3 +33,8 @@ UnbegunShown = (tid : Tid) (world : World) → IsSteadyWorld world → IsUnbegun
 -- before it gave the number
 abbrev pub EachBegins : Type 0
 EachBegins = (tid : Tid) (world : World) (move : Move) → may_move world move ≡ true → MachineMoves world move → IsSteady world → IsSteadyWorld world → IsUnbegun tid world → Begins IsUnbegun ShowsAll tid (moved move world)
+
+-- a restart that passes it over
+abbrev pub PassedShown : Type 0
+PassedShown = (tid : Tid) (world : World) (stamp inc : ℕ) → IsSteadyWorld world → IsUnbegun tid world → world.channels.up tid.home.0 ≡ false → world.channels.inc tid.home.0 < inc → tid.inc < inc
+    → (w : machine.World) × (IsLawful w × ShowsAll tid (moved (Rise tid.home.0 stamp inc) world) w)

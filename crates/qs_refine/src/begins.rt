@@ -1,5 +1,5 @@
 //! A transaction whose number is still to be given, and the move in which it begins.
-ghost use Rattle.qs_refine.specs.BeginLaws.{UnbegunUnseen, UnbegunShown, EachBegins};
+ghost use Rattle.qs_refine.specs.BeginLaws.{UnbegunUnseen, UnbegunShown, PassedShown, EachBegins};
 ghost use Rattle.qs_refine.specs.LeftLaws.{LeftShown, LeftReopens, LeftLawful, LeftPlaced, OpeningLeft, OpeningShown};
 
 /// Until its home has given a transaction its number nothing is seen of it, and the agreement machine at its start shows it; after
@@ -7,6 +7,7 @@ ghost use Rattle.qs_refine.specs.LeftLaws.{LeftShown, LeftReopens, LeftLawful, L
 pub fn each_begins()
     ensures unseen { UnbegunUnseen }
     ensures shown { UnbegunShown }
+    ensures passed { PassedShown }
 {}
 
 /// Where nothing but logs speaks of a transaction of an earlier incarnation of its home, the agreement machine begins over them, shows
