@@ -293,3 +293,6 @@ pub mod LeftLogs
 pub mod LeftOpenings
 pub mod StillSteps
 pub mod PassedOver
+pub mod ToCome
+pub mod BeginSteps
+pub mod EachBeginning

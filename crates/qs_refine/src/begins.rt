@@ -8,6 +8,7 @@ pub fn each_begins()
     ensures unseen { UnbegunUnseen }
     ensures shown { UnbegunShown }
     ensures passed { PassedShown }
+    ensures moves { EachBegins }
 {}
 
 /// Where nothing but logs speaks of a transaction of an earlier incarnation of its home, the agreement machine begins over them, shows
