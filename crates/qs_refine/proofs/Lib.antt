@@ -261,6 +261,7 @@ pub mod EachTold
 pub mod EachCame
 pub mod HomeKnows
 pub mod EachMay
+pub mod MayCount
 pub mod EachEvent
 pub mod EachStep
 pub mod EachGoes
