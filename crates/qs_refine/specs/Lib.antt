@@ -63,3 +63,4 @@ pub mod Tidy
 pub mod Steadies
 pub mod EachRun
 pub mod SteadyFacts
+pub mod ShownWorlds
