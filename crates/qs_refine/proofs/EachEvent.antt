@@ -102,7 +102,7 @@ module _ (t : Tid) (world : World) (w : machine.World) (steady : IsSteady world)
           third false d e r so = absurd (cc (so))
 
       never : t ≡ tm.next_tid node.manager → ⊥
-      never same = more t.seq node.manager.begun (ap (λ (u : Tid). u.seq) same) (subst (λ (k : ℕ). t.seq ≤ (world.hosts k).node.manager.begun) at_n (began home_in at_inc))
+      never same = more t.seq node.manager.begun (ap (λ (u : Tid). u.seq) same) (subst (λ (k : ℕ). t.seq ≤ (world.hosts k).node.manager.begun) at_n (began home_in (subst (λ (k : ℕ). world.channels.up k ≡ true) (sym at_n) on) at_inc))
         where
           at_n : t.home.0 ≡ n
           at_n = ap (λ (u : Tid). u.home.0) same ∙ (ap (λ (k : NodeNo). k.0) fits_node.0 ∙ ap (λ (k : NodeNo). k.0) (steady.seated.node n n_in))
@@ -159,7 +159,7 @@ module _ (t : Tid) (world : World) (w : machine.World) (steady : IsSteady world)
   can_count_now serves = by node.is_first refl
     where
       by : (b : Bool) → node.is_first ≡ b → CanCount t work
-      by true early = λ part s known below waits. absurd (never (waiting_at work.node t s) waits (ap (λ (queues : IpcValue). count_of t (queue_at queues (server_no s)).waiting) (keeps t world w steady home_in all n free n_in on).queues ∙ (steady.nodes n n_in).idle early t s))
+      by true early = λ part s known below waits. absurd (never (waiting_at work.node t s) waits (ap (λ (queues : IpcValue). count_of t (queue_at queues (server_no s)).waiting) (keeps t world w steady home_in all n free n_in on).queues ∙ (steady.nodes n n_in on).idle early t s))
         where
           never : (k : ℕ) → 1 ≤ k → k ≡ 0 → ⊥
           never k some none = omega (arith, some, none)
@@ -243,7 +243,7 @@ module _ (t : Tid) (world : World) (w : machine.World) (steady : IsSteady world)
         positive a b less = omega (arith, less)
 
         at_first : (part : Participant) → tm.part_of t node.manager ≡ Some part → IsEarly part
-        at_first part known = (steady.nodes n n_in).early early t part known
+        at_first part known = (steady.nodes n n_in on).early early t part known
 
         found : GoesOn t (noticed scene n m new) n (work_on node free) w
         found = noticed_first t scene n m old new (work_on node free) w (opened t world w steady home_in all n free n_in on) (may_notice (work_on node free) refl) (λ part known. record { peer = (at_first part known).peers m; waiting = (at_first part known).waiting })

@@ -17,6 +17,7 @@ use Rattle.qs_step.specs.Answering.{was_committed}
 use Rattle.qs_step.specs.State.{NodeValue}
 use Rattle.qs_tm.specs.Manager as tm
 use Rattle.qs_tm.specs.declared.participant.Participant.{Participant}
+use Rattle.qs_world.specs.Moves.{client_count}
 use Rattle.qs_world.specs.World.{Parcel, World}
 use Rattle.qs_refine.specs.Links.{names_node, node_no}
 use Rattle.qs_refine.specs.MoveLaws.{IsSeated}
@@ -84,9 +85,9 @@ is_fit_message size n m (messages.Inquire tid) = is_of_run size tid && (tid.home
 abbrev pub is_fit_parcel : ℕ → ℕ → ℕ → Parcel → Bool
 is_fit_parcel size n m parcel = is_fit_message size n m parcel.message
 
--- the transaction that a message is about has begun, where its home's node has not restarted since
+-- the transaction has begun, where its home's node runs in the incarnation in which it begins
 abbrev pub HasBegun : World → Tid → Type 0
-HasBegun world t = t.home.0 < world.size → t.inc ≡ world.channels.inc t.home.0 → t.seq ≤ (world.hosts t.home.0).node.manager.begun
+HasBegun world t = t.home.0 < world.size → world.channels.up t.home.0 ≡ true → t.inc ≡ world.channels.inc t.home.0 → t.seq ≤ (world.hosts t.home.0).node.manager.begun
 
 abbrev pub HaveBegun : World → Message → Type 0
 HaveBegun world (messages.Request tid label member number issuer op) = HasBegun world tid
@@ -105,17 +106,17 @@ pub record IsSteady (world : World) : Type 0 where
   pub seated : IsSeated world
   pub sound : AreSoundOver world
   pub commands : AreOpenInRun world
-  pub nodes : (n : ℕ) → n < world.size → IsSteadyNode (world.hosts n).node
+  pub nodes : (n : ℕ) → n < world.size → world.channels.up n ≡ true → IsSteadyNode (world.hosts n).node
   pub peers : (n m : ℕ) → 1 ≤ world.channels.peer n m → (m < world.size) × (m ≢ n)  -- a node knows other nodes of the run
   pub superior : (n m : ℕ) (t : Tid) (part : Participant) → n < world.size → world.channels.up n ≡ true → tm.part_of t (world.hosts n).node.manager ≡ Some part → part.engage.superior ≡ Some (node_no m)
       → 1 ≤ world.channels.peer n m  -- whom it answers to it knows
   pub nobody : (n m j : ℕ) → world.channels.posted n m 0 j ≡ []  -- 0 is no incarnation
-  pub scripts : (k : ℕ) → list_all (is_line_in_run world.size) (world.clients k).lines ≡ true
+  pub scripts : (k : ℕ) → k < client_count → list_all (is_line_in_run world.size) (world.clients k).lines ≡ true
   pub posted : (n m i j : ℕ) → list_all (is_fit_parcel world.size n m) (world.channels.posted n m i j) ≡ true
   pub waits : (n m : ℕ) → list_all (is_fit_parcel world.size n m) (world.channels.waits n m) ≡ true
   pub begun : (n m : ℕ) (parcel : Parcel) (before rest : List Parcel) → world.channels.posted n m (world.channels.peer m n) (world.channels.inc m) ≡ before ++ parcel ∷ rest → HaveBegun world parcel.message
-  pub listed : (t : Tid) (part : Participant) → t.home.0 < world.size → tm.part_of t (world.hosts t.home.0).node.manager ≡ Some part → part.outcome ≡ Some outcomes.Commit → part.log.listed ≡ true
-      → (m : ℕ) → names_node (list_of t (recovery (world.hosts t.home.0).log)) (node_no m) ≡ true → has_node part.tell (node_no m) ≡ true  -- whom the Commit in its log names the home is to tell
+  pub listed : (t : Tid) (part : Participant) → t.home.0 < world.size → world.channels.up t.home.0 ≡ true → tm.part_of t (world.hosts t.home.0).node.manager ≡ Some part → part.outcome ≡ Some outcomes.Commit
+      → (m : ℕ) → names_node (list_of t (recovery ((world.hosts t.home.0).log ++ (world.hosts t.home.0).waiting))) (node_no m) ≡ true → has_node part.tell (node_no m) ≡ true  -- whom the Commit in its log names the home is to tell
   pub takes_up : (n : ℕ) → n < world.size → may_take_up (world.hosts n).node.setting.node (recovery (world.hosts n).log) ≡ true  -- a restart can take up the log,
   pub unended : (n : ℕ) → n < world.size → are_left_open (recovery (world.hosts n).log) ≡ true
   pub kept : (n inc : ℕ) → n < world.size → world.channels.inc n < inc → kept_before (world.hosts n).node.setting.node inc (world.hosts n).node.kept.saved ≡ true  -- and what is kept for its clients
