@@ -254,6 +254,7 @@ pub mod TidyResumes
 pub mod TidyBegins
 pub mod TidyHappens
 pub mod SaidTidy
+pub mod TakenCommits
 pub mod TidyTaken
 pub mod TidyOpened
 pub mod EachFits
