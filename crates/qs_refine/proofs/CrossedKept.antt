@@ -7,6 +7,7 @@ use Rattle.qs_base.specs.Order.{same_tid}
 use Rattle.qs_base.specs.declared.identifiers.Outcome.{Outcome}
 use Rattle.qs_base.specs.declared.identifiers.Outcome.TheVariants as outcomes
 use Rattle.qs_base.specs.declared.identifiers.Tid.{Tid}
+use Rattle.qs_engage.specs.Nodes.{same_node}
 use Rattle.qs_kept.specs.Keeping.{is_outcome_of}
 use Rattle.qs_kept.specs.declared.kept.Begun.{Begun}
 use Rattle.qs_kept.specs.declared.kept.Decided.{Decided}
@@ -18,7 +19,7 @@ use Rattle.qs_tm.specs.declared.manager.Manager.{Manager}
 use Rattle.qs_tm.specs.declared.participant.Participant.{Participant}
 use Rattle.qs_refine.specs.NodeFaces.{began_here}
 use Rattle.qs_refine.specs.Sound.{is_owned, is_owned_label}
-use Rattle.qs_refine.specs.Tidy.{IsCrossed}
+use Rattle.qs_refine.specs.Tidy.{is_settled, KeepsEarlier, IsCrossed}
 use Rattle.qs_refine.specs.Walks.{is_run}
 use Rattle.qs_refine.proofs.SoundBegin.{all_implied}
 
@@ -54,6 +55,7 @@ pub record Crosses (node : NodeValue) (m : Manager) : Type 0 where
   pub knows : (t : Tid) → began_here node t ≡ true → tm.knows t node.manager ≡ true → (tm.knows t m || was_committed t node) ≡ true
   pub commits : (t : Tid) (part : Participant) → tm.part_of t m ≡ Some part → began_here node t ≡ true → part.outcome ≡ Some outcomes.Commit → was_committed t node ≡ true
   pub fresh : (t : Tid) (part : Participant) → tm.part_of t m ≡ Some part → part.outcome ≡ None → kept_outcome t node ≡ None
+  pub earlier : KeepsEarlier (record node { manager = m })
 
 pub crossed_manager : (node : NodeValue) (m : Manager) → Crosses node m → IsCrossed node → IsCrossed (record node { manager = m })
 crossed_manager node m change is = record {
@@ -61,6 +63,7 @@ crossed_manager node m change is = record {
   commits = change.commits;
   fresh = change.fresh;
   pasts = λ t here names low. past t here (is.pasts t here names (subst (λ (n : ℕ). t.seq ≤ n) change.begun low));
+  earlier = change.earlier;
 }
   where
     runs : (t : Tid) → is_owned node t ≡ true → is_owned (record node { manager = m }) t ≡ true
@@ -139,6 +142,7 @@ module _ (node : NodeValue) (tid : Tid) (outcome : Outcome) (cause : Option Caus
     pub others : (t : Tid) (part : Participant) → same_tid t tid ≡ false → tm.part_of t m ≡ Some part → tm.part_of t node.manager ≡ Some part
     pub its : (part : Participant) → tm.part_of tid m ≡ Some part → part.outcome ≡ Some outcome
     pub new : outcome ≡ outcomes.Commit → kept_outcome tid node ≡ None
+    pub here : outcome ≡ outcomes.Commit → same_node tid.home node.setting.node ≡ true → began_here node tid ≡ false → ⊥
 
   pub crossed_decided : (m : Manager) → Decides m → IsCrossed node → IsCrossed (with_outcome m)
   crossed_decided m change is = record {
@@ -146,8 +150,20 @@ module _ (node : NodeValue) (tid : Tid) (outcome : Outcome) (cause : Option Caus
     commits = λ t part known here its. commit t part known here its (same_tid t tid) refl;
     fresh = λ t part known open_now. free t part known open_now (same_tid t tid) refl;
     pasts = λ t here names low. past t (or_both (tm.knows t node.manager) (was_committed t node) (is.pasts t here names (subst (λ (n : ℕ). t.seq ≤ n) change.begun low)));
+    earlier = λ t part known home later. early t part known home later (same_tid t tid) refl;
   }
     where
+      settled : (o : Outcome) (b : Bool) → (o ≡ outcomes.Commit → ⊥) → is_settled (Some o) b ≡ true
+      settled outcomes.Commit b never = absurd (never refl)
+      settled outcomes.Abort b never = refl
+
+      early : (t : Tid) (part : Participant) → tm.part_of t m ≡ Some part → same_node t.home node.setting.node ≡ true → began_here node t ≡ false → (b : Bool) → same_tid t tid ≡ b → is_settled part.outcome (list_any (same_tid t) node.committed) ≡ true
+      early t part known home later true same =
+          let it : t ≡ tid = Rattle.qs_refine.proofs.SoundKnown.same_is t tid same in
+          subst (λ (o : Option Outcome). is_settled o (list_any (same_tid t) node.committed) ≡ true) (sym (change.its part (subst (λ (u : Tid). tm.part_of u m ≡ Some part) it known)))
+          (settled outcome (list_any (same_tid t) node.committed) (λ so. change.here so (subst (λ (u : Tid). same_node u.home node.setting.node ≡ true) it home) (subst (λ (u : Tid). began_here node u ≡ false) it later)))
+      early t part known home later false apart = is.earlier t part (change.others t part apart known) home later
+
       owns : (t : Tid) → is_owned node t ≡ true → is_owned (with_outcome m) t ≡ true
       owns t owned = by (or_both (is_some (kept_outcome t node)) (tm.told_of t false is_run node.manager) owned) (same_tid t tid) refl
         where

@@ -2,6 +2,7 @@
 use Rattle.std.proofs.Common.{◌≡◌, inl, inr, ◌&&◌, ◌||◌, Bool, true, false, Option, Some, None, is_some, is_none, refl, sym, ap, subst, ◌∙◌}
 use Rattle.std.specs.Prelude.{◌⊎◌}
 use Rattle.std.specs.BTreeMap.{is_at}
+use Rattle.std.specs.List.{list_any}
 use Rattle.qs_base.specs.Order.{same_tid, tid_cmp}
 use Rattle.qs_base.specs.declared.identifiers.Outcome.{Outcome}
 use Rattle.qs_base.specs.declared.identifiers.Outcome.TheVariants as outcomes
@@ -15,7 +16,7 @@ use Rattle.qs_tm.specs.declared.manager.Manager.{Manager}
 use Rattle.qs_tm.specs.declared.participant.Participant.{Participant}
 use Rattle.qs_refine.specs.NodeFaces.{began_here}
 use Rattle.qs_refine.specs.Sound.{where_so, same_flag}
-use Rattle.qs_refine.specs.Tidy.{IsCrossed}
+use Rattle.qs_refine.specs.Tidy.{is_settled, IsCrossed}
 use Rattle.qs_refine.specs.Walks.{is_run}
 use Rattle.qs_refine.proofs.CrossedKept.{Crosses, or_left, or_right}
 use Rattle.qs_refine.proofs.Frames.{part_apart}
@@ -34,10 +35,16 @@ crosses_part node tid f same is = record {
   knows = λ t here knows. let part : (part : Participant) × (tm.part_of t node.manager ≡ Some part) = is_known t node.manager knows in or_left (tm.knows t (tm.with_part tid f node.manager)) (was_committed t node) (changed_known t tid f node.manager part.0 part.1);
   commits = λ t part now here its. commit t part here its (changed_seen t tid f node.manager part now);
   fresh = λ t part now open_now. free t part open_now (changed_seen t tid f node.manager part now);
+  earlier = λ t part now home later. early t part home later (changed_seen t tid f node.manager part now);
 }
   where
     new : Manager
     new = tm.with_part tid f node.manager
+
+    early : (t : Tid) (part : Participant) → same_node t.home node.setting.node ≡ true → began_here node t ≡ false → (IsSame t tid node.manager new part ⊎ IsChanged t tid f node.manager part) → is_settled part.outcome (list_any (same_tid t) node.committed) ≡ true
+    early t part home later (inl same) = is.earlier t part same.was home later
+    early t part home later (inr changed) = subst (λ (o : Option Outcome). is_settled o (list_any (same_tid t) node.committed) ≡ true) (sym (ap (λ (p : Participant). p.outcome) changed.now ∙ (same changed.before).1))
+        (is.earlier t changed.before (subst (λ (u : Tid). tm.part_of u node.manager ≡ Some changed.before) (sym changed.same) changed.was) home later)
 
     running : (home : Bool) (g : Bool) (o u : Option Outcome) → g ≡ home → u ≡ o → (home && is_none o) ≡ true → (g && is_none u) ≡ true
     running home g o u h e is = rw (h, e) is
@@ -73,10 +80,15 @@ crosses_away node tid f away off decides is = record {
   knows = λ t here knows. let part : (part : Participant) × (tm.part_of t node.manager ≡ Some part) = is_known t node.manager knows in or_left (tm.knows t (tm.with_part tid f node.manager)) (was_committed t node) (changed_known t tid f node.manager part.0 part.1);
   commits = λ t part now here its. commit t part here its (changed_seen t tid f node.manager part now);
   fresh = λ t part now open_now. free t part open_now (changed_seen t tid f node.manager part now);
+  earlier = λ t part now home later. early t part home later (changed_seen t tid f node.manager part now);
 }
   where
     new : Manager
     new = tm.with_part tid f node.manager
+
+    early : (t : Tid) (part : Participant) → same_node t.home node.setting.node ≡ true → began_here node t ≡ false → (IsSame t tid node.manager new part ⊎ IsChanged t tid f node.manager part) → is_settled part.outcome (list_any (same_tid t) node.committed) ≡ true
+    early t part home later (inl same) = is.earlier t part same.was home later
+    early t part home later (inr changed) = absurd (let at : same_node tid.home node.setting.node ≡ true = subst (λ (u : Tid). same_node u.home node.setting.node ≡ true) changed.same home in cc (at, away))
 
     run : (t : Tid) → ((part : Participant) × ((tm.part_of t node.manager ≡ Some part) × (is_run part ≡ true))) → (b : Bool) → same_tid t tid ≡ b → tm.told_of t false is_run new ≡ true
     run t part true is = absurd (
@@ -98,17 +110,23 @@ crosses_away node tid f away off decides is = record {
 
 -- one becomes known that is not committed
 pub crosses_put : (node : NodeValue) (tid : Tid) (new : Participant) → tm.part_of tid node.manager ≡ None → (new.outcome ≡ Some outcomes.Commit → was_committed tid node ≡ true) → (new.outcome ≡ None → kept_outcome tid node ≡ None)
-    → IsCrossed node → Crosses node (tm.put_part tid new node.manager)
-crosses_put node tid new none commits fresh is = record {
+    → (same_node tid.home node.setting.node ≡ true → is_settled new.outcome (list_any (same_tid tid) node.committed) ≡ true) → IsCrossed node → Crosses node (tm.put_part tid new node.manager)
+crosses_put node tid new none commits fresh settled is = record {
   begun = refl;
   runs = λ t runs. run t (told_is is_run t node.manager runs) (same_tid t tid) refl;
   knows = λ t here knows. let part : (part : Participant) × (tm.part_of t node.manager ≡ Some part) = is_known t node.manager knows in or_left (tm.knows t (tm.put_part tid new node.manager)) (was_committed t node) (put_known t tid new node.manager part.0 part.1);
   commits = λ t part now here its. commit t part here its (put_seen t tid new node.manager part now);
   fresh = λ t part now open_now. free t part open_now (put_seen t tid new node.manager part now);
+  earlier = λ t part now home later. early t part home later (put_seen t tid new node.manager part now);
 }
   where
     after : Manager
     after = tm.put_part tid new node.manager
+
+    early : (t : Tid) (part : Participant) → same_node t.home node.setting.node ≡ true → began_here node t ≡ false → (IsSame t tid node.manager after part ⊎ IsPut t tid new part) → is_settled part.outcome (list_any (same_tid t) node.committed) ≡ true
+    early t part home later (inl same) = is.earlier t part same.was home later
+    early t part home later (inr put) = subst (λ (u : Tid). is_settled part.outcome (list_any (same_tid u) node.committed) ≡ true) (sym put.same)
+        (subst (λ (p : Participant). is_settled p.outcome (list_any (same_tid tid) node.committed) ≡ true) (sym put.now) (settled (subst (λ (u : Tid). same_node u.home node.setting.node ≡ true) put.same home)))
 
     run : (t : Tid) → ((part : Participant) × ((tm.part_of t node.manager ≡ Some part) × (is_run part ≡ true))) → (b : Bool) → same_tid t tid ≡ b → tm.told_of t false is_run after ≡ true
     run t part true is = absurd (let was : tm.part_of tid node.manager ≡ Some part.0 = subst (λ (u : Tid). tm.part_of u node.manager ≡ Some part.0) (same_is t tid is) part.1.0 in cc (was, none))
@@ -131,6 +149,7 @@ crosses_forgot node tid ordered idle past is = record {
   knows = λ t here knows. know t here (is_known t node.manager knows) (same_tid t tid) refl;
   commits = λ t part now here its. is.commits t part (forgot_seen t tid node.manager part ordered now).was here its;
   fresh = λ t part now open_now. is.fresh t part (forgot_seen t tid node.manager part ordered now).was open_now;
+  earlier = λ t part now home later. is.earlier t part (forgot_seen t tid node.manager part ordered now).was home later;
 }
   where
     after : Manager

@@ -4,9 +4,10 @@ use Rattle.std.proofs.lemmas.Bool.{eqb-true}
 use Rattle.qs_base.specs.Order.{same_tid}
 use Rattle.qs_base.specs.declared.identifiers.NodeNo.{NodeNo}
 use Rattle.qs_base.specs.declared.identifiers.Tid.{Tid}
-use Rattle.qs_engage.specs.Nodes.{is_no_node}
 use Rattle.qs_engage.specs.Engage.{peer_of}
 use Rattle.qs_engage.specs.declared.engage.Engage.{Engage}
+use Rattle.qs_ipc.specs.Ipc.{IpcValue, queue_at}
+use Rattle.qs_ipc.specs.Queue.{count_of}
 use Rattle.qs_journal.specs.declared.script_line.ScriptLine.{ScriptLine}
 use Rattle.qs_record.specs.declared.record.Record.{Record}
 use Rattle.qs_tm.specs.Manager as tm
@@ -15,17 +16,19 @@ use Rattle.qs_step.specs.Restarts.{begin_incarnation}
 use Rattle.qs_step.specs.State.{NodeValue, Work, part_of, work_on}
 use Rattle.qs_step.specs.declared.event.Event.{Event}
 use Rattle.qs_step.specs.declared.event.Event.TheVariants as events
-use Rattle.qs_world.specs.Moves.{Source, Commanded, Handed, Queues, Clock, Noticed, event_of, command_of}
+use Rattle.qs_world.specs.Moves.{Source, Commanded, Handed, Queues, Clock, Noticed, event_of, command_of, may_serve}
 use Rattle.qs_world.specs.World.{Parcel, World}
 use Rattle.qs_agree.specs.World as machine
 use Rattle.qs_agree.proofs.Carries.{leads_on}
-use Rattle.qs_refine.specs.EachMove.{ShowsAll, MessagesFit, CanCountAll, NamersInvolved}
+use Rattle.qs_refine.specs.EachMove.{ShowsAll, MessagesFit}
 use Rattle.qs_refine.specs.Links.{node_no}
 use Rattle.qs_refine.specs.Messages.{all_said}
 use Rattle.qs_refine.specs.MoveLaws.{taken_scene}
-use Rattle.qs_refine.specs.RestartFound.{CanAnswer}
+use Rattle.qs_refine.specs.NodeFaces.{waiting_at}
 use Rattle.qs_refine.specs.RestartLaws.{noticed, IsNoticed}
+use Rattle.qs_refine.specs.ServeWhole.{CanCount}
 use Rattle.qs_refine.specs.Shows.{message_of, Scene, scene_of, sent_to, handed, Shows}
+use Rattle.qs_refine.specs.Sights.{server_no}
 use Rattle.qs_refine.specs.SoundSteps.{begun}
 use Rattle.qs_refine.specs.Stands.{GoesOn}
 use Rattle.qs_refine.specs.Steady.{IsSteady, HasBegun, IsEarly}
@@ -39,6 +42,7 @@ use Rattle.qs_refine.proofs.EachHears.{opened, first, is_calm, keeps, was}
 use Rattle.qs_refine.proofs.EachMay.{from_client, from_node, from_notice, FromNotice, is_next, is_fit}
 use Rattle.qs_refine.proofs.EachReady.{taken_up}
 use Rattle.qs_refine.proofs.FirstNoticed.{noticed_first, noticed_then}
+use Rattle.qs_refine.proofs.MayCount.{can_count}
 use Rattle.qs_refine.proofs.Moving.{drop_none}
 use Rattle.qs_refine.proofs.RestartStands.{peer_restarted_goes}
 use Rattle.qs_refine.proofs.ServeStands.{serve_all_goes}
@@ -55,7 +59,7 @@ pub record StepCame (t : Tid) (world : World) (n free : ℕ) (source : Source) (
   pub came : Came t world n free event later w
   pub taken : (work : Work) (log : List Record) (v : machine.World) → Shows t (stepped later n work log) v → Shows t (stepped (taken_scene world n source) n work log) v
 
-module _ (t : Tid) (world : World) (w : machine.World) (steady : IsSteady world) (home_in : t.home.0 < world.size) (began : HasBegun world t) (all : ShowsAll t world w) (fits : MessagesFit world) (counts : CanCountAll world) (named : NamersInvolved world)
+module _ (t : Tid) (world : World) (w : machine.World) (steady : IsSteady world) (home_in : t.home.0 < world.size) (began : HasBegun world t) (all : ShowsAll t world w) (fits : MessagesFit world)
     (n free : ℕ) (n_in : n < world.size) (on : world.channels.up n ≡ true) where
   abbrev node : NodeValue
   node = (world.hosts n).node
@@ -98,7 +102,7 @@ module _ (t : Tid) (world : World) (w : machine.World) (steady : IsSteady world)
           third false d e r so = absurd (cc (so))
 
       never : t ≡ tm.next_tid node.manager → ⊥
-      never same = more t.seq node.manager.begun (ap (λ (u : Tid). u.seq) same) (subst (λ (k : ℕ). t.seq ≤ (world.hosts k).node.manager.begun) at_n (began home_in at_inc))
+      never same = more t.seq node.manager.begun (ap (λ (u : Tid). u.seq) same) (subst (λ (k : ℕ). t.seq ≤ (world.hosts k).node.manager.begun) at_n (began home_in (subst (λ (k : ℕ). world.channels.up k ≡ true) (sym at_n) on) at_inc))
         where
           at_n : t.home.0 ≡ n
           at_n = ap (λ (u : Tid). u.home.0) same ∙ (ap (λ (k : NodeNo). k.0) fits_node.0 ∙ ap (λ (k : NodeNo). k.0) (steady.seated.node n n_in))
@@ -150,13 +154,30 @@ module _ (t : Tid) (world : World) (w : machine.World) (steady : IsSteady world)
 
   -- ---- what waits is served, and time goes on
 
-  served : StepCame t world n free Queues events.ServeAll w
-  served = record {
+  -- in the first step of an incarnation nothing waits
+  can_count_now : may_serve node Queues ≡ true → CanCount t work
+  can_count_now serves = by node.is_first refl
+    where
+      by : (b : Bool) → node.is_first ≡ b → CanCount t work
+      by true early = λ part s known below waits. absurd (never (waiting_at work.node t s) waits (ap (λ (queues : IpcValue). count_of t (queue_at queues (server_no s)).waiting) (keeps t world w steady home_in all n free n_in on).queues ∙ (steady.nodes n n_in on).idle early t s))
+        where
+          never : (k : ℕ) → 1 ≤ k → k ≡ 0 → ⊥
+          never k some none = omega (arith, some, none)
+      by false further = subst (λ (k : Work). CanCount t k) (sym (same further)) (can_count t node free serves)
+        where
+          same : node.is_first ≡ false → work ≡ work_on node free
+          same further = picked node.is_first further
+            where
+              picked : (b : Bool) → b ≡ false → (if b then Rattle.std.proofs.Common.fold Rattle.qs_step.specs.Restarts.resume_tid (Rattle.qs_step.specs.State.with_node (λ node. record node { is_first = false }) (work_on node free)) (Rattle.qs_step.specs.Restarts.known_tids (work_on node free)) else work_on node free) ≡ work_on node free
+              picked b is = rw is refl
+
+  served : may_serve node Queues ≡ true → StepCame t world n free Queues events.ServeAll w
+  served serves = record {
     later = scene;
     size = refl;
     inc = refl;
     log = refl;
-    came = record { mid = stood.next; leads = stood.leads; after = serve_all_goes t scene n work stood.next (counts n free t n_in) stood.stands; ends = false; ended = λ never. absurd (cc (never)); comes = λ f last leads shown. tt };
+    came = record { mid = stood.next; leads = stood.leads; after = serve_all_goes t scene n work stood.next (can_count_now serves) stood.stands; ends = false; ended = λ never. absurd (cc (never)); comes = λ f last leads shown. tt };
     taken = λ work log v shown. shown;
   }
 
@@ -179,30 +200,6 @@ module _ (t : Tid) (world : World) (w : machine.World) (steady : IsSteady world)
     abbrev there : (m < world.size) × (m ≢ n)
     there = steady.peers n m from.known
 
-    -- who has not decided answers to somebody, or is to be told
-    can_answer : CanAnswer t work
-    can_answer part known undecided away = by part.engage.superior refl
-      where
-        before : (p : Participant) × ((tm.part_of t node.manager ≡ Some p) × SameCore p part)
-        before = was t world w steady home_in all n free n_in on part known
-
-        by : (o : Option NodeNo) → part.engage.superior ≡ o → (part.involved ≡ true) ⊎ (is_some part.engage.superior ≡ true)
-        by None none = inl (before.1.1.involved ∙ drawn ((steady.nodes n n_in).released t before.0 before.1.0 at_other open_before free_before))
-          where
-            at_other : before.0.engage.home ≡ false
-            at_other = sym (ap (λ (e : Engage). e.home) before.1.1.engage) ∙ away
-
-            open_before : before.0.outcome ≡ None
-            open_before = sym before.1.1.outcome ∙ undecided
-
-            free_before : before.0.engage.superior ≡ None
-            free_before = sym (ap (λ (e : Engage). e.superior) before.1.1.engage) ∙ none
-
-            drawn : (before.0.involved ≡ true) ⊎ (is_no_node before.0.told ≡ false) → before.0.involved ≡ true
-            drawn (inl is) = is
-            drawn (inr others) = named n t before.0 n_in before.1.0 at_other open_before free_before others
-        by (Some s) some = inr (ap (λ (o : Option NodeNo). is_some o) some)
-
     nothing_posted : scene.pending n (world.channels.inc n) m new ≡ []
     nothing_posted = ap (map message_of) (drop_none (world.channels.handed n m (world.channels.inc n) new) (world.channels.posted n m (world.channels.inc n) new) (steady.seated.unknown n m new from.later))
 
@@ -214,7 +211,7 @@ module _ (t : Tid) (world : World) (w : machine.World) (steady : IsSteady world)
     noticed_later further = record {
       mid = stood.next;
       leads = stood.leads;
-      after = peer_restarted_goes t scene n m old new work stood.next (may_notice work silent) can_answer stood.stands;
+      after = peer_restarted_goes t scene n m old new work stood.next (may_notice work silent) stood.stands;
       ends = false;
       ended = λ never. absurd (cc (never));
       comes = λ f last leads shown. tt;
@@ -236,7 +233,7 @@ module _ (t : Tid) (world : World) (w : machine.World) (steady : IsSteady world)
       leads = leads_on w found.next resumed.next found.leads resumed.leads;
       after = noticed_then t scene n m old new there.0 there.1 (positive old new from.later) work resumed.next
           (λ part known. let before = was t world w steady home_in all n free n_in on part known in
-          record { peer = ap (λ (e : Engage). peer_of e (node_no m)) before.1.1.engage ∙ (at_first before.0 before.1.0).peers m; waiting = before.1.1.waiting ∙ (at_first before.0 before.1.0).waiting }) can_answer resumed.stands;
+          record { peer = ap (λ (e : Engage). peer_of e (node_no m)) before.1.1.engage ∙ (at_first before.0 before.1.0).peers m; waiting = before.1.1.waiting ∙ (at_first before.0 before.1.0).waiting }) resumed.stands;
       ends = false;
       ended = λ never. absurd (cc (never));
       comes = λ f last leads shown. tt;
@@ -246,7 +243,7 @@ module _ (t : Tid) (world : World) (w : machine.World) (steady : IsSteady world)
         positive a b less = omega (arith, less)
 
         at_first : (part : Participant) → tm.part_of t node.manager ≡ Some part → IsEarly part
-        at_first part known = (steady.nodes n n_in).early early t part known
+        at_first part known = (steady.nodes n n_in on).early early t part known
 
         found : GoesOn t (noticed scene n m new) n (work_on node free) w
         found = noticed_first t scene n m old new (work_on node free) w (opened t world w steady home_in all n free n_in on) (may_notice (work_on node free) refl) (λ part known. record { peer = (at_first part known).peers m; waiting = (at_first part known).waiting })
@@ -264,15 +261,15 @@ module _ (t : Tid) (world : World) (w : machine.World) (steady : IsSteady world)
 
   -- ---- whatever it is
 
-  pub step_came : (stamp : ℕ) (source : Source) (event : Event) → event_of world n stamp source ≡ Some event → StepCame t world n free source event w
-  step_came stamp (Commanded k) event is = commanded k event is
-  step_came stamp (Handed m) event is = handed_up stamp m event is
-  step_came stamp Queues event is = subst (λ (e : Event). StepCame t world n free Queues e w) (one events.ServeAll event is) served
+  pub step_came : (stamp : ℕ) (source : Source) (event : Event) → may_serve node source ≡ true → event_of world n stamp source ≡ Some event → StepCame t world n free source event w
+  step_came stamp (Commanded k) event serves is = commanded k event is
+  step_came stamp (Handed m) event serves is = handed_up stamp m event is
+  step_came stamp Queues event serves is = subst (λ (e : Event). StepCame t world n free Queues e w) (one events.ServeAll event is) (served serves)
     where
       one : (a b : Event) → Some a ≡ Some b → a ≡ b
       one a b same = cc (same)
-  step_came stamp Clock event is = subst (λ (e : Event). StepCame t world n free Clock e w) (one events.Tick event is) timed
+  step_came stamp Clock event serves is = subst (λ (e : Event). StepCame t world n free Clock e w) (one events.Tick event is) timed
     where
       one : (a b : Event) → Some a ≡ Some b → a ≡ b
       one a b same = cc (same)
-  step_came stamp (Noticed m new) event is = notices m new event (from_notice world n stamp m new event is)
+  step_came stamp (Noticed m new) event serves is = notices m new event (from_notice world n stamp m new event is)

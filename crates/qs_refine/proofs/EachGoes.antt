@@ -13,13 +13,13 @@ use Rattle.qs_step.specs.Bringing.{is_forced}
 use Rattle.qs_step.specs.State.{NodeValue, Work, part_of}
 use Rattle.qs_step.specs.Step.{happen, step_work, effects_of}
 use Rattle.qs_step.specs.declared.event.Event.{Event}
-use Rattle.qs_world.specs.Moves.{Source, event_of}
+use Rattle.qs_world.specs.Moves.{Source, event_of, may_serve}
 use Rattle.qs_world.specs.World.{World}
 use Rattle.qs_agree.specs.World as machine
 use Rattle.qs_agree.specs.World.{Open, Committed, Aborted}
 use Rattle.qs_agree.specs.Carry.{Leads}
 use Rattle.qs_agree.proofs.Carries.{leads_on}
-use Rattle.qs_refine.specs.EachMove.{ShowsAll, MessagesFit, CanCountAll, NamersInvolved}
+use Rattle.qs_refine.specs.EachMove.{ShowsAll, MessagesFit}
 use Rattle.qs_refine.specs.Faces.{Face, ShowsFace}
 use Rattle.qs_refine.specs.JoinLaws.{is_loose, StepForced}
 use Rattle.qs_refine.specs.MoveLaws.{AllClose, StepShown, taken_scene}
@@ -45,8 +45,8 @@ use Rattle.qs_refine.proofs.TurnOn.{KeptSo, became, fate_found, fate_at, Turned,
 use Rattle.qs_refine.proofs.TurnEvents.{step_on}
 use Rattle.qs_refine.proofs.WaitStands.{answer_waiting_goes}
 
-module _ (t : Tid) (world : World) (w : machine.World) (steady : IsSteady world) (home_in : t.home.0 < world.size) (began : HasBegun world t) (all : ShowsAll t world w) (fits : MessagesFit world) (counts : CanCountAll world) (named : NamersInvolved world)
-    (n stamp free : ℕ) (n_in : n < world.size) (on : world.channels.up n ≡ true) (source : Source) (event : Event) (is : event_of world n stamp source ≡ Some event) where
+module _ (t : Tid) (world : World) (w : machine.World) (steady : IsSteady world) (home_in : t.home.0 < world.size) (began : HasBegun world t) (all : ShowsAll t world w) (fits : MessagesFit world)
+    (n stamp free : ℕ) (n_in : n < world.size) (on : world.channels.up n ≡ true) (source : Source) (event : Event) (serves : may_serve (world.hosts n).node source ≡ true) (is : event_of world n stamp source ≡ Some event) where
   abbrev pub node : NodeValue
   node = (world.hosts n).node
 
@@ -57,7 +57,7 @@ module _ (t : Tid) (world : World) (w : machine.World) (steady : IsSteady world)
   last_work = step_work node event free
 
   pub came : StepCame t world n free source event w
-  came = step_came t world w steady home_in began all fits counts named n free n_in on stamp source event is
+  came = step_came t world w steady home_in began all fits n free n_in on stamp source event serves is
 
   abbrev pub later : Scene
   later = came.later

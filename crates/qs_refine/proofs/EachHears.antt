@@ -48,7 +48,7 @@ module _ (t : Tid) (world : World) (w : machine.World) (steady : IsSteady world)
   first = begin_incarnation_goes t (scene_of world) n (work_on node free) w (taken_up t world w steady home_in all n n_in on free) opened
 
   pub is_calm : IsCalm wk
-  is_calm = calm node free (steady.sound n n_in).node (steady.nodes n n_in)
+  is_calm = calm node free (steady.sound n n_in).node (steady.nodes n n_in on)
 
   pub keeps : KeptOn (work_on node free) wk
   keeps = begin_keeps (work_on node free)
@@ -66,7 +66,7 @@ module _ (t : Tid) (world : World) (w : machine.World) (steady : IsSteady world)
     -- where it began here, it has begun
     module _ (began : HasBegun world t) where
       begun_below : began_here wk.node t ≡ true → t.seq ≤ wk.node.manager.begun
-      begun_below here = subst (λ (k : ℕ). t.seq ≤ k) (sym keeps.begun) (subst (λ (k : ℕ). t.seq ≤ (world.hosts k).node.manager.begun) at_n (began home_in at_inc))
+      begun_below here = subst (λ (k : ℕ). t.seq ≤ k) (sym keeps.begun) (subst (λ (k : ℕ). t.seq ≤ (world.hosts k).node.manager.begun) at_n (began home_in (subst (λ (k : ℕ). world.channels.up k ≡ true) (sym at_n) on) at_inc))
         where
           tests : (same_node t.home wk.node.setting.node ≡ true) × ((t.inc == wk.node.setting.inc) ≡ true)
           tests = and_both (same_node t.home wk.node.setting.node) (t.inc == wk.node.setting.inc) here

@@ -43,19 +43,20 @@ first_line size (l ∷ rest) line is all = let same : l ≡ line = one l line is
     one a b same = cc (same)
 
 pub from_client : (world : World) (n k : ℕ) (event : Event) → IsSteady world → command_from world n k ≡ Some event → FromClient world n k event
-from_client world n k event steady is = by (nat_lt k client_count && ((world.clients k).at == n)) is
+from_client world n k event steady is = by (nat_lt k client_count) refl ((world.clients k).at == n) is
   where
     some_same : (a b : Event) → Some a ≡ Some b → a ≡ b
     some_same a b same = cc (same)
 
-    handed : (b : Bool) → (world.clients k).is_handed ≡ b → (o : Option ScriptLine) → (if b then None else slice_get (world.clients k).lines 0) ≡ o → (elim o [ None ↦ None | Some line ↦ Some (command_of line) ]) ≡ Some event → FromClient world n k event
-    handed b was None none so = absurd (cc (so))
-    handed true was (Some line) found so = absurd (cc (found))
-    handed false was (Some line) found so = record { line = line; is = sym (some_same (command_of line) event so); in_run = first_line world.size (world.clients k).lines line found (steady.scripts k) }
+    handed : k < client_count → (b : Bool) → (world.clients k).is_handed ≡ b → (o : Option ScriptLine) → (if b then None else slice_get (world.clients k).lines 0) ≡ o → (elim o [ None ↦ None | Some line ↦ Some (command_of line) ]) ≡ Some event → FromClient world n k event
+    handed low b was None none so = absurd (cc (so))
+    handed low true was (Some line) found so = absurd (cc (found))
+    handed low false was (Some line) found so = record { line = line; is = sym (some_same (command_of line) event so); in_run = first_line world.size (world.clients k).lines line found (steady.scripts k low) }
 
-    by : (b : Bool) → (if b then elim (next_line (world.clients k)) [ None ↦ None | Some line ↦ Some (command_of line) ] else None) ≡ Some event → FromClient world n k event
-    by true so = handed (world.clients k).is_handed refl (next_line (world.clients k)) refl so
-    by false so = absurd (cc (so))
+    by : (a : Bool) → nat_lt k client_count ≡ a → (b : Bool) → (if a && b then elim (next_line (world.clients k)) [ None ↦ None | Some line ↦ Some (command_of line) ] else None) ≡ Some event → FromClient world n k event
+    by true low true so = handed (grind (arith, nat_tests, low)) (world.clients k).is_handed refl (next_line (world.clients k)) refl so
+    by true low false so = absurd (cc (so))
+    by false low b so = absurd (cc (so))
 
 -- ---- a message
 
@@ -151,7 +152,7 @@ module _ (world : World) (n free : ℕ) (steady : IsSteady world) (fits : Messag
   work = begun (world.hosts n).node free
 
   its : IsCalm work
-  its = calm (world.hosts n).node free (steady.sound n n_in).node (steady.nodes n n_in)
+  its = calm (world.hosts n).node free (steady.sound n n_in).node (steady.nodes n n_in on)
 
   setting_is : work.node.setting ≡ (world.hosts n).node.setting
   setting_is = (begin_keeps (work_on (world.hosts n).node free)).setting

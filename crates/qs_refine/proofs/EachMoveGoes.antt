@@ -19,11 +19,11 @@ use Rattle.qs_step.specs.Answering.{was_committed, is_kept_commit}
 use Rattle.qs_step.specs.Opening.{recovered_of, new_manager}
 use Rattle.qs_step.specs.State.{NodeValue}
 use Rattle.qs_step.specs.declared.event.Event.{Event}
-use Rattle.qs_world.specs.Moves.{Step, Cut, Stop, Rise, Meet, event_of, step_with, cut_with, stopped, reopened, risen, risen_host, met, has_begun, is_in_order, is_later}
+use Rattle.qs_world.specs.Moves.{Step, Cut, Stop, Rise, Meet, event_of, step_with, cut_with, stopped, reopened, risen, risen_host, met, has_begun, is_in_order, is_later, may_step}
 use Rattle.qs_world.specs.World.{World, known_of}
 use Rattle.qs_agree.specs.World as machine
 use Rattle.qs_agree.specs.World.{Open, Committed, Aborted}
-use Rattle.qs_refine.specs.EachMove.{ShowsAll, AllGoes, KeepsDecided, MessagesFit, CanCountAll, NamersInvolved, EachMoveGoes, ShownFits}
+use Rattle.qs_refine.specs.EachMove.{ShowsAll, AllGoes, KeepsDecided, MessagesFit, EachMoveGoes, ShownFits}
 use Rattle.qs_refine.specs.Links.{node_no}
 use Rattle.qs_refine.specs.MoveLaws.{WorldGoes}
 use Rattle.qs_refine.specs.Shows.{scene_of}
@@ -36,7 +36,7 @@ use Rattle.qs_refine.proofs.EachMay.{is_next, is_fit}
 use Rattle.qs_refine.proofs.EachMoves.{StaysAt, TellsAt, kept_same, goes_all, halted, node_halted, step_goes_on, cut_goes_on}
 use Rattle.qs_refine.proofs.Facts.{invariant}
 use Rattle.qs_refine.proofs.LaterWorlds.{commit_stays}
-use Rattle.qs_refine.proofs.MoveGoes.{in_run, later_in, rises, meets}
+use Rattle.qs_refine.proofs.MoveGoes.{in_run, later_in, StepMay, step_may, rises, meets}
 use Rattle.qs_refine.proofs.RisenFaces.{lists_from}
 use Rattle.qs_refine.proofs.SoundParts.{and_both}
 use Rattle.qs_refine.proofs.StepMoves.{stops}
@@ -73,7 +73,7 @@ taken_part t home said m false true untold found away part known = record {
     by false off decided = let both : None ≡ Some outcomes.Commit = sym (found.2.bare.unknown off) ∙ (sym (ap (λ (p : Participant). p.outcome) its) ∙ decided) in cc (both)
 taken_part t home said m false false untold none away part known = absurd (let both : None ≡ Some part = sym none ∙ known in cc (both))
 
-module _ (t : Tid) (world : World) (w : machine.World) (steady : IsSteady world) (counts : CanCountAll world) (named : NamersInvolved world) (fits : MessagesFit world) (home_in : t.home.0 < world.size) (began : HasBegun world t) (all : ShowsAll t world w) where
+module _ (t : Tid) (world : World) (w : machine.World) (steady : IsSteady world) (fits : MessagesFit world) (home_in : t.home.0 < world.size) (began : HasBegun world t) (all : ShowsAll t world w) where
   -- ---- a restart
 
   module _ (n stamp inc : ℕ) (n_in : n < world.size) (off : world.channels.up n ≡ false) (later : world.channels.inc n < inc) where
@@ -207,29 +207,29 @@ module _ (t : Tid) (world : World) (w : machine.World) (steady : IsSteady world)
 -- ---- each move
 
 pub each_move_goes : EachMoveGoes
-each_move_goes t world (Step n stamp free source) w may steady counts named fits home_in began all = by (event_of world n stamp source) refl
+each_move_goes t world (Step n stamp free source) w may steady fits home_in began all = by (event_of world n stamp source) refl
   where
-    runs : (world.channels.up n ≡ true) × ((is_later world n stamp && is_some (event_of world n stamp source)) ≡ true)
-    runs = and_both (world.channels.up n) (is_later world n stamp && is_some (event_of world n stamp source)) may
+    its : StepMay world n source
+    its = step_may world n stamp source may
 
     by : (o : Option Event) → event_of world n stamp source ≡ o → AllGoes t (step_with world n stamp free source o) w
     by None is = record { next = w; leads = record { events = []; run = refl }; shown = all }
-    by (Some event) is = step_goes_on t world w steady counts named fits home_in began all n stamp free source event (later_in world n stamp (and_both (is_later world n stamp) _ runs.1).0) runs.0 is
-each_move_goes t world (Cut n stamp free source is_kept cause) w may steady counts named fits home_in began all = by (event_of world n stamp source) refl
+    by (Some event) is = step_goes_on t world w steady fits home_in began all n stamp free source event its.low its.runs its.serves is
+each_move_goes t world (Cut n stamp free source is_kept cause) w may steady fits home_in began all = by (event_of world n stamp source) refl
   where
-    runs : (world.channels.up n ≡ true) × ((is_later world n stamp && (is_some (event_of world n stamp source) && is_crash cause)) ≡ true)
-    runs = and_both (world.channels.up n) (is_later world n stamp && (is_some (event_of world n stamp source) && is_crash cause)) may
+    its : StepMay world n source
+    its = step_may world n stamp source (and_both (may_step world n stamp source) (is_crash cause) may).0
 
     by : (o : Option Event) → event_of world n stamp source ≡ o → AllGoes t (cut_with world n stamp free is_kept cause o) w
     by None is = record { next = w; leads = record { events = []; run = refl }; shown = all }
-    by (Some event) is = cut_goes_on t world w steady counts named fits home_in began all n stamp free source event (later_in world n stamp (and_both (is_later world n stamp) _ runs.1).0) runs.0 is is_kept cause
-each_move_goes t world (Stop n stamp cause) w may steady counts named fits home_in began all =
+    by (Some event) is = cut_goes_on t world w steady fits home_in began all n stamp free source event its.low its.runs its.serves is is_kept cause
+each_move_goes t world (Stop n stamp cause) w may steady fits home_in began all =
     let runs = and_both (world.channels.up n) _ may in
     let goes = stops t world w steady.seated home_in all.seen n stamp cause (world.hosts n).log [] (in_run world n stamp (and_both (is_in_order world n stamp) _ runs.1).0) runs.0 refl tt in
     goes_all t world w home_in all (stopped world n stamp cause (world.hosts n).log) refl goes
-    (kept_same t world (stopped world n stamp cause (world.hosts n).log) w goes.next all goes.leads (node_halted t world w steady counts named fits home_in began all n stamp cause (world.hosts n).log t.home.0))
-    (λ k k_in up. inl (halted t world w steady counts named fits home_in began all n stamp cause (world.hosts n).log k up))
-each_move_goes t world (Rise n stamp inc) w may steady counts named fits home_in began all = rise_goes_on t world w steady counts named fits home_in began all n stamp inc (in_run world n stamp order.0) (off (world.channels.up n) both.0) (grind (arith, nat_tests, order.1))
+    (kept_same t world (stopped world n stamp cause (world.hosts n).log) w goes.next all goes.leads (node_halted t world w steady fits home_in began all n stamp cause (world.hosts n).log t.home.0))
+    (λ k k_in up. inl (halted t world w steady fits home_in began all n stamp cause (world.hosts n).log k up))
+each_move_goes t world (Rise n stamp inc) w may steady fits home_in began all = rise_goes_on t world w steady fits home_in began all n stamp inc (in_run world n stamp order.0) (off (world.channels.up n) both.0) (grind (arith, nat_tests, order.1))
   where
     off : (b : Bool) → not b ≡ true → b ≡ false
     off true is = absurd (cc (is))
@@ -240,7 +240,7 @@ each_move_goes t world (Rise n stamp inc) w may steady counts named fits home_in
 
     order : (is_in_order world n stamp ≡ true) × (nat_lt (world.channels.inc n) inc ≡ true)
     order = and_both (is_in_order world n stamp) (nat_lt (world.channels.inc n) inc) both.1
-each_move_goes t world (Meet n stamp m first_inc) w may steady counts named fits home_in began all = meet_goes_on t world w steady counts named fits home_in began all n stamp m first_inc (later_in world n stamp order.0) runs.0 (grind (arith, nat_tests, others.1))
+each_move_goes t world (Meet n stamp m first_inc) w may steady fits home_in began all = meet_goes_on t world w steady fits home_in began all n stamp m first_inc (later_in world n stamp order.0) runs.0 (grind (arith, nat_tests, others.1))
     (λ is. not_same (m == n) others.0 (grind (arith, nat_tests, is))) (eqb-true (known_of world n m) 0 known.0) (grind (arith, nat_tests, begun_then.0)) (grind (arith, nat_tests, (and_both (nat_le first_inc (world.channels.inc m)) _ begun_then.1).0))
   where
     runs : (world.channels.up n ≡ true) × ((is_later world n stamp && ((not (m == n) && nat_lt m world.size) && ((known_of world n m == 0) && (nat_lt 0 first_inc && has_begun world stamp m first_inc)))) ≡ true)

@@ -16,12 +16,12 @@ use Rattle.qs_step.specs.Answering.{was_committed, is_kept_commit}
 use Rattle.qs_step.specs.State.{NodeValue, Work, part_of}
 use Rattle.qs_step.specs.Step.{step_work, after_step, effects_of}
 use Rattle.qs_step.specs.declared.event.Event.{Event}
-use Rattle.qs_world.specs.Moves.{Source, Move, Step, Cut, Stop, Rise, Meet, event_of, taken_by, step_with, cut_with, stopped, reopened, risen, met, has_begun, is_in_order, is_later, may_move, moved}
+use Rattle.qs_world.specs.Moves.{Source, Move, Step, Cut, Stop, Rise, Meet, event_of, taken_by, step_with, cut_with, stopped, reopened, risen, met, has_begun, is_in_order, is_later, may_serve, may_move, moved}
 use Rattle.qs_world.specs.World.{World}
 use Rattle.qs_agree.specs.World as machine
 use Rattle.qs_agree.specs.World.{Open, Committed, Aborted}
 use Rattle.qs_agree.specs.Carry.{Leads}
-use Rattle.qs_refine.specs.EachMove.{ShowsOutcome, ShowsAll, AllGoes, KeepsDecided, MessagesFit, CanCountAll, NamersInvolved}
+use Rattle.qs_refine.specs.EachMove.{ShowsOutcome, ShowsAll, AllGoes, KeepsDecided, MessagesFit}
 use Rattle.qs_refine.specs.Faces.{Face}
 use Rattle.qs_refine.specs.Links.{node_no}
 use Rattle.qs_refine.specs.MoveLaws.{ShowsWorld, WorldGoes, StepShown}
@@ -84,7 +84,7 @@ pub goes_all : (t : Tid) (world : World) (w : machine.World) (home_in : t.home.0
     → ((k : ℕ) → k < world.size → after.channels.up k ≡ true → StaysAt world after k ⊎ TellsAt t after k goes.next) → AllGoes t after w
 goes_all t world w home_in all after sized goes then_kept each_node = all_goes t world w home_in all after goes.next goes.leads sized goes.shown then_kept each_node
 
-module _ (t : Tid) (world : World) (w : machine.World) (steady : IsSteady world) (counts : CanCountAll world) (named : NamersInvolved world) (fits : MessagesFit world) (home_in : t.home.0 < world.size) (began : HasBegun world t) (all : ShowsAll t world w) where
+module _ (t : Tid) (world : World) (w : machine.World) (steady : IsSteady world) (fits : MessagesFit world) (home_in : t.home.0 < world.size) (began : HasBegun world t) (all : ShowsAll t world w) where
   -- ---- a node stops
 
   pub halted : (n stamp : ℕ) (cause : CrashCause) (log : List Rattle.qs_record.specs.declared.record.Record.Record) (k : ℕ) → (stopped world n stamp cause log).channels.up k ≡ true → StaysAt world (stopped world n stamp cause log) k
@@ -106,12 +106,12 @@ module _ (t : Tid) (world : World) (w : machine.World) (steady : IsSteady world)
 
   -- ---- a step
 
-  module _ (n stamp free : ℕ) (source : Source) (event : Event) (n_in : n < world.size) (on : world.channels.up n ≡ true) (is : event_of world n stamp source ≡ Some event) where
-    shown_step : (shown : StepShown t world n free source event w) × Leads (each.f t world w steady home_in began all fits counts named n stamp free n_in on source event is) shown.next
-    shown_step = each.step_shown t world w steady home_in began all fits counts named n stamp free n_in on source event is
+  module _ (n stamp free : ℕ) (source : Source) (event : Event) (n_in : n < world.size) (on : world.channels.up n ≡ true) (serves : may_serve (world.hosts n).node source ≡ true) (is : event_of world n stamp source ≡ Some event) where
+    shown_step : (shown : StepShown t world n free source event w) × Leads (each.f t world w steady home_in began all fits n stamp free n_in on source event serves is) shown.next
+    shown_step = each.step_shown t world w steady home_in began all fits n stamp free n_in on source event serves is
 
     abbrev then_f : machine.World
-    then_f = each.f t world w steady home_in began all fits counts named n stamp free n_in on source event is
+    then_f = each.f t world w steady home_in began all fits n stamp free n_in on source event serves is
 
     abbrev work : Work
     work = step_work (world.hosts n).node event free
@@ -119,14 +119,14 @@ module _ (t : Tid) (world : World) (w : machine.World) (steady : IsSteady world)
     abbrev after : World
     after = step_with world n stamp free source (Some event)
 
-    stood : Rattle.qs_refine.specs.Stands.Stands t (each.later t world w steady home_in began all fits counts named n stamp free n_in on source event is) n work then_f
-    stood = each.stands t world w steady home_in began all fits counts named n stamp free n_in on source event is
+    stood : Rattle.qs_refine.specs.Stands.Stands t (each.later t world w steady home_in began all fits n stamp free n_in on source event serves is) n work then_f
+    stood = each.stands t world w steady home_in began all fits n stamp free n_in on source event serves is
 
     abbrev its : Rattle.qs_refine.proofs.EachEvent.StepCame t world n free source event w
-    its = each.came t world w steady home_in began all fits counts named n stamp free n_in on source event is
+    its = each.came t world w steady home_in began all fits n stamp free n_in on source event serves is
 
-    turned : Rattle.qs_refine.proofs.TurnOn.Turned (Rattle.qs_refine.proofs.EachCame.case_of t world n (each.came t world w steady home_in began all fits counts named n stamp free n_in on source event is).came.ends then_f) work
-    turned = each.turned t world w steady home_in began all fits counts named n stamp free n_in on source event is
+    turned : Rattle.qs_refine.proofs.TurnOn.Turned (Rattle.qs_refine.proofs.EachCame.case_of t world n (each.came t world w steady home_in began all fits n stamp free n_in on source event serves is).came.ends then_f) work
+    turned = each.turned t world w steady home_in began all fits n stamp free n_in on source event serves is
 
     fate_is : (part : Participant) → part_of t work ≡ Some part → fate_at t work.node ≡ became part.outcome part.acknowledged
     fate_is part known = ap fate_found known
@@ -143,7 +143,7 @@ module _ (t : Tid) (world : World) (w : machine.World) (steady : IsSteady world)
 
         by : (b : Bool) → same_node t.home work.node.setting.node ≡ b → then_f.cell ≡ Committed
         by false away = committed_is then_f.cell (turned.learnt away part.acknowledged (fate_is part known ∙ ap (λ (o : Option Outcome). became o part.acknowledged) decided))
-        by true at = stood.lawful.agreed.knows_commit (place n (world.channels.inc n)) ((each.face_then t world w steady home_in began all fits counts named n stamp free n_in on source event is).outcome
+        by true at = stood.lawful.agreed.knows_commit (place n (world.channels.inc n)) ((each.face_then t world w steady home_in began all fits n stamp free n_in on source event serves is).outcome
             ∙ (ap (λ (f : Face). f.outcome) (face_is t _ n work then_f stood part known) ∙ (ap (λ (o : Option Outcome). outcome_seen o (part.engage.home || part.involved)) decided ∙ seen (part.engage.home || part.involved) (either part.engage.home part.involved (home_flag at)))))
           where
             seen : (b : Bool) → b ≡ true → outcome_seen (Some outcomes.Commit) b ≡ Committed
@@ -164,12 +164,12 @@ module _ (t : Tid) (world : World) (w : machine.World) (steady : IsSteady world)
             found (Some part) known = learnt_then part known (same_outcome part.outcome (Some outcomes.Commit) part.acknowledged acks (sym (fate_is part known) ∙ fate))
 
         which : (was_committed t (world.hosts n).node ≡ true) ⊎ ((acks : Nodes) × (fate_at t work.node ≡ became (Some outcomes.Commit) acks)) → then_f.cell ≡ Committed
-        which (inl before) = commit_stays w then_f all.seen.lawful (each.all_leads t world w steady home_in began all fits counts named n stamp free n_in on source event is) (all.kept.now (subst (λ (k : ℕ). was_committed t (world.hosts k).node ≡ true) at before))
+        which (inl before) = commit_stays w then_f all.seen.lawful (each.all_leads t world w steady home_in began all fits n stamp free n_in on source event serves is) (all.kept.now (subst (λ (k : ℕ). was_committed t (world.hosts k).node ≡ true) at before))
         which (inr known) = known_as known.0 known.1
 
         by : (b : Bool) → its.came.ends ≡ b → then_f.cell ≡ Committed
-        by true ends = stood.lawful.agreed.knows_commit (place n (world.channels.inc n)) (each.ended_then t world w steady home_in began all fits counts named n stamp free n_in on source event is ends).committed
-        by false open_end = which (each.kept_then t world w steady home_in began all fits counts named n stamp free n_in on source event is open_end is_kept)
+        by true ends = stood.lawful.agreed.knows_commit (place n (world.channels.inc n)) (each.ended_then t world w steady home_in began all fits n stamp free n_in on source event serves is ends).committed
+        by false open_end = which (each.kept_then t world w steady home_in began all fits n stamp free n_in on source event serves is open_end is_kept)
 
     pub step_goes_on : AllGoes t after w
     step_goes_on = goes_all t world w home_in all after refl goes (home_kept (t.home.0 == n) refl) (λ k k_in up. at k (k == n) refl up)

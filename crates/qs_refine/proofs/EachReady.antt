@@ -155,13 +155,13 @@ module _ (t : Tid) (world : World) (w : machine.World) (steady : IsSteady world)
     inc = steady.seated.inc n n_in;
     home_in = home_in;
     sound = (steady.sound n n_in).node;
-    kinds = (steady.nodes n n_in).kinds;
+    kinds = (steady.nodes n n_in on).kinds;
     clear = clear;
     superior = λ part m known has. steady.superior n m t part n_in on known has;
   }
 
   pub taken_up : (free : ℕ) → IsTakenUp t (work_on node free)
   taken_up free = record {
-    undecided = λ first part known open_now. ((steady.nodes n n_in).early first t part known).undecided open_now;
-    committed = λ first part known decided. ((steady.nodes n n_in).early first t part known).committed decided;
+    undecided = λ first part known open_now. ((steady.nodes n n_in on).early first t part known).undecided open_now;
+    committed = λ first part known decided. ((steady.nodes n n_in on).early first t part known).committed decided;
   }

@@ -43,6 +43,7 @@ use Rattle.qs_refine.proofs.EachHears.{is_calm, keeps, was, past_commit}
 use Rattle.qs_refine.proofs.Heads.{shown_here, face_is, taken_names}
 use Rattle.qs_refine.proofs.LaterWorlds.{acks_on}
 use Rattle.qs_refine.proofs.LogFrames.{record_apart}
+use Rattle.qs_refine.proofs.InTurn.{others_say}
 use Rattle.qs_refine.proofs.LogEnds.{untold_ended}
 use Rattle.qs_refine.proofs.SaysSeen.{said_seen}
 use Rattle.qs_refine.proofs.SaysSettles.{begin_incarnation_on}
@@ -82,6 +83,38 @@ untold_before t (r ∷ rs) said none has = untold_one t r said (first (is_forced
     last : (a b : Bool) → (a || b) ≡ false → b ≡ false
     last true b is = absurd (cc (is))
     last false b is = is
+
+-- where a Commit waits for its End behind them, none of them is of it
+none_behind : (t : Tid) (rs : List Record) (said : Recovery) → list_any (is_forced_of t) rs ≡ false → list_any (is_untold_of t) (fold found_record said rs).untold ≡ true → list_any (is_record_of t) rs ≡ false
+none_behind t [] said none has = refl
+none_behind t (r ∷ rs) said none has = neither (one (is_record_of t r) refl) (none_behind t rs (found_record said r) rest has)
+  where
+    first : (a b : Bool) → (a || b) ≡ false → a ≡ false
+    first true b is = absurd (cc (is))
+    first false b is = refl
+
+    last : (a b : Bool) → (a || b) ≡ false → b ≡ false
+    last true b is = absurd (cc (is))
+    last false b is = is
+
+    neither : {a b : Bool} → a ≡ false → b ≡ false → (a || b) ≡ false
+    neither x y = rw (x, y) refl
+
+    rest : list_any (is_forced_of t) rs ≡ false
+    rest = last (is_forced_of t r) _ none
+
+    still : list_any (is_untold_of t) (found_record said r).untold ≡ true
+    still = untold_before t rs (found_record said r) rest has
+
+    ended : (r : Record) → is_record_of t r ≡ true → is_forced_of t r ≡ false → list_any (is_untold_of t) (found_record said r).untold ≡ true → ⊥
+    ended (records.Prepare u server covers changes) same off has = let so : (same_tid t u && true) ≡ true = rw same refl in cc (so, off)
+    ended (records.Commit u told) same off has = let so : (same_tid t u && true) ≡ true = rw same refl in cc (so, off)
+    ended (records.Aborted u) same off has = let none : list_any (is_untold_of t) (found_record said (records.Aborted u)).untold ≡ false = subst (λ (k : Tid). list_any (is_untold_of t) (found_record said (records.Aborted k)).untold ≡ false) (same_is t u same) (untold_ended t said.untold) in cc (none, has)
+    ended (records.End u) same off has = let none : list_any (is_untold_of t) (found_record said (records.End u)).untold ≡ false = subst (λ (k : Tid). list_any (is_untold_of t) (found_record said (records.End k)).untold ≡ false) (same_is t u same) (untold_ended t said.untold) in cc (none, has)
+
+    one : (b : Bool) → is_record_of t r ≡ b → b ≡ false
+    one false apart = refl
+    one true same = absurd (ended r same (first (is_forced_of t r) _ none) still)
 
 -- where nothing is forced nothing of it is
 none_forced_of : (t : Tid) (rs : List Record) → list_any is_forced rs ≡ false → list_any (is_forced_of t) rs ≡ false
@@ -195,14 +228,19 @@ module _ (t : Tid) (world : World) (w : machine.World) (steady : IsSteady world)
       in_log = untold_before t (world.hosts h).waiting (recovery (world.hosts h).log) (waits_loose t h (place h (world.channels.inc h)) w (world.hosts h).waiting (all.seen.closes h home_in on))
           (subst (λ (r : Recovery). list_any (is_untold_of t) r.untold ≡ true) (Rattle.std.proofs.lemmas.List.Sums.fold-append found_record Rattle.qs_restart.specs.Recovery.nothing_said (world.hosts h).log (world.hosts h).waiting) with_waiting)
 
-      old_listed : old.0.log.listed ≡ true
-      old_listed = sym (ap (λ (o : Option Participant). (log_of o).listed) old.1.0) ∙ ((said_before t).listed ∙ with_waiting)
+      -- the records that wait say nothing of it
+      same_list : (k : ℕ) → names_node (list_of t (recovery ((world.hosts h).log ++ (world.hosts h).waiting))) (node_no k) ≡ names_node (list_of t (recovery (world.hosts h).log)) (node_no k)
+      same_list k = ap (λ (r : Recovery). names_node (list_of t r) (node_no k)) whole
+          ∙ (others_say t (world.hosts h).waiting (recovery (world.hosts h).log) (none_behind t (world.hosts h).waiting (recovery (world.hosts h).log) (waits_loose t h (place h (world.channels.inc h)) w (world.hosts h).waiting (all.seen.closes h home_in on)) (subst (λ (r : Recovery). list_any (is_untold_of t) r.untold ≡ true) whole with_waiting))).named k
+        where
+          whole : recovery ((world.hosts h).log ++ (world.hosts h).waiting) ≡ fold found_record (recovery (world.hosts h).log) (world.hosts h).waiting
+          whole = Rattle.std.proofs.lemmas.List.Sums.fold-append found_record Rattle.qs_restart.specs.Recovery.nothing_said (world.hosts h).log (world.hosts h).waiting
 
       pub listed : IsListed t scene work part
       listed = record {
         stands = ap (λ (r : Recovery). list_any (is_untold_of t) r.untold) found_is ∙ in_log;
         named = λ k names. ap (λ (s : Rattle.qs_engage.specs.declared.nodes.Nodes.Nodes). has_node s (node_no k)) old.1.1.tell
-            ∙ steady.listed t old.0 home_in old.1.0 was_committed old_listed k (sym (ap (λ (r : Recovery). names_node (list_of t r) (node_no k)) found_is) ∙ names);
+            ∙ steady.listed t old.0 home_in on old.1.0 was_committed k (same_list k ∙ (sym (ap (λ (r : Recovery). names_node (list_of t r) (node_no k)) found_is) ∙ names));
       }
 
     acknowledged : ShowsTold t work v

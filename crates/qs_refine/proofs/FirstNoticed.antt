@@ -24,7 +24,6 @@ use Rattle.qs_agree.specs.World.{World}
 use Rattle.qs_refine.specs.Faces.{Face}
 use Rattle.qs_refine.specs.Links.{node_no}
 use Rattle.qs_refine.specs.NodeFaces.{face, face_at, part_at}
-use Rattle.qs_refine.specs.RestartFound.{CanAnswer}
 use Rattle.qs_refine.specs.RestartLaws.{noticed, IsNoticed}
 use Rattle.qs_refine.specs.Messages.{all_said}
 use Rattle.qs_refine.specs.Shows.{Scene, sent_to, ShowsWork, sight_during}
@@ -151,15 +150,15 @@ module _ (t : Tid) (scene : Scene) (n m old new : ℕ) (m_in : m < scene.size) (
       decided = λ outcome decided. numbered;
     }
 
-    pub looked_at : m < 16 → (part.outcome ≡ None → part.engage.home ≡ false → (part.involved ≡ true) ⊎ (is_some part.engage.superior ≡ true)) → GoesOn t later n (turn work t) w
-    looked_at small answers = record { next = own.next; leads = own.leads; stands = stands_alike t (noticed later n m new) later.knows (λ a b. sym (known_twice a b)) n (turn work t) own.next own.stands }
+    pub looked_at : m < 16 → GoesOn t later n (turn work t) w
+    looked_at small = record { next = own.next; leads = own.leads; stands = stands_alike t (noticed later n m new) later.knows (λ a b. sym (known_twice a b)) n (turn work t) own.next own.stands }
       where
         own : GoesOn t (noticed later n m new) n (turn work t) w
-        own = own_turn t later n m old new work w is part known found_known small answers
+        own = own_turn t later n m old new work w is part known found_known small
 
-  all_looked : m < 16 → (work : Work) (w : World) → ((part : Participant) → part_of t work ≡ Some part → HasNothing m part) → CanAnswer t work → Stands t later n work w
+  all_looked : m < 16 → (work : Work) (w : World) → ((part : Participant) → part_of t work ≡ Some part → HasNothing m part) → Stands t later n work w
       → GoesOn t later n (fold turn work (turns (is_concerned m) work.node.manager.known)) w
-  all_looked small work w nothing answers is = by (turn_of t (is_concerned m) work.node.manager.known (seen work.node is.sound).ordered)
+  all_looked small work w nothing is = by (turn_of t (is_concerned m) work.node.manager.known (seen work.node is.sound).ordered)
     where
       by : Never t (is_concerned m) work.node.manager.known ⊎ Once t (is_concerned m) work.node.manager.known → GoesOn t later n (fold turn work (turns (is_concerned m) work.node.manager.known)) w
       by (inl never) = stands_itself t later n (fold turn work (turns (is_concerned m) work.node.manager.known)) w (others t scene n m old new small later (turns (is_concerned m) work.node.manager.known) work w never.apart is)
@@ -174,11 +173,11 @@ module _ (t : Tid) (scene : Scene) (n m old new : ℕ) (m_in : m < scene.size) (
           left = others_leave t scene n m old new small once.front work once.before
 
           own : GoesOn t later n (turn front t) w
-          own = looked_at front w (others t scene n m old new small later once.front work w once.before is) once.part (left.node.part ∙ once.known) (nothing once.part once.known) small (answers once.part once.known)
+          own = looked_at front w (others t scene n m old new small later once.front work w once.before is) once.part (left.node.part ∙ once.known) (nothing once.part once.known) small
 
-  pub noticed_then : (work : Work) (w : World) → ((part : Participant) → part_of t work ≡ Some part → HasNothing m part) → CanAnswer t work → Stands t later n work w → GoesOn t later n (peer_restarted (node_no m) old new work) w
-  noticed_then work w nothing answers is = subst (λ (tids : List Tid). GoesOn t later n (fold turn marked tids) w) (sym list_is)
-      (all_looked small marked w nothing answers (stands_left t later n work marked w (marked_leaves t (node_no m) work) (marked_sound (node_no m) work.node is.sound) is.kinds is))
+  pub noticed_then : (work : Work) (w : World) → ((part : Participant) → part_of t work ≡ Some part → HasNothing m part) → Stands t later n work w → GoesOn t later n (peer_restarted (node_no m) old new work) w
+  noticed_then work w nothing is = subst (λ (tids : List Tid). GoesOn t later n (fold turn marked tids) w) (sym list_is)
+      (all_looked small marked w nothing (stands_left t later n work marked w (marked_leaves t (node_no m) work) (marked_sound (node_no m) work.node is.sound) is.kinds is))
     where
       marked : Work
       marked = with_queues (ipc.mark_queues (node_no m)) work

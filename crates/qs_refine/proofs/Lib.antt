@@ -254,6 +254,7 @@ pub mod TidyResumes
 pub mod TidyBegins
 pub mod TidyHappens
 pub mod SaidTidy
+pub mod TakenCommits
 pub mod TidyTaken
 pub mod TidyOpened
 pub mod EachFits
@@ -261,6 +262,7 @@ pub mod EachTold
 pub mod EachCame
 pub mod HomeKnows
 pub mod EachMay
+pub mod MayCount
 pub mod EachEvent
 pub mod EachStep
 pub mod EachGoes

@@ -7,7 +7,7 @@ use Rattle.qs_machine.specs.Clauses.{is_crash}
 use Rattle.qs_restart.specs.Recovery.{recovery}
 use Rattle.qs_step.specs.Opening.{recovered_of}
 use Rattle.qs_step.specs.declared.event.Event.{Event}
-use Rattle.qs_world.specs.Moves.{Step, Cut, Stop, Rise, Meet, event_of, step_with, cut_with, risen_host, risen, met, reopened, is_later, is_in_order, has_begun}
+use Rattle.qs_world.specs.Moves.{Source, Step, Cut, Stop, Rise, Meet, event_of, step_with, cut_with, risen_host, risen, met, reopened, is_later, is_in_order, may_serve, may_step, has_begun}
 use Rattle.qs_world.specs.World.{World, known_of}
 use Rattle.qs_agree.specs.World as machine
 use Rattle.qs_refine.specs.MeetingLaws.{sight_met}
@@ -123,23 +123,35 @@ in_run world n stamp is = grind (arith, nat_tests, (and_both (nat_lt n world.siz
 pub later_in : (world : World) (n stamp : ℕ) → is_later world n stamp ≡ true → n < world.size
 later_in world n stamp is = in_run world n stamp (and_both (is_in_order world n stamp) _ is).0
 
+-- what a step that may be made gives
+pub record StepMay (world : World) (n : ℕ) (source : Source) : Type 0 where
+  pub runs : world.channels.up n ≡ true
+  pub low : n < world.size
+  pub serves : may_serve (world.hosts n).node source ≡ true
+
+pub step_may : (world : World) (n stamp : ℕ) (source : Source) → may_step world n stamp source ≡ true → StepMay world n source
+step_may world n stamp source may =
+    let runs : (world.channels.up n ≡ true) × ((is_later world n stamp && (is_some (event_of world n stamp source) && may_serve (world.hosts n).node source)) ≡ true) = and_both (world.channels.up n) _ may in
+    let later : (is_later world n stamp ≡ true) × ((is_some (event_of world n stamp source) && may_serve (world.hosts n).node source) ≡ true) = and_both (is_later world n stamp) _ runs.1 in
+    record { runs = runs.0; low = later_in world n stamp later.0; serves = (and_both (is_some (event_of world n stamp source)) (may_serve (world.hosts n).node source) later.1).1 }
+
 pub move_goes : MoveGoes
 move_goes tid world (Step n stamp free source) w may seated home_in goes sw = by (event_of world n stamp source) refl
   where
-    runs : (world.channels.up n ≡ true) × ((is_later world n stamp && is_some (event_of world n stamp source)) ≡ true)
-    runs = and_both (world.channels.up n) (is_later world n stamp && is_some (event_of world n stamp source)) may
+    its : StepMay world n source
+    its = step_may world n stamp source may
 
     by : (o : Option Event) → event_of world n stamp source ≡ o → WorldGoes tid (step_with world n stamp free source o) w
     by None is = record { next = w; leads = record { events = []; run = refl }; shown = sw }
-    by (Some event) is = whole tid world w seated home_in sw n stamp free source event (later_in world n stamp (and_both (is_later world n stamp) _ runs.1).0) runs.0 is (goes.goes event is)
+    by (Some event) is = whole tid world w seated home_in sw n stamp free source event its.low its.runs is (goes.goes event is)
 move_goes tid world (Cut n stamp free source is_kept cause) w may seated home_in goes sw = by (event_of world n stamp source) refl
   where
-    runs : (world.channels.up n ≡ true) × ((is_later world n stamp && (is_some (event_of world n stamp source) && is_crash cause)) ≡ true)
-    runs = and_both (world.channels.up n) (is_later world n stamp && (is_some (event_of world n stamp source) && is_crash cause)) may
+    its : StepMay world n source
+    its = step_may world n stamp source (and_both (may_step world n stamp source) (is_crash cause) may).0
 
     by : (o : Option Event) → event_of world n stamp source ≡ o → WorldGoes tid (cut_with world n stamp free is_kept cause o) w
     by None is = record { next = w; leads = record { events = []; run = refl }; shown = sw }
-    by (Some event) is = cut tid world w seated home_in sw n stamp free source event (later_in world n stamp (and_both (is_later world n stamp) _ runs.1).0) runs.0 is is_kept cause (goes event is)
+    by (Some event) is = cut tid world w seated home_in sw n stamp free source event its.low its.runs is is_kept cause (goes event is)
 move_goes tid world (Stop n stamp cause) w may seated home_in goes sw =
     let runs = and_both (world.channels.up n) _ may in
     stops tid world w seated home_in sw n stamp cause (world.hosts n).log [] (in_run world n stamp (and_both (is_in_order world n stamp) _ runs.1).0) runs.0 refl tt

@@ -1,19 +1,18 @@
 -- What is open in a world goes to nodes of the run after each move.
-use Rattle.std.proofs.Common.{◌≡◌, ℕ, ◌<◌, ◌==◌, ◌&&◌, Bool, true, false, Option, Some, None, is_some, refl, subst, if◌then◌else◌}
+use Rattle.std.proofs.Common.{◌≡◌, ℕ, ◌<◌, ◌==◌, Bool, true, false, Option, Some, None, refl, subst, if◌then◌else◌}
 use Rattle.std.proofs.lemmas.Bool.{eqb-true}
 use Rattle.qs_channels.specs.Network.{with_at}
 use Rattle.qs_step.specs.Opening.{recovered_of}
 use Rattle.qs_step.specs.Step.{after_step, effects_of}
 use Rattle.qs_step.specs.declared.event.Event.{Event}
-use Rattle.qs_world.specs.Moves.{Step, Cut, Stop, Rise, Meet, event_of, step_with, cut_with, stepped_host, stopped_host, risen_host, cut_log, is_later}
+use Rattle.qs_world.specs.Moves.{Step, Cut, Stop, Rise, Meet, event_of, step_with, cut_with, stepped_host, stopped_host, risen_host, cut_log}
 use Rattle.qs_world.specs.World.{Host, World}
 use Rattle.qs_refine.specs.OpenLaws.{AreOpenInRun, MayComeAt, StartOpen, MoveMay, MoveOpen}
 use Rattle.qs_refine.specs.SaidLaws.{BeginsNewAt}
 use Rattle.qs_refine.specs.SoundMoves.{MayStep}
 use Rattle.qs_refine.specs.SoundSteps.{commands_in_run}
-use Rattle.qs_refine.proofs.MoveGoes.{later_in}
+use Rattle.qs_refine.proofs.MoveGoes.{step_may}
 use Rattle.qs_refine.proofs.SaidSteps.{step_open}
-use Rattle.qs_refine.proofs.SoundParts.{and_both}
 
 pub start_open : StartOpen
 start_open o n in_run = refl
@@ -22,11 +21,8 @@ start_open o n in_run = refl
 pub move_may : MoveMay
 move_may world (Step n stamp free source) may comes new sound all = by (event_of world n stamp source) comes new
   where
-    runs : (world.channels.up n ≡ true) × ((is_later world n stamp && is_some (event_of world n stamp source)) ≡ true)
-    runs = and_both (world.channels.up n) (is_later world n stamp && is_some (event_of world n stamp source)) may
-
     in_run : n < world.size
-    in_run = later_in world n stamp (and_both (is_later world n stamp) (is_some (event_of world n stamp source)) runs.1).0
+    in_run = (step_may world n stamp source may).low
 
     by : (o : Option Event) → MayComeAt world n free o → BeginsNewAt world n free o → MayStep world n free o
     by None comes new = tt

@@ -10,7 +10,7 @@ use Rattle.qs_engage.specs.Engage.{peer_of, is_node}
 use Rattle.qs_engage.specs.Nodes.{same_node}
 use Rattle.qs_tm.specs.Participant.{answered_to}
 use Rattle.qs_tm.specs.declared.participant.Participant.{Participant}
-use Rattle.qs_step.specs.Restarts.{is_orphaned_by}
+use Rattle.qs_step.specs.Restarts.{awaits_word, is_orphaned_by}
 use Rattle.qs_step.specs.State.{Work, part_of}
 use Rattle.qs_agree.specs.World.{World, Open}
 use Rattle.qs_agree.specs.Carry.{IsLawful}
@@ -25,11 +25,11 @@ use Rattle.qs_refine.proofs.During.{face_here}
 use Rattle.qs_refine.proofs.FreshRuns.{fresh}
 use Rattle.qs_refine.proofs.Reading.{part_known}
 use Rattle.qs_refine.proofs.Same.{same_place}
+use Rattle.qs_refine.proofs.SoundParts.{and_both}
 use Rattle.qs_refine.proofs.TookLast.{took_last}
 
--- it answers to somebody, or is to be told; the one that it answers to is the last one that it answered to; and the numbers of the other node's requests begin anew
+-- the one that it answers to is the last one that it answered to; and the numbers of the other node's requests begin anew
 pub record IsOrphan (m : ℕ) (part : Participant) : Type 0 where
-  pub answers : (part.involved ≡ true) ⊎ (is_some part.engage.superior ≡ true)
   pub last : (s other : NodeNo) → part.engage.superior ≡ Some s → part.engage.last_superior ≡ Some other → other.0 ≡ s.0
   pub anew : (peer_of part.engage (node_no m)).last ≡ 0
 
@@ -67,6 +67,10 @@ module _ (t : Tid) (scene : Scene) (n m new : ℕ) (work : Work) (v : World) (pa
 
   open_face : (face work.node t part).outcome ≡ Open
   open_face = ap (λ (o : Option Outcome). outcome_seen o (part.engage.home || part.involved)) undecided
+
+  -- it waits for a word, and somebody restarted
+  tests : (awaits_word part ≡ true) × (((same_node t.home (node_no m) && nat_lt t.inc new) || answered_to (node_no m) part) ≡ true)
+  tests = and_both (awaits_word part) ((same_node t.home (node_no m) && nat_lt t.inc new) || answered_to (node_no m) part) left
 
   -- it answers to somebody
   module _ (s : NodeNo) (answers : part.engage.superior ≡ Some s) where
@@ -134,15 +138,19 @@ module _ (t : Tid) (scene : Scene) (n m new : ℕ) (work : Work) (v : World) (pa
             one (inr so) = sym (orphan.last s other answers was) ∙ same other.0 so
 
     engaged_inquires : MayInquire v q
-    engaged_inquires = by (same_node t.home (node_no m) && nat_lt t.inc new) refl left
+    engaged_inquires = by (same_node t.home (node_no m) && nat_lt t.inc new) refl tests.1
       where
         by : (b : Bool) → (same_node t.home (node_no m) && nat_lt t.inc new) ≡ b → (b || answered_to (node_no m) part) ≡ true → MayInquire v q
         by true is so = inr (inr (engaged, home_left is))
         by false is so = inr (inl (engaged, superior_left (answered so)))
 
   pub orphan_inquires : MayInquire v q
-  orphan_inquires = by orphan.answers
+  orphan_inquires = by (which part.involved (is_some part.engage.superior) tests.0)
     where
+      which : (a b : Bool) → (a || b) ≡ true → (a ≡ true) ⊎ (b ≡ true)
+      which true b is = inl refl
+      which false b is = inr is
+
       at_superior : (o : Option NodeNo) → part.engage.superior ≡ o → is_some o ≡ true → MayInquire v q
       at_superior None none is = absurd (cc (is))
       at_superior (Some s) answers is = engaged_inquires s answers

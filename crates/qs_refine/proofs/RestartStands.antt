@@ -17,7 +17,7 @@ use Rattle.qs_step.specs.State.{Work, part_of, with_queues}
 use Rattle.qs_agree.specs.World.{World}
 use Rattle.qs_refine.specs.Links.{node_no}
 use Rattle.qs_refine.specs.NodeFaces.{face_at, part_at}
-use Rattle.qs_refine.specs.RestartFound.{CanAnswer, PeerRestartedGoes}
+use Rattle.qs_refine.specs.RestartFound.{PeerRestartedGoes}
 use Rattle.qs_refine.specs.RestartLaws.{noticed, IsNoticed}
 use Rattle.qs_refine.specs.Shows.{Scene, sight_during}
 use Rattle.qs_refine.specs.Sights.{Sight}
@@ -153,8 +153,8 @@ module _ (t : Tid) (scene : Scene) (n m old new : ℕ) (small : m < 16) where
     decided = λ outcome decided. notice_decided_goes t scene n m old new outcome work part w is.lawful is.shown is.at found (whole_known t scene n work w is part known) decided;
   }
 
-  all_noticed : (work : Work) (w : World) → IsNoticed t scene n m old new work → CanAnswer t work → Stands t scene n work w → GoesOn t (noticed scene n m new) n (fold turn work (turns (is_concerned m) work.node.manager.known)) w
-  all_noticed work w found answers is = by (turn_of t (is_concerned m) work.node.manager.known (seen work.node is.sound).ordered)
+  all_noticed : (work : Work) (w : World) → IsNoticed t scene n m old new work → Stands t scene n work w → GoesOn t (noticed scene n m new) n (fold turn work (turns (is_concerned m) work.node.manager.known)) w
+  all_noticed work w found is = by (turn_of t (is_concerned m) work.node.manager.known (seen work.node is.sound).ordered)
     where
       by : Never t (is_concerned m) work.node.manager.known ⊎ Once t (is_concerned m) work.node.manager.known → GoesOn t (noticed scene n m new) n (fold turn work (turns (is_concerned m) work.node.manager.known)) w
       by (inl never) = last (part_of t work) refl
@@ -180,11 +180,11 @@ module _ (t : Tid) (scene : Scene) (n m old new : ℕ) (small : m < 16) where
 
           own : GoesOn t (noticed scene n m new) n (turn (fold turn work once.front) t) w
           own = own_turn t scene n m old new (fold turn work once.front) w (others scene once.front work w once.before is) once.part (left.node.part ∙ once.known)
-              (found_here (fold turn work once.front) w (others scene once.front work w once.before is) (found_left work (fold turn work once.front) left found) once.part (left.node.part ∙ once.known)) small (answers once.part once.known)
+              (found_here (fold turn work once.front) w (others scene once.front work w once.before is) (found_left work (fold turn work once.front) left found) once.part (left.node.part ∙ once.known)) small
 
 pub peer_restarted_goes : PeerRestartedGoes
-peer_restarted_goes t scene n m old new work w found answers is = subst (λ (tids : List Tid). GoesOn t (noticed scene n m new) n (fold (notice_tid (node_no m) old new) marked tids) w) (sym list_is)
-    (all_noticed t scene n m old new small marked w (record { in_run = found.in_run; other = found.other; knows = found.knows; some = found.some; later = found.later; begun = found.begun; fresh = found.fresh; silent = found.silent }) (λ part known. answers part known)
+peer_restarted_goes t scene n m old new work w found is = subst (λ (tids : List Tid). GoesOn t (noticed scene n m new) n (fold (notice_tid (node_no m) old new) marked tids) w) (sym list_is)
+    (all_noticed t scene n m old new small marked w (record { in_run = found.in_run; other = found.other; knows = found.knows; some = found.some; later = found.later; begun = found.begun; fresh = found.fresh; silent = found.silent })
     (stands_left t scene n work marked w (marked_leaves t (node_no m) work) (marked_sound (node_no m) work.node is.sound) is.kinds is))
   where
     marked : Work

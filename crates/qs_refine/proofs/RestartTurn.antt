@@ -69,8 +69,7 @@ pub record IsFound (t : Tid) (scene : Scene) (n m old new : ℕ) (work : Work) (
   pub gone : part.outcome ≡ None → Goes t (noticed scene n m new) n (find_gone (node_no m) old t part (with_manager (tm.restarted t (node_no m)) work)) w
   pub decided : (outcome : Outcome) → part.outcome ≡ Some outcome → Goes t (noticed scene n m new) n (with_manager (tm.restarted t (node_no m)) work) w
 
-module _ (t : Tid) (scene : Scene) (n m old new : ℕ) (work : Work) (w : World) (is : Stands t scene n work w) (part : Participant) (known : part_of t work ≡ Some part) (found : IsFound t scene n m old new work w part) (small : m < 16)
-    (answers_to : part.outcome ≡ None → part.engage.home ≡ false → (part.involved ≡ true) ⊎ (is_some part.engage.superior ≡ true)) where
+module _ (t : Tid) (scene : Scene) (n m old new : ℕ) (work : Work) (w : World) (is : Stands t scene n work w) (part : Participant) (known : part_of t work ≡ Some part) (found : IsFound t scene n m old new work w part) (small : m < 16) where
   turn_is : notice_tid (node_no m) old new work t ≡ notice_part (node_no m) old new t part (with_manager (tm.restarted t (node_no m)) work)
   turn_is = ap (λ (o : Option Participant). elim o [ None ↦ work | Some part ↦ notice_part (node_no m) old new t part (with_manager (tm.restarted t (node_no m)) work) ]) known
 
@@ -156,7 +155,6 @@ module _ (t : Tid) (scene : Scene) (n m old new : ℕ) (work : Work) (w : World)
 
               orphan : part.engage.home ≡ false → IsOrphan m (participant.restarted (node_no m) part)
               orphan home = record {
-                answers = answers_to undecided home;
                 last = λ s other answers was. same_last s other answers was;
                 anew = ap (λ (e : PeerPart). e.last) (peer_put m m (record (peer_of part.engage (node_no m)) { last = 0 }) part.engage (rw knows.whole.peers small)) ∙ picked (m == m) (grind (arith, nat_tests));
               }
@@ -175,7 +173,7 @@ module _ (t : Tid) (scene : Scene) (n m old new : ℕ) (work : Work) (w : World)
               asked : (b : Bool) → is_owed_by (node_no m) part ≡ b → Goes t (noticed scene n m new) n (inquire (node_no m) new t part (find_gone (node_no m) old t part (with_manager (tm.restarted t (node_no m)) work))) first.next
               asked true owed = subst (λ (k : Work). ShowsWork t (noticed scene n m new) n k first.next → Goes t (noticed scene n m new) n (inquire (node_no m) new t part k) first.next) (sym (gone_is true owed))
                   (λ shown. asks (block t (causes.Gone (node_no m) old) (with_manager (tm.restarted t (node_no m)) work)) first.next (participant.add_cause (causes.Gone (node_no m) old) (participant.refused (participant.restarted (node_no m) part))) (lawful_on w first.next is.lawful first.leads) shown (at_gone true)
-                  (record { known = blocked_known; whole = record { peers = whole_then.peers; members = whole_then.members; told = whole_then.told; tell = whole_then.tell; acknowledged = whole_then.acknowledged } }) undecided (λ home. record { answers = (orphan home).answers; last = (orphan home).last; anew = (orphan home).anew }) away) first.shown
+                  (record { known = blocked_known; whole = record { peers = whole_then.peers; members = whole_then.members; told = whole_then.told; tell = whole_then.tell; acknowledged = whole_then.acknowledged } }) undecided (λ home. record { last = (orphan home).last; anew = (orphan home).anew }) away) first.shown
               asked false owed = subst (λ (k : Work). ShowsWork t (noticed scene n m new) n k first.next → Goes t (noticed scene n m new) n (inquire (node_no m) new t part k) first.next) (sym (gone_is false owed))
                   (λ shown. asks (with_manager (tm.restarted t (node_no m)) work) first.next (participant.restarted (node_no m) part) (lawful_on w first.next is.lawful first.leads) shown (at_gone false) (record { known = numbered_known; whole = whole_then }) undecided orphan away) first.shown
 

@@ -21,16 +21,17 @@ use Rattle.qs_step.specs.declared.event.Effects.{Effects}
 use Rattle.qs_step.specs.declared.event.Event.{Event}
 use Rattle.qs_step.specs.declared.setting.Setting.{Setting}
 use Rattle.qs_world.specs.Moves.{Source, Move, Commanded, Handed, Queues, Clock, Noticed, Step, Cut, Stop, Rise, Meet, event_of, step_with, cut_with, stepped_host, stopped_host, risen_host, cut_log, hand_next, taken_by, may_move, moved}
-use Rattle.qs_world.specs.Openings.{IsOpening, are_unended, is_doubt, is_untold}
+use Rattle.qs_world.specs.Openings.{IsOpening, are_unended, is_untold}
 use Rattle.qs_world.specs.Posting.{post_all, next_parcel}
 use Rattle.qs_world.specs.World.{Host, Parcel, World, start}
 use Rattle.qs_world.proofs.Below.{each_is}
-use Rattle.qs_refine.specs.SaidLaws.{no_flags, AreSaid, AreSoundOver, is_said_host, OpenedSaid, RestartSaid, BeginsNewAt, MayMoveOver, MoveSaid}
+use Rattle.qs_refine.specs.SaidLaws.{is_open_vote, are_left_open, no_flags, AreSaid, AreSoundOver, is_said_host, OpenedSaid, RestartSaid, BeginsNewAt, MayMoveOver, MoveSaid}
 use Rattle.qs_refine.specs.Sound.{has_doubt, may_vote, is_list_of}
 use Rattle.qs_refine.specs.SoundMoves.{MayStep, MayMove}
 use Rattle.qs_refine.proofs.Doubts.{is_doubt_of, none_of}
 use Rattle.qs_refine.proofs.Posted.{up_all}
 use Rattle.qs_refine.proofs.RisenFaces.{lists_from}
+use Rattle.qs_refine.proofs.SaidNames.{opening_left}
 use Rattle.qs_refine.proofs.SaidSteps.{step_said}
 use Rattle.qs_refine.proofs.SaysOn.{append_three}
 use Rattle.qs_refine.proofs.SaysSeen.{seen_said}
@@ -45,13 +46,13 @@ use Rattle.qs_refine.proofs.TakingUp.{Known, has_list, log_taken}
 -- ---- a node that opens
 
 -- in a log that names its transactions no vote is in doubt of one that is none, or beside a Commit that waits
-module _ (said : Recovery) (unended : are_unended said ≡ true) where
-  tests : (list_all (is_doubt said) said.prepared ≡ true) × (list_all is_untold said.untold ≡ true)
-  tests = and_both (list_all (is_doubt said) said.prepared) (list_all is_untold said.untold) unended
+module _ (said : Recovery) (unended : are_left_open said ≡ true) where
+  tests : (list_all (is_open_vote said) said.prepared ≡ true) × (list_all is_untold said.untold ≡ true)
+  tests = and_both (list_all (is_open_vote said) said.prepared) (list_all is_untold said.untold) unended
 
-  doubt_named : (tid : Tid) (votes : List Prepared) → list_all (is_doubt said) votes ≡ true → list_any (is_doubt_of tid) votes ≡ true → (names_transaction tid ≡ true) × (list_any (is_untold_of tid) said.untold ≡ false)
+  doubt_named : (tid : Tid) (votes : List Prepared) → list_all (is_open_vote said) votes ≡ true → list_any (is_doubt_of tid) votes ≡ true → (names_transaction tid ≡ true) × (list_any (is_untold_of tid) said.untold ≡ false)
   doubt_named tid [] all some = absurd (cc (some))
-  doubt_named tid (v ∷ votes) all some = by (is_doubt_of tid v) refl some (doubt_named tid votes (and_both (is_doubt said v) (list_all (is_doubt said) votes) all).1)
+  doubt_named tid (v ∷ votes) all some = by (is_doubt_of tid v) refl some (doubt_named tid votes (and_both (is_open_vote said v) (list_all (is_open_vote said) votes) all).1)
     where
       off : (b : Bool) → not b ≡ true → b ≡ false
       off true is = absurd (cc (is))
@@ -65,7 +66,7 @@ module _ (said : Recovery) (unended : are_unended said ≡ true) where
       by false is some more = more some
       by true is some more =
           let both : (Rattle.qs_restart.specs.Recovery.is_of tid v ≡ true) × (not v.committed ≡ true) = and_both (Rattle.qs_restart.specs.Recovery.is_of tid v) (not v.committed) is in
-          let its : (names_transaction v.tid ≡ true) × (not (list_any (is_untold_of v.tid) said.untold) ≡ true) = open_is v.committed (names_transaction v.tid) (not (list_any (is_untold_of v.tid) said.untold)) (and_both (is_doubt said v) (list_all (is_doubt said) votes) all).0 both.1 in
+          let its : (names_transaction v.tid ≡ true) × (not (list_any (is_untold_of v.tid) said.untold) ≡ true) = open_is v.committed (names_transaction v.tid) (not (list_any (is_untold_of v.tid) said.untold)) (and_both (is_open_vote said v) (list_all (is_open_vote said) votes) all).0 both.1 in
           subst (λ (t : Tid). (names_transaction t ≡ true) × (list_any (is_untold_of t) said.untold ≡ false)) (same_is v.tid tid both.0) (its.0, off (list_any (is_untold_of v.tid) said.untold) its.1)
 
   untold_named : (tid : Tid) (commits : List Untold) → list_all is_untold commits ≡ true → list_any (is_untold_of tid) commits ≡ true → names_transaction tid ≡ true
@@ -77,7 +78,7 @@ module _ (said : Recovery) (unended : are_unended said ≡ true) where
       by true is some more = subst (λ (t : Tid). names_transaction t ≡ true) (same_is c.tid tid is) (and_both (is_untold c) (list_all is_untold commits) all).0
 
 -- what the node takes up has just the flags that the log says
-module _ (alloc : Rattle.std.specs.Global.Global) (setting : Setting) (said : Recovery) (may : list_all may_vote said.prepared ≡ true) (unended : are_unended said ≡ true) (tid : Tid) (lists : list_all (has_list tid) said.untold ≡ true) where
+module _ (alloc : Rattle.std.specs.Global.Global) (setting : Setting) (said : Recovery) (may : list_all may_vote said.prepared ≡ true) (unended : are_left_open said ≡ true) (tid : Tid) (lists : list_all (has_list tid) said.untold ≡ true) where
   abbrev taken : Manager
   taken = opened_manager alloc setting (recovered_as said)
 
@@ -119,7 +120,7 @@ module _ (alloc : Rattle.std.specs.Global.Global) (setting : Setting) (said : Re
           found None (unknown_log tid alloc setting said (λ s. none_of tid s said.prepared doubt) untold) (sym doubt) (sym untold)
 
 -- over a log as it is read
-opened_said : (alloc : Rattle.std.specs.Global.Global) (setting : Setting) (kept : Rattle.qs_kept.specs.declared.kept.Kept.Kept) (log : List Record) → list_all may_vote (recovery log).prepared ≡ true → are_unended (recovery log) ≡ true
+opened_said : (alloc : Rattle.std.specs.Global.Global) (setting : Setting) (kept : Rattle.qs_kept.specs.declared.kept.Kept.Kept) (log : List Record) → list_all may_vote (recovery log).prepared ≡ true → are_left_open (recovery log) ≡ true
     → AreSaid (Rattle.qs_step.specs.Opening.opened_node alloc setting (recovered_of log) kept) (recovery log)
 opened_said alloc setting kept log may unended tid =
     let flags : Flags alloc setting (recovery log) may unended tid (lists_from tid log nothing_said refl) = taken_flags alloc setting (recovery log) may unended tid (lists_from tid log nothing_said refl) in
@@ -138,8 +139,8 @@ opening_said o opens n in_run = record {
     may : list_all may_vote (recovery (o.logs n)).prepared ≡ true
     may = (log_fits o n (o.logs n) nothing_said (each_is o.size (λ k. list_all (Rattle.qs_world.specs.Openings.is_record o k) (o.logs k)) opens.logs n in_run) (refl, refl)).0
 
-    unended : are_unended (recovery (o.logs n)) ≡ true
-    unended = each_is o.size (λ k. are_unended (recovery (o.logs k))) opens.unended n in_run
+    unended : are_left_open (recovery (o.logs n)) ≡ true
+    unended = opening_left (recovery (o.logs n)) (each_is o.size (λ k. are_unended (recovery (o.logs k))) opens.unended n in_run)
 
 -- ---- moves
 

@@ -15,7 +15,7 @@ use Rattle.qs_tm.specs.declared.participant.InLog.{InLog}
 use Rattle.qs_tm.specs.declared.participant.Participant.{Participant}
 use Rattle.qs_world.specs.Openings.{are_unended, is_doubt, is_untold}
 use Rattle.qs_refine.specs.Begun.{fits_record, is_list_at}
-use Rattle.qs_refine.specs.SaidLaws.{no_flags, flags_at, AreSaid}
+use Rattle.qs_refine.specs.SaidLaws.{is_open_vote, are_left_open, no_flags, flags_at, AreSaid}
 use Rattle.qs_refine.specs.Sound.{is_sound, has_doubt, where_so, is_sound_said}
 use Rattle.qs_refine.proofs.Entries.{all_mapped}
 use Rattle.qs_refine.proofs.SaysSeen.{said_seen}
@@ -32,11 +32,24 @@ pub record AreNamed (said : Recovery) : Type 0 where
   pub votes : list_all is_named_vote said.prepared ≡ true
   pub commits : list_all is_untold said.untold ≡ true
 
--- so it is of one that is not ended
-pub unended_named : (said : Recovery) → are_unended said ≡ true → AreNamed said
-unended_named said is =
+-- as where a world begins
+pub opening_left : (said : Recovery) → are_unended said ≡ true → are_left_open said ≡ true
+opening_left said is =
     let both : (list_all (is_doubt said) said.prepared ≡ true) × (list_all is_untold said.untold ≡ true) = and_both (list_all (is_doubt said) said.prepared) _ is in
-    record { votes = all_implied (is_doubt said) is_named_vote (λ vote. named vote.committed (names_transaction vote.tid) _) said.prepared both.0; commits = both.1 }
+    both_and (list_all (is_open_vote said) said.prepared) (list_all is_untold said.untold)
+    (all_implied (is_doubt said) (is_open_vote said) (λ vote. open_is vote.committed (names_transaction vote.tid) (not (list_any (is_untold_of vote.tid) said.untold)) _) said.prepared both.0) both.1
+  where
+    open_is : (a b c d : Bool) → (a || (b && (c && d))) ≡ true → (a || (b && c)) ≡ true
+    open_is true b c d its = refl
+    open_is false true true d its = refl
+    open_is false true false d its = absurd (cc (its))
+    open_is false false c d its = absurd (cc (its))
+
+-- so it is of one that is not ended
+pub unended_named : (said : Recovery) → are_left_open said ≡ true → AreNamed said
+unended_named said is =
+    let both : (list_all (is_open_vote said) said.prepared ≡ true) × (list_all is_untold said.untold ≡ true) = and_both (list_all (is_open_vote said) said.prepared) _ is in
+    record { votes = all_implied (is_open_vote said) is_named_vote (λ vote. named vote.committed (names_transaction vote.tid) _) said.prepared both.0; commits = both.1 }
   where
     named : (a b c : Bool) → (a || (b && c)) ≡ true → (a || b) ≡ true
     named true b c its = refl
@@ -95,8 +108,8 @@ all_of {X} q xs each (y ∷ ys) within = both_and (q y) (list_all q ys) (each y 
     last true b is = refl
     last false b is = is
 
-pub unended_said : (node : NodeValue) (said : Recovery) → is_sound node ≡ true → is_sound_said node said ≡ true → AreNamed said → are_unended said ≡ true
-unended_said node said sound over named = both_and (list_all (is_doubt said) said.prepared) (list_all is_untold said.untold) (all_of (is_doubt said) said.prepared doubt said.prepared (λ f is. is)) named.commits
+pub unended_said : (node : NodeValue) (said : Recovery) → is_sound node ≡ true → is_sound_said node said ≡ true → AreNamed said → are_left_open said ≡ true
+unended_said node said sound over named = both_and (list_all (is_open_vote said) said.prepared) (list_all is_untold said.untold) (all_of (is_open_vote said) said.prepared doubt said.prepared (λ f is. is)) named.commits
   where
     is_said : AreSaid node said
     is_said = said_seen node said sound over
@@ -128,7 +141,7 @@ unended_said node said sound over named = both_and (list_all (is_doubt said) sai
             let d : (where_so part.log.listed (part.engage.home && (is_some part.outcome && not (is_abort part.outcome))) ≡ true) × (where_so (part.log.prepared && part.engage.home) (is_undecided part || is_abort part.outcome) ≡ true) = and_both (where_so part.log.listed (part.engage.home && (is_some part.outcome && not (is_abort part.outcome)))) _ b.1 in
             off part.log.prepared part.log.listed part.engage.home (is_undecided part) (is_some part.outcome) (is_abort part.outcome) p l d.0 d.1 (open_is part.outcome)
 
-    doubt : (vote : Prepared) → ((f : Prepared → Bool) → f vote ≡ true → list_any f said.prepared ≡ true) → is_doubt said vote ≡ true
+    doubt : (vote : Prepared) → ((f : Prepared → Bool) → f vote ≡ true → list_any f said.prepared ≡ true) → is_open_vote said vote ≡ true
     doubt vote within = by vote.committed refl (names_transaction vote.tid) refl (list_any (is_untold_of vote.tid) said.untold) refl
       where
         name : vote.committed ≡ false → names_transaction vote.tid ≡ false → false ≡ true

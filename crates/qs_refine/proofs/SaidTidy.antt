@@ -1,6 +1,8 @@
 -- A log whose records fit says what a node can take up, and what names transactions that may be known.
-use Rattle.std.proofs.Common.{◌≡◌, ◌&&◌, ◌||◌, not, Bool, true, false, List, [], ◌∷◌, ◌++◌, map, fold, refl, if◌then◌else◌}
-use Rattle.std.specs.List.{list_all, filter}
+use Rattle.std.proofs.Common.{◌≡◌, ◌&&◌, ◌||◌, not, Bool, true, false, List, [], ◌∷◌, ◌++◌, map, fold, refl, arith, if◌then◌else◌}
+use Rattle.std.specs.List.{list_all, list_any, filter}
+use Rattle.std.proofs.lemmas.Bool.Decides.{nat_tests}
+use Rattle.qs_base.specs.Order.{same_tid}
 use Rattle.qs_base.specs.declared.identifiers.NodeNo.{NodeNo}
 use Rattle.qs_base.specs.declared.identifiers.Tid.{Tid}
 use Rattle.qs_engage.specs.Nodes.{same_node}
@@ -38,16 +40,21 @@ module _ (past : Tid → Bool) (me : NodeNo) where
   abbrev pub is_fit_commit : Untold → Bool
   is_fit_commit commit = may_name commit.tid && same_node commit.tid.home me
 
+  abbrev pub is_logged_in : List Tid → Untold → Bool
+  is_logged_in committed commit = not (names_transaction commit.tid) || list_any (same_tid commit.tid) committed
+
   pub record IsSaidTidy (said : Recovery) : Type 0 where
     pub votes : list_all is_fit_vote said.prepared ≡ true
     pub commits : list_all is_fit_commit said.untold ≡ true
     pub committed : list_all past said.committed ≡ true
+    pub logged : list_all (is_logged_in said.committed) said.untold ≡ true  -- a Commit that waits for its End is one of the log's
 
   ended_tidy : (tid : Tid) (said : Recovery) → IsSaidTidy said → IsSaidTidy (ended tid said)
   ended_tidy tid said is = record {
     votes = all_filtered is_fit_vote (λ vote. not (is_of tid vote)) said.prepared is.votes;
     commits = all_filtered is_fit_commit (λ commit. not (is_untold_of tid commit)) said.untold is.commits;
     committed = is.committed;
+    logged = all_filtered (is_logged_in said.committed) (λ commit. not (is_untold_of tid commit)) said.untold is.logged;
   }
 
   marked_fits : (tid : Tid) (vote : Prepared) → is_fit_vote vote ≡ true → is_fit_vote (mark_committed tid vote) ≡ true
@@ -57,12 +64,13 @@ module _ (past : Tid → Bool) (me : NodeNo) where
       by true = is
       by false = is
 
-  list_tidy : (tid : Tid) (told : List NodeNo) (said : Recovery) → may_name tid ≡ true → is_list_at me tid told ≡ true → IsSaidTidy said → IsSaidTidy (with_list tid told said)
-  list_tidy tid [] said names its is = ended_tidy tid said is
-  list_tidy tid (first ∷ others) said names its is = record {
+  list_tidy : (tid : Tid) (told : List NodeNo) (said : Recovery) → may_name tid ≡ true → is_list_at me tid told ≡ true → (not (names_transaction tid) || list_any (same_tid tid) said.committed) ≡ true → IsSaidTidy said → IsSaidTidy (with_list tid told said)
+  list_tidy tid [] said names its logged is = ended_tidy tid said is
+  list_tidy tid (first ∷ others) said names its logged is = record {
     votes = all_mapped is_fit_vote (mark_committed tid) (marked_fits tid) said.prepared is.votes;
     commits = all_last is_fit_commit said.untold (record { tid = tid; told = first ∷ others }) is.commits (both_and (may_name tid) (same_node tid.home me) names its);
     committed = is.committed;
+    logged = all_last (is_logged_in said.committed) said.untold (record { tid = tid; told = first ∷ others }) is.logged logged;
   }
 
   named_past : (tid : Tid) → may_name tid ≡ true → list_all past (if names_transaction tid then tid ∷ [] else []) ≡ true
@@ -72,16 +80,56 @@ module _ (past : Tid → Bool) (me : NodeNo) where
       by true is = both_and (past tid) true is refl
       by false is = refl
 
+  any_more : (t : Tid) (xs ys : List Tid) → list_any (same_tid t) xs ≡ true → list_any (same_tid t) (xs ++ ys) ≡ true
+  any_more t [] ys is = absurd (cc (is))
+  any_more t (x ∷ xs) ys is = by (same_tid t x) (any_more t xs ys) is
+    where
+      by : (b : Bool) → (list_any (same_tid t) xs ≡ true → list_any (same_tid t) (xs ++ ys) ≡ true) → (b || list_any (same_tid t) xs) ≡ true → (b || list_any (same_tid t) (xs ++ ys)) ≡ true
+      by true more is = refl
+      by false more is = more is
+
+  logged_more : (commit : Untold) (xs ys : List Tid) → is_logged_in xs commit ≡ true → is_logged_in (xs ++ ys) commit ≡ true
+  logged_more commit xs ys is = by (names_transaction commit.tid) is
+    where
+      by : (b : Bool) → (not b || list_any (same_tid commit.tid) xs) ≡ true → (not b || list_any (same_tid commit.tid) (xs ++ ys)) ≡ true
+      by true is = any_more commit.tid xs ys is
+      by false is = refl
+
+  -- a Commit names its transaction
+  named_logged : (tid : Tid) (xs : List Tid) → (not (names_transaction tid) || list_any (same_tid tid) (xs ++ (if names_transaction tid then tid ∷ [] else []))) ≡ true
+  named_logged tid xs = by (names_transaction tid)
+    where
+      last : (ys : List Tid) → list_any (same_tid tid) (ys ++ tid ∷ []) ≡ true
+      last [] = itself (same_tid tid tid) (grind (arith, nat_tests))
+        where
+          itself : (b : Bool) → b ≡ true → (b || false) ≡ true
+          itself b is = rw is refl
+      last (y ∷ ys) = more (same_tid tid y) (list_any (same_tid tid) (ys ++ tid ∷ [])) (last ys)
+        where
+          more : (a b : Bool) → b ≡ true → (a || b) ≡ true
+          more true b is = refl
+          more false b is = is
+
+      by : (b : Bool) → (not b || list_any (same_tid tid) (xs ++ (if b then tid ∷ [] else []))) ≡ true
+      by true = last xs
+      by false = refl
+
   pub record_tidy : (rec : Record) (said : Recovery) → is_steady_record past me rec ≡ true → IsSaidTidy said → IsSaidTidy (found_record said rec)
   record_tidy (records.Prepare tid server covers changes) said its is = record {
     votes = all_last is_fit_vote (filter (λ other. not (is_vote_of tid server other)) said.prepared) (record { tid = tid; server = server; covers = covers; changes = changes; committed = false })
         (all_filtered is_fit_vote (λ other. not (is_vote_of tid server other)) said.prepared is.votes) its;
     commits = is.commits;
     committed = is.committed;
+    logged = is.logged;
   }
   record_tidy (records.Commit tid told) said its is =
       let both : (may_name tid ≡ true) × (is_list_at me tid told ≡ true) = and_both (may_name tid) (is_list_at me tid told) its in
-      list_tidy tid told _ both.0 both.1 (record { votes = is.votes; commits = is.commits; committed = all_joined past said.committed _ is.committed (named_past tid both.0) })
+      list_tidy tid told _ both.0 both.1 (named_logged tid said.committed) (record {
+        votes = is.votes;
+        commits = is.commits;
+        committed = all_joined past said.committed _ is.committed (named_past tid both.0);
+        logged = all_implied (is_logged_in said.committed) (is_logged_in (said.committed ++ (if names_transaction tid then tid ∷ [] else []))) (λ commit. logged_more commit said.committed (if names_transaction tid then tid ∷ [] else [])) said.untold is.logged;
+      })
   record_tidy (records.Aborted tid) said its is = ended_tidy tid said is
   record_tidy (records.End tid) said its is = ended_tidy tid said is
 
@@ -92,7 +140,7 @@ module _ (past : Tid → Bool) (me : NodeNo) where
       fold_tidy log (found_record said rec) both.1 (record_tidy rec said both.0 is)
 
   pub log_tidy : (log : List Record) → list_all (is_steady_record past me) log ≡ true → IsSaidTidy (recovery log)
-  log_tidy log all = fold_tidy log nothing_said all (record { votes = refl; commits = refl; committed = refl })
+  log_tidy log all = fold_tidy log nothing_said all (record { votes = refl; commits = refl; committed = refl; logged = refl })
 
   -- what a node can take up
   pub takes_up : (said : Recovery) → IsSaidTidy said → may_take_up me said ≡ true

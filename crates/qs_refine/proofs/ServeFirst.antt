@@ -1,5 +1,5 @@
 -- What waits first at a server: an operation of its own; and another transaction's request, which is served, leaves this one standing.
-use Rattle.std.proofs.Common.{◌≡◌, ℕ, ◌+◌, ◌<◌, Bool, true, false, List, [], ◌∷◌, drop, Option, Some, None, refl, sym, subst, ap, ◌∙◌, arith}
+use Rattle.std.proofs.Common.{◌≡◌, ℕ, ◌+◌, ◌<◌, ◌≤◌, Bool, true, false, List, [], ◌∷◌, drop, Option, Some, None, refl, sym, subst, ap, ◌∙◌, arith}
 use Rattle.std.specs.BTreeMap.{is_at}
 use Rattle.std.specs.List.{list_all}
 use Rattle.std.proofs.lemmas.Bool.Decides.{nat_tests}
@@ -88,7 +88,7 @@ module _ (t : Tid) (scene : Scene) (n : ℕ) (server : ServerNo) (d : Delivery) 
 
   -- which can count as before
   pub other_counts : same_tid t d.tid ≡ false → CanCount t work → CanCount t (serve_next work server)
-  other_counts apart can part s known below = subst (λ (k : ℕ). (member_of part (server_no s)).served + k < last_number) (sym (left.node.around.waits s)) (can part s (sym left.node.part ∙ known) below)
+  other_counts apart can part s known below waits = subst (λ (k : ℕ). (member_of part (server_no s)).served + k ≤ last_number) (sym (left.node.around.waits s)) (can part s (sym left.node.part ∙ known) below (subst (λ (k : ℕ). 1 ≤ k) (left.node.around.waits s) waits))
     where
       left : Leaves t work (serve_next work server)
       left = subst (λ (k : Work). Leaves t work k) (sym turn_is) (next_leaves t server d apart work next)

@@ -130,15 +130,16 @@ module _ (scene : Scene) (n : ℕ) (server : ServerNo) (d : Delivery) (work : Wo
     dropped = decided_stands d.tid scene n work (serve_next work server) w is part known outcomes.Abort aborted keeps dropped_goes next_left (serve_next_sound work server) (next_kinds work server)
 
     pub dropped_counts : CanCount d.tid work → CanCount d.tid (serve_next work server)
-    dropped_counts can = subst (λ (k : Work). CanCount d.tid k) (sym dropped_is) (λ p s its_part below. rw (same_waits s) (by p s (s == server.0) refl (can p s its_part below)))
+    dropped_counts can = subst (λ (k : Work). CanCount d.tid k) (sym dropped_is) (λ p s its_part below waits. rw (same_waits s) (by p s (s == server.0) refl (can p s its_part below) (rw (same_waits s) at waits)))
       where
-        by : (p : Participant) (s : ℕ) (b : Bool) → (s == server.0) ≡ b → (member_of p (server_no s)).served + waiting_at work.node d.tid s < last_number
-            → (member_of p (server_no s)).served + (if b then count_of d.tid (drop 1 (queue_at work.node.queues server).waiting) else waiting_at work.node d.tid s) < last_number
-        by p s true same below = less ((member_of p (server_no s)).served) (waiting_at work.node d.tid s) (count_of d.tid (drop 1 (queue_at work.node.queues server).waiting)) (ap (λ (k : ℕ). waiting_at work.node d.tid k) (eqb-true s server.0 same) ∙ one_more) below
+        by : (p : Participant) (s : ℕ) (b : Bool) → (s == server.0) ≡ b → (1 ≤ waiting_at work.node d.tid s → (member_of p (server_no s)).served + waiting_at work.node d.tid s ≤ last_number)
+            → 1 ≤ (if b then count_of d.tid (drop 1 (queue_at work.node.queues server).waiting) else waiting_at work.node d.tid s)
+            → (member_of p (server_no s)).served + (if b then count_of d.tid (drop 1 (queue_at work.node.queues server).waiting) else waiting_at work.node d.tid s) ≤ last_number
+        by p s true same counted waits = less ((member_of p (server_no s)).served) (waiting_at work.node d.tid s) (count_of d.tid (drop 1 (queue_at work.node.queues server).waiting)) (ap (λ (k : ℕ). waiting_at work.node d.tid k) (eqb-true s server.0 same) ∙ one_more) counted
           where
-            less : (a b c : ℕ) → b ≡ c + 1 → a + b < last_number → a + c < last_number
-            less a b c e f = omega (arith, e, f)
-        by p s false other below = below
+            less : (a b c : ℕ) → b ≡ c + 1 → (1 ≤ b → a + b ≤ last_number) → a + c ≤ last_number
+            less a b c e f = let g = f (omega (arith, e)) in omega (arith, e, g)
+        by p s false other counted waits = counted waits
 
   -- ---- it is served
 
@@ -148,6 +149,19 @@ module _ (scene : Scene) (n : ℕ) (server : ServerNo) (d : Delivery) (work : Wo
 
     open_now : may_serve d.tid left ≡ true
     open_now = ap (λ (o : Option Participant). elim o [ None ↦ false | Some p ↦ is_undecided p ]) known ∙ ap is_none undecided
+
+    -- the request that comes next is one that waits
+    here_counted : server.0 < 7 → (member_of part (server_no server.0)).served + waiting_at work.node d.tid server.0 ≤ last_number
+    here_counted below = can part server.0 known below (some (waiting_at work.node d.tid server.0) (count_of d.tid (drop 1 (queue_at work.node.queues server).waiting)) one_more)
+      where
+        some : (a b : ℕ) → a ≡ b + 1 → 1 ≤ a
+        some a b e = omega (arith, e)
+
+    unfull : server.0 < 7 → ((member_of part (server_no server.0)).served == last_number) ≡ false
+    unfull below = not_last (member_of part (server_no server.0)).served (waiting_at work.node d.tid server.0) (count_of d.tid (drop 1 (queue_at work.node.queues server).waiting)) one_more (here_counted below)
+      where
+        not_last : (a b c : ℕ) → b ≡ c + 1 → a + b ≤ last_number → (a == last_number) ≡ false
+        not_last a b c e f = grind (arith, nat_tests, e, f)
 
     module _ (reply : Reply) (replies : reply_here server d.tid d.op work.node ≡ Some reply) where
       served_is : serve_next work server ≡ serve server d reply left
@@ -172,7 +186,7 @@ module _ (scene : Scene) (n : ℕ) (server : ServerNo) (d : Delivery) (work : Wo
           (clear_carried d.tid scene n work (serve_next work server) w is part known undecided carried) (answers_carried d.tid scene n work (serve_next work server) w is part known undecided carried)
 
       still_counts : CanCount d.tid (serve_next work server)
-      still_counts = subst (λ (k : Work). CanCount d.tid k) (sym served_is) (λ p s its_part below. subst (λ (q : Participant). (member_of q (server_no s)).served + waiting_at (serve server d reply left).node d.tid s < last_number) (some_same counts.next p (sym counts.known ∙ its_part)) (counted s below))
+      still_counts = subst (λ (k : Work). CanCount d.tid k) (sym served_is) (λ p s its_part below waits. subst (λ (q : Participant). (member_of q (server_no s)).served + waiting_at (serve server d reply left).node d.tid s ≤ last_number) (some_same counts.next p (sym counts.known ∙ its_part)) (counted s below waits))
         where
           some_same : (a b : Participant) → Some a ≡ Some b → a ≡ b
           some_same a b e = cc e
@@ -183,33 +197,27 @@ module _ (scene : Scene) (n : ℕ) (server : ServerNo) (d : Delivery) (work : Wo
           served_now : (s : ℕ) → (member_of counts.next (server_no s)).served ≡ (member_of (participant.served server part) (server_no s)).served
           served_now s = ap (λ (list : List MemberPart). (slice_index_or list s no_member).served) counts.members
 
-          counted : (s : ℕ) → s < 7 → (member_of counts.next (server_no s)).served + waiting_at (serve server d reply left).node d.tid s < last_number
-          counted s below = rw (served_now s, waits_now s) (by (s == server.0) refl)
+          counted : (s : ℕ) → s < 7 → 1 ≤ waiting_at (serve server d reply left).node d.tid s → (member_of counts.next (server_no s)).served + waiting_at (serve server d reply left).node d.tid s ≤ last_number
+          counted s below waits = rw (served_now s, waits_now s) (by (s == server.0) refl (rw (waits_now s) at waits))
             where
-              by : (b : Bool) → (s == server.0) ≡ b → (member_of (participant.served server part) (server_no s)).served + (if b then count_of d.tid (drop 1 (queue_at work.node.queues server).waiting) else waiting_at work.node d.tid s) < last_number
-              by true same = at s (eqb-true s server.0 same) below
+              by : (b : Bool) → (s == server.0) ≡ b → 1 ≤ (if b then count_of d.tid (drop 1 (queue_at work.node.queues server).waiting) else waiting_at work.node d.tid s)
+                  → (member_of (participant.served server part) (server_no s)).served + (if b then count_of d.tid (drop 1 (queue_at work.node.queues server).waiting) else waiting_at work.node d.tid s) ≤ last_number
+              by true same more = at s (eqb-true s server.0 same) below
                 where
-                  room : (a b c e : ℕ) → b ≡ c + 1 → e ≡ a + 1 → a + b < last_number → e + c < last_number
+                  room : (a b c e : ℕ) → b ≡ c + 1 → e ≡ a + 1 → a + b ≤ last_number → e + c ≤ last_number
                   room a b c e f g h = omega (arith, f, g, h)
 
-                  unfull : (a b : ℕ) → b ≡ a + 1 → (member_of part (server_no server.0)).served + b < last_number → ((member_of part (server_no server.0)).served == last_number) ≡ false
-                  unfull a b f h = grind (arith, nat_tests, f, h)
-
-                  at : (k : ℕ) → k ≡ server.0 → k < 7 → (member_of (participant.served server part) (server_no k)).served + count_of d.tid (drop 1 (queue_at work.node.queues server).waiting) < last_number
-                  at k here under = subst (λ (j : ℕ). (member_of (participant.served server part) (server_no j)).served + count_of d.tid (drop 1 (queue_at work.node.queues server).waiting) < last_number) (sym here)
+                  at : (k : ℕ) → k ≡ server.0 → k < 7 → (member_of (participant.served server part) (server_no k)).served + count_of d.tid (drop 1 (queue_at work.node.queues server).waiting) ≤ last_number
+                  at k here under = subst (λ (j : ℕ). (member_of (participant.served server part) (server_no j)).served + count_of d.tid (drop 1 (queue_at work.node.queues server).waiting) ≤ last_number) (sym here)
                       (room (member_of part (server_no server.0)).served (waiting_at work.node d.tid server.0) (count_of d.tid (drop 1 (queue_at work.node.queues server).waiting)) (member_of (participant.served server part) (server_no server.0)).served one_more
-                      (served_here server part (subst (λ (j : ℕ). server.0 < j) (sym knows.whole.members) (subst (λ (j : ℕ). j < 7) here under))
-                      (unfull (count_of d.tid (drop 1 (queue_at work.node.queues server).waiting)) (waiting_at work.node d.tid server.0) one_more (can part server.0 known (subst (λ (j : ℕ). j < 7) here under))))
-                      (can part server.0 known (subst (λ (j : ℕ). j < 7) here under)))
-              by false other = subst (λ (m : MemberPart). m.served + waiting_at work.node d.tid s < last_number) (sym (served_other server part s (λ same. grind (arith, nat_tests, other, same)))) (can part s known below)
+                      (served_here server part (subst (λ (j : ℕ). server.0 < j) (sym knows.whole.members) (subst (λ (j : ℕ). j < 7) here under)) (unfull (subst (λ (j : ℕ). j < 7) here under)))
+                      (here_counted (subst (λ (j : ℕ). j < 7) here under)))
+              by false other more = subst (λ (m : MemberPart). m.served + waiting_at work.node d.tid s ≤ last_number) (sym (served_other server part s (λ same. grind (arith, nat_tests, other, same)))) (can part s known below more)
 
       -- a server of the node replies, or a client takes a loan
       by_server : OfServer server.0 d.tid d.op → Goes d.tid scene n (serve_next work server) w
       by_server own = serve_law d.tid scene n server.0 d (drop 1 (queue_at work.node.queues server).waiting) reply work part w is.shown is.at knows (waits_here, refl, replies, undecided) own.below
-          (unfull (can part server.0 known own.below)) (vote_covers work.node d.tid part (known_sound d.tid work.node part known is.sound) server) own.no_loan
-        where
-          unfull : (member_of part (server_no server.0)).served + waiting_at work.node d.tid server.0 < last_number → ((member_of part (server_no server.0)).served == last_number) ≡ false
-          unfull below = grind (arith, nat_tests, below)
+          (unfull own.below) (vote_covers work.node d.tid part (known_sound d.tid work.node part known is.sound) server) own.no_loan
 
       by_client : OfClient server.0 d.op → Goes d.tid scene n (serve_next work server) w
       by_client own = lend_law d.tid scene n server.0 d (drop 1 (queue_at work.node.queues server).waiting) reply own.client work part w is.shown is.at knows (waits_here, refl, replies, undecided) (omega (arith, own.above)) (activity server.0 own.above) own.lends

@@ -29,7 +29,7 @@ use Rattle.qs_refine.proofs.OpenMoves.{move_may}
 use Rattle.qs_refine.proofs.SaidTidy.{log_tidy, takes_up, all_parted}
 use Rattle.qs_refine.proofs.SoundBegin.{all_implied}
 use Rattle.qs_refine.proofs.SoundParts.{and_both, both_and}
-use Rattle.qs_refine.proofs.MoveGoes.{later_in}
+use Rattle.qs_refine.proofs.MoveGoes.{step_may}
 use Rattle.qs_refine.proofs.SteadyGrows.{begun_past, own_past}
 use Rattle.qs_refine.proofs.SteadyBegins.{ComesFit, place, size, comes_may, comes_new}
 
@@ -199,22 +199,22 @@ module _ (world : World) (steady : IsSteadyWorld world) (n : ℕ) (low : n < wor
 pub steady_may : SteadyMay
 steady_may world (Step n stamp free source) may gives steady = (move_may world (Step n stamp free source) may comes new (λ k low. (steady.sound k low).node) (λ k low. open_at world steady k low), new)
   where
-    runs : (world.channels.up n ≡ true) × ((is_later world n stamp && is_some (event_of world n stamp source)) ≡ true)
-    runs = and_both (world.channels.up n) (is_later world n stamp && is_some (event_of world n stamp source)) may
+    runs : world.channels.up n ≡ true
+    runs = (step_may world n stamp source may).runs
 
     low : n < world.size
-    low = later_in world n stamp (and_both (is_later world n stamp) _ runs.1).0
+    low = (step_may world n stamp source may).low
 
     come : (o : Option Event) → event_of world n stamp source ≡ o → GivesAt world n free o → MayComeAt world n free o
     come None is gives = tt
-    come (Some event) is gives = comes_may world steady n free low runs.0 event (event_fits world steady n free low runs.0 stamp source event is) gives
+    come (Some event) is gives = comes_may world steady n free low runs event (event_fits world steady n free low runs stamp source event is) gives
 
     comes : MayCome world (Step n stamp free source)
     comes = come (event_of world n stamp source) refl gives
 
     begins : (o : Option Event) → BeginsNewAt world n free o
     begins None = tt
-    begins (Some event) = comes_new world steady n free low runs.0 event
+    begins (Some event) = comes_new world steady n free low runs event
 
     new : MayMoveOver world (Step n stamp free source)
     new = begins (event_of world n stamp source)

@@ -11,11 +11,10 @@ use Rattle.qs_step.specs.Step.{step_work, after_step, effects_of}
 use Rattle.qs_step.specs.declared.event.Effects.{Effects}
 use Rattle.qs_step.specs.declared.event.Event.{Event}
 use Rattle.qs_world.specs.Moves.{Source, event_of, step_with, cut_log, stopped_host, stopped}
-use Rattle.qs_world.specs.Openings.{are_unended}
 use Rattle.qs_world.specs.World.{World}
 use Rattle.qs_refine.specs.Begun.{inc_in, count_in, may_be_known, fits_record}
 use Rattle.qs_refine.specs.MoveLaws.{IsSeated}
-use Rattle.qs_refine.specs.SaidLaws.{AreSoundOver}
+use Rattle.qs_refine.specs.SaidLaws.{AreSoundOver, are_left_open}
 use Rattle.qs_refine.specs.Sound.{is_sound, is_sound_said}
 use Rattle.qs_refine.specs.SoundSteps.{begun, settled, commands_in_run}
 use Rattle.qs_refine.specs.Steadies.{stage_with, stage_of, IsSteadyHost, IsSteadyWorld, MachineGives, is_steady_record, is_steady_line}
@@ -108,7 +107,7 @@ module _ (world : World) (steady : IsSteadyWorld world) (n stamp : ℕ) (cause :
   pub stop_grows : Grows world down
   stop_grows = record { size = refl; rises = stop_rises (count_in world) (λ k apart. refl) }
 
-  module _ (records : list_all (is_steady_record (may_be_known down) (world.hosts n).node.setting.node) log ≡ true) (unended : are_unended (recovery log) ≡ true) where
+  module _ (records : list_all (is_steady_record (may_be_known down) (world.hosts n).node.setting.node) log ≡ true) (unended : are_left_open (recovery log) ≡ true) where
     pub stop_steady : IsSeated down → AreSoundOver down → IsSteadyWorld down
     stop_steady seated sound = record {
       seated = seated;
@@ -189,7 +188,7 @@ module _ (world : World) (steady : IsSteadyWorld world) (n stamp free : ℕ) (so
   whole_records = all_joined (is_steady_record (may_be_known (cut whole)) (world.hosts n).node.setting.node) (world.hosts n).log ((world.hosts n).waiting ++ out.records) (log_kept world steady n stamp cause whole low up)
       (all_implied (fits_record (may_be_known (cut whole)) (world.hosts n).node.setting.node) (is_steady_record (may_be_known (cut whole)) (world.hosts n).node.setting.node) (record_steady (may_be_known (cut whole)) (world.hosts n).node.setting.node) ((world.hosts n).waiting ++ out.records) (batch whole))
 
-  whole_unended : are_unended (recovery whole) ≡ true
+  whole_unended : are_left_open (recovery whole) ≡ true
   whole_unended = unended_said (after_step (world.hosts n).node event free) (recovery whole) sound said
       (named_behind (may_be_known (cut whole)) (world.hosts n).node.setting.node (past_names world.size (inc_in (cut whole)) (count_in (cut whole))) (world.hosts n).log ((world.hosts n).waiting ++ out.records) (steady.nodes n low).unended (batch whole))
     where

@@ -17,12 +17,11 @@ use Rattle.qs_step.specs.declared.event.Event.{Event}
 use Rattle.qs_step.specs.declared.event.Sending.{Sending}
 use Rattle.qs_step.specs.declared.setting.Setting.{Setting}
 use Rattle.qs_world.specs.Moves.{Source, event_of, taken_by, stepped_host, stepped}
-use Rattle.qs_world.specs.Openings.{are_unended}
 use Rattle.qs_world.specs.World.{Host, Parcel, World}
 use Rattle.qs_refine.specs.Begun.{past_among, inc_in, count_in, has_begun, may_be_known, fits, fits_record}
 use Rattle.qs_refine.specs.Links.{node_no}
 use Rattle.qs_refine.specs.MoveLaws.{IsSeated}
-use Rattle.qs_refine.specs.SaidLaws.{AreSoundOver}
+use Rattle.qs_refine.specs.SaidLaws.{AreSoundOver, are_left_open}
 use Rattle.qs_refine.specs.Steadies.{stage_with, stage_of, IsSteadyHost, IsSteadyWorld, is_steady_record, is_steady_parcel, are_two}
 use Rattle.qs_refine.specs.Tidy.{Stage, IsTidy, is_tidy_sending, is_tidy_record}
 use Rattle.qs_refine.proofs.Moving.{inc_taken, up_taken, waits_taken, posted_taken, peer_taken}
@@ -42,7 +41,7 @@ pub past_names : (size : ℕ) (inc count : ℕ → ℕ) (tid : Tid) → past_amo
 past_names size inc count tid is = (and_both (names_transaction tid) _ is).0
 
 -- records behind others
-pub named_behind : (past : Tid → Bool) (me : NodeNo) → ((tid : Tid) → past tid ≡ true → names_transaction tid ≡ true) → (log more : List Record) → are_unended (recovery log) ≡ true → list_all (fits_record past me) more ≡ true → AreNamed (recovery (log ++ more))
+pub named_behind : (past : Tid → Bool) (me : NodeNo) → ((tid : Tid) → past tid ≡ true → names_transaction tid ≡ true) → (log more : List Record) → are_left_open (recovery log) ≡ true → list_all (fits_record past me) more ≡ true → AreNamed (recovery (log ++ more))
 named_behind past me names log more unended fit = subst AreNamed (sym (fold-append found_record Rattle.qs_restart.specs.Recovery.nothing_said log more)) (fold_named past me names more (recovery log) fit (unended_named (recovery log) unended))
 
 module _ (world : World) (steady : IsSteadyWorld world) (n stamp free : ℕ) (source : Source) (event : Event) (is : event_of world n stamp source ≡ Some event) (low : n < world.size) (up : world.channels.up n ≡ true) where
@@ -161,7 +160,7 @@ module _ (world : World) (steady : IsSteadyWorld world) (n stamp free : ℕ) (so
     waiting_now true = refl
     waiting_now false = both_records
 
-    unended_now : are_unended (recovery host.log) ≡ true
+    unended_now : are_left_open (recovery host.log) ≡ true
     unended_now = by out.force refl
       where
         here : new.hosts n ≡ host
@@ -176,7 +175,7 @@ module _ (world : World) (steady : IsSteadyWorld world) (n stamp free : ℕ) (so
         said : Rattle.qs_refine.specs.Sound.is_sound_said node (recovery (host.log ++ host.waiting)) ≡ true
         said = subst (λ (h : Host). Rattle.qs_refine.specs.SaidLaws.is_said_host h ≡ true) here ((sound n low).runs up_new)
 
-        by : (b : Bool) → out.force ≡ b → are_unended (recovery (if b then (world.hosts n).log ++ ((world.hosts n).waiting ++ out.records) else (world.hosts n).log)) ≡ true
+        by : (b : Bool) → out.force ≡ b → are_left_open (recovery (if b then (world.hosts n).log ++ ((world.hosts n).waiting ++ out.records) else (world.hosts n).log)) ≡ true
         by false forced = (steady.nodes n low).unended
         by true forced = unended_said node (recovery ((world.hosts n).log ++ ((world.hosts n).waiting ++ out.records))) sound_node
             (subst (λ (l : List Record). Rattle.qs_refine.specs.Sound.is_sound_said node (recovery l) ≡ true) (append_nil ((world.hosts n).log ++ ((world.hosts n).waiting ++ out.records)))

@@ -12,7 +12,7 @@ use Rattle.qs_restart.specs.Recovery.{recovery}
 use Rattle.qs_step.specs.Opening.{recovered_of}
 use Rattle.qs_step.specs.State.{NodeValue}
 use Rattle.qs_step.specs.declared.event.Event.{Event}
-use Rattle.qs_world.specs.Moves.{Move, Step, Cut, Stop, Rise, Meet, event_of, step_with, cut_with, risen_host, reopened, risen, is_later, is_in_order, stamp_limit, has_begun as has_risen, may_move, moved}
+use Rattle.qs_world.specs.Moves.{Source, Move, Step, Cut, Stop, Rise, Meet, event_of, step_with, cut_with, risen_host, reopened, risen, is_later, is_in_order, may_step, stamp_limit, has_begun as has_risen, may_move, moved}
 use Rattle.qs_world.specs.World.{Host, Parcel, World, known_of}
 use Rattle.qs_refine.specs.Begun.{inc_in, count_in, has_begun, may_be_known}
 use Rattle.qs_refine.specs.Links.{node_no}
@@ -22,7 +22,7 @@ use Rattle.qs_refine.specs.SoundMoves.{MayMove}
 use Rattle.qs_refine.specs.Sound.{where_so}
 use Rattle.qs_refine.specs.Steadies.{stage_with, stage_of, IsSteadyHost, IsSteadyWorld, GivesAt, MachineMoves, MoveSteady, is_steady_record, is_steady_parcel, are_two}
 use Rattle.qs_refine.specs.Tidy.{Stage, IsStage, is_tidy_label, is_tidy_loan, is_tidy_outcome}
-use Rattle.qs_refine.proofs.MoveGoes.{later_in}
+use Rattle.qs_refine.proofs.MoveGoes.{later_in, StepMay, step_may}
 use Rattle.qs_refine.proofs.SaidMoves.{move_said}
 use Rattle.qs_refine.proofs.SaidTidy.{IsSaidTidy, log_tidy, all_parted}
 use Rattle.qs_refine.proofs.Seating.{move_seated}
@@ -196,26 +196,20 @@ move_steady world move may gives steady = by move may gives seated sound
     by : (move : Move) → may_move world move ≡ true → MachineMoves world move → IsSeated (moved move world) → AreSoundOver (moved move world) → IsSteadyWorld (moved move world)
     by (Step n stamp free source) may gives seated sound = at (event_of world n stamp source) refl gives seated sound
       where
-        runs : (world.channels.up n ≡ true) × ((is_later world n stamp && is_some (event_of world n stamp source)) ≡ true)
-        runs = and_both (world.channels.up n) (is_later world n stamp && is_some (event_of world n stamp source)) may
-
-        low : n < world.size
-        low = later_in world n stamp (and_both (is_later world n stamp) _ runs.1).0
+        its : StepMay world n source
+        its = step_may world n stamp source may
 
         at : (o : Option Event) → event_of world n stamp source ≡ o → GivesAt world n free o → IsSeated (step_with world n stamp free source o) → AreSoundOver (step_with world n stamp free source o) → IsSteadyWorld (step_with world n stamp free source o)
         at None is gives seated sound = steady
-        at (Some event) is gives seated sound = step_steady world steady n stamp free source event is low runs.0 gives seated sound
+        at (Some event) is gives seated sound = step_steady world steady n stamp free source event is its.low its.runs gives seated sound
     by (Cut n stamp free source is_kept cause) may gives seated sound = at (event_of world n stamp source) refl gives seated sound
       where
-        runs : (world.channels.up n ≡ true) × ((is_later world n stamp && (is_some (event_of world n stamp source) && Rattle.qs_machine.specs.Clauses.is_crash cause)) ≡ true)
-        runs = and_both (world.channels.up n) _ may
-
-        low : n < world.size
-        low = later_in world n stamp (and_both (is_later world n stamp) _ runs.1).0
+        its : StepMay world n source
+        its = step_may world n stamp source (and_both (may_step world n stamp source) (Rattle.qs_machine.specs.Clauses.is_crash cause) may).0
 
         at : (o : Option Event) → event_of world n stamp source ≡ o → GivesAt world n free o → IsSeated (cut_with world n stamp free is_kept cause o) → AreSoundOver (cut_with world n stamp free is_kept cause o) → IsSteadyWorld (cut_with world n stamp free is_kept cause o)
         at None is gives seated sound = steady
-        at (Some event) is gives seated sound = cut_steady world steady n stamp free source event cause is low runs.0 gives is_kept seated sound
+        at (Some event) is gives seated sound = cut_steady world steady n stamp free source event cause is its.low its.runs gives is_kept seated sound
     by (Stop n stamp cause) may gives seated sound =
         let runs : (world.channels.up n ≡ true) × ((is_in_order world n stamp && Rattle.qs_machine.specs.Clauses.is_crash cause) ≡ true) = and_both (world.channels.up n) _ may in
         let low : n < world.size = in_order_low world n stamp (and_both (is_in_order world n stamp) _ runs.1).0 in

@@ -21,6 +21,7 @@ use Rattle.qs_refine.specs.Links.{node_no}
 use Rattle.qs_refine.specs.MoveLaws.{IsSeated}
 use Rattle.qs_refine.specs.Steadies.{IsSteadyHost, IsSteadyWorld, StartSteady, stage_of, is_steady_record, is_steady_line}
 use Rattle.qs_refine.proofs.SaidMoves.{opening_said}
+use Rattle.qs_refine.proofs.SaidNames.{opening_left}
 use Rattle.qs_refine.proofs.SaidTidy.{log_tidy}
 use Rattle.qs_refine.proofs.Seating.{start_seated}
 use Rattle.qs_refine.proofs.Sending.{append_nil}
@@ -68,7 +69,7 @@ module _ (o : Opening) (opens : IsOpening o) where
     first = λ is. opened_first (stage_of world n) (stage_is world n low refl seated) none o.alloc (recovery (o.logs n)) said no_kept refl refl refl;
     records = subst (λ (l : List Record). list_all (is_steady_record (may_be_known world) (o.settings n).node) l ≡ true) (sym (append_nil (o.logs n))) logged;
     waiting = refl;
-    unended = each_is o.size (λ k. are_unended (recovery (o.logs k))) opens.unended n low;
+    unended = opening_left (recovery (o.logs n)) (each_is o.size (λ k. are_unended (recovery (o.logs k))) opens.unended n low);
   }
     where
       logged : list_all (is_steady_record (may_be_known world) (o.settings n).node) (o.logs n) ≡ true

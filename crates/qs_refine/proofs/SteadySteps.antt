@@ -127,5 +127,5 @@ accept_tidy e node n = record {
   commands = n.commands;
   kinds = n.kinds;
   committed = n.committed;
-  crossed = record { owned = n.crossed.owned; commits = n.crossed.commits; fresh = n.crossed.fresh; pasts = n.crossed.pasts };
+  crossed = record { owned = n.crossed.owned; commits = n.crossed.commits; fresh = n.crossed.fresh; pasts = n.crossed.pasts; earlier = n.crossed.earlier };
 }

@@ -2,7 +2,7 @@
 use Rattle.std.proofs.Common.{◌≡◌, inl, inr, ℕ, ◌+◌, ◌≤◌, ◌==◌, ◌&&◌, ◌||◌, Bool, true, false, Option, Some, None, is_some, refl, sym, ap, subst, ◌∙◌, arith, nat_le}
 use Rattle.std.proofs.lemmas.Bool.Decides.{nat_tests}
 use Rattle.std.specs.Prelude.{◌⊎◌}
-use Rattle.std.specs.List.{list_all}
+use Rattle.std.specs.List.{list_all, list_any}
 use Rattle.qs_base.specs.Order.{same_tid}
 use Rattle.qs_base.specs.declared.identifiers.ClientNo.{ClientNo}
 use Rattle.qs_base.specs.declared.identifiers.NodeNo.{NodeNo}
@@ -31,7 +31,7 @@ use Rattle.qs_tm.specs.declared.participant.Participant.{Participant}
 use Rattle.qs_refine.specs.Begun.{fits, fits_record, is_drawn, is_list_at}
 use Rattle.qs_refine.specs.NodeFaces.{began_here}
 use Rattle.qs_refine.specs.Sound.{where_so, same_flag, is_owned}
-use Rattle.qs_refine.specs.Tidy.{Stage, IsTidyNode, IsTidyOut, IsTidy, IsCrossed, is_tidy_part, is_tidy_superior, is_tidy_label, is_tidy_loan, is_tidy_outcome, is_tidy_sending, is_tidy_record, is_begun_delivery, is_begun_queue}
+use Rattle.qs_refine.specs.Tidy.{Stage, IsTidyNode, IsTidyOut, IsTidy, IsCrossed, is_settled, is_tidy_part, is_tidy_superior, is_tidy_label, is_tidy_loan, is_tidy_outcome, is_tidy_sending, is_tidy_record, is_begun_delivery, is_begun_queue}
 use Rattle.qs_refine.specs.Walks.{is_run}
 use Rattle.qs_refine.proofs.CrossedKept.{or_left, or_right, or_both, owned_on}
 use Rattle.qs_refine.proofs.PartsAfter.{IsSame, IsPut, put_seen, told_is, as_told, is_known, as_known, put_known}
@@ -170,10 +170,25 @@ module _ (c d : Stage) (wide : Widens c d) where
       commits = λ t part now here its. commit t part here its (put_seen t next (begun_participant client node.manager.ticks) counted part now);
       fresh = λ t part now open_now. free t part open_now (put_seen t next (begun_participant client node.manager.ticks) counted part now);
       pasts = λ t here names low. past t here names (same_tid t next) refl low;
+      earlier = λ t part now home later. early t part home later (put_seen t next (begun_participant client node.manager.ticks) counted part now);
     }
       where
+        -- the new one begins here
+        begins : began_here node next ≡ true
+        begins = both_and (same_node next.home node.setting.node) (next.inc == node.setting.inc) at.0 at.1
+          where
+            at : (same_node next.home node.setting.node ≡ true) × ((next.inc == node.setting.inc) ≡ true)
+            at = (
+              subst (λ (s : Rattle.qs_step.specs.declared.setting.Setting.Setting). same_node node.manager.node s.node ≡ true) (sym n.setting) (subst (λ (m : NodeNo). same_node m c.setting.node ≡ true) (sym n.own) (grind (arith, nat_tests))),
+              subst (λ (s : Rattle.qs_step.specs.declared.setting.Setting.Setting). (node.manager.inc == s.inc) ≡ true) (sym n.setting) (subst (λ (k : ℕ). (k == c.setting.inc) ≡ true) (sym n.inc) (grind (arith, nat_tests))),
+            )
+
         counted : Manager
         counted = record node.manager { begun = node.manager.begun + 1 }
+
+        early : (t : Tid) (part : Participant) → same_node t.home node.setting.node ≡ true → began_here node t ≡ false → (IsSame t next counted (tm.begin client node.manager) part ⊎ IsPut t next (begun_participant client node.manager.ticks) part) → is_settled part.outcome (list_any (same_tid t) node.committed) ≡ true
+        early t part home later (inl same) = n.crossed.earlier t part same.was home later
+        early t part home later (inr put) = absurd (let on : began_here node t ≡ true = subst (λ (u : Tid). began_here node u ≡ true) (sym put.same) begins in cc (on, later))
 
         owns : (t : Tid) → is_owned node t ≡ true → is_owned begun_node t ≡ true
         owns t owned = by (or_both (is_some (kept_outcome t node)) (tm.told_of t false is_run node.manager) owned) (same_tid t next) refl

@@ -84,7 +84,7 @@ module _ (c : Stage) (stage : IsStage c) where
       commands = t.node.commands;
       kinds = t.node.kinds;
       committed = t.node.committed;
-      crossed = record { owned = all_last (is_owned_label work.node) work.node.kept.now.labels label t.node.crossed.owned owned; commits = t.node.crossed.commits; fresh = t.node.crossed.fresh; pasts = t.node.crossed.pasts };
+      crossed = record { owned = all_last (is_owned_label work.node) work.node.kept.now.labels label t.node.crossed.owned owned; commits = t.node.crossed.commits; fresh = t.node.crossed.fresh; pasts = t.node.crossed.pasts; earlier = t.node.crossed.earlier };
     };
     begun = t.begun;
     out = record { messages = t.out.messages; records = t.out.records };

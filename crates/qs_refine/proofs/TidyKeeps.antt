@@ -90,7 +90,7 @@ module _ (c : Stage) where
     commands = all;
     kinds = n.kinds;
     committed = n.committed;
-    crossed = record { owned = n.crossed.owned; commits = n.crossed.commits; fresh = n.crossed.fresh; pasts = n.crossed.pasts };
+    crossed = record { owned = n.crossed.owned; commits = n.crossed.commits; fresh = n.crossed.fresh; pasts = n.crossed.pasts; earlier = n.crossed.earlier };
   }
 
   answer_tidy : (client : ClientNo) (said : Answer) (work : Work) → IsTidy c work → IsTidy c (answer client said work)
@@ -141,7 +141,7 @@ module _ (c : Stage) where
     commands = t.node.commands;
     kinds = t.node.kinds;
     committed = t.node.committed;
-    crossed = record { owned = owned; commits = t.node.crossed.commits; fresh = t.node.crossed.fresh; pasts = t.node.crossed.pasts };
+    crossed = record { owned = owned; commits = t.node.crossed.commits; fresh = t.node.crossed.fresh; pasts = t.node.crossed.pasts; earlier = t.node.crossed.earlier };
   }) t
 
   with_loans : (work : Work) (loans : List Lent) → list_all (is_tidy_loan c) loans ≡ true → IsTidy c work → IsTidy c (with_kept (λ kept. record kept { loans = loans }) work)
@@ -205,7 +205,7 @@ module _ (c : Stage) where
     commands = t.node.commands;
     kinds = λ r below. ap number_of (kind_kept f same r work.node.servers server) ∙ t.node.kinds r below;
     committed = t.node.committed;
-    crossed = record { owned = t.node.crossed.owned; commits = t.node.crossed.commits; fresh = t.node.crossed.fresh; pasts = t.node.crossed.pasts };
+    crossed = record { owned = t.node.crossed.owned; commits = t.node.crossed.commits; fresh = t.node.crossed.fresh; pasts = t.node.crossed.pasts; earlier = t.node.crossed.earlier };
   }) t
 
   local_tidy : (tid : Tid) (number : ℕ) (work : Work) → IsTidy c work → IsTidy c (Rattle.qs_step.specs.Requests.with_local tid number work)
@@ -224,7 +224,7 @@ module _ (c : Stage) where
     commands = t.node.commands;
     kinds = t.node.kinds;
     committed = t.node.committed;
-    crossed = record { owned = t.node.crossed.owned; commits = t.node.crossed.commits; fresh = t.node.crossed.fresh; pasts = t.node.crossed.pasts };
+    crossed = record { owned = t.node.crossed.owned; commits = t.node.crossed.commits; fresh = t.node.crossed.fresh; pasts = t.node.crossed.pasts; earlier = t.node.crossed.earlier };
   }) t
 
   -- ---- all of it

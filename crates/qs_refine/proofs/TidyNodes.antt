@@ -2,7 +2,7 @@
 use Rattle.std.proofs.Common.{◌≡◌, inl, inr, ℕ, ◌&&◌, Bool, true, false, [], ◌∷◌, ◌++◌, Option, Some, None, is_some, is_none, refl, sym, ap, subst, ◌∙◌, arith, if◌then◌else◌}
 use Rattle.std.proofs.lemmas.Bool.Decides.{nat_tests}
 use Rattle.std.specs.Prelude.{◌⊎◌}
-use Rattle.std.specs.List.{list_all}
+use Rattle.std.specs.List.{list_all, list_any}
 use Rattle.qs_base.specs.Order.{same_tid}
 use Rattle.qs_base.specs.declared.identifiers.NodeNo.{NodeNo}
 use Rattle.qs_base.specs.declared.identifiers.Outcome.{Outcome}
@@ -24,7 +24,7 @@ use Rattle.qs_tm.specs.declared.manager.Manager.{Manager}
 use Rattle.qs_tm.specs.declared.participant.Participant.{Participant}
 use Rattle.qs_refine.specs.NodeFaces.{began_here}
 use Rattle.qs_refine.specs.Sound.{where_so, same_flag}
-use Rattle.qs_refine.specs.Tidy.{Stage, IsTidyNode, is_tidy_part, is_tidy_superior, is_tidy_outcome}
+use Rattle.qs_refine.specs.Tidy.{Stage, IsTidyNode, is_settled, is_tidy_part, is_tidy_superior, is_tidy_outcome}
 use Rattle.qs_refine.specs.Walks.{is_run, is_homed}
 use Rattle.qs_refine.proofs.CrossedKept.{Crosses, crossed_manager, Decides, crossed_decided, or_left}
 use Rattle.qs_refine.proofs.Entries.{all_of_tid, none_found}
@@ -155,8 +155,9 @@ module _ (c : Stage) (node : NodeValue) (is : IsTidyNode c node) where
   abbrev put : Tid → Participant → NodeValue
   put tid part = with_manager (tm.put_part tid part node.manager)
 
-  put_tidy : (tid : Tid) (part : Participant) → tm.part_of tid node.manager ≡ None → is_tidy_part c (tid, part) ≡ true → (part.outcome ≡ Some outcomes.Commit → was_committed tid node ≡ true) → (part.outcome ≡ None → kept_outcome tid node ≡ None) → IsTidyNode c (put tid part)
-  put_tidy tid part none its commits fresh = manager_tidy (tm.put_part tid part node.manager) refl refl (order_put tid part node.manager.known is.ordered) (all_put tid part (is_tidy_part c) node.manager.known its is.known) (crosses_put node tid part none commits fresh is.crossed)
+  put_tidy : (tid : Tid) (part : Participant) → tm.part_of tid node.manager ≡ None → is_tidy_part c (tid, part) ≡ true → (part.outcome ≡ Some outcomes.Commit → was_committed tid node ≡ true) → (part.outcome ≡ None → kept_outcome tid node ≡ None)
+      → (same_node tid.home node.setting.node ≡ true → is_settled part.outcome (list_any (same_tid tid) node.committed) ≡ true) → IsTidyNode c (put tid part)
+  put_tidy tid part none its commits fresh settled = manager_tidy (tm.put_part tid part node.manager) refl refl (order_put tid part node.manager.known is.ordered) (all_put tid part (is_tidy_part c) node.manager.known its is.known) (crosses_put node tid part none commits fresh settled is.crossed)
 
   new_part : (tid : Tid) → c.past tid ≡ true → is_tidy_part c (tid, new_participant (tm.is_home tid node.manager)) ≡ true
   new_part tid past = both_and (c.past tid && same_flag (same_node tid.home node.manager.node) (same_node tid.home c.setting.node)) true
@@ -171,14 +172,14 @@ module _ (c : Stage) (node : NodeValue) (is : IsTidyNode c node) where
     where
       by : (o : Option Participant) → tm.part_of tid node.manager ≡ o → IsTidyNode c (with_manager (if is_some o then node.manager else tm.put_part tid (new_participant (tm.is_home tid node.manager)) node.manager))
       by (Some part) known = is
-      by None none = put_tidy tid (new_participant (tm.is_home tid node.manager)) none (new_part tid past) (λ its. absurd (cc (its))) (λ its. none_kept tid away)
+      by None none = put_tidy tid (new_participant (tm.is_home tid node.manager)) none (new_part tid past) (λ its. absurd (cc (its))) (λ its. none_kept tid away) (λ home. absurd (let off : same_node tid.home node.setting.node ≡ false = here_read tid false away in cc (home, off)))
 
   pub keep_abort_tidy : (tid : Tid) → c.past tid ≡ true → tm.part_of tid node.manager ≡ None → IsTidyNode c (with_manager (tm.keep_abort tid node.manager))
   keep_abort_tidy tid past none = by (tm.part_of tid node.manager) none
     where
       by : (o : Option Participant) → o ≡ None → IsTidyNode c (with_manager (if is_some o then node.manager else tm.put_part tid (aborted_participant (tm.is_home tid node.manager)) node.manager))
       by (Some part) known = is
-      by None so = put_tidy tid (aborted_participant (tm.is_home tid node.manager)) none (new_part tid past) (λ its. absurd (cc (its))) (λ its. absurd (cc (its)))
+      by None so = put_tidy tid (aborted_participant (tm.is_home tid node.manager)) none (new_part tid past) (λ its. absurd (cc (its))) (λ its. absurd (cc (its))) (λ home. refl)
 
   pub forget_tidy : (tid : Tid) (part : Participant) → tm.part_of tid node.manager ≡ Some part → (same_node tid.home c.setting.node ≡ false) ⊎ (part.outcome ≡ Some outcomes.Commit) → IsTidyNode c (with_manager (tm.forget tid node.manager))
   forget_tidy tid part known may = manager_tidy (tm.forget tid node.manager) refl refl (order_removed tid node.manager.known is.ordered) (all_removed tid (is_tidy_part c) node.manager.known is.known)
@@ -201,7 +202,7 @@ module _ (c : Stage) (node : NodeValue) (is : IsTidyNode c node) where
 
   pub tick_tidy : IsTidyNode c (with_manager (tm.tick node.manager))
   tick_tidy = manager_tidy (tm.tick node.manager) refl refl is.ordered is.known
-      (record { begun = refl; runs = λ t runs. runs; knows = λ t here knows. or_left (tm.knows t node.manager) (was_committed t node) knows; commits = is.crossed.commits; fresh = is.crossed.fresh })
+      (record { begun = refl; runs = λ t runs. runs; knows = λ t here knows. or_left (tm.knows t node.manager) (was_committed t node) knows; commits = is.crossed.commits; fresh = is.crossed.fresh; earlier = is.crossed.earlier })
 
   -- the home decides, and keeps the outcome
   abbrev decided : Tid → Outcome → Option Cause → NodeValue
@@ -241,6 +242,9 @@ module _ (c : Stage) (node : NodeValue) (is : IsTidyNode c node) where
       undecided None is = refl
       undecided (Some x) is = absurd (cc (is))
 
+      never : (b : Bool) → is_settled None b ≡ true → ⊥
+      never b so = cc (so)
+
       change : Decides node tid outcome cause after
       change = record {
         begun = refl;
@@ -249,4 +253,6 @@ module _ (c : Stage) (node : NodeValue) (is : IsTidyNode c node) where
         others = λ t part apart now. other t part (changed_seen t tid (outcome_rules.decided outcome) node.manager part now) apart;
         its = λ part now. its_own part (changed_seen tid tid (outcome_rules.decided outcome) node.manager part now);
         new = λ so. let part : (part : Participant) × ((tm.part_of tid node.manager ≡ Some part) × (is_undecided part ≡ true)) = told_is is_undecided tid node.manager (open_now so) in is.crossed.fresh tid part.0 part.1.0 (undecided part.0.outcome part.1.1);
+        here = λ so home later. let part : (part : Participant) × ((tm.part_of tid node.manager ≡ Some part) × (is_undecided part ≡ true)) = told_is is_undecided tid node.manager (open_now so) in
+            never (list_any (same_tid tid) node.committed) (subst (λ (o : Option Outcome). is_settled o (list_any (same_tid tid) node.committed) ≡ true) (undecided part.0.outcome part.1.1) (is.crossed.earlier tid part.0 part.1.0 home later));
       }

@@ -23,12 +23,13 @@ use Rattle.qs_tm.specs.declared.participant.Participant.{Participant}
 use Rattle.qs_refine.specs.NodeFaces.{began_here}
 use Rattle.qs_refine.specs.Sound.{in_order, where_so, same_flag, is_owned, is_owned_label}
 use Rattle.qs_refine.specs.Steadies.{IsFirst}
-use Rattle.qs_refine.specs.Tidy.{Stage, IsStage, IsTidyNode, IsCrossed, is_tidy_part, is_tidy_label, is_tidy_loan, is_tidy_outcome}
+use Rattle.qs_refine.specs.Tidy.{Stage, IsStage, IsTidyNode, IsCrossed, is_settled, is_tidy_part, is_tidy_label, is_tidy_loan, is_tidy_outcome}
 use Rattle.qs_refine.proofs.CrossedKept.{or_left}
 use Rattle.qs_refine.proofs.Entries.{none_found}
 use Rattle.qs_refine.proofs.SaidTidy.{IsSaidTidy}
 use Rattle.qs_refine.proofs.SoundBegin.{all_put, all_last}
 use Rattle.qs_refine.proofs.SoundParts.{and_both, both_and, all_found}
+use Rattle.qs_refine.proofs.TakenCommits.{opened_logged}
 use Rattle.qs_refine.proofs.TidyTaken.{IsTakenFrom, opened_taken, changes_kinds, opened_kinds}
 
 -- ---- what is kept for clients: what a label names that began here, and is not decided, the log decides
@@ -138,6 +139,12 @@ module _ (c : Stage) (stage : IsStage c) (committed : List Tid) where
   all_closed (begun ∷ labels) outcomes tidy = let both : (is_tidy_label c begun ≡ true) × (list_all (is_tidy_label c) labels ≡ true) = and_both (is_tidy_label c begun) _ tidy in
       both_and (is_closed (fold close (close outcomes begun) labels) begun) _ (closed_stays labels (close outcomes begun) begun (closed_now outcomes begun both.0)) (all_closed labels (close outcomes begun) both.1)
 
+-- what is decided, and is one of the log's commits if it is one
+settled_by : (o : Option Outcome) (logged : Bool) → is_some o ≡ true → (o ≡ Some outcomes.Commit → logged ≡ true) → is_settled o logged ≡ true
+settled_by None logged some its = absurd (cc (some))
+settled_by (Some outcomes.Commit) logged some its = its refl
+settled_by (Some outcomes.Abort) logged some its = refl
+
 -- ---- the node
 
 module _ (c : Stage) (stage : IsStage c) (none : c.count ≡ 0) (alloc : Global) (said : Recovery) (fits : IsSaidTidy c.past c.setting.node said) (kept : Kept)
@@ -193,9 +200,18 @@ module _ (c : Stage) (stage : IsStage c) (none : c.count ≡ 0) (alloc : Global)
     owned = Rattle.qs_refine.proofs.SoundBegin.all_implied (is_closed c stage said.committed opened.kept.now.outcomes) (is_owned_label opened) owns kept.labels (all_closed c stage said.committed kept.labels kept.outcomes labels);
     commits = λ t part known here its. absurd (let never : false ≡ true = earlier t (past_of t part known).0 here in cc (never));
     fresh = λ t part known open_now. free t part known open_now (same_node t.home c.setting.node) refl;
+    earlier = λ t part known home later. settled_by part.outcome (list_any (same_tid t) said.committed) (decided t part known home) (λ is. opened_logged (λ (u : Tid). list_any (same_tid u) said.committed) alloc c.setting said fits.logged t part known is);
     pasts = λ t here names low. absurd (let never : false ≡ true = numbered t names (subst (λ (k : ℕ). t.seq ≤ k) from.none low) in cc (never));
   }
     where
+      decided : (t : Tid) (part : Participant) → tm.part_of t opened.manager ≡ Some part → same_node t.home c.setting.node ≡ true → is_some part.outcome ≡ true
+      decided t part known home = from.homed t part known (flagged part.engage.home (same_node t.home c.setting.node) (past_of t part known).1 home)
+        where
+          flagged : (a b : Bool) → same_flag a b ≡ true → b ≡ true → a ≡ true
+          flagged true b is so = refl
+          flagged false true is so = absurd (cc (is))
+          flagged false false is so = absurd (cc (so))
+
       numbered : (t : Tid) → names_transaction t ≡ true → t.seq ≤ 0 → false ≡ true
       numbered t names low = absurd (grind (arith, nat_tests, names, low))
 

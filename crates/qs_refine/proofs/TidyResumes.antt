@@ -93,7 +93,7 @@ module _ (c : Stage) (stage : IsStage c) where
           commands = n.commands;
           kinds = n.kinds;
           committed = n.committed;
-          crossed = record { owned = n.crossed.owned; commits = n.crossed.commits; fresh = n.crossed.fresh; pasts = n.crossed.pasts };
+          crossed = record { owned = n.crossed.owned; commits = n.crossed.commits; fresh = n.crossed.fresh; pasts = n.crossed.pasts; earlier = n.crossed.earlier };
         };
         begun = refl;
         out = record { messages = rw messages refl; records = rw records refl };

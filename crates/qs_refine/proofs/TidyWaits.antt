@@ -41,7 +41,7 @@ module _ (c : Stage) where
     commands = t.node.commands;
     kinds = t.node.kinds;
     committed = t.node.committed;
-    crossed = record { owned = t.node.crossed.owned; commits = t.node.crossed.commits; fresh = t.node.crossed.fresh; pasts = t.node.crossed.pasts };
+    crossed = record { owned = t.node.crossed.owned; commits = t.node.crossed.commits; fresh = t.node.crossed.fresh; pasts = t.node.crossed.pasts; earlier = t.node.crossed.earlier };
   }) t
 
   pub enqueue_tidy : (server : ServerNo) (delivery : Delivery) (work : Work) → c.begun delivery.tid ≡ true → IsTidy c work → IsTidy c (with_queues (ipc.enqueue server delivery) work)

@@ -1,9 +1,9 @@
 -- The law of each move of the world, for a transaction that has begun: what shows it goes on to show it, with no premise on what happens inside a step.
-use Rattle.std.specs.Prelude.{◌≡◌, ℕ, ◌<◌, ⊤, true, false, Some, None}
+use Rattle.std.specs.Prelude.{◌≡◌, ℕ, ◌<◌, ⊤, true, Some}
 use Rattle.std.specs.List.{find}
 use Rattle.qs_base.specs.declared.identifiers.Outcome.TheVariants as outcomes
 use Rattle.qs_base.specs.declared.identifiers.Tid.{Tid}
-use Rattle.qs_engage.specs.Nodes.{has_node, is_no_node}
+use Rattle.qs_engage.specs.Nodes.{has_node}
 use Rattle.qs_packet.specs.declared.message.Message.{Message}
 use Rattle.qs_packet.specs.declared.message.Message.TheVariants as messages
 use Rattle.qs_tm.specs.Manager as tm
@@ -21,7 +21,6 @@ use Rattle.qs_refine.specs.Links.{node_no}
 use Rattle.qs_refine.specs.MoveLaws.{ShowsWorld}
 use Rattle.qs_refine.specs.SoundSteps.{FitsMessage, MayHappen, begun}
 use Rattle.qs_refine.specs.SaidLaws.{BeginsNew}
-use Rattle.qs_refine.specs.ServeWhole.{CanCount}
 use Rattle.qs_refine.specs.Steady.{IsSteady, HasBegun}
 
 -- ---- what shows a transaction, with what nodes know of its commit
@@ -46,16 +45,6 @@ pub record AllGoes (tid : Tid) (world : World) (w : machine.World) : Type 0 wher
   pub next : machine.World
   pub leads : Leads w next
   pub shown : ShowsAll tid world next
-
--- what no run of the length of a machine's life comes to: as a step begins the requests that wait can be counted
-abbrev pub CanCountAll : World → Type 0
-CanCountAll world = (n free : ℕ) (t : Tid) → n < world.size → CanCount t (begun (world.hosts n).node free)
-
--- what can fail in a double fault alone, where a place counts an answer to requests of its node's earlier incarnation: who answers to nobody, and whose told set names
--- somebody, is to be told itself
-abbrev pub NamersInvolved : World → Type 0
-NamersInvolved world = (n : ℕ) (t : Tid) (part : Participant) → n < world.size → tm.part_of t (world.hosts n).node.manager ≡ Some part
-    → part.engage.home ≡ false → part.outcome ≡ None → part.engage.superior ≡ None → is_no_node part.told ≡ false → part.involved ≡ true
 
 -- ---- what comes
 
@@ -89,5 +78,5 @@ EachMayCome = (world : World) (n stamp free : ℕ) (source : Source) (event : Ev
 -- ---- each move
 
 abbrev pub EachMoveGoes : Type 0
-EachMoveGoes = (tid : Tid) (world : World) (move : Move) (w : machine.World) → may_move world move ≡ true → IsSteady world → CanCountAll world → NamersInvolved world → MessagesFit world → tid.home.0 < world.size → HasBegun world tid → ShowsAll tid world w
+EachMoveGoes = (tid : Tid) (world : World) (move : Move) (w : machine.World) → may_move world move ≡ true → IsSteady world → MessagesFit world → tid.home.0 < world.size → HasBegun world tid → ShowsAll tid world w
     → AllGoes tid (moved move world) w

@@ -5,14 +5,12 @@ use Rattle.qs_world.specs.Moves.{Move, moved}
 use Rattle.qs_world.specs.Runs.{Run}
 use Rattle.qs_world.specs.World.{World}
 use Rattle.qs_agree.specs.World as machine
-use Rattle.qs_refine.specs.EachMove.{ShowsAll, AllGoes, MessagesFit, CanCountAll, NamersInvolved}
+use Rattle.qs_refine.specs.EachMove.{ShowsAll, AllGoes, MessagesFit}
 use Rattle.qs_refine.specs.Steady.{IsSteady, HasBegun}
 
 -- what a move asks of the world before it
 pub record MayGoOn (tid : Tid) (world : World) : Type 0 where
   pub steady : IsSteady world
-  pub counts : CanCountAll world
-  pub named : NamersInvolved world
   pub fits : MessagesFit world
   pub home_in : tid.home.0 < world.size
   pub began : HasBegun world tid

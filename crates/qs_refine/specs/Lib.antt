@@ -66,3 +66,4 @@ pub mod SteadyFacts
 pub mod BeginLaws
 pub mod Lefts
 pub mod LeftLaws
+pub mod ShownWorlds

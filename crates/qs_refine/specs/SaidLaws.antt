@@ -1,10 +1,10 @@
 -- A node over its log: what it keeps of a transaction's records is what the log says, with the records that wait.
-use Rattle.std.specs.Prelude.{◌≡◌, ℕ, ◌<◌, ◌||◌, ⊤, Bool, true, false, List, [], ◌++◌, fold, Option, Some, None}
-use Rattle.std.specs.List.{list_any}
+use Rattle.std.specs.Prelude.{◌≡◌, ℕ, ◌<◌, ◌||◌, ◌&&◌, ⊤, Bool, true, false, not, List, [], ◌++◌, fold, Option, Some, None}
+use Rattle.std.specs.List.{list_any, list_all}
 use Rattle.qs_base.specs.declared.identifiers.Tid.{Tid}
 use Rattle.qs_journal.specs.declared.script_line.Command.TheVariants as commands
 use Rattle.qs_record.specs.declared.record.Record.{Record}
-use Rattle.qs_restart.specs.Recovery.{Recovery, recovery, found_record, is_untold_of}
+use Rattle.qs_restart.specs.Recovery.{Recovery, Prepared, recovery, found_record, is_untold_of, names_transaction}
 use Rattle.qs_tm.specs.Manager as tm
 use Rattle.qs_tm.specs.declared.participant.InLog.{InLog}
 use Rattle.qs_step.specs.Bringing.{is_forced}
@@ -13,7 +13,7 @@ use Rattle.qs_step.specs.State.{NodeValue, Work}
 use Rattle.qs_step.specs.Step.{after_step, effects_of}
 use Rattle.qs_step.specs.declared.event.Event.{Event}
 use Rattle.qs_step.specs.declared.event.Event.TheVariants as events
-use Rattle.qs_world.specs.Openings.{IsOpening, are_unended}
+use Rattle.qs_world.specs.Openings.{IsOpening, is_untold}
 use Rattle.qs_world.specs.World.{Host, Opening, World, start}
 use Rattle.qs_world.specs.Moves.{Move, Step, Cut, Stop, Rise, Meet, event_of, reopened, may_move, moved}
 use Rattle.qs_refine.specs.Sound.{is_sound, is_sound_said, has_doubt, may_take_up}
@@ -108,9 +108,16 @@ AreSoundOver world = (n : ℕ) → n < world.size → IsSoundOver world n
 abbrev pub OpenedSaid : Type 0
 OpenedSaid = (o : Opening) → IsOpening o → AreSoundOver (start o)
 
+-- what a log says of transactions that are not ended names them, and no vote is in doubt beside a Commit that waits for its End
+abbrev pub is_open_vote : Recovery → Prepared → Bool
+is_open_vote said vote = vote.committed || (names_transaction vote.tid && not (list_any (is_untold_of vote.tid) said.untold))
+
+abbrev pub are_left_open : Recovery → Bool
+are_left_open said = list_all (is_open_vote said) said.prepared && list_all is_untold said.untold
+
 -- a node that opens over a log that names its transactions, and in which no vote is in doubt beside a Commit that waits
 abbrev pub RestartSaid : Type 0
-RestartSaid = (inc : ℕ) (log : List Record) (node : NodeValue) → may_take_up node.setting.node (recovery log) ≡ true → are_unended (recovery log) ≡ true → AreSaid (reopened inc (recovered_of log) node) (recovery log)
+RestartSaid = (inc : ℕ) (log : List Record) (node : NodeValue) → may_take_up node.setting.node (recovery log) ≡ true → are_left_open (recovery log) ≡ true → AreSaid (reopened inc (recovered_of log) node) (recovery log)
 
 -- what a move asks beside what it asks of the nodes alone
 abbrev pub BeginsNewAt : World → ℕ → ℕ → Option Event → Type 0
@@ -121,7 +128,7 @@ abbrev pub MayMoveOver : World → Move → Type 0
 MayMoveOver world (Step n stamp free source) = BeginsNewAt world n free (event_of world n stamp source)
 MayMoveOver world (Cut n stamp free source is_kept cause) = ⊤
 MayMoveOver world (Stop n stamp cause) = ⊤
-MayMoveOver world (Rise n stamp inc) = are_unended (recovery (world.hosts n).log) ≡ true
+MayMoveOver world (Rise n stamp inc) = are_left_open (recovery (world.hosts n).log) ≡ true
 MayMoveOver world (Meet n stamp m inc) = ⊤
 
 -- each move that may be

@@ -19,12 +19,12 @@ use Rattle.qs_tm.specs.Outcomes.{is_abort}
 use Rattle.qs_tm.specs.Participant.{is_undecided}
 use Rattle.qs_tm.specs.declared.participant.Participant.{Participant}
 use Rattle.qs_world.specs.Moves.{Move, Step, Cut, Stop, Rise, Meet, client_count, event_of, may_move, moved}
-use Rattle.qs_world.specs.Openings.{IsOpening, are_unended}
+use Rattle.qs_world.specs.Openings.{IsOpening}
 use Rattle.qs_world.specs.World.{Opening, Parcel, Host, World, start}
 use Rattle.qs_refine.specs.Begun.{has_begun, may_be_known, fits, fits_record, may_command}
 use Rattle.qs_refine.specs.Links.{node_no}
 use Rattle.qs_refine.specs.MoveLaws.{IsSeated}
-use Rattle.qs_refine.specs.SaidLaws.{AreSoundOver, MayMoveOver}
+use Rattle.qs_refine.specs.SaidLaws.{AreSoundOver, MayMoveOver, are_left_open}
 use Rattle.qs_refine.specs.SoundMoves.{MayMove}
 use Rattle.qs_refine.specs.SoundSteps.{AnswersFor, begun}
 use Rattle.qs_refine.specs.Tidy.{Stage, IsTidyNode, is_tidy_record}
@@ -69,7 +69,7 @@ pub record IsSteadyHost (c : Stage) (host : Host) : Type 0 where
   pub first : host.node.is_first ≡ true → IsFirst host.node
   pub records : list_all (is_steady_record c.past c.setting.node) (host.log ++ host.waiting) ≡ true
   pub waiting : list_all (is_tidy_record c) host.waiting ≡ true  -- what a step appends names a transaction
-  pub unended : are_unended (recovery host.log) ≡ true
+  pub unended : are_left_open (recovery host.log) ≡ true
 
 -- ---- messages: between two nodes of the run
 

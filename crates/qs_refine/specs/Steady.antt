@@ -1,12 +1,12 @@
 -- What holds of all nodes, logs and channels of a world, where it begins and after each move, whatever becomes of a transaction.
-use Rattle.std.specs.Prelude.{◌≡◌, ◌≢◌, ◌⊎◌, ℕ, ◌<◌, ◌≤◌, ◌==◌, ⊤, Bool, true, false, not, ◌&&◌, List, [], ◌∷◌, ◌++◌, Some, None, nat_lt}
+use Rattle.std.specs.Prelude.{◌≡◌, ◌≢◌, ℕ, ◌<◌, ◌≤◌, ◌==◌, ⊤, Bool, true, false, not, ◌&&◌, List, [], ◌∷◌, ◌++◌, Some, None, nat_lt}
 use Rattle.std.specs.List.{list_all}
 use Rattle.qs_base.specs.declared.identifiers.NodeNo.{NodeNo}
 use Rattle.qs_base.specs.declared.identifiers.ServerNo.{ServerNo}
 use Rattle.qs_base.specs.declared.identifiers.Outcome.TheVariants as outcomes
 use Rattle.qs_base.specs.declared.identifiers.Tid.{Tid}
 use Rattle.qs_engage.specs.Engage.{peer_of, no_peer}
-use Rattle.qs_engage.specs.Nodes.{has_node, is_no_node}
+use Rattle.qs_engage.specs.Nodes.{has_node}
 use Rattle.qs_ipc.specs.Ipc.{IpcValue}
 use Rattle.qs_ipc.specs.Queue.{QueueValue, is_for}
 use Rattle.qs_journal.specs.declared.script_line.ScriptLine.{ScriptLine}
@@ -17,14 +17,14 @@ use Rattle.qs_step.specs.Answering.{was_committed}
 use Rattle.qs_step.specs.State.{NodeValue}
 use Rattle.qs_tm.specs.Manager as tm
 use Rattle.qs_tm.specs.declared.participant.Participant.{Participant}
-use Rattle.qs_world.specs.Openings.{are_unended}
+use Rattle.qs_world.specs.Moves.{client_count}
 use Rattle.qs_world.specs.World.{Parcel, World}
 use Rattle.qs_refine.specs.Links.{names_node, node_no}
 use Rattle.qs_refine.specs.MoveLaws.{IsSeated}
 use Rattle.qs_refine.specs.NodeFaces.{began_here, is_past_commit, waiting_at}
 use Rattle.qs_refine.specs.OpenLaws.{AreOpenInRun}
 use Rattle.qs_refine.specs.PassLaws.{HasKinds}
-use Rattle.qs_refine.specs.SaidLaws.{AreSoundOver}
+use Rattle.qs_refine.specs.SaidLaws.{AreSoundOver, are_left_open}
 use Rattle.qs_refine.specs.Sights.{list_of}
 use Rattle.qs_refine.specs.Sound.{is_past, keeps_commits, keeps_owned, goes_in_run, may_take_up, kept_before}
 
@@ -58,8 +58,6 @@ pub record IsSteadyNode (node : NodeValue) : Type 0 where
   pub fresh : was_committed (tm.next_tid node.manager) node ≡ false
   pub past : (t : Tid) → began_here node t ≡ true → names_transaction t ≡ true → t.seq ≤ node.manager.begun → is_past node t ≡ true  -- what began here and is known no more is committed
   pub decided : (t : Tid) (part : Participant) → tm.part_of t node.manager ≡ Some part → part.engage.home ≡ true → part.outcome ≡ Some outcomes.Commit → is_past_commit node t ≡ true  -- a commit that it still knows is kept, or is of its log
-  pub released : (t : Tid) (part : Participant) → tm.part_of t node.manager ≡ Some part → part.engage.home ≡ false → part.outcome ≡ None → part.engage.superior ≡ None
-      → (part.involved ≡ true) ⊎ (is_no_node part.told ≡ false)  -- who answers to nobody, and was not forgotten, is to be told, or was told of others
   pub early : node.is_first ≡ true → (t : Tid) (part : Participant) → tm.part_of t node.manager ≡ Some part → IsEarly part
   pub idle : node.is_first ≡ true → (t : Tid) (s : ℕ) → waiting_at node t s ≡ 0  -- and nothing waits
 
@@ -87,9 +85,9 @@ is_fit_message size n m (messages.Inquire tid) = is_of_run size tid && (tid.home
 abbrev pub is_fit_parcel : ℕ → ℕ → ℕ → Parcel → Bool
 is_fit_parcel size n m parcel = is_fit_message size n m parcel.message
 
--- the transaction that a message is about has begun, where its home's node has not restarted since
+-- the transaction has begun, where its home's node runs in the incarnation in which it begins
 abbrev pub HasBegun : World → Tid → Type 0
-HasBegun world t = t.home.0 < world.size → t.inc ≡ world.channels.inc t.home.0 → t.seq ≤ (world.hosts t.home.0).node.manager.begun
+HasBegun world t = t.home.0 < world.size → world.channels.up t.home.0 ≡ true → t.inc ≡ world.channels.inc t.home.0 → t.seq ≤ (world.hosts t.home.0).node.manager.begun
 
 abbrev pub HaveBegun : World → Message → Type 0
 HaveBegun world (messages.Request tid label member number issuer op) = HasBegun world tid
@@ -108,17 +106,17 @@ pub record IsSteady (world : World) : Type 0 where
   pub seated : IsSeated world
   pub sound : AreSoundOver world
   pub commands : AreOpenInRun world
-  pub nodes : (n : ℕ) → n < world.size → IsSteadyNode (world.hosts n).node
+  pub nodes : (n : ℕ) → n < world.size → world.channels.up n ≡ true → IsSteadyNode (world.hosts n).node
   pub peers : (n m : ℕ) → 1 ≤ world.channels.peer n m → (m < world.size) × (m ≢ n)  -- a node knows other nodes of the run
   pub superior : (n m : ℕ) (t : Tid) (part : Participant) → n < world.size → world.channels.up n ≡ true → tm.part_of t (world.hosts n).node.manager ≡ Some part → part.engage.superior ≡ Some (node_no m)
       → 1 ≤ world.channels.peer n m  -- whom it answers to it knows
   pub nobody : (n m j : ℕ) → world.channels.posted n m 0 j ≡ []  -- 0 is no incarnation
-  pub scripts : (k : ℕ) → list_all (is_line_in_run world.size) (world.clients k).lines ≡ true
+  pub scripts : (k : ℕ) → k < client_count → list_all (is_line_in_run world.size) (world.clients k).lines ≡ true
   pub posted : (n m i j : ℕ) → list_all (is_fit_parcel world.size n m) (world.channels.posted n m i j) ≡ true
   pub waits : (n m : ℕ) → list_all (is_fit_parcel world.size n m) (world.channels.waits n m) ≡ true
   pub begun : (n m : ℕ) (parcel : Parcel) (before rest : List Parcel) → world.channels.posted n m (world.channels.peer m n) (world.channels.inc m) ≡ before ++ parcel ∷ rest → HaveBegun world parcel.message
-  pub listed : (t : Tid) (part : Participant) → t.home.0 < world.size → tm.part_of t (world.hosts t.home.0).node.manager ≡ Some part → part.outcome ≡ Some outcomes.Commit → part.log.listed ≡ true
-      → (m : ℕ) → names_node (list_of t (recovery (world.hosts t.home.0).log)) (node_no m) ≡ true → has_node part.tell (node_no m) ≡ true  -- whom the Commit in its log names the home is to tell
+  pub listed : (t : Tid) (part : Participant) → t.home.0 < world.size → world.channels.up t.home.0 ≡ true → tm.part_of t (world.hosts t.home.0).node.manager ≡ Some part → part.outcome ≡ Some outcomes.Commit
+      → (m : ℕ) → names_node (list_of t (recovery ((world.hosts t.home.0).log ++ (world.hosts t.home.0).waiting))) (node_no m) ≡ true → has_node part.tell (node_no m) ≡ true  -- whom the Commit in its log names the home is to tell
   pub takes_up : (n : ℕ) → n < world.size → may_take_up (world.hosts n).node.setting.node (recovery (world.hosts n).log) ≡ true  -- a restart can take up the log,
-  pub unended : (n : ℕ) → n < world.size → are_unended (recovery (world.hosts n).log) ≡ true
+  pub unended : (n : ℕ) → n < world.size → are_left_open (recovery (world.hosts n).log) ≡ true
   pub kept : (n inc : ℕ) → n < world.size → world.channels.inc n < inc → kept_before (world.hosts n).node.setting.node inc (world.hosts n).node.kept.saved ≡ true  -- and what is kept for its clients

@@ -1,8 +1,10 @@
 -- What holds of one node and what it sends, in the middle of its steps too, whatever becomes of a transaction.
 use Rattle.std.specs.Prelude.{◌≡◌, ◌⊎◌, ℕ, ◌<◌, ◌≤◌, ◌==◌, Bool, true, false, not, ◌&&◌, ◌||◌, [], ◌∷◌, Option, Some, None, is_some, nat_lt, nat_le}
-use Rattle.std.specs.List.{list_all}
+use Rattle.std.specs.List.{list_all, list_any}
+use Rattle.qs_base.specs.Order.{same_tid}
 use Rattle.qs_base.specs.declared.identifiers.ClientNo.{ClientNo}
 use Rattle.qs_base.specs.declared.identifiers.NodeNo.{NodeNo}
+use Rattle.qs_base.specs.declared.identifiers.Outcome.{Outcome}
 use Rattle.qs_base.specs.declared.identifiers.Outcome.TheVariants as outcomes
 use Rattle.qs_base.specs.declared.identifiers.ServerNo.{ServerNo}
 use Rattle.qs_base.specs.declared.identifiers.Tid.{Tid}
@@ -80,11 +82,22 @@ is_tidy_outcome c decided = c.past decided.tid && same_node decided.tid.home c.s
 abbrev pub KeepsPasts : NodeValue → Type 0
 KeepsPasts node = (t : Tid) → began_here node t ≡ true → names_transaction t ≡ true → t.seq ≤ node.manager.begun → (tm.knows t node.manager || was_committed t node) ≡ true
 
+-- decided, and where that is a commit, so the log says
+abbrev pub is_settled : Option Outcome → Bool → Bool
+is_settled None logged = false
+is_settled (Some outcomes.Commit) logged = logged
+is_settled (Some outcomes.Abort) logged = true
+
+-- what began here in an earlier incarnation was taken up from the log as that
+abbrev pub KeepsEarlier : NodeValue → Type 0
+KeepsEarlier node = (t : Tid) (part : Participant) → tm.part_of t node.manager ≡ Some part → same_node t.home node.setting.node ≡ true → began_here node t ≡ false → is_settled part.outcome (list_any (same_tid t) node.committed) ≡ true
+
 pub record IsCrossed (node : NodeValue) : Type 0 where
   pub owned : keeps_owned node ≡ true
   pub commits : (t : Tid) (part : Participant) → tm.part_of t node.manager ≡ Some part → began_here node t ≡ true → part.outcome ≡ Some outcomes.Commit → was_committed t node ≡ true
   pub fresh : (t : Tid) (part : Participant) → tm.part_of t node.manager ≡ Some part → part.outcome ≡ None → kept_outcome t node ≡ None  -- what is not decided has no outcome that is kept
   pub pasts : KeepsPasts node
+  pub earlier : KeepsEarlier node
 
 -- ---- commands, servers, and the node
 
