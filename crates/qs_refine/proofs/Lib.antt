@@ -286,3 +286,5 @@ pub mod SteadyMoves
 pub mod SteadyMeets
 pub mod SteadyRises
 pub mod SteadyGives
+pub mod SteadyFrom
+pub mod ShownMoves

@@ -63,4 +63,5 @@ pub mod Tidy
 pub mod Steadies
 pub mod EachRun
 pub mod SteadyFacts
+pub mod Listed
 pub mod ShownWorlds
