@@ -79,7 +79,7 @@ from_node world n stamp m event is = by (next_parcel world n m) refl is
     by None none so = absurd (cc (so))
     by (Some parcel) found so = timely parcel found (nat_lt parcel.stamp stamp) so
 
-all_get : {A : Type 0} (p : A → Bool) (k : ℕ) (xs : List A) (x : A) → slice_get xs k ≡ Some x → list_all p xs ≡ true → p x ≡ true
+pub all_get : {A : Type 0} (p : A → Bool) (k : ℕ) (xs : List A) (x : A) → slice_get xs k ≡ Some x → list_all p xs ≡ true → p x ≡ true
 all_get p zero [] x is all = absurd (cc (is))
 all_get p zero (y ∷ xs) x is all = let same : y ≡ x = cc (is) in subst (λ z. p z ≡ true) same (and_both (p y) (list_all p xs) all).0
 all_get p (suc k) [] x is all = absurd (cc (is))

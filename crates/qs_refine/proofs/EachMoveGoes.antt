@@ -87,7 +87,7 @@ module _ (t : Tid) (world : World) (w : machine.World) (steady : IsSteady world)
     after = risen world n stamp inc (recovered_of (world.hosts n).log)
 
     goes : WorldGoes t after w
-    goes = rises t world w steady.seated home_in all.seen n stamp inc n_in off later (steady.takes_up n n_in) (steady.kept n inc n_in later)
+    goes = rises t world w steady.seated home_in all.seen n stamp inc n_in off later (steady.takes_up n n_in) (steady.kept n inc n_in off later)
 
     tests : (list_all may_vote said.prepared ≡ true) × (list_all (is_list_of node.setting.node) said.untold ≡ true)
     tests = and_both (list_all may_vote said.prepared) (list_all (is_list_of node.setting.node) said.untold) (steady.takes_up n n_in)

@@ -298,3 +298,5 @@ pub mod PassedOver
 pub mod ToCome
 pub mod BeginSteps
 pub mod EachBeginning
+pub mod SteadyFrom
+pub mod ShownMoves

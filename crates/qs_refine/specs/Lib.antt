@@ -66,4 +66,5 @@ pub mod SteadyFacts
 pub mod BeginLaws
 pub mod Lefts
 pub mod LeftLaws
+pub mod Listed
 pub mod ShownWorlds

@@ -7,6 +7,7 @@ use Rattle.qs_world.specs.World.{World}
 use Rattle.qs_agree.specs.World as machine
 use Rattle.qs_refine.specs.Begun.{has_begun}
 use Rattle.qs_refine.specs.EachMove.{ShowsAll, AllGoes, MessagesFit}
+use Rattle.qs_refine.specs.Listed.{IsListedWorld}
 use Rattle.qs_refine.specs.Steadies.{IsSteadyWorld, MachineMoves}
 
 -- ---- such a world
@@ -22,6 +23,7 @@ AllShown world = (tid : Tid) → has_begun world tid ≡ true → IsShown tid wo
 
 pub record IsShownWorld (world : World) : Type 0 where
   pub steady : IsSteadyWorld world
+  pub listed : IsListedWorld world
   pub shown : AllShown world
 
 -- ---- what it gives

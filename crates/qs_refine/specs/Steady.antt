@@ -89,14 +89,6 @@ is_fit_parcel size n m parcel = is_fit_message size n m parcel.message
 abbrev pub HasBegun : World → Tid → Type 0
 HasBegun world t = t.home.0 < world.size → world.channels.up t.home.0 ≡ true → t.inc ≡ world.channels.inc t.home.0 → t.seq ≤ (world.hosts t.home.0).node.manager.begun
 
-abbrev pub HaveBegun : World → Message → Type 0
-HaveBegun world (messages.Request tid label member number issuer op) = HasBegun world tid
-HaveBegun world (messages.Covered tid up_to) = HasBegun world tid
-HaveBegun world (messages.VotedYes tid up_to told) = HasBegun world tid
-HaveBegun world (messages.Told tid further) = HasBegun world tid
-HaveBegun world (messages.Inquire tid) = HasBegun world tid
-HaveBegun world _ = ⊤
-
 -- ---- a world
 
 abbrev pub is_line_in_run : ℕ → ScriptLine → Bool
@@ -114,9 +106,8 @@ pub record IsSteady (world : World) : Type 0 where
   pub scripts : (k : ℕ) → k < client_count → list_all (is_line_in_run world.size) (world.clients k).lines ≡ true
   pub posted : (n m i j : ℕ) → list_all (is_fit_parcel world.size n m) (world.channels.posted n m i j) ≡ true
   pub waits : (n m : ℕ) → list_all (is_fit_parcel world.size n m) (world.channels.waits n m) ≡ true
-  pub begun : (n m : ℕ) (parcel : Parcel) (before rest : List Parcel) → world.channels.posted n m (world.channels.peer m n) (world.channels.inc m) ≡ before ++ parcel ∷ rest → HaveBegun world parcel.message
   pub listed : (t : Tid) (part : Participant) → t.home.0 < world.size → world.channels.up t.home.0 ≡ true → tm.part_of t (world.hosts t.home.0).node.manager ≡ Some part → part.outcome ≡ Some outcomes.Commit
       → (m : ℕ) → names_node (list_of t (recovery ((world.hosts t.home.0).log ++ (world.hosts t.home.0).waiting))) (node_no m) ≡ true → has_node part.tell (node_no m) ≡ true  -- whom the Commit in its log names the home is to tell
   pub takes_up : (n : ℕ) → n < world.size → may_take_up (world.hosts n).node.setting.node (recovery (world.hosts n).log) ≡ true  -- a restart can take up the log,
   pub unended : (n : ℕ) → n < world.size → are_left_open (recovery (world.hosts n).log) ≡ true
-  pub kept : (n inc : ℕ) → n < world.size → world.channels.inc n < inc → kept_before (world.hosts n).node.setting.node inc (world.hosts n).node.kept.saved ≡ true  -- and what is kept for its clients
+  pub kept : (n inc : ℕ) → n < world.size → world.channels.up n ≡ false → world.channels.inc n < inc → kept_before (world.hosts n).node.setting.node inc (world.hosts n).node.kept.saved ≡ true  -- and what is kept for its clients
