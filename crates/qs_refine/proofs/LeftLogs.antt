@@ -21,7 +21,7 @@ use Rattle.qs_refine.specs.Sights.{list_of}
 use Rattle.qs_refine.specs.Sound.{has_doubt, may_take_up}
 use Rattle.qs_refine.specs.Steadies.{is_steady_record}
 use Rattle.qs_refine.proofs.Doubts.{is_doubt_of}
-use Rattle.qs_refine.proofs.SaidTidy.{log_tidy, takes_up}
+use Rattle.qs_refine.proofs.SaidTidy.{IsSaidTidy, log_tidy, takes_up}
 use Rattle.qs_refine.proofs.SoundBegin.{all_implied}
 use Rattle.qs_refine.proofs.SoundKnown.{same_is}
 use Rattle.qs_refine.proofs.SoundParts.{and_both, both_and}
@@ -201,9 +201,11 @@ module _ (o : Opening) (opens : IsOpening o) where
   steady_record n (records.End tid) is = last_so (not (names_transaction tid)) true refl
 
   -- each can be taken up
+  pub log_said : (n : ℕ) → n < o.size → IsSaidTidy (λ (tid : Tid). true) (node_no n) (recovery (o.logs n))
+  log_said n low = log_tidy (λ (tid : Tid). true) (node_no n) (o.logs n) (all_implied (is_record o n) (is_steady_record (λ (tid : Tid). true) (node_no n)) (steady_record n) (o.logs n) (each_is o.size (λ k. list_all (is_record o k) (o.logs k)) opens.logs n low))
+
   pub log_takes : (n : ℕ) → n < o.size → may_take_up (node_no n) (recovery (o.logs n)) ≡ true
-  log_takes n low = takes_up (λ (tid : Tid). true) (node_no n) (recovery (o.logs n)) (log_tidy (λ (tid : Tid). true) (node_no n) (o.logs n)
-      (all_implied (is_record o n) (is_steady_record (λ (tid : Tid). true) (node_no n)) (steady_record n) (o.logs n) (each_is o.size (λ k. list_all (is_record o k) (o.logs k)) opens.logs n low)))
+  log_takes n low = takes_up (λ (tid : Tid). true) (node_no n) (recovery (o.logs n)) (log_said n low)
 
   -- where the home's log has a Commit, who is in doubt is still to be told
   pub doubt_told : (tid : Tid) (n : ℕ) → tid.home.0 < o.size → n < o.size → list_any (same_tid tid) (recovery (o.logs tid.home.0)).committed ≡ true → has_doubt tid (recovery (o.logs n)) ≡ true

@@ -68,6 +68,20 @@ taken_of t home said m false true untold found part known = record {
     by false off decided = let both : None ≡ Some outcomes.Commit = sym (found.2.bare.unknown off) ∙ (sym (ap (λ (p : Participant). p.outcome) its) ∙ decided) in cc (both)
 taken_of t home said m false false untold none part known = absurd (let both : None ≡ Some part = sym none ∙ known in cc (both))
 
+-- ---- settings
+
+module _ (o : Opening) (opens : IsOpening o) where
+  fits : (n : ℕ) → n < o.size → ((o.settings n).node.0 ≡ n) × (1 ≤ (o.settings n).inc)
+  fits n low =
+      let is : is_setting o.size n (o.settings n) ≡ true = each_is o.size (λ n. is_setting o.size n (o.settings n)) opens.settings n low in
+      let both : ((((o.settings n).node.0 == n) && ((o.settings n).nodes == o.size)) ≡ true) × _ = and_both (((o.settings n).node.0 == n) && ((o.settings n).nodes == o.size)) _ is in
+      (eqb-true (o.settings n).node.0 n (and_both ((o.settings n).node.0 == n) ((o.settings n).nodes == o.size) both.0).0, grind (arith, nat_tests, (and_both (nat_lt 0 (o.settings n).inc) _ both.1).0))
+
+  pub placed : (n : ℕ) → n < o.size → (o.settings n).node ≡ node_no n
+  placed n low = ap node_no (fits n low).0
+
+-- ---- all that is seen, and known
+
 module _ (tid : Tid) (o : Opening) (opens : IsOpening o) (numbered : names_transaction tid ≡ true) (home_in : tid.home.0 < o.size) (past : tid.inc < (o.settings tid.home.0).inc) where
   abbrev world : World
   world = start o
@@ -81,17 +95,6 @@ module _ (tid : Tid) (o : Opening) (opens : IsOpening o) (numbered : names_trans
   abbrev node : ℕ → NodeValue
   node n = (world.hosts n).node
 
-  -- ---- settings
-
-  fits : (n : ℕ) → n < o.size → ((o.settings n).node.0 ≡ n) × (1 ≤ (o.settings n).inc)
-  fits n low =
-      let is : is_setting o.size n (o.settings n) ≡ true = each_is o.size (λ n. is_setting o.size n (o.settings n)) opens.settings n low in
-      let both : ((((o.settings n).node.0 == n) && ((o.settings n).nodes == o.size)) ≡ true) × _ = and_both (((o.settings n).node.0 == n) && ((o.settings n).nodes == o.size)) _ is in
-      (eqb-true (o.settings n).node.0 n (and_both ((o.settings n).node.0 == n) ((o.settings n).nodes == o.size) both.0).0, grind (arith, nat_tests, (and_both (nat_lt 0 (o.settings n).inc) _ both.1).0))
-
-  placed : (n : ℕ) → n < o.size → (o.settings n).node ≡ node_no n
-  placed n low = ap node_no (fits n low).0
-
   small : o.size ≤ 16
   small = grind (arith, nat_tests, (and_both (nat_le 1 o.size) (nat_le o.size 16) opens.size).1)
 
@@ -102,10 +105,10 @@ module _ (tid : Tid) (o : Opening) (opens : IsOpening o) (numbered : names_trans
   like n = record (node n) { manager = record (node n).manager { alloc = o.alloc }; kept = kept_as no_kept }
 
   takes : (n : ℕ) → n < o.size → Rattle.qs_refine.specs.Sound.may_take_up (o.settings n).node (said n) ≡ true
-  takes n low = subst (λ (m : NodeNo). Rattle.qs_refine.specs.Sound.may_take_up m (said n) ≡ true) (sym (placed n low)) (log_takes o opens n low)
+  takes n low = subst (λ (m : NodeNo). Rattle.qs_refine.specs.Sound.may_take_up m (said n) ≡ true) (sym (placed o opens n low)) (log_takes o opens n low)
 
   its_face : (n : ℕ) → n < o.size → IsRisenFace tid n (said n) (face_at (node n) tid)
-  its_face n low = risen_face tid n (o.settings n).inc (o.logs n) (like n) numbered (placed n low) (λ at. subst (λ (k : ℕ). tid.inc < (o.settings k).inc) at past) (takes n low) refl
+  its_face n low = risen_face tid n (o.settings n).inc (o.logs n) (like n) numbered (placed o opens n low) (λ at. subst (λ (k : ℕ). tid.inc < (o.settings k).inc) at past) (takes n low) refl
 
   -- ---- all that is seen
 
@@ -133,7 +136,7 @@ module _ (tid : Tid) (o : Opening) (opens : IsOpening o) (numbered : names_trans
   tests n low = and_both (list_all may_vote (said n).prepared) (list_all (is_list_of (o.settings n).node) (said n).untold) (takes n low)
 
   home_is : (n : ℕ) → n < o.size → same_node tid.home (o.settings n).node ≡ (tid.home.0 == n)
-  home_is n low = rw (placed n low) refl
+  home_is n low = rw (placed o opens n low) refl
 
   taken : (n : ℕ) → n < o.size → (part : Participant) → tm.part_of tid (node n).manager ≡ Some part → IsTakenOf tid (said n) part
   taken n low part known = taken_of tid (tid.home.0 == n) (said n) (node n).manager (list_any (is_untold_of tid) (said n).untold) (has_doubt tid (said n)) refl
@@ -163,7 +166,7 @@ module _ (tid : Tid) (o : Opening) (opens : IsOpening o) (numbered : names_trans
   opening_shows_all = record {
     seen = record {
       lawful = reopens_lawful tid x opening_left;
-      placed = reopens_placed tid x opening_left (λ k low. (fits k low).1);
+      placed = reopens_placed tid x opening_left (λ k low. (fits o opens k low).1);
       shown = left_shown tid x opening_left;
       closes = λ n low up. tt;
     };

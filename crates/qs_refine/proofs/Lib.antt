@@ -300,3 +300,4 @@ pub mod BeginSteps
 pub mod EachBeginning
 pub mod SteadyFrom
 pub mod ShownMoves
+pub mod ShownBegins

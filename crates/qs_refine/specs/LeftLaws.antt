@@ -9,6 +9,7 @@ use Rattle.qs_agree.specs.Origins as origins
 use Rattle.qs_refine.specs.EachMove.{ShowsAll}
 use Rattle.qs_refine.specs.Lefts.{IsLeft, reopening_seen}
 use Rattle.qs_refine.specs.RiseLaws.{ArePlaced}
+use Rattle.qs_refine.specs.ShownWorlds.{AllShown}
 use Rattle.qs_refine.specs.Shows.{scene_of, sight}
 use Rattle.qs_refine.specs.Sights.{Sight, ShowsSight}
 
@@ -36,3 +37,7 @@ OpeningLeft = (tid : Tid) (o : Opening) → IsOpening o → names_transaction ti
 abbrev pub OpeningShown : Type 0
 OpeningShown = (tid : Tid) (o : Opening) → IsOpening o → names_transaction tid ≡ true → tid.home.0 < o.size → tid.inc < (o.settings tid.home.0).inc
     → ShowsAll tid (start o) (origins.reopened (reopening_seen tid (sight tid (scene_of (start o)))))
+
+-- so every transaction that has begun is shown as a world begins
+abbrev pub StartAllShown : Type 0
+StartAllShown = (o : Opening) → IsOpening o → AllShown (start o)

@@ -1,6 +1,7 @@
 //! A transaction whose number is still to be given, and the move in which it begins.
 ghost use Rattle.qs_refine.specs.BeginLaws.{UnbegunUnseen, UnbegunShown, PassedShown, EachBegins};
-ghost use Rattle.qs_refine.specs.LeftLaws.{LeftShown, LeftReopens, LeftLawful, LeftPlaced, OpeningLeft, OpeningShown};
+ghost use Rattle.qs_refine.specs.ShownWorlds.{EachBegunShown};
+ghost use Rattle.qs_refine.specs.LeftLaws.{LeftShown, LeftReopens, LeftLawful, LeftPlaced, OpeningLeft, OpeningShown, StartAllShown};
 
 /// Until its home has given a transaction its number nothing is seen of it, and the agreement machine at its start shows it; after
 /// each move that is still so, or what that start leads to shows it.
@@ -9,6 +10,7 @@ pub fn each_begins()
     ensures shown { UnbegunShown }
     ensures passed { PassedShown }
     ensures moves { EachBegins }
+    ensures worlds { EachBegunShown }
 {}
 
 /// Where nothing but logs speaks of a transaction of an earlier incarnation of its home, the agreement machine begins over them, shows
@@ -25,4 +27,5 @@ pub fn lefts()
 pub fn openings()
     ensures left { OpeningLeft }
     ensures shown { OpeningShown }
+    ensures all { StartAllShown }
 {}

@@ -1,5 +1,6 @@
 use Rattle.qs_refine.proofs.EachBeginning.{each_begins}
 use Rattle.qs_refine.proofs.PassedOver.{w, passed_shows_all}
+use Rattle.qs_refine.proofs.ShownBegins.{each_begun_shown}
 use Rattle.qs_refine.proofs.UnseenWorlds.{world_unseen, start_shows_all}
 use Rattle.qs_refine.proofs.begins.each_begins.Goals as goal
 
@@ -9,4 +10,5 @@ returns c = record {
   shown = λ tid world steady is up now. start_shows_all tid world steady is.numbered is.home_in is.unknown up now;
   passed = λ tid world stamp inc steady is down later past. (w tid world steady is.numbered is.home_in is.unknown stamp inc down later past, ((passed_shows_all tid world steady is.numbered is.home_in is.unknown stamp inc down later past).seen.lawful, passed_shows_all tid world steady is.numbered is.home_in is.unknown stamp inc down later past));
   moves = each_begins;
+  worlds = each_begun_shown;
 }
