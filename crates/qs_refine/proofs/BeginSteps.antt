@@ -30,7 +30,6 @@ use Rattle.qs_refine.specs.Tidy.{IsTidy, is_tidy_record}
 use Rattle.qs_refine.proofs.BegunStep.{begins_come}
 use Rattle.qs_refine.proofs.EachEvent.{StepCame}
 use Rattle.qs_refine.proofs.EachMay.{from_client, from_node, from_notice}
-use Rattle.qs_refine.proofs.EachMoves.{goes_all, kept_same}
 use Rattle.qs_refine.proofs.Moving.{inc_taken, up_taken}
 use Rattle.qs_refine.proofs.Posted.{inc_all, up_all}
 use Rattle.qs_refine.proofs.Starting as starting
@@ -39,7 +38,7 @@ use Rattle.qs_refine.proofs.SteadyGives.{none_any}
 use Rattle.qs_refine.proofs.SteadyGrows.{begun_past}
 use Rattle.qs_refine.proofs.SteadyMays.{event_fits}
 use Rattle.qs_refine.proofs.SteadySteps.{d, bump, step_tidy}
-use Rattle.qs_refine.proofs.StepAll.{stays_stopped, node_stopped, step_goes_on, cut_goes_on}
+use Rattle.qs_refine.proofs.StepAll.{goes_all, kept_same, stays_stopped, node_stopped, step_goes_on, cut_goes_on}
 use Rattle.qs_refine.proofs.StepMoves.{stops, cut}
 use Rattle.qs_refine.proofs.StillSteps.{begins_in, step_still}
 use Rattle.qs_refine.proofs.UnseenWorlds.{started, may_begin, start_shows_all, fit_apart}

@@ -33,12 +33,13 @@ use Rattle.qs_refine.proofs.ClosedKept.{closed_commit}
 use Rattle.qs_refine.proofs.EachFits.{own_fits}
 use Rattle.qs_refine.proofs.EachHears.{first}
 use Rattle.qs_refine.proofs.EachMay.{is_next, is_fit}
-use Rattle.qs_refine.proofs.EachMoves.{StaysAt, TellsAt, kept_same, goes_all, halted, node_halted, step_goes_on, cut_goes_on}
+use Rattle.qs_refine.proofs.EachMoves.{step_goes_on, cut_goes_on}
 use Rattle.qs_refine.proofs.Facts.{invariant}
 use Rattle.qs_refine.proofs.LaterWorlds.{commit_stays}
 use Rattle.qs_refine.proofs.MoveGoes.{in_run, later_in, StepMay, step_may, rises, meets}
 use Rattle.qs_refine.proofs.RisenFaces.{lists_from}
 use Rattle.qs_refine.proofs.SoundParts.{and_both}
+use Rattle.qs_refine.proofs.StepAll.{StaysAt, TellsAt, kept_same, goes_all, stays_stopped, node_stopped}
 use Rattle.qs_refine.proofs.StepMoves.{stops}
 use Rattle.qs_refine.proofs.TakingUp.{Known, log_taken}
 use Rattle.qs_refine.proofs.TurnRecords.{nobody}
@@ -227,8 +228,8 @@ each_move_goes t world (Stop n stamp cause) w may steady fits home_in began all 
     let runs = and_both (world.channels.up n) _ may in
     let goes = stops t world w steady.seated home_in all.seen n stamp cause (world.hosts n).log [] (in_run world n stamp (and_both (is_in_order world n stamp) _ runs.1).0) runs.0 refl tt in
     goes_all t world w home_in all (stopped world n stamp cause (world.hosts n).log) refl goes
-    (kept_same t world (stopped world n stamp cause (world.hosts n).log) w goes.next all goes.leads (node_halted t world w steady fits home_in began all n stamp cause (world.hosts n).log t.home.0))
-    (λ k k_in up. inl (halted t world w steady fits home_in began all n stamp cause (world.hosts n).log k up))
+    (kept_same t world (stopped world n stamp cause (world.hosts n).log) w goes.next all goes.leads (node_stopped world n stamp cause (world.hosts n).log t.home.0))
+    (λ k k_in up. inl (stays_stopped world n stamp cause (world.hosts n).log k up))
 each_move_goes t world (Rise n stamp inc) w may steady fits home_in began all = rise_goes_on t world w steady fits home_in began all n stamp inc (in_run world n stamp order.0) (off (world.channels.up n) both.0) (grind (arith, nat_tests, order.1))
   where
     off : (b : Bool) → not b ≡ true → b ≡ false

@@ -265,7 +265,8 @@ pub mod EachMay
 pub mod MayCount
 pub mod EachEvent
 pub mod EachStep
-pub mod EachGoes
+pub mod StepJoined
+pub mod StepAll
 pub mod EachMoves
 pub mod ClosedKept
 pub mod EachMoveGoes
@@ -287,8 +288,6 @@ pub mod SteadyMeets
 pub mod SteadyRises
 pub mod SteadyGives
 pub mod UnseenWorlds
-pub mod StepJoined
-pub mod StepAll
 pub mod BegunStep
 pub mod Reopening
 pub mod LeftLogs

@@ -22,10 +22,10 @@ use Rattle.qs_world.specs.World.{World}
 use Rattle.qs_agree.specs.World as machine
 use Rattle.qs_agree.specs.World.{Committed}
 use Rattle.qs_agree.specs.Carry.{Leads}
-use Rattle.qs_refine.specs.EachMove.{ShowsAll, AllGoes, KeepsDecided}
+use Rattle.qs_refine.specs.EachMove.{ShowsOutcome, ShowsAll, AllGoes, KeepsDecided}
 use Rattle.qs_refine.specs.Faces.{Face}
 use Rattle.qs_refine.specs.Links.{node_no}
-use Rattle.qs_refine.specs.MoveLaws.{WorldGoes, StepShown}
+use Rattle.qs_refine.specs.MoveLaws.{ShowsWorld, WorldGoes, StepShown}
 use Rattle.qs_refine.specs.NodeFaces.{outcome_seen}
 use Rattle.qs_refine.specs.Places.{place}
 use Rattle.qs_refine.specs.SaidLaws.{BeginsNew}
@@ -36,7 +36,6 @@ use Rattle.qs_refine.specs.Stands.{Stands}
 use Rattle.qs_refine.specs.Steady.{IsSteady}
 use Rattle.qs_refine.proofs.EachCame.{case_of}
 use Rattle.qs_refine.proofs.EachEvent.{StepCame}
-use Rattle.qs_refine.proofs.EachMoves.{StaysAt, TellsAt, kept_same, goes_all}
 use Rattle.qs_refine.proofs.Heads.{face_is}
 use Rattle.qs_refine.proofs.LaterWorlds.{commit_stays, acks_on, committed_is}
 use Rattle.qs_refine.proofs.Moving.{inc_taken, up_taken}
@@ -45,6 +44,51 @@ use Rattle.qs_refine.proofs.SoundHolds.{known_sound}
 use Rattle.qs_refine.proofs.StepJoined as joined
 use Rattle.qs_refine.proofs.StepMoves.{whole, whole_next, cut}
 use Rattle.qs_refine.proofs.TurnOn.{Turned, same_outcome, became, fate_found, fate_at}
+
+-- ---- what nodes know of the commit, after a move
+
+-- a node that runs keeps what it knew
+pub record StaysAt (world after : World) (k : ℕ) : Type 0 where
+  pub manager : (after.hosts k).node.manager ≡ (world.hosts k).node.manager
+  pub up : world.channels.up k ≡ true
+  pub inc : after.channels.inc k ≡ world.channels.inc k
+
+-- or what it knows then the machine has
+pub record TellsAt (t : Tid) (after : World) (k : ℕ) (v : machine.World) : Type 0 where
+  pub learnt : (part : Participant) → tm.part_of t (after.hosts k).node.manager ≡ Some part → part.outcome ≡ Some outcomes.Commit → v.cell ≡ Committed
+  pub acknowledged : k ≡ t.home.0 → (part : Participant) → tm.part_of t (after.hosts k).node.manager ≡ Some part → (m : ℕ) → has_node part.acknowledged (node_no m) ≡ true → v.acknowledged m ≡ true
+
+module _ (t : Tid) (world : World) (w : machine.World) (home_in : t.home.0 < world.size) (all : ShowsAll t world w) (after : World) (v : machine.World) (leads : Leads w v) (sized : after.size ≡ world.size) (shown : ShowsWorld t after v) (then_kept : KeepsDecided t after v)
+    (each_node : (k : ℕ) → k < world.size → after.channels.up k ≡ true → StaysAt world after k ⊎ TellsAt t after k v) where
+  outcome_on : ShowsOutcome t after v
+  outcome_on = record {
+    learnt = λ k part k_in up known decided. learnt k part known decided (subst (λ (s : ℕ). k < s) sized k_in) (each_node k (subst (λ (s : ℕ). k < s) sized k_in) up);
+    acknowledged = λ part up known m has. acked part known m has (each_node t.home.0 home_in up);
+  }
+    where
+      learnt : (k : ℕ) (part : Participant) → tm.part_of t (after.hosts k).node.manager ≡ Some part → part.outcome ≡ Some outcomes.Commit → k < world.size → StaysAt world after k ⊎ TellsAt t after k v → v.cell ≡ Committed
+      learnt k part known decided k_in (inl stays) = commit_stays w v all.seen.lawful leads (all.outcome.learnt k part k_in stays.up (ap (tm.part_of t) (sym stays.manager) ∙ known) decided)
+      learnt k part known decided k_in (inr tells) = tells.learnt part known decided
+
+      acked : (part : Participant) → tm.part_of t (after.hosts t.home.0).node.manager ≡ Some part → (m : ℕ) → has_node part.acknowledged (node_no m) ≡ true → StaysAt world after t.home.0 ⊎ TellsAt t after t.home.0 v → v.acknowledged m ≡ true
+      acked part known m has (inl stays) = acks_on t (sight t (scene_of world)) (sight t (scene_of after)) w v home_in (subst (λ (s : ℕ). t.home.0 < s) (sym sized) home_in) stays.inc all.seen.shown.stage shown.shown.stage leads m
+          (all.outcome.acknowledged part stays.up (ap (tm.part_of t) (sym stays.manager) ∙ known) m has)
+      acked part known m has (inr tells) = tells.acknowledged refl part known m has
+
+  pub all_goes : AllGoes t after w
+  all_goes = record { next = v; leads = leads; shown = record { seen = shown; outcome = outcome_on; kept = then_kept } }
+
+-- what the home's node keeps stays decided, where its node is the same
+pub kept_same : (t : Tid) (world after : World) (w v : machine.World) → ShowsAll t world w → Leads w v → (after.hosts t.home.0).node ≡ (world.hosts t.home.0).node → KeepsDecided t after v
+kept_same t world after w v all leads same = record {
+  now = λ is. commit_stays w v all.seen.lawful leads (all.kept.now (subst (λ (node : NodeValue). was_committed t node ≡ true) same is));
+  saved = λ is. commit_stays w v all.seen.lawful leads (all.kept.saved (subst (λ (node : NodeValue). is_kept_commit (find (is_outcome_of t) node.kept.saved.outcomes) ≡ true) same is));
+}
+
+-- what the world goes on to
+pub goes_all : (t : Tid) (world : World) (w : machine.World) (home_in : t.home.0 < world.size) (all : ShowsAll t world w) (after : World) (sized : after.size ≡ world.size) (goes : WorldGoes t after w) → KeepsDecided t after goes.next
+    → ((k : ℕ) → k < world.size → after.channels.up k ≡ true → StaysAt world after k ⊎ TellsAt t after k goes.next) → AllGoes t after w
+goes_all t world w home_in all after sized goes then_kept each_node = all_goes t world w home_in all after goes.next goes.leads sized goes.shown then_kept each_node
 
 -- ---- a node stops: the others stay, and so does what it keeps
 
