@@ -41,38 +41,9 @@ use Rattle.qs_refine.proofs.RisenFaces.{lists_from}
 use Rattle.qs_refine.proofs.SoundParts.{and_both}
 use Rattle.qs_refine.proofs.StepAll.{StaysAt, TellsAt, kept_same, goes_all, stays_stopped, node_stopped}
 use Rattle.qs_refine.proofs.StepMoves.{stops}
+use Rattle.qs_refine.proofs.TakenOf.{IsTakenOf, taken_of, list_home}
 use Rattle.qs_refine.proofs.TakingUp.{Known, log_taken}
 use Rattle.qs_refine.proofs.TurnRecords.{nobody}
-
--- ---- what a node takes up of a transaction from its log
-
-pub record TakesUp (t : Tid) (said : Recovery) (part : Participant) : Type 0 where
-  pub committed : part.outcome ≡ Some outcomes.Commit → list_any (is_untold_of t) said.untold ≡ true
-  pub nobody : part.acknowledged ≡ no_nodes
-
-taken_part : (t : Tid) (home : Bool) (said : Recovery) (m : Manager) (a b : Bool) → list_any (is_untold_of t) said.untold ≡ a → Known t home a b m → (home ≡ false → a ≡ false) → (part : Participant) → tm.part_of t m ≡ Some part → TakesUp t said part
-taken_part t home said m true b untold found away part known = record {
-  committed = λ _. untold;
-  nobody = ap (λ (p : Participant). p.acknowledged) (one part (committed_before home found.0) (sym known ∙ found.1));
-}
-  where
-    one : (p q : Participant) → Some p ≡ Some q → p ≡ q
-    one p q is = cc (is)
-taken_part t home said m false true untold found away part known = record {
-  committed = λ decided. absurd (by home refl decided);
-  nobody = ap (λ (p : Participant). p.acknowledged) its ∙ found.2.bare.acknowledged;
-}
-  where
-    one : (p q : Participant) → Some p ≡ Some q → p ≡ q
-    one p q is = cc (is)
-
-    its : part ≡ found.0
-    its = one part found.0 (sym known ∙ found.1)
-
-    by : (h : Bool) → home ≡ h → part.outcome ≡ Some outcomes.Commit → ⊥
-    by true at decided = let both : Some outcomes.Abort ≡ Some outcomes.Commit = sym (found.2.aborted at) ∙ (sym (ap (λ (p : Participant). p.outcome) its) ∙ decided) in cc (both)
-    by false off decided = let both : None ≡ Some outcomes.Commit = sym (found.2.bare.unknown off) ∙ (sym (ap (λ (p : Participant). p.outcome) its) ∙ decided) in cc (both)
-taken_part t home said m false false untold none away part known = absurd (let both : None ≡ Some part = sym none ∙ known in cc (both))
 
 module _ (t : Tid) (world : World) (w : machine.World) (steady : IsSteady world) (fits : MessagesFit world) (home_in : t.home.0 < world.size) (began : HasBegun world t) (all : ShowsAll t world w) where
   -- ---- a restart
@@ -96,34 +67,18 @@ module _ (t : Tid) (world : World) (w : machine.World) (steady : IsSteady world)
     home_is : same_node t.home node.setting.node ≡ (t.home.0 == n)
     home_is = rw (steady.seated.node n n_in) refl
 
-    -- a Commit that is still to be told is of the home
-    at_home : (untold : List Untold) → list_all (is_list_of node.setting.node) untold ≡ true → list_any (is_untold_of t) untold ≡ true → (t.home.0 == n) ≡ true
-    at_home [] lists some = absurd (cc (some))
-    at_home (c ∷ rest) lists some = by (is_untold_of t c) refl some (at_home rest both.1)
-      where
-        both : (same_node c.tid.home node.setting.node ≡ true) × (list_all (is_list_of node.setting.node) rest ≡ true)
-        both = and_both (same_node c.tid.home node.setting.node) (list_all (is_list_of node.setting.node) rest) lists
-
-        by : (b : Bool) → is_untold_of t c ≡ b → (b || list_any (is_untold_of t) rest) ≡ true → (list_any (is_untold_of t) rest ≡ true → (t.home.0 == n) ≡ true) → (t.home.0 == n) ≡ true
-        by true its so more = sym home_is ∙ subst (λ (u : Tid). same_node u.home node.setting.node ≡ true) (Rattle.qs_refine.proofs.SoundKnown.same_is c.tid t its) both.0
-        by false its so more = more so
-
     known_then : Known t (t.home.0 == n) (list_any (is_untold_of t) said.untold) (has_doubt t said) (reopened inc (recovered_of (world.hosts n).log) node).manager
     known_then = log_taken t (t.home.0 == n) all.seen.shown.stage.numbered said (new_manager node.manager.alloc (record node.setting { inc = inc })) tests.0 (lists_from t (world.hosts n).log nothing_said refl) home_is refl
 
-    taken : (part : Participant) → tm.part_of t (reopened inc (recovered_of (world.hosts n).log) node).manager ≡ Some part → TakesUp t said part
-    taken part known = taken_part t (t.home.0 == n) said (reopened inc (recovered_of (world.hosts n).log) node).manager (list_any (is_untold_of t) said.untold) (has_doubt t said) refl known_then (λ away. none (list_any (is_untold_of t) said.untold) refl away) part known
-      where
-        none : (b : Bool) → list_any (is_untold_of t) said.untold ≡ b → (t.home.0 == n) ≡ false → b ≡ false
-        none true some away = absurd (let here = at_home said.untold tests.1 some in cc (here, away))
-        none false some away = refl
+    taken : (part : Participant) → tm.part_of t (reopened inc (recovered_of (world.hosts n).log) node).manager ≡ Some part → IsTakenOf t said part
+    taken part known = taken_of t (t.home.0 == n) said (reopened inc (recovered_of (world.hosts n).log) node).manager (list_any (is_untold_of t) said.untold) (has_doubt t said) refl known_then part known
 
     -- a Commit in the home's log was decided
     logged_cell : list_any (is_untold_of t) said.untold ≡ true → w.cell ≡ Committed
     logged_cell some = (invariant w all.seen.lawful).outcomes.logged ((invariant w all.seen.lawful).outcomes.stands ((all.seen.shown.logs n n_in).unended (sym at_n) ∙ some))
       where
         at_n : t.home.0 ≡ n
-        at_n = eqb-true t.home.0 n (at_home said.untold tests.1 some)
+        at_n = eqb-true t.home.0 n (list_home t n node.setting.node home_is said.untold tests.1 some)
 
     host_at : (k : ℕ) (b : Bool) → (k == n) ≡ b → (after.hosts k).node.manager ≡ (if b then (reopened inc (recovered_of (world.hosts n).log) node).manager else (world.hosts k).node.manager)
     host_at k b is = picked (k == n) b is

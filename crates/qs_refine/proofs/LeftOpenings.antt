@@ -36,37 +36,8 @@ use Rattle.qs_refine.proofs.Reopening.{over_logs, left_shown, reopens_lawful, re
 use Rattle.qs_refine.proofs.RisenFaces.{risen_face, lists_from}
 use Rattle.qs_refine.proofs.SoundParts.{and_both}
 use Rattle.qs_refine.proofs.StartWorlds.{nobody}
-use Rattle.qs_refine.proofs.TakingUp.{Known, log_taken}
-
--- ---- what a node takes up of a transaction: nobody has acknowledged, and a commit is one of its log
-
-pub record IsTakenOf (t : Tid) (said : Recovery) (part : Participant) : Type 0 where
-  pub committed : part.outcome ≡ Some outcomes.Commit → list_any (is_untold_of t) said.untold ≡ true
-  pub nobody : part.acknowledged ≡ no_nodes
-
-taken_of : (t : Tid) (home : Bool) (said : Recovery) (m : Manager) (a b : Bool) → list_any (is_untold_of t) said.untold ≡ a → Known t home a b m → (part : Participant) → tm.part_of t m ≡ Some part → IsTakenOf t said part
-taken_of t home said m true b untold found part known = record {
-  committed = λ _. untold;
-  nobody = ap (λ (p : Participant). p.acknowledged) (one part (committed_before home found.0) (sym known ∙ found.1));
-}
-  where
-    one : (p q : Participant) → Some p ≡ Some q → p ≡ q
-    one p q is = cc (is)
-taken_of t home said m false true untold found part known = record {
-  committed = λ decided. absurd (by home refl decided);
-  nobody = ap (λ (p : Participant). p.acknowledged) its ∙ found.2.bare.acknowledged;
-}
-  where
-    one : (p q : Participant) → Some p ≡ Some q → p ≡ q
-    one p q is = cc (is)
-
-    its : part ≡ found.0
-    its = one part found.0 (sym known ∙ found.1)
-
-    by : (h : Bool) → home ≡ h → part.outcome ≡ Some outcomes.Commit → ⊥
-    by true at decided = let both : Some outcomes.Abort ≡ Some outcomes.Commit = sym (found.2.aborted at) ∙ (sym (ap (λ (p : Participant). p.outcome) its) ∙ decided) in cc (both)
-    by false off decided = let both : None ≡ Some outcomes.Commit = sym (found.2.bare.unknown off) ∙ (sym (ap (λ (p : Participant). p.outcome) its) ∙ decided) in cc (both)
-taken_of t home said m false false untold none part known = absurd (let both : None ≡ Some part = sym none ∙ known in cc (both))
+use Rattle.qs_refine.proofs.TakenOf.{IsTakenOf, taken_of, list_home}
+use Rattle.qs_refine.proofs.TakingUp.{log_taken}
 
 -- ---- settings
 
@@ -142,17 +113,6 @@ module _ (tid : Tid) (o : Opening) (opens : IsOpening o) (numbered : names_trans
   taken n low part known = taken_of tid (tid.home.0 == n) (said n) (node n).manager (list_any (is_untold_of tid) (said n).untold) (has_doubt tid (said n)) refl
       (log_taken tid (tid.home.0 == n) numbered (said n) (new_manager o.alloc (o.settings n)) (tests n low).0 (lists_from tid (o.logs n) nothing_said refl) (home_is n low) refl) part known
 
-  at_home : (n : ℕ) → n < o.size → (commits : List Untold) → list_all (is_list_of (o.settings n).node) commits ≡ true → list_any (is_untold_of tid) commits ≡ true → (tid.home.0 == n) ≡ true
-  at_home n low [] all some = absurd (cc (some))
-  at_home n low (c ∷ commits) all some = by (is_untold_of tid c) refl some (at_home n low commits both.1)
-    where
-      both : (same_node c.tid.home (o.settings n).node ≡ true) × (list_all (is_list_of (o.settings n).node) commits ≡ true)
-      both = and_both (same_node c.tid.home (o.settings n).node) (list_all (is_list_of (o.settings n).node) commits) all
-
-      by : (b : Bool) → is_untold_of tid c ≡ b → (b || list_any (is_untold_of tid) commits) ≡ true → (list_any (is_untold_of tid) commits ≡ true → (tid.home.0 == n) ≡ true) → (tid.home.0 == n) ≡ true
-      by true its so more = sym (home_is n low) ∙ subst (λ (u : Tid). same_node u.home (o.settings n).node ≡ true) (Rattle.qs_refine.proofs.SoundKnown.same_is c.tid tid its) both.0
-      by false its so more = more so
-
   logged_cell : list_any (same_tid tid) (said tid.home.0).committed ≡ true → w.cell ≡ Committed
   logged_cell is = picked (list_any (same_tid tid) (said tid.home.0).committed) is
     where
@@ -160,7 +120,7 @@ module _ (tid : Tid) (o : Opening) (opens : IsOpening o) (numbered : names_trans
       picked b is = rw is refl
 
   learnt : (n : ℕ) → n < o.size → list_any (is_untold_of tid) (said n).untold ≡ true → w.cell ≡ Committed
-  learnt n low untold = logged_cell (untold_logged tid numbered (o.logs tid.home.0) (subst (λ (k : ℕ). list_any (is_untold_of tid) (said k).untold ≡ true) (sym (eqb-true tid.home.0 n (at_home n low (said n).untold (tests n low).1 untold))) untold))
+  learnt n low untold = logged_cell (untold_logged tid numbered (o.logs tid.home.0) (subst (λ (k : ℕ). list_any (is_untold_of tid) (said k).untold ≡ true) (sym (eqb-true tid.home.0 n (list_home tid n (o.settings n).node (home_is n low) (said n).untold (tests n low).1 untold))) untold))
 
   pub opening_shows_all : ShowsAll tid world w
   opening_shows_all = record {

@@ -269,6 +269,7 @@ pub mod StepJoined
 pub mod StepAll
 pub mod EachMoves
 pub mod ClosedKept
+pub mod TakenOf
 pub mod EachMoveGoes
 pub mod EachRunGoes
 pub mod TurnRecords
