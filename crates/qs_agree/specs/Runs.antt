@@ -1,6 +1,7 @@
 -- Whole runs, so that what is said of every run is not empty.
-use Rattle.std.specs.Prelude.{◌≡◌, ℕ, ◌+◌, ◌==◌, true, false, List, [], ◌∷◌, if◌then◌else◌}
+use Rattle.std.specs.Prelude.{◌≡◌, ℕ, ◌+◌, ◌==◌, Bool, true, false, List, [], ◌∷◌, if◌then◌else◌}
 use Rattle.qs_agree.specs.World.{Committed, Aborted, Class, Recoverable, Volatile, OnePhase, Activity, World, Opening, IsOpening, start}
+use Rattle.qs_agree.specs.Origins.{Reopening, IsReopening, reopened}
 use Rattle.qs_agree.specs.Step.{Event, Abort, Abort_logged, Acknowledge, Answer_abort, Answer_commit, Ask, Checkpoint, Commit, Commit_cut, Count, Cover, Crash, Drop_engage, End, Engage, Force, Inquire, Inquire_lost, Issue, Issue_local, Join, Learn, Learn_abort, Learn_cut, Learn_home, Lend, Meet, Name_again, Notice, Restart, Restart_home, Restart_in_doubt, Serve, Serve_told, Take_names, Take_told, Tell, Tell_abort, Vote_recoverable, Vote_volatile, Yes, Yield}
 use Rattle.qs_agree.specs.Laws.{Run}
 
@@ -94,3 +95,50 @@ pub record CutCommit : Type 0 where
   pub cell : new.cell ≡ Committed
   pub learnt : (new.learnt_commit 0 ≡ true) × (new.learnt_commit 1 ≡ true)
   pub logs : (new.commit_logged ≡ false) × (new.unended ≡ false) × (new.prepared 1 0 ≡ false)
+
+-- ---- what an earlier run left: the home's node has restarted as place 5, and the others as 6 to 8; node 1 has a vote in doubt, and the home's log a Commit that names nodes 1 and 2, or none
+
+abbrev pub left_over : Bool → Reopening
+left_over committed = record {
+  node = node_of;
+  class = class_of;
+  home = 1;
+  present = λ n. n + 5;
+  up = λ p. p == node_of p + 5;
+  peer = λ p m. 0;
+  prepared = λ n s. if n == 1 then s == 0 else false;
+  doubts = λ n. n == 1;
+  committed = committed;
+  unended = committed;
+  list = λ n. if n == 1 then true else n == 2;
+}
+
+-- The Commit is told, and node 1 asks too. It learns the commit, and takes the answer for a Tell that came again. Node 2 knows nothing of the transaction. Both acknowledge, and the Commit is ended.
+abbrev pub left_commit : List Event
+left_commit =
+    Meet 5 6 ∷ Meet 6 5 ∷ Tell 5 1 ∷ Inquire 6 ∷ Learn 6 ∷ Answer_commit 5 6 ∷ Acknowledge 6 ∷ Take_told 5 6
+    ∷ Meet 5 7 ∷ Meet 7 5 ∷ Tell 5 2 ∷ Acknowledge 7 ∷ Take_told 5 7 ∷ End 5 ∷ []
+
+-- it leads to a commit with nothing left in doubt
+pub record LeftCommit : Type 0 where
+  pub opens : IsReopening (left_over true)
+  pub new : World
+  pub run : Run (reopened (left_over true)) left_commit new
+  pub cell : new.cell ≡ Committed
+  pub learnt : (new.learnt_commit 1 ≡ true) × (new.outcome 6 ≡ Committed)
+  pub acknowledged : (new.acknowledged 1 ≡ true) × (new.acknowledged 2 ≡ true)
+  pub ended : (new.unended ≡ false) × (new.prepared 1 0 ≡ false)
+
+-- The home's log has no Commit: node 1 asks, is answered abort, and drops its vote.
+abbrev pub left_doubt : List Event
+left_doubt = Meet 5 6 ∷ Meet 6 5 ∷ Inquire 6 ∷ Answer_abort 5 6 ∷ Learn_abort 6 ∷ Abort_logged 6 ∷ []
+
+-- it leads to an abort with nothing left in doubt
+pub record LeftDoubt : Type 0 where
+  pub opens : IsReopening (left_over false)
+  pub new : World
+  pub run : Run (reopened (left_over false)) left_doubt new
+  pub cell : new.cell ≡ Aborted
+  pub learnt : new.learnt_abort 1 ≡ true
+  pub known : (new.outcome 5 ≡ Aborted) × (new.outcome 6 ≡ Aborted)
+  pub prepared : new.prepared 1 0 ≡ false
