@@ -2,7 +2,7 @@
 use Rattle.std.proofs.Common.{◌+◌, ◌==◌, true, false, refl, arith, if◌then◌else◌}
 use Rattle.std.proofs.lemmas.Bool.Decides.{nat_tests}
 use Rattle.qs_agree.specs.World.{Committed, World, with_at, with_at2}
-use Rattle.qs_agree.specs.Origins.{Found, first, reopened}
+use Rattle.qs_agree.specs.Origins.{reopened}
 use Rattle.qs_agree.specs.Step.{Acknowledge, Answer_commit, End, Inquire, Learn, Meet, Take_told, Tell, Step}
 use Rattle.qs_agree.specs.Runs.{left_over, LeftCommit}
 use Rattle.qs_agree.proofs.Opens.{reopens}

@@ -2,7 +2,7 @@
 use Rattle.std.proofs.Common.{◌+◌, ◌==◌, true, false, refl, arith, if◌then◌else◌}
 use Rattle.std.proofs.lemmas.Bool.Decides.{nat_tests}
 use Rattle.qs_agree.specs.World.{Aborted, World, with_at, with_at2}
-use Rattle.qs_agree.specs.Origins.{Found, first, reopened}
+use Rattle.qs_agree.specs.Origins.{reopened}
 use Rattle.qs_agree.specs.Guards.{names}
 use Rattle.qs_agree.specs.Step.{Abort_logged, Answer_abort, Inquire, Learn_abort, Meet, Step}
 use Rattle.qs_agree.specs.Runs.{left_over, LeftDoubt}

@@ -1,9 +1,8 @@
 -- The invariant holds over logs that an earlier run left, and so wherever a run begins.
-use Rattle.std.proofs.Common.{◌≡◌, ◌≢◌, ℕ, Bool, true, false, refl, sym, arith, if◌then◌else◌}
+use Rattle.std.proofs.Common.{◌≡◌, ◌≢◌, Bool, true, false, refl, arith, if◌then◌else◌}
 use Rattle.std.proofs.lemmas.Bool.Decides.{nat_tests}
-use Rattle.qs_agree.specs.World.{Outcome, Open, Committed, Aborted, World}
-use Rattle.qs_agree.specs.Origins.{Reopening, IsReopening, reopened, Origin, Begun, Found, IsOrigin, first, found_at_home}
-use Rattle.qs_agree.proofs.At.{At}
+use Rattle.qs_agree.specs.World.{Committed, Aborted, World}
+use Rattle.qs_agree.specs.Origins.{Reopening, IsReopening, reopened, Origin, Begun, Found, IsOrigin, first}
 use Rattle.qs_agree.proofs.Inv.{inv_start}
 use Rattle.qs_agree.proofs.Whole.{Inv, Whole}
 

@@ -1,9 +1,8 @@
 -- A client begins a transaction in a step of its home: the machine at its start shows it, and it stands so.
 use Rattle.std.proofs.Common.{◌≡◌, ℕ, ◌<◌, ◌==◌, ◌&&◌, ◌||◌, not, Bool, true, false, List, [], ◌∷◌, ◌++◌, Option, Some, None, refl, sym, ap, subst, ◌∙◌, arith, if◌then◌else◌}
-use Rattle.std.specs.List.{list_all, list_any, filter}
+use Rattle.std.specs.List.{list_any, filter}
 use Rattle.std.proofs.lemmas.Bool.Decides.{nat_tests}
 use Rattle.std.proofs.lemmas.List.Folds.{list_any-append}
-use Rattle.qs_base.specs.Order.{same_tid}
 use Rattle.qs_base.specs.declared.identifiers.NodeNo.{NodeNo}
 use Rattle.qs_base.specs.declared.identifiers.Tid.{Tid}
 use Rattle.qs_engage.specs.Nodes.{same_node}
@@ -13,7 +12,7 @@ use Rattle.qs_journal.specs.declared.script_line.Command.TheVariants as commands
 use Rattle.qs_journal.specs.declared.script_line.ScriptLine.{ScriptLine}
 use Rattle.qs_ops.specs.declared.answer.Answer.TheVariants as answers
 use Rattle.qs_record.specs.declared.record.Record.{Record}
-use Rattle.qs_restart.specs.Recovery.{Recovery, recovery, names_transaction}
+use Rattle.qs_restart.specs.Recovery.{recovery, names_transaction}
 use Rattle.qs_tm.specs.Manager as tm
 use Rattle.qs_tm.specs.declared.manager.BeginFault.{BeginFault}
 use Rattle.qs_tm.specs.declared.manager.BeginFault.TheVariants as faults
@@ -23,17 +22,16 @@ use Rattle.qs_step.specs.Bringing.{enter, is_forced}
 use Rattle.qs_step.specs.Commands.{refuse_begin, begin_or_refuse, begin_command}
 use Rattle.qs_step.specs.Serving.{put_label}
 use Rattle.qs_step.specs.State.{NodeValue, Work, part_of, with_manager, work_on}
-use Rattle.qs_step.specs.Step.{obey, with_command, command_came}
-use Rattle.qs_world.specs.Moves.{Source, Commanded, command_of}
+use Rattle.qs_step.specs.Step.{obey, with_command}
+use Rattle.qs_world.specs.Moves.{Commanded, command_of}
 use Rattle.qs_world.specs.World.{World}
 use Rattle.qs_agree.specs.World as machine
 use Rattle.qs_refine.specs.Begun.{may_be_known, has_begun, inc_in, count_in}
 use Rattle.qs_refine.specs.EachMove.{ShowsAll}
 use Rattle.qs_refine.specs.JoinLaws.{is_loose_of}
-use Rattle.qs_refine.specs.Links.{node_no}
 use Rattle.qs_refine.specs.MoveLaws.{is_record_of}
 use Rattle.qs_refine.specs.PassLaws.{HasKinds}
-use Rattle.qs_refine.specs.Shows.{Scene, scene_of, sight_during, ShowsWork}
+use Rattle.qs_refine.specs.Shows.{Scene, scene_of, sight_during}
 use Rattle.qs_refine.specs.Sights.{is_in_doubt}
 use Rattle.qs_refine.specs.SoundSteps.{begun}
 use Rattle.qs_refine.specs.Stands.{Stands, GoesOn}
@@ -42,7 +40,6 @@ use Rattle.qs_refine.specs.Steadies.{IsSteadyWorld, stage_of}
 use Rattle.qs_refine.specs.SteadyFacts.{KnowsNothing}
 use Rattle.qs_refine.specs.Steady.{IsSteady}
 use Rattle.qs_refine.specs.Tidy.{IsTidy, is_tidy_record}
-use Rattle.qs_refine.proofs.Alike.{SameFound}
 use Rattle.qs_refine.proofs.BeginKeeps.{KeptOn}
 use Rattle.qs_refine.proofs.Beginning as beginning
 use Rattle.qs_refine.proofs.BorrowerStands.{answer_kinds}
@@ -57,7 +54,7 @@ use Rattle.qs_refine.proofs.Keeping.{Keeps, leaves_keeps, keeps_shown, answer_le
 use Rattle.qs_refine.proofs.SettleRules.{beside}
 use Rattle.qs_refine.proofs.SettleStands.{at_same, home_free}
 use Rattle.qs_refine.proofs.SoundBegin.{begin_command_sound}
-use Rattle.qs_refine.proofs.SteadyBegins.{begun_tidy, comes_new}
+use Rattle.qs_refine.proofs.SteadyBegins.{begun_tidy}
 use Rattle.qs_refine.proofs.SteadyGives.{unbegun_unknown, none_any}
 use Rattle.qs_refine.proofs.SteadyGrows.{begun_past}
 use Rattle.qs_refine.proofs.UnseenWorlds.{not_committed, none_waiting, fit_apart}

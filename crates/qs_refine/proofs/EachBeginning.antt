@@ -65,9 +65,11 @@ module _ (tid : Tid) (world : World) (steady : IsSteady world) (tidy : IsSteadyW
       where
         which : (b : Bool) → nat_lt tid.inc inc ≡ b → Done up_again
         which true over = let less : tid.inc < inc = grind (arith, nat_tests, over) in
-            inr (Found (reopening_seen tid (risen_sight tid world tidy is.numbered is.home_in is.unknown stamp inc off beyond less)),
-            may_reopen tid (risen_sight tid world tidy is.numbered is.home_in is.unknown stamp inc off beyond less) (passed_left tid world tidy is.numbered is.home_in is.unknown stamp inc off beyond less),
-            (w tid world tidy is.numbered is.home_in is.unknown stamp inc off beyond less, record { events = []; run = refl }, passed_shows_all tid world tidy is.numbered is.home_in is.unknown stamp inc off beyond less))
+            inr (
+              Found (reopening_seen tid (risen_sight tid world tidy is.numbered is.home_in is.unknown stamp inc off beyond less)),
+              may_reopen tid (risen_sight tid world tidy is.numbered is.home_in is.unknown stamp inc off beyond less) (passed_left tid world tidy is.numbered is.home_in is.unknown stamp inc off beyond less),
+              (w tid world tidy is.numbered is.home_in is.unknown stamp inc off beyond less, record { events = []; run = refl }, passed_shows_all tid world tidy is.numbered is.home_in is.unknown stamp inc off beyond less),
+            )
         which false not_over = inl (still tid world is up_again refl (at (nat_lt inc tid.inc) refl))
           where
             inc_now : inc_in up_again h ≡ inc

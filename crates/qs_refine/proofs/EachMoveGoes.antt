@@ -1,18 +1,15 @@
 -- The law of each move, and of a message about a transaction that is shown.
-use Rattle.std.proofs.Common.{◌≡◌, ◌≢◌, ◌⊎◌, inl, inr, ℕ, ◌<◌, ◌≤◌, ◌==◌, ◌&&◌, ◌||◌, not, nat_lt, nat_le, Bool, true, false, List, [], ◌∷◌, Option, Some, None, is_some, refl, sym, ap, subst, ◌∙◌, arith, if◌then◌else◌}
+use Rattle.std.proofs.Common.{◌≡◌, ◌≢◌, ◌⊎◌, inl, inr, ℕ, ◌<◌, ◌≤◌, ◌==◌, ◌&&◌, ◌||◌, not, nat_lt, nat_le, Bool, true, false, [], Option, Some, None, refl, sym, ap, subst, ◌∙◌, arith, if◌then◌else◌}
 use Rattle.std.specs.List.{list_any, list_all, find}
 use Rattle.std.proofs.lemmas.Bool.{eqb-true}
 use Rattle.std.proofs.lemmas.Bool.Decides.{nat_tests}
 use Rattle.qs_base.specs.Order.{same_tid}
-use Rattle.qs_base.specs.declared.identifiers.Outcome.TheVariants as outcomes
 use Rattle.qs_base.specs.declared.identifiers.Tid.{Tid}
-use Rattle.qs_engage.specs.Nodes.{same_node, has_node, no_nodes}
+use Rattle.qs_engage.specs.Nodes.{same_node, has_node}
 use Rattle.qs_engage.specs.declared.nodes.Nodes.{Nodes}
 use Rattle.qs_machine.specs.Clauses.{is_crash}
-use Rattle.qs_restart.specs.Recovery.{Recovery, Untold, recovery, is_untold_of, nothing_said}
+use Rattle.qs_restart.specs.Recovery.{Recovery, recovery, is_untold_of, nothing_said}
 use Rattle.qs_tm.specs.Manager as tm
-use Rattle.qs_tm.specs.Outcomes.{committed_before}
-use Rattle.qs_tm.specs.declared.manager.Manager.{Manager}
 use Rattle.qs_tm.specs.declared.participant.Participant.{Participant}
 use Rattle.qs_kept.specs.Keeping.{is_outcome_of}
 use Rattle.qs_step.specs.Answering.{was_committed, is_kept_commit}

@@ -66,7 +66,7 @@ module _ (tid : Tid) where
       ∙ first_so _ _ (is (subst (λ (l : List Untold). list_any (is_untold_of tid) l ≡ true) untold (any_left (is_untold_of tid) (λ commit. not (is_untold_of u commit)) more.untold has))))
   commit_logged names u (first ∷ others) said more untold committed is has = ap (list_any (same_tid tid)) committed ∙ (list_any-append (same_tid tid) said.committed _
       ∙ which (list_any (is_untold_of tid) said.untold) (is_untold_of tid (record { tid = u; told = first ∷ others })) refl refl
-          (sym (list_any-append (is_untold_of tid) said.untold (record { tid = u; told = first ∷ others } ∷ [])) ∙ subst (λ (l : List Untold). list_any (is_untold_of tid) (l ++ record { tid = u; told = first ∷ others } ∷ []) ≡ true) untold has))
+      (sym (list_any-append (is_untold_of tid) said.untold (record { tid = u; told = first ∷ others } ∷ [])) ∙ subst (λ (l : List Untold). list_any (is_untold_of tid) (l ++ record { tid = u; told = first ∷ others } ∷ []) ≡ true) untold has))
     where
       which : (a b : Bool) → list_any (is_untold_of tid) said.untold ≡ a → is_untold_of tid (record { tid = u; told = first ∷ others }) ≡ b → (a || (b || false)) ≡ true → (list_any (same_tid tid) said.committed || list_any (same_tid tid) (if names_transaction u then u ∷ [] else [])) ≡ true
       which true b old new so = first_so _ _ (is old)

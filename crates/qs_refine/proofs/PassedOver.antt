@@ -4,9 +4,7 @@ use Rattle.std.specs.List.{find, list_all, list_any}
 use Rattle.std.proofs.lemmas.Bool.{eqb-true}
 use Rattle.std.proofs.lemmas.Bool.Decides.{nat_tests}
 use Rattle.qs_base.specs.Order.{same_tid}
-use Rattle.qs_base.specs.declared.identifiers.NodeNo.{NodeNo}
 use Rattle.qs_base.specs.declared.identifiers.Tid.{Tid}
-use Rattle.qs_engage.specs.Nodes.{same_node}
 use Rattle.qs_kept.specs.Keeping.{is_outcome_of}
 use Rattle.qs_kept.specs.declared.kept.Decided.{Decided}
 use Rattle.qs_kept.specs.declared.kept.Kept.{Kept}
@@ -25,7 +23,7 @@ use Rattle.qs_refine.specs.EachMove.{ShowsAll}
 use Rattle.qs_refine.specs.Faces.{Face}
 use Rattle.qs_refine.specs.Lefts.{IsLeft}
 use Rattle.qs_refine.specs.Links.{Said, node_no}
-use Rattle.qs_refine.specs.MoveLaws.{AllClose, is_record_of}
+use Rattle.qs_refine.specs.MoveLaws.{is_record_of}
 use Rattle.qs_refine.specs.NodeFaces.{face_at}
 use Rattle.qs_refine.specs.Places.{place}
 use Rattle.qs_refine.specs.RiseLaws.{IsRisenFace, sight_risen_as, outcome_at_home}

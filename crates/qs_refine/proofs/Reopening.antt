@@ -1,16 +1,16 @@
 -- Where nothing but logs speaks of a transaction, the agreement machine that begins over them shows it.
-use Rattle.std.proofs.Common.{◌≡◌, ◌≢◌, ℕ, ◌<◌, ◌≤◌, ◌==◌, ◌&&◌, nat_lt, Bool, true, false, List, [], refl, sym, ap, subst, ◌∙◌, arith, if◌then◌else◌}
+use Rattle.std.proofs.Common.{◌≡◌, ℕ, ◌<◌, ◌≤◌, ◌==◌, ◌&&◌, nat_lt, Bool, true, false, List, [], refl, sym, ap, subst, ◌∙◌, arith, if◌then◌else◌}
 use Rattle.std.specs.List.{list_any}
 use Rattle.std.proofs.lemmas.Bool.{eqb-true}
 use Rattle.std.proofs.lemmas.Bool.Decides.{nat_tests}
 use Rattle.qs_base.specs.Order.{same_tid}
 use Rattle.qs_base.specs.declared.identifiers.Tid.{Tid}
-use Rattle.qs_restart.specs.Recovery.{Recovery, is_untold_of}
+use Rattle.qs_restart.specs.Recovery.{is_untold_of}
 use Rattle.qs_agree.proofs.Carries.{lawful}
 use Rattle.qs_agree.specs.Carry.{IsLawful}
 use Rattle.qs_agree.specs.Origins as origins
 use Rattle.qs_agree.specs.Origins.{Found}
-use Rattle.qs_agree.specs.World.{World, Outcome, Open, Committed, Aborted}
+use Rattle.qs_agree.specs.World.{World, Open, Committed, Aborted}
 use Rattle.qs_refine.specs.Faces.{ShowsFace}
 use Rattle.qs_refine.specs.Lefts.{IsLeft, reopening_seen}
 use Rattle.qs_refine.specs.Links.{Said, IsLink, link, waiting_link, names_node, node_no}
@@ -18,7 +18,7 @@ use Rattle.qs_refine.specs.Places.{place, home_place}
 use Rattle.qs_refine.specs.RiseLaws.{ArePlaced, IsRisenFace, outcome_found, outcome_at_home}
 use Rattle.qs_refine.specs.Sights.{Sight, ShowsSight, ShowsLog, is_in_doubt, list_of}
 use Rattle.qs_refine.specs.Sound.{has_doubt}
-use Rattle.qs_refine.specs.Starts.{node_of, opening_seen}
+use Rattle.qs_refine.specs.Starts.{node_of}
 use Rattle.qs_refine.proofs.Doubts.{none_of}
 use Rattle.qs_refine.proofs.Starting.{node_place, below, up_is, stage_seen, staged}
 

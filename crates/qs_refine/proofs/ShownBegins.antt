@@ -1,5 +1,5 @@
 -- Those that begin in a move of a world in which all are shown are shown after it; and as a world begins all are shown.
-use Rattle.std.proofs.Common.{◌≡◌, ◌⊎◌, inl, inr, ℕ, ◌<◌, ◌≤◌, ◌==◌, ◌&&◌, ◌||◌, not, nat_lt, nat_le, Bool, true, false, List, Option, Some, None, refl, sym, ap, subst, ◌∙◌, arith}
+use Rattle.std.proofs.Common.{◌≡◌, inl, inr, ℕ, ◌<◌, ◌==◌, ◌&&◌, ◌||◌, not, nat_lt, nat_le, Bool, true, false, Option, Some, None, refl, sym, subst, arith}
 use Rattle.std.proofs.lemmas.Bool.Decides.{nat_tests}
 use Rattle.qs_base.specs.declared.identifiers.NodeNo.{NodeNo}
 use Rattle.qs_base.specs.declared.identifiers.Tid.{Tid}
@@ -11,7 +11,7 @@ use Rattle.qs_world.specs.Openings.{IsOpening}
 use Rattle.qs_world.specs.World.{Opening, World, start}
 use Rattle.qs_agree.specs.Carry.{Begins}
 use Rattle.qs_agree.specs.Origins as origins
-use Rattle.qs_refine.specs.Begun.{begun_among, inc_in, count_in, has_begun, may_be_known}
+use Rattle.qs_refine.specs.Begun.{inc_in, count_in, has_begun, may_be_known}
 use Rattle.qs_refine.specs.BeginLaws.{IsUnbegun}
 use Rattle.qs_refine.specs.EachMove.{ShowsAll}
 use Rattle.qs_refine.specs.Lefts.{reopening_seen}

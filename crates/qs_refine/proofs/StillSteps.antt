@@ -1,6 +1,5 @@
 -- A step of a node of a steady world that begins no transaction leaves it tidy, with as many numbers given as before.
 use Rattle.std.proofs.Common.{◌≡◌, ℕ, ◌<◌, Bool, true, false}
-
 use Rattle.qs_step.specs.Step.{happen, step_work}
 use Rattle.qs_step.specs.State.{Work, work_on}
 use Rattle.qs_step.specs.declared.event.Event.{Event}

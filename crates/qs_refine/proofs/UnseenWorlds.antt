@@ -1,12 +1,9 @@
 -- In a steady world nothing is seen of a transaction whose number its home has not given, and where its home runs the machine at its start shows it.
-use Rattle.std.proofs.Common.{◌≡◌, ℕ, ◌<◌, ◌==◌, ◌&&◌, ◌||◌, not, nat_lt, Bool, true, false, List, [], ◌∷◌, ◌++◌, drop, length, map, Option, Some, None, refl, sym, ap, subst, ◌∙◌, arith, if◌then◌else◌, zero, suc}
+use Rattle.std.proofs.Common.{◌≡◌, ℕ, ◌<◌, ◌||◌, Bool, true, false, List, [], ◌∷◌, ◌++◌, drop, length, map, Option, Some, None, refl, sym, ap, subst, ◌∙◌, if◌then◌else◌, zero, suc}
 use Rattle.std.specs.List.{list_all, list_any, filter, find}
-use Rattle.std.proofs.lemmas.Bool.Decides.{nat_tests}
 use Rattle.qs_base.specs.Order.{same_tid}
 use Rattle.qs_base.specs.declared.identifiers.NodeNo.{NodeNo}
-use Rattle.qs_base.specs.declared.identifiers.Outcome.TheVariants as outcomes
 use Rattle.qs_base.specs.declared.identifiers.Tid.{Tid}
-use Rattle.qs_engage.specs.Nodes.{same_node, has_node}
 use Rattle.qs_kept.specs.Keeping.{is_outcome_of}
 use Rattle.qs_kept.specs.declared.kept.Decided.{Decided}
 use Rattle.qs_packet.specs.declared.message.Message.{Message}
@@ -15,7 +12,6 @@ use Rattle.qs_record.specs.declared.record.Record.{Record}
 use Rattle.qs_record.specs.declared.record.Record.TheVariants as records
 use Rattle.qs_restart.specs.Recovery.{recovery, names_transaction}
 use Rattle.qs_step.specs.Answering.{was_committed, is_kept_commit, kept_outcome}
-use Rattle.qs_step.specs.Bringing.{tid_of}
 use Rattle.qs_step.specs.State.{NodeValue}
 use Rattle.qs_tm.specs.Manager as tm
 use Rattle.qs_tm.specs.declared.participant.Participant.{Participant}
@@ -23,7 +19,7 @@ use Rattle.qs_world.specs.World.{Parcel, World}
 use Rattle.qs_agree.specs.World as machine
 use Rattle.qs_agree.specs.World.{Committed}
 use Rattle.qs_refine.specs.Begun.{may_be_known, has_begun, inc_in, count_in, fits}
-use Rattle.qs_refine.specs.EachMove.{ShowsAll, ShowsOutcome, KeepsDecided}
+use Rattle.qs_refine.specs.EachMove.{ShowsAll}
 use Rattle.qs_refine.specs.Links.{Said, node_no}
 use Rattle.qs_refine.specs.Messages.{said, all_said}
 use Rattle.qs_refine.specs.MoveLaws.{is_record_of}
@@ -31,10 +27,10 @@ use Rattle.qs_refine.specs.NodeFaces.{face_at, began_here, is_past_commit}
 use Rattle.qs_refine.specs.Places.{place}
 use Rattle.qs_refine.specs.Shows.{message_of, scene_of, sight}
 use Rattle.qs_refine.specs.Sights.{Sight}
-use Rattle.qs_refine.specs.Starts.{IsNewFace, SaysNothing, begins_at, IsUnseen, MayBegin, opening_seen}
+use Rattle.qs_refine.specs.Starts.{IsNewFace, begins_at, IsUnseen, MayBegin, opening_seen}
 use Rattle.qs_refine.specs.Steadies.{stage_of, IsSteadyWorld, is_steady_parcel, are_two}
 use Rattle.qs_refine.specs.SteadyFacts.{KnowsNothing}
-use Rattle.qs_refine.specs.Tidy.{Stage, IsTidyNode, is_tidy_record}
+use Rattle.qs_refine.specs.Tidy.{is_tidy_record}
 use Rattle.qs_refine.proofs.Doubts.{none_of}
 use Rattle.qs_refine.proofs.NodeReady.{none_waits}
 use Rattle.qs_refine.proofs.SoundParts.{and_both}
