@@ -301,3 +301,4 @@ pub mod EachBeginning
 pub mod SteadyFrom
 pub mod ShownMoves
 pub mod ShownBegins
+pub mod Outside

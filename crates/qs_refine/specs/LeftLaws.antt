@@ -1,17 +1,19 @@
 -- The laws of a transaction of which nothing but logs speaks: the agreement machine begins over them, at an opening too.
-use Rattle.std.specs.Prelude.{◌≡◌, ℕ, ◌<◌, ◌≤◌, true}
+use Rattle.std.specs.Prelude.{◌≡◌, ℕ, ◌<◌, ◌≤◌, true, false, List, ◌∷◌, ◌++◌, nat_lt}
 use Rattle.qs_base.specs.declared.identifiers.Tid.{Tid}
 use Rattle.qs_restart.specs.Recovery.{names_transaction}
 use Rattle.qs_world.specs.Openings.{IsOpening}
-use Rattle.qs_world.specs.World.{Opening, start}
+use Rattle.qs_world.specs.World.{Opening, Parcel, World, start}
 use Rattle.qs_agree.specs.Carry.{IsLawful}
 use Rattle.qs_agree.specs.Origins as origins
 use Rattle.qs_refine.specs.EachMove.{ShowsAll}
 use Rattle.qs_refine.specs.Lefts.{IsLeft, reopening_seen}
+use Rattle.qs_refine.specs.Messages.{IsForeign}
 use Rattle.qs_refine.specs.RiseLaws.{ArePlaced}
 use Rattle.qs_refine.specs.ShownWorlds.{AllShown}
 use Rattle.qs_refine.specs.Shows.{scene_of, sight}
 use Rattle.qs_refine.specs.Sights.{Sight, ShowsSight}
+use Rattle.qs_refine.specs.Steadies.{IsSteadyWorld}
 
 -- the machine over the logs shows it
 abbrev pub LeftShown : Type 0
@@ -41,3 +43,9 @@ OpeningShown = (tid : Tid) (o : Opening) → IsOpening o → names_transaction t
 -- so every transaction that has begun is shown as a world begins
 abbrev pub StartAllShown : Type 0
 StartAllShown = (o : Opening) → IsOpening o → AllShown (start o)
+
+-- ---- a transaction whose home is not in the run: no message between nodes of the run is about it
+
+abbrev pub OutsideForeign : Type 0
+OutsideForeign = (tid : Tid) (world : World) (n m i j : ℕ) (parcel : Parcel) (before rest : List Parcel) → IsSteadyWorld world → nat_lt tid.home.0 world.size ≡ false → world.channels.posted n m i j ≡ before ++ parcel ∷ rest
+    → IsForeign tid parcel.message

@@ -1,8 +1,11 @@
 -- A transaction of an incarnation of its home that is past, of which nothing but logs speaks, and what the agreement machine begins with there.
 --
+-- The machine has a second beginning for it, over its logs (`Origins`): a run from its start that leads to what logs say would have to be made up for each set of logs, and the machine's
+-- invariant holds over logs that stand together as it is.
+--
 -- Each transaction that an opening's logs name is one: in the run it is in doubt, asked about, told and ended. So is one whose number was never given, since its home
 -- restarted in a later incarnation; of that no log says anything. A transaction whose home is not in the run has no machine: no message about it passes
--- between nodes of the run, since only the home tells, and only the home is asked or answered (`fits`); its votes stay in doubt, and nobody answers their inquiries.
+-- between nodes of the run, since only the home tells, and only the home is asked or answered (`OutsideForeign`); its votes stay in doubt, and nobody answers their inquiries.
 use Rattle.std.specs.Prelude.{◌≡◌, ℕ, ◌<◌, ◌≤◌, true, false, [], nat_lt, if◌then◌else◌}
 use Rattle.std.specs.List.{list_any}
 use Rattle.qs_base.specs.Order.{same_tid}

@@ -1,7 +1,7 @@
 //! A transaction whose number is still to be given, and the move in which it begins.
 ghost use Rattle.qs_refine.specs.BeginLaws.{UnbegunUnseen, UnbegunShown, PassedShown, EachBegins};
 ghost use Rattle.qs_refine.specs.ShownWorlds.{EachBegunShown};
-ghost use Rattle.qs_refine.specs.LeftLaws.{LeftShown, LeftReopens, LeftLawful, LeftPlaced, OpeningLeft, OpeningShown, StartAllShown};
+ghost use Rattle.qs_refine.specs.LeftLaws.{LeftShown, LeftReopens, LeftLawful, LeftPlaced, OpeningLeft, OpeningShown, StartAllShown, OutsideForeign};
 
 /// Until its home has given a transaction its number nothing is seen of it, and the agreement machine at its start shows it; after
 /// each move that is still so, or what that start leads to shows it.
@@ -28,4 +28,9 @@ pub fn openings()
     ensures left { OpeningLeft }
     ensures shown { OpeningShown }
     ensures all { StartAllShown }
+{}
+
+/// Of a transaction whose home is not in the run nodes of the run say nothing to each other.
+pub fn outsiders()
+    ensures foreign { OutsideForeign }
 {}
