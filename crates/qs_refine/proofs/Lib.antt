@@ -103,6 +103,7 @@ pub mod SaidSteps
 pub mod Same
 pub mod SayYes
 pub mod SaysLogs
+pub mod NodeLists
 pub mod SaysOn
 pub mod SaysOutcomes
 pub mod SaysRules

@@ -91,7 +91,7 @@ named_last k node (x ∷ xs) = with_first (k == x.0) (named_last k node xs)
     with_first true more = refl
     with_first false more = more
 
-list_has : (nodes : Nodes) (k : ℕ) (list so_far : List NodeNo) → names_node (fold (with_listed nodes) so_far list) (node_no k) ≡ (names_node so_far (node_no k) || (names_node list (node_no k) && has_node nodes (node_no k)))
+pub list_has : (nodes : Nodes) (k : ℕ) (list so_far : List NodeNo) → names_node (fold (with_listed nodes) so_far list) (node_no k) ≡ (names_node so_far (node_no k) || (names_node list (node_no k) && has_node nodes (node_no k)))
 list_has nodes k [] so_far = by (names_node so_far (node_no k))
   where
     by : (b : Bool) → b ≡ (b || false)

@@ -1,5 +1,5 @@
 -- Pieces of a step that leave a node sound over its log, one after another.
-use Rattle.std.proofs.Common.{◌≡◌, ◌||◌, Bool, true, false, List, [], ◌∷◌, ◌++◌, fold, Option, Some, None, is_some, refl, sym, ap, subst, ◌∙◌, arith, if◌then◌else◌}
+use Rattle.std.proofs.Common.{◌≡◌, ℕ, ◌<◌, ◌||◌, Bool, true, false, List, [], ◌∷◌, ◌++◌, fold, Option, Some, None, is_some, refl, sym, ap, subst, ◌∙◌, arith, if◌then◌else◌}
 use Rattle.std.specs.Map.{lookup, set_value}
 use Rattle.std.specs.BTreeMap.{is_at}
 use Rattle.std.proofs.lemmas.Bool.Decides.{nat_tests}
@@ -11,6 +11,8 @@ use Rattle.qs_base.specs.declared.identifiers.ClientNo.{ClientNo}
 use Rattle.qs_base.specs.declared.identifiers.NodeNo.{NodeNo}
 use Rattle.qs_base.specs.declared.identifiers.ServerNo.{ServerNo}
 use Rattle.qs_base.specs.declared.identifiers.Tid.{Tid}
+use Rattle.qs_engage.specs.Nodes.{has_node, no_nodes}
+use Rattle.qs_engage.specs.declared.nodes.Nodes.{Nodes}
 use Rattle.qs_ipc.specs.Ipc.{IpcValue}
 use Rattle.qs_journal.specs.declared.entry.Act.{Act}
 use Rattle.qs_kept.specs.declared.kept.Kept.{Kept}
@@ -28,6 +30,8 @@ use Rattle.qs_step.specs.State.{Work, with_manager, with_queues, with_kept, with
 use Rattle.qs_step.specs.declared.state.Doings.{Doings}
 use Rattle.qs_step.specs.declared.state.OpenCommand.{OpenCommand}
 use Rattle.qs_refine.specs.SaidLaws.{no_flags, flags_at, AreSaid, SaysOn}
+use Rattle.qs_refine.specs.Links.{node_no}
+use Rattle.qs_refine.specs.Lists.{AreListed, is_commit, tell_at, tell_of_part}
 use Rattle.qs_refine.specs.SoundSteps.{is_open_in_run, commands_in_run}
 use Rattle.qs_refine.proofs.Maps.{lookup_put}
 use Rattle.qs_refine.proofs.Others.{put_apart}
@@ -58,6 +62,7 @@ on_then {a} {b} {c} first second = record {
       ∙ ap (λ (f : Bool). a.out.force || f) (sym (list_any-append is_forced first.more second.more))));
   commands = λ is. second.commands (first.commands is);
   said = λ said is. subst (λ (r : Recovery). AreSaid c.node r) (sym (fold-append found_record said first.more second.more)) (second.said (fold found_record said first.more) (first.said said is));
+  lists = λ said is has. subst (λ (r : Recovery). AreListed c.node r) (sym (fold-append found_record said first.more second.more)) (second.lists (fold found_record said first.more) (first.said said is) (first.lists said is has));
 }
 
 -- what piece of a work stays the same
@@ -67,24 +72,36 @@ pub record SameRest (work new : Work) : Type 0 where
   pub force : new.out.force ≡ work.out.force
   pub commands : commands_in_run work.node ≡ true → commands_in_run new.node ≡ true
 
+-- whom the node is to tell a commit stays, or goes on
+abbrev pub KeepsTelling : Work → Work → Type 0
+KeepsTelling work new = (said : Recovery) → AreSaid work.node said → AreListed work.node said → AreListed new.node said
+
+pub tells_more : (work new : Work) → ((tid : Tid) (m : ℕ) → m < 16 → has_node (tell_at tid work.node) (node_no m) ≡ true → has_node (tell_at tid new.node) (node_no m) ≡ true) → KeepsTelling work new
+tells_more work new more said is has = record { named = λ tid m below names. more tid m below (has.named tid m below names); taken = has.taken }
+
+pub tells_same : (work new : Work) → ((tid : Tid) → tell_at tid new.node ≡ tell_at tid work.node) → KeepsTelling work new
+tells_same work new same = tells_more work new (λ tid m below has. subst (λ (s : Nodes). has_node s (node_no m) ≡ true) (sym (same tid)) has)
+
 -- nothing is logged, and the flags stay
 pub two_on : (work new : Work) → SameRest work new
-    → ((tid : Tid) → ((flags_at tid new.node).prepared ≡ (flags_at tid work.node).prepared) × ((flags_at tid new.node).listed ≡ (flags_at tid work.node).listed)) → SaysOn work new
-two_on work new rest same = record {
+    → ((tid : Tid) → ((flags_at tid new.node).prepared ≡ (flags_at tid work.node).prepared) × ((flags_at tid new.node).listed ≡ (flags_at tid work.node).listed)) → KeepsTelling work new → SaysOn work new
+two_on work new rest same tells = record {
   setting = rest.setting;
   more = [];
   records = rest.records ∙ sym (append_nil work.out.records);
   forced = rest.force ∙ or_none work.out.force;
   commands = rest.commands;
   said = λ said is tid. record { prepared = (same tid).0 ∙ (is tid).prepared; listed = (same tid).1 ∙ (is tid).listed };
+  lists = tells;
 }
 
-pub flags_on : (work new : Work) → SameRest work new → ((tid : Tid) → flags_at tid new.node ≡ flags_at tid work.node) → SaysOn work new
-flags_on work new rest same = two_on work new rest (λ tid. (ap (λ (f : InLog). f.prepared) (same tid), ap (λ (f : InLog). f.listed) (same tid)))
+pub flags_on : (work new : Work) → SameRest work new → ((tid : Tid) → flags_at tid new.node ≡ flags_at tid work.node) → KeepsTelling work new → SaysOn work new
+flags_on work new rest same tells = two_on work new rest (λ tid. (ap (λ (f : InLog). f.prepared) (same tid), ap (λ (f : InLog). f.listed) (same tid))) tells
 
 -- nothing changes that the log speaks of
 pub plain_on : (work new : Work) → SameRest work new → new.node.manager.known ≡ work.node.manager.known → SaysOn work new
 plain_on work new rest known = flags_on work new rest (λ tid. ap (λ (es : List (Tid × Participant)). elim (lookup (is_at (tid_cmp tid)) es) [ None ↦ no_flags | Some part ↦ part.log ]) known)
+    (tells_same work new (λ tid. ap (λ (es : List (Tid × Participant)). elim (lookup (is_at (tid_cmp tid)) es) [ None ↦ no_nodes | Some part ↦ tell_of_part part ]) known))
 
 -- nor what is open
 pub rest_on : (work new : Work) → new.node.setting ≡ work.node.setting → new.out.records ≡ work.out.records → new.out.force ≡ work.out.force → new.node.commands ≡ work.node.commands → new.node.manager.known ≡ work.node.manager.known → SaysOn work new
@@ -174,14 +191,46 @@ module _ {X A : Type 0} (d : A) (g : X → A) where
       by None none = refl
       by (Some v) found = told_set p q es v (f v) found (same v)
 
-pub part_on : (tid : Tid) (f : Participant → Participant) → ((part : Participant) → (f part).log ≡ part.log) → (work : Work) → SaysOn work (with_manager (tm.with_part tid f) work)
-part_on tid f same work = flags_on work (with_manager (tm.with_part tid f) work) (record { setting = refl; records = refl; force = refl; commands = λ is. is }) (λ t. told_changed no_flags (λ (part : Participant). part.log) (is_at (tid_cmp tid)) (is_at (tid_cmp t)) f same work.node.manager.known)
+pub part_on : (tid : Tid) (f : Participant → Participant) → ((part : Participant) → ((f part).log ≡ part.log) × (tell_of_part (f part) ≡ tell_of_part part)) → (work : Work) → SaysOn work (with_manager (tm.with_part tid f) work)
+part_on tid f same work = flags_on work (with_manager (tm.with_part tid f) work) (record { setting = refl; records = refl; force = refl; commands = λ is. is })
+    (λ t. told_changed no_flags (λ (part : Participant). part.log) (is_at (tid_cmp tid)) (is_at (tid_cmp t)) f (λ part. (same part).0) work.node.manager.known)
+    (tells_same work (with_manager (tm.with_part tid f) work) (λ t. told_changed no_nodes tell_of_part (is_at (tid_cmp tid)) (is_at (tid_cmp t)) f (λ part. (same part).1) work.node.manager.known))
+
+-- and whom it is to tell goes on
+pub grown_on : (tid : Tid) (f : Participant → Participant) → ((part : Participant) → (f part).log ≡ part.log) → (work : Work)
+    → ((part : Participant) → tm.part_of tid work.node.manager ≡ Some part → (m : ℕ) → m < 16 → has_node (tell_of_part part) (node_no m) ≡ true → has_node (tell_of_part (f part)) (node_no m) ≡ true) → SaysOn work (with_manager (tm.with_part tid f) work)
+grown_on tid f same work grows = flags_on work (with_manager (tm.with_part tid f) work) (record { setting = refl; records = refl; force = refl; commands = λ is. is })
+    (λ t. told_changed no_flags (λ (part : Participant). part.log) (is_at (tid_cmp tid)) (is_at (tid_cmp t)) f same work.node.manager.known) (tells_more work (with_manager (tm.with_part tid f) work) (λ t m below has. by t m below has (same_tid t tid) refl))
+  where
+    found : Option Participant → Nodes
+    found o = elim o [ None ↦ no_nodes | Some part ↦ tell_of_part part ]
+
+    own : (m : ℕ) → m < 16 → (o : Option Participant) → tm.part_of tid work.node.manager ≡ o → has_node (found o) (node_no m) ≡ true → has_node (found (tm.part_of tid (tm.with_part tid f work.node.manager))) (node_no m) ≡ true
+    own m below None none has = absurd (never m has)
+      where
+        never : (m : ℕ) → has_node no_nodes (node_no m) ≡ true → ⊥
+        never m has = let off : has_node no_nodes (node_no m) ≡ false = Rattle.qs_refine.proofs.StartWorlds.nobody m in cc (off, has)
+    own m below (Some part) known has = subst (λ (o : Option Participant). has_node (found o) (node_no m) ≡ true) (sym (Rattle.qs_refine.proofs.Maps.lookup_changed (is_at (tid_cmp tid)) f work.node.manager.known part known)) (grows part known m below has)
+
+    by : (t : Tid) (m : ℕ) → m < 16 → has_node (tell_at t work.node) (node_no m) ≡ true → (b : Bool) → same_tid t tid ≡ b → has_node (tm.told_of t no_nodes tell_of_part (tm.with_part tid f work.node.manager)) (node_no m) ≡ true
+    by t m below has true same = subst (λ (u : Tid). has_node (tm.told_of u no_nodes tell_of_part (tm.with_part tid f work.node.manager)) (node_no m) ≡ true) (sym (same_is t tid same))
+        (own m below (tm.part_of tid work.node.manager) refl (subst (λ (u : Tid). has_node (tell_at u work.node) (node_no m) ≡ true) (same_is t tid same) has))
+    by t m below has false apart = subst (λ (o : Option Participant). has_node (found o) (node_no m) ≡ true) (sym (Rattle.qs_refine.proofs.Frames.part_apart t tid f work.node.manager apart)) has
 
 -- ---- a transaction becomes known
 
-pub put_on : (tid : Tid) (part : Participant) (work : Work) → tm.part_of tid work.node.manager ≡ None → part.log ≡ no_flags → SaysOn work (with_manager (tm.put_part tid part) work)
-put_on tid part work none new = flags_on work (with_manager (tm.put_part tid part) work) (record { setting = refl; records = refl; force = refl; commands = λ is. is }) (λ t. by t (same_tid t tid) refl)
+pub put_on : (tid : Tid) (part : Participant) (work : Work) → tm.part_of tid work.node.manager ≡ None → part.log ≡ no_flags → tell_of_part part ≡ no_nodes → SaysOn work (with_manager (tm.put_part tid part) work)
+put_on tid part work none new nobody = flags_on work (with_manager (tm.put_part tid part) work) (record { setting = refl; records = refl; force = refl; commands = λ is. is }) (λ t. by t (same_tid t tid) refl)
+    (tells_same work (with_manager (tm.put_part tid part) work) (λ t. tells t (same_tid t tid) refl))
   where
+    told_in : Option Participant → Nodes
+    told_in o = elim o [ None ↦ no_nodes | Some part ↦ tell_of_part part ]
+
+    tells : (t : Tid) (b : Bool) → same_tid t tid ≡ b → tm.told_of t no_nodes tell_of_part (tm.put_part tid part work.node.manager) ≡ tm.told_of t no_nodes tell_of_part work.node.manager
+    tells t true same = subst (λ (u : Tid). tm.told_of u no_nodes tell_of_part (tm.put_part tid part work.node.manager) ≡ tm.told_of u no_nodes tell_of_part work.node.manager) (sym (same_is t tid same))
+        (ap told_in (lookup_put tid_cmp tid part (grind (arith, nat_tests)) work.node.manager.known) ∙ (nobody ∙ sym (ap told_in none)))
+    tells t false apart = ap told_in (put_apart t tid part work.node.manager apart)
+
     found : Option Participant → InLog
     found o = elim o [ None ↦ no_flags | Some part ↦ part.log ]
 
@@ -191,9 +240,9 @@ put_on tid part work none new = flags_on work (with_manager (tm.put_part tid par
     by t false apart = ap found (put_apart t tid part work.node.manager apart)
 
 -- unless it is
-pub absent_on : (tid : Tid) (part : Participant) (work : Work) → part.log ≡ no_flags → SaysOn work (with_manager (λ manager. if tm.knows tid manager then manager else tm.put_part tid part manager) work)
-absent_on tid part work new = by (tm.part_of tid work.node.manager) refl
+pub absent_on : (tid : Tid) (part : Participant) (work : Work) → part.log ≡ no_flags → tell_of_part part ≡ no_nodes → SaysOn work (with_manager (λ manager. if tm.knows tid manager then manager else tm.put_part tid part manager) work)
+absent_on tid part work new nobody = by (tm.part_of tid work.node.manager) refl
   where
     by : (o : Option Participant) → tm.part_of tid work.node.manager ≡ o → SaysOn work (record work { node = record work.node { manager = if is_some o then work.node.manager else tm.put_part tid part work.node.manager } })
-    by None none = put_on tid part work none new
+    by None none = put_on tid part work none new nobody
     by (Some known) is = on_itself work

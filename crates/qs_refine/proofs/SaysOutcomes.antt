@@ -1,5 +1,5 @@
 -- Decisions, outcomes that are told, and inquiries leave a node sound over its log.
-use Rattle.std.proofs.Common.{◌≡◌, inl, inr, ◌==◌, ◌&&◌, ◌||◌, not, Bool, true, false, List, [], ◌∷◌, fold, Option, Some, None, is_some, refl, sym, ap, subst, ◌∙◌, arith, if◌then◌else◌}
+use Rattle.std.proofs.Common.{◌≡◌, inl, inr, ◌==◌, ◌&&◌, ◌||◌, not, Bool, true, false, List, [], ◌∷◌, fold, Option, Some, None, is_some, refl, sym, ap, subst, ◌∙◌, arith, if◌then◌else◌, is_none, ℕ, ◌<◌}
 use Rattle.std.specs.List.{list_any}
 use Rattle.std.specs.BTreeMap.{is_at}
 use Rattle.qs_base.specs.Order.{same_tid, tid_cmp}
@@ -8,7 +8,7 @@ use Rattle.qs_base.specs.declared.identifiers.Outcome.{Outcome}
 use Rattle.qs_base.specs.declared.identifiers.Outcome.TheVariants as outcomes
 use Rattle.qs_base.specs.declared.identifiers.ServerNo.{ServerNo}
 use Rattle.qs_base.specs.declared.identifiers.Tid.{Tid}
-use Rattle.qs_engage.specs.Nodes.{listed, same_node}
+use Rattle.qs_engage.specs.Nodes.{listed, same_node, has_node, no_nodes, put_node, union}
 use Rattle.qs_ops.specs.Server.{after_notice}
 use Rattle.qs_ops.specs.declared.answer.Cause.{Cause}
 use Rattle.qs_ops.specs.declared.answer.Cause.TheVariants as causes
@@ -34,14 +34,22 @@ use Rattle.qs_refine.specs.Sound.{in_order}
 use Rattle.qs_refine.proofs.Forgetting.{forgotten, order_changed}
 use Rattle.qs_refine.proofs.Maps.{lookup_changed}
 use Rattle.qs_refine.proofs.Others.{forget_apart}
-use Rattle.qs_refine.proofs.SaysLogs.{MayLog, log_on, log_if_on, flags_logged}
-use Rattle.qs_refine.proofs.SaysOn.{on_itself, on_then, fold_on, if_on, rest_on, two_on, enter_on, send_on, sends_on, queues_on, server_on, part_on, absent_on}
+use Rattle.qs_refine.proofs.SaysLogs.{MayLog, ListsIt, lists_told, log_on, log_if_on, flags_logged}
+use Rattle.qs_refine.proofs.SaysOn.{on_itself, on_then, fold_on, if_on, rest_on, two_on, grown_on, KeepsTelling, enter_on, send_on, sends_on, queues_on, server_on, part_on, absent_on}
 use Rattle.qs_refine.proofs.SoundKnown.{same_is}
+use Rattle.qs_refine.specs.Sights.{list_of}
+use Rattle.qs_refine.specs.Lists.{is_commit, tell_at, tell_of_part}
+use Rattle.qs_refine.specs.Links.{names_node, node_no}
+use Rattle.qs_refine.proofs.StartWorlds.{nobody}
+use Rattle.qs_refine.proofs.NodeTests.{where_is}
+use Rattle.qs_refine.proofs.NodeLists.{listed_within, listed_names, put_grows, unlisted}
+use Rattle.qs_engage.specs.declared.nodes.Nodes.{Nodes}
+use Rattle.qs_restart.specs.Recovery.{is_untold_of}
 
 -- ---- notices
 
 notify_on : (tid : Tid) (notice : Notice) (server : ServerNo) (work : Work) → SaysOn work (notify tid notice server work)
-notify_on tid notice server work = on_then (server_on server (λ value. after_notice value tid notice) work) (part_on tid (outcome_rules.settled server) (λ part. refl) (change_server server (λ value. after_notice value tid notice) work))
+notify_on tid notice server work = on_then (server_on server (λ value. after_notice value tid notice) work) (part_on tid (outcome_rules.settled server) (λ part. (refl, refl)) (change_server server (λ value. after_notice value tid notice) work))
 
 end_member_on : (tid : Tid) (work : Work) (server : ServerNo) → SaysOn work (end_member tid work server)
 end_member_on tid work server = on_then (notify_on tid Rattle.qs_ops.specs.declared.vote.Notice.TheVariants.Ending server work) (enter_on _ _)
@@ -82,6 +90,24 @@ notices_known tid outcomes.Abort work known = learns_known tid outcomes.Abort (l
 
 -- ---- the decision
 
+-- it is not known as committed
+abbrev pub NotCommitted : Tid → Work → Type 0
+NotCommitted tid work = (part : Participant) → part_of tid work ≡ Some part → is_commit part.outcome ≡ false
+
+pub open_commit : (o : Option Outcome) → is_none o ≡ true → is_commit o ≡ false
+open_commit None is = refl
+open_commit (Some outcome) is = absurd (cc (is))
+
+pub open_of : (tid : Tid) (work : Work) (part : Participant) → part_of tid work ≡ Some part → is_undecided part ≡ true → NotCommitted tid work
+open_of tid work part known open_now other its = subst (λ (p : Participant). is_commit p.outcome ≡ false) (one part other (sym known ∙ its)) (open_commit part.outcome open_now)
+  where
+    one : (a b : Participant) → Some a ≡ Some b → a ≡ b
+    one a b same = cc (same)
+
+-- so nobody is to be told that
+nobody_told : (part : Participant) → is_commit part.outcome ≡ false → (m : ℕ) → has_node (tell_of_part part) (node_no m) ≡ true → ⊥
+nobody_told part off m has = let none : has_node (tell_of_part part) (node_no m) ≡ false = ap (λ (b : Bool). has_node (if b then part.tell else no_nodes) (node_no m)) off ∙ nobody m in cc (none, has)
+
 abbrev made : Tid → Outcome → Option Participant → Decision
 made tid outcome o = elim o [ None ↦ tm.no_decision | Some part ↦ record { rec = record_of tid outcome part; tell = listed (outcome_rules.tell_of outcome part) } ]
 
@@ -106,9 +132,9 @@ decided_may tid outcome work rec = by outcome (part_of tid work) refl
     by outcome None none is = absurd (cc (is))
     by outcome (Some part) known is = (of_it outcome part is, (part, known))
 
-pub decide_on : (tid : Tid) (outcome : Outcome) (cause : Option Cause) (work : Work) → SaysOn work (decide tid outcome cause work)
-decide_on tid outcome cause work =
-    on_then (part_on tid (outcome_rules.decided outcome) (λ part. refl) work)
+pub decide_on : (tid : Tid) (outcome : Outcome) (cause : Option Cause) (work : Work) → NotCommitted tid work → SaysOn work (decide tid outcome cause work)
+decide_on tid outcome cause work closed =
+    on_then (grown_on tid (outcome_rules.decided outcome) (λ part. refl) work (λ part known m below has. absurd (nobody_told part (closed part known) m has)))
     (on_then (log_if_on (tm.decision tid outcome work.node.manager).rec decided may)
     (on_then (rest_on (log_if (tm.decision tid outcome work.node.manager).rec decided) (keep_outcome tid outcome cause (log_if (tm.decision tid outcome work.node.manager).rec decided)) refl refl refl refl refl)
     (on_then (enter_on _ (keep_outcome tid outcome cause (log_if (tm.decision tid outcome work.node.manager).rec decided)))
@@ -117,29 +143,58 @@ decide_on tid outcome cause work =
     decided : Work
     decided = with_manager (tm.decide tid outcome) work
 
-    may : (rec : Record) → (tm.decision tid outcome work.node.manager).rec ≡ Some rec → MayLog rec decided
-    may rec is = let of_it : (tid_of rec ≡ tid) × IsKnown tid work = decided_may tid outcome work rec is in
-        inr (subst (λ (t : Tid). IsKnown t decided) (sym of_it.0) (part_known tid (outcome_rules.decided outcome) work of_it.1))
+    may : (rec : Record) → (tm.decision tid outcome work.node.manager).rec ≡ Some rec → MayLog rec decided × ListsIt rec decided
+    may rec is = let of_it : (tid_of rec ≡ tid) × IsKnown tid work = decided_may tid outcome work rec is in (
+      inr (subst (λ (t : Tid). IsKnown t decided) (sym of_it.0) (part_known tid (outcome_rules.decided outcome) work of_it.1)),
+      lists outcome of_it.1.0 of_it.1.1 (sym (ap (λ (o : Option Participant). (made tid outcome o).rec) of_it.1.1) ∙ is),
+    )
+      where
+        told_in : Option Participant → Nodes
+        told_in o = elim o [ None ↦ no_nodes | Some part ↦ tell_of_part part ]
 
-pub decide_commit_on : (tid : Tid) (work : Work) → SaysOn work (decide_commit tid work)
-decide_commit_on tid work = by (tm.need_past tid work.room work.node.manager)
+        lists : (o : Outcome) (part : Participant) → part_of tid work ≡ Some part → record_of tid o part ≡ Some rec → ListsIt rec (with_manager (tm.decide tid o) work)
+        lists outcomes.Commit part known is = written (writes_commit part) is
+          where
+            told_is : tell_at tid (with_manager (tm.decide tid outcomes.Commit) work).node ≡ part.told
+            told_is = ap told_in (lookup_changed (is_at (tid_cmp tid)) (outcome_rules.decided outcomes.Commit) work.node.manager.known part known)
+
+            written : (b : Bool) → (if b then Some (records.Commit tid (listed part.told)) else None) ≡ Some rec → ListsIt rec (with_manager (tm.decide tid outcomes.Commit) work)
+            written true is = let same : records.Commit tid (listed part.told) ≡ rec = cc (is) in subst (λ (r : Record). ListsIt r (with_manager (tm.decide tid outcomes.Commit) work)) same
+                (lists_told tid (listed part.told) (with_manager (tm.decide tid outcomes.Commit) work).node (record {
+                  named = λ m names. let its = listed_within part.told m names in (its.0, subst (λ (s : Nodes). has_node s (node_no m) ≡ true) (sym told_is) its.1);
+                  all = λ m below has. listed_names part.told m below (subst (λ (s : Nodes). has_node s (node_no m) ≡ true) told_is has);
+                }))
+            written false is = absurd (cc (is))
+        lists outcomes.Abort part known is = ended part.log.prepared is
+          where
+            ended : (b : Bool) → (if b then Some (records.Aborted tid) else None) ≡ Some rec → ListsIt rec (with_manager (tm.decide tid outcomes.Abort) work)
+            ended true is = let same : records.Aborted tid ≡ rec = cc (is) in subst (λ (r : Record). ListsIt r (with_manager (tm.decide tid outcomes.Abort) work)) same tt
+            ended false is = absurd (cc (is))
+
+pub decide_commit_on : (tid : Tid) (work : Work) → NotCommitted tid work → SaysOn work (decide_commit tid work)
+decide_commit_on tid work closed = by (tm.need_past tid work.room work.node.manager)
   where
     by : (o : Option Rattle.std.proofs.Common.ℕ) → SaysOn work (elim o [ None ↦ decide tid outcomes.Commit None work | Some need ↦ decide tid outcomes.Abort (Some (causes.Room need work.room)) work ])
-    by None = decide_on tid outcomes.Commit None work
-    by (Some need) = decide_on tid outcomes.Abort (Some (causes.Room need work.room)) work
+    by None = decide_on tid outcomes.Commit None work closed
+    by (Some need) = decide_on tid outcomes.Abort (Some (causes.Room need work.room)) work closed
 
 -- ---- an outcome is told
 
-learn_on : (tid : Tid) (outcome : Outcome) (part : Participant) (work : Work) → part_of tid work ≡ Some part → SaysOn work (learn tid outcome part work)
-learn_on tid outcome part work known =
-    on_then (part_on tid (outcome_rules.took_outcome outcome) (λ part. refl) work)
-    (on_then (notices_on tid outcome taken) (log_if_on (record_learnt tid outcome part) (give_notices tid outcome taken) (λ rec is. inr (subst (λ (t : Tid). IsKnown t (give_notices tid outcome taken)) (sym (of_it rec part.log.prepared outcome is)) known_still))))
+learn_on : (tid : Tid) (outcome : Outcome) (part : Participant) (work : Work) → part_of tid work ≡ Some part → is_undecided part ≡ true → SaysOn work (learn tid outcome part work)
+learn_on tid outcome part work known open_now =
+    on_then (grown_on tid (outcome_rules.took_outcome outcome) (λ part. refl) work (λ p its m below has. absurd (nobody_told p (open_of tid work part known open_now p its) m has)))
+    (on_then (notices_on tid outcome taken) (log_if_on (record_learnt tid outcome part) (give_notices tid outcome taken) (λ rec is. (inr (subst (λ (t : Tid). IsKnown t (give_notices tid outcome taken)) (sym (of_it rec part.log.prepared outcome is)) known_still), no_list rec part.log.prepared outcome is (give_notices tid outcome taken)))))
   where
     taken : Work
     taken = with_manager (tm.took_outcome tid outcome) work
 
     known_still : IsKnown tid (give_notices tid outcome taken)
     known_still = notices_known tid outcome taken (part_known tid (outcome_rules.took_outcome outcome) work (part, known))
+
+    no_list : (rec : Record) (b : Bool) (outcome : Outcome) → (if b then Some (end_record tid outcome) else None) ≡ Some rec → (w : Work) → ListsIt rec w
+    no_list rec true outcomes.Commit is w = let same : records.Commit tid [] ≡ rec = cc (is) in subst (λ (r : Record). ListsIt r w) same tt
+    no_list rec true outcomes.Abort is w = let same : records.Aborted tid ≡ rec = cc (is) in subst (λ (r : Record). ListsIt r w) same tt
+    no_list rec false outcome is w = absurd (cc (is))
 
     ended : (outcome : Outcome) → tid_of (end_record tid outcome) ≡ tid
     ended outcomes.Commit = refl
@@ -151,7 +206,7 @@ learn_on tid outcome part work known =
 
 -- of what is not known abort is kept
 pub keep_abort_on : (tid : Tid) (work : Work) → SaysOn work (with_manager (tm.keep_abort tid) work)
-keep_abort_on tid work = absent_on tid (aborted_participant (tm.is_home tid work.node.manager)) work refl
+keep_abort_on tid work = absent_on tid (aborted_participant (tm.is_home tid work.node.manager)) work refl refl
 
 take_outcome_on : (tid : Tid) (outcome : Outcome) (work : Work) → SaysOn work (take_outcome tid outcome work)
 take_outcome_on tid outcome work = by (part_of tid work) refl
@@ -162,7 +217,11 @@ take_outcome_on tid outcome work = by (part_of tid work) refl
 
     by : (o : Option Participant) → part_of tid work ≡ o → SaysOn work (elim o [ None ↦ learn_unknown tid outcome work | Some part ↦ if is_undecided part then learn tid outcome part work else work ])
     by None none = unknown outcome
-    by (Some part) known = if_on (is_undecided part) (learn_on tid outcome part work known) (on_itself work)
+    by (Some part) known = picked part known (is_undecided part) refl
+      where
+        picked : (part : Participant) → part_of tid work ≡ Some part → (b : Bool) → is_undecided part ≡ b → SaysOn work (if b then learn tid outcome part work else work)
+        picked part known true open_now = learn_on tid outcome part work known open_now
+        picked part known false decided = on_itself work
 
 pub tell_came_on : (peer : NodeNo) (tid : Tid) (outcome : Outcome) (work : Work) → SaysOn work (tell_came peer tid outcome work)
 tell_came_on peer tid outcome work = if_on (same_node tid.home (here work)) (on_itself work) (on_then (take_outcome_on tid outcome work) (send_on peer (messages.Told tid (names_at tid outcome work)) (take_outcome tid outcome work)))
@@ -171,13 +230,27 @@ tell_came_on peer tid outcome work = if_on (same_node tid.home (here work)) (on_
 
 -- what has nothing in the log may be forgotten
 pub forget_on : (tid : Tid) (work : Work) → in_order work.node.manager.known ≡ true → (flags_at tid work.node).prepared ≡ false → (flags_at tid work.node).listed ≡ false → SaysOn work (forget tid work)
-forget_on tid work ordered prepared listed = on_then (two_on work forgot (record { setting = refl; records = refl; force = refl; commands = λ is. is }) (λ t. by t (same_tid t tid) refl)) (queues_on (Rattle.qs_step.specs.Telling.drop_counts tid) forgot)
+forget_on tid work ordered prepared listed = on_then (two_on work forgot (record { setting = refl; records = refl; force = refl; commands = λ is. is }) (λ t. by t (same_tid t tid) refl) tells) (queues_on (Rattle.qs_step.specs.Telling.drop_counts tid) forgot)
   where
     forgot : Work
     forgot = with_manager (tm.forget tid) work
 
     told : Option Participant → InLog
     told o = elim o [ None ↦ no_flags | Some part ↦ part.log ]
+
+    told_in : Option Participant → Nodes
+    told_in o = elim o [ None ↦ no_nodes | Some part ↦ tell_of_part part ]
+
+    -- its log has no list
+    tells : KeepsTelling work forgot
+    tells said is has = record { named = λ t m below names. at t m below names (same_tid t tid) refl; taken = has.taken }
+      where
+        at : (t : Tid) (m : ℕ) → m < 16 → names_node (list_of t said) (node_no m) ≡ true → (b : Bool) → same_tid t tid ≡ b → has_node (tell_at t forgot.node) (node_no m) ≡ true
+        at t m below names true same = absurd (
+            let none : list_any (is_untold_of tid) said.untold ≡ false = sym (is tid).listed ∙ listed in
+            let off : names_node (list_of tid said) (node_no m) ≡ false = unlisted tid said.untold none (node_no m) in
+            let on : names_node (list_of tid said) (node_no m) ≡ true = subst (λ (u : Tid). names_node (list_of u said) (node_no m) ≡ true) (same_is t tid same) names in cc (off, on))
+        at t m below names false apart = subst (λ (o : Option Participant). has_node (told_in o) (node_no m) ≡ true) (sym (forget_apart t tid work.node.manager apart)) (has.named t m below names)
 
     gone : flags_at tid forgot.node ≡ no_flags
     gone = ap told (forgotten tid work.node.manager ordered)
@@ -189,19 +262,32 @@ forget_on tid work ordered prepared listed = on_then (two_on work forgot (record
 
 end_told_on : (b : Bool) (tid : Tid) (work : Work) → in_order work.node.manager.known ≡ true → SaysOn work (end_told b tid work)
 end_told_on false tid work ordered = on_itself work
-end_told_on true tid work ordered = on_then (log_on (records.End tid) work (inl refl))
+end_told_on true tid work ordered = on_then (log_on (records.End tid) work (inl refl) tt)
     (forget_on tid (log (records.End tid) work) (order_changed tid (outcome_rules.logged (records.End tid)) work.node.manager ordered)
     (ap (λ (f : InLog). f.prepared) (flags_logged (records.End tid) work (inl refl))) (ap (λ (f : InLog). f.listed) (flags_logged (records.End tid) work (inl refl))))
 
 take_told_on : (peer : NodeNo) (tid : Tid) (work : Work) → in_order work.node.manager.known ≡ true → SaysOn work (take_told peer tid work)
-take_told_on peer tid work ordered = on_then (part_on tid (outcome_rules.acknowledged peer) (λ part. refl) work)
+take_told_on peer tid work ordered = on_then (part_on tid (outcome_rules.acknowledged peer) (λ part. (refl, refl)) work)
     (end_told_on (tm.all_acknowledged tid peer work.node.manager) tid (with_manager (tm.acknowledged tid peer) work) (order_changed tid (outcome_rules.acknowledged peer) work.node.manager ordered))
 
+-- whom it is to tell goes on
+names_grow : (tid : Tid) (further : List NodeNo) (part : Participant) (b : Bool) (m : ℕ) → m < 16 → has_node (if b then part.tell else no_nodes) (node_no m) ≡ true
+    → has_node (if b then union part.tell (outcome_rules.new_names tid.home further part) else no_nodes) (node_no m) ≡ true
+names_grow tid further part true m below has = where_is (λ node. has_node part.tell node || has_node (outcome_rules.new_names tid.home further part) node) m below ∙ first (has_node part.tell (node_no m)) (has_node (outcome_rules.new_names tid.home further part) (node_no m)) has
+  where
+    first : (a b : Bool) → a ≡ true → (a || b) ≡ true
+    first a b is = rw is refl
+names_grow tid further part false m below has = has
+
+tell_grows : (peer : NodeNo) (part : Participant) (b : Bool) (m : ℕ) → has_node (if b then part.tell else no_nodes) (node_no m) ≡ true → has_node (if b then put_node part.tell peer else no_nodes) (node_no m) ≡ true
+tell_grows peer part true m has = put_grows part.tell peer m has
+tell_grows peer part false m has = has
+
 take_names_on : (tid : Tid) (further : List NodeNo) (work : Work) → SaysOn work (take_names tid further work)
-take_names_on tid further work = on_then (part_on tid (outcome_rules.take_names tid.home further) (λ part. refl) work) (sends_on (listed (tm.new_names tid further work.node.manager)) (messages.Tell tid outcomes.Abort) _)
+take_names_on tid further work = on_then (grown_on tid (outcome_rules.take_names tid.home further) (λ part. refl) work (λ part known m below has. names_grow tid further part (is_commit part.outcome) m below has)) (sends_on (listed (tm.new_names tid further work.node.manager)) (messages.Tell tid outcomes.Abort) _)
 
 keep_told_on : (tid : Tid) (peer : NodeNo) (work : Work) → SaysOn work (keep_abort_told tid peer work)
-keep_told_on tid peer work = on_then (keep_abort_on tid work) (part_on tid (outcome_rules.add_tell peer) (λ part. refl) (with_manager (tm.keep_abort tid) work))
+keep_told_on tid peer work = on_then (keep_abort_on tid work) (grown_on tid (outcome_rules.add_tell peer) (λ part. refl) (with_manager (tm.keep_abort tid) work) (λ part known m below has. tell_grows peer part (is_commit part.outcome) m has))
 
 pub told_came_on : (peer : NodeNo) (tid : Tid) (further : List NodeNo) (work : Work) → in_order work.node.manager.known ≡ true → SaysOn work (told_came peer tid further work)
 told_came_on peer tid further work ordered = if_on (same_node tid.home (here work)) (by (part_of tid work)) (on_itself work)
@@ -221,9 +307,9 @@ pub inquiry_came_on : (peer : NodeNo) (tid : Tid) (work : Work) → SaysOn work 
 inquiry_came_on peer tid work = if_on (same_node tid.home (here work)) (by (part_of tid work)) (on_itself work)
   where
     known : (o : Option Outcome) → SaysOn work (answer_known peer tid o work)
-    known None = part_on tid (participant.add_told peer) (λ part. refl) work
+    known None = part_on tid (participant.add_told peer) (λ part. (refl, refl)) work
     known (Some outcomes.Commit) = send_on peer (messages.Tell tid outcomes.Commit) work
-    known (Some outcomes.Abort) = on_then (part_on tid (outcome_rules.add_tell peer) (λ part. refl) work) (send_on peer (messages.Tell tid outcomes.Abort) _)
+    known (Some outcomes.Abort) = on_then (grown_on tid (outcome_rules.add_tell peer) (λ part. refl) work (λ part known m below has. tell_grows peer part (is_commit part.outcome) m has)) (send_on peer (messages.Tell tid outcomes.Abort) _)
 
     by : (o : Option Participant) → SaysOn work (elim o [ None ↦ answer_unknown peer tid work | Some part ↦ answer_known peer tid part.outcome work ])
     by None = if_on (was_committed tid work.node) (send_on peer (messages.Tell tid outcomes.Commit) work) (on_then (keep_told_on tid peer work) (send_on peer (messages.Tell tid outcomes.Abort) (keep_abort_told tid peer work)))

@@ -33,6 +33,7 @@ use Rattle.qs_step.specs.Serving.{label_at, put_label, learn_label, met, cover_f
 use Rattle.qs_step.specs.State.{Work, here, part_of, with_manager, client_cmp}
 use Rattle.qs_refine.specs.SaidLaws.{SaysOn}
 use Rattle.qs_refine.proofs.SaysOn.{on_itself, on_then, fold_on, if_on, rest_on, enter_on, send_on, sends_on, answer_on, queues_on, doings_on, server_on, part_on, absent_on}
+use Rattle.qs_refine.specs.Lists.{tell_of_part}
 
 -- ---- requests that are issued, and their replies
 
@@ -40,7 +41,7 @@ enqueue_on : (server : ServerNo) (delivery : Delivery) (work : Work) → SaysOn 
 enqueue_on server delivery work = if_on (is_for server delivery.op) (queues_on (ipc.enqueue server delivery) work) (on_itself work)
 
 enter_issue_on : (tid : Tid) (request : Outstanding) (op : Op) (work : Work) → SaysOn work (enter_issue tid request op work)
-enter_issue_on tid request op work = on_then (enter_on _ work) (part_on tid (participant.issued request) (λ part. refl) _)
+enter_issue_on tid request op work = on_then (enter_on _ work) (part_on tid (participant.issued request) (λ part. (refl, refl)) _)
 
 issue_here_on : (tid : Tid) (request : Outstanding) (op : Op) (work : Work) → SaysOn work (issue_here tid request op work)
 issue_here_on tid request op work =
@@ -55,7 +56,7 @@ ask_on_on true tid to work = send_on to (messages.AskVote tid) work
 issue_away_on : (tid : Tid) (request : Outstanding) (op : Op) (work : Work) → SaysOn work (issue_away tid request op work)
 issue_away_on tid request op work =
     on_then (enter_issue_on tid request op work)
-    (on_then (part_on tid (participant.sent request.member.node) (λ part. refl) (enter_issue tid request op work))
+    (on_then (part_on tid (participant.sent request.member.node) (λ part. (refl, refl)) (enter_issue tid request op work))
     (on_then (send_on request.member.node (messages.Request tid (label_of tid work.node) request.member request.number request.issuer op) (with_manager (tm.sent tid request.member.node) (enter_issue tid request op work)))
     (ask_on_on (is_asked tid work) tid request.member.node (send request.member.node (messages.Request tid (label_of tid work.node) request.member request.number request.issuer op) (with_manager (tm.sent tid request.member.node) (enter_issue tid request op work))))))
 
@@ -70,7 +71,7 @@ issue_on tid issuer member op count work = by (next_number tid member.node work)
     by (Some number) = issue_as_on tid (record { issuer = issuer; member = member; number = number; count = count }) op work
 
 take_reply_on : (tid : Tid) (reply : Reply) (request : Outstanding) (work : Work) → SaysOn work (take_reply tid reply request work)
-take_reply_on tid reply request work = if_on (is_by_files request) (part_on tid (participant.note_served request.count) (λ part. refl) work)
+take_reply_on tid reply request work = if_on (is_by_files request) (part_on tid (participant.note_served request.count) (λ part. (refl, refl)) work)
     (if_on (waits_as tid request.member request.number (lookup (is_at (client_cmp (client_of request.issuer))) work.node.commands)) (answer_on (client_of request.issuer) _ work) (on_itself work))
 
 pub reply_came_on : (tid : Tid) (member : Member) (number : ℕ) (reply : Reply) (work : Work) → SaysOn work (reply_came tid member number reply work)
@@ -78,12 +79,12 @@ reply_came_on tid member number reply work = by (waiting_at tid member number wo
   where
     by : (o : Option Outstanding) → SaysOn work (elim o [ None ↦ work | Some request ↦ take_reply tid reply request (with_manager (tm.drop_waiting tid member number) work) ])
     by None = on_itself work
-    by (Some request) = on_then (part_on tid (participant.drop_waiting member number) (λ part. refl) work) (take_reply_on tid reply request (with_manager (tm.drop_waiting tid member number) work))
+    by (Some request) = on_then (part_on tid (participant.drop_waiting member number) (λ part. (refl, refl)) work) (take_reply_on tid reply request (with_manager (tm.drop_waiting tid member number) work))
 
 -- ---- requests that come
 
 met_on : (tid : Tid) (work : Work) → SaysOn work (met tid work)
-met_on tid work = if_on (same_node tid.home (here work)) (on_itself work) (absent_on tid (new_participant (tm.is_home tid work.node.manager)) work refl)
+met_on tid work = if_on (same_node tid.home (here work)) (on_itself work) (absent_on tid (new_participant (tm.is_home tid work.node.manager)) work refl refl)
 
 cover_on : (engaged : Engaged) (tid : Tid) (peer : NodeNo) (number : ℕ) (work : Work) → SaysOn work (cover_from engaged tid peer number work)
 cover_on engagements.Superior tid peer number work = on_itself work
@@ -92,7 +93,7 @@ cover_on engagements.Elsewhere tid peer number work = send_on peer (messages.Cov
 engage_on : (tid : Tid) (peer : NodeNo) (number : ℕ) (work : Work) → SaysOn work (engage tid peer number work)
 engage_on tid peer number work =
     on_then (met_on tid work)
-    (on_then (part_on tid (participant.requested peer number) (λ part. refl) (met tid work))
+    (on_then (part_on tid (participant.requested peer number) (λ part. (refl, refl)) (met tid work))
     (cover_on (tm.engaged_at tid peer (met tid work).node.manager) tid peer number (with_manager (tm.requested tid peer number) (met tid work))))
 
 learn_label_on : (label : List ℕ) (tid : Tid) (work : Work) → SaysOn work (learn_label label tid work)
@@ -124,11 +125,21 @@ served_log server part = by ((participant.member_of part server).served == last_
     by true = refl
     by false = refl
 
+served_tell : (server : ServerNo) (part : Participant) → tell_of_part (participant.served server part) ≡ tell_of_part part
+served_tell server part = by ((participant.member_of part server).served == last_number)
+  where
+    by : (b : Bool) → tell_of_part (if b then part
+        else record (participant.with_member server (record (participant.member_of part server) { served = (participant.member_of part server).served + 1; fresh = true }) part) {
+          involved = part.involved || is_told_class (class_here server);
+        }) ≡ tell_of_part part
+    by true = refl
+    by false = refl
+
 enter_serve_on : (server : ServerNo) (delivery : Delivery) (reply : Reply) (work : Work) → SaysOn work (enter_serve server delivery reply work)
 enter_serve_on server delivery reply work =
     on_then (change_served_on server delivery.tid delivery.op reply work)
     (on_then (doings_on delivery.tid (λ doings. record doings { served = true }) (change_served server delivery.tid delivery.op reply work))
-    (on_then (part_on delivery.tid (participant.served server) (served_log server) _) (enter_on _ _)))
+    (on_then (part_on delivery.tid (participant.served server) (λ part. (served_log server part, served_tell server part)) _) (enter_on _ _)))
 
 make_loan_on : (tid : Tid) (client : Option ClientNo) (work : Work) → SaysOn work (make_loan tid client work)
 make_loan_on tid None work = on_itself work
@@ -163,24 +174,28 @@ serve_all_on work = fold_on serve_next serve_next_on (ipc.turns work.node.queues
 
 -- ---- asking, counting and refusing
 
-pub undecided_on : (tid : Tid) (rule : Participant → Work → Work) (work : Work) → ((part : Participant) → part_of tid work ≡ Some part → SaysOn work (rule part work)) → SaysOn work (where_undecided tid rule work)
+pub undecided_on : (tid : Tid) (rule : Participant → Work → Work) (work : Work) → ((part : Participant) → part_of tid work ≡ Some part → is_undecided part ≡ true → SaysOn work (rule part work)) → SaysOn work (where_undecided tid rule work)
 undecided_on tid rule work each = by (part_of tid work) refl
   where
     by : (o : Option Participant) → part_of tid work ≡ o → SaysOn work (elim o [ None ↦ work | Some part ↦ if is_undecided part then rule part work else work ])
     by None none = on_itself work
-    by (Some part) known = if_on (is_undecided part) (each part known) (on_itself work)
+    by (Some part) known = picked part known (is_undecided part) refl
+      where
+        picked : (part : Participant) → part_of tid work ≡ Some part → (b : Bool) → is_undecided part ≡ b → SaysOn work (if b then rule part work else work)
+        picked part known true open_now = each part known open_now
+        picked part known false decided = on_itself work
 
 pub become_asked_on : (tid : Tid) (part : Participant) (work : Work) → SaysOn work (become_asked tid part work)
-become_asked_on tid part work = on_then (part_on tid participant.ask (λ part. refl) work) (sends_on (listed (uncovered part.engage)) (messages.AskVote tid) _)
+become_asked_on tid part work = on_then (part_on tid participant.ask (λ part. (refl, refl)) work) (sends_on (listed (uncovered part.engage)) (messages.AskVote tid) _)
 
 pub ask_came_on : (peer : NodeNo) (tid : Tid) (work : Work) → SaysOn work (ask_came peer tid work)
-ask_came_on peer tid work = undecided_on tid (asked_by peer tid) work (λ part known. if_on _ (become_asked_on tid part work) (on_itself work))
+ask_came_on peer tid work = undecided_on tid (asked_by peer tid) work (λ part known open_now. if_on _ (become_asked_on tid part work) (on_itself work))
 
 pub closer_came_on : (peer : NodeNo) (tid : Tid) (up_to : ℕ) (told : List NodeNo) (work : Work) → SaysOn work (closer_came peer tid up_to told work)
-closer_came_on peer tid up_to told work = undecided_on tid (λ part. count peer tid up_to told) work (λ part known. on_then (part_on tid (participant.counted tid.home peer up_to told) (λ part. refl) work) (enter_on _ _))
+closer_came_on peer tid up_to told work = undecided_on tid (λ part. count peer tid up_to told) work (λ part known open_now. on_then (part_on tid (participant.counted tid.home peer up_to told) (λ part. (refl, refl)) work) (enter_on _ _))
 
 pub block_on : (tid : Tid) (cause : Cause) (work : Work) → SaysOn work (block tid cause work)
-block_on tid cause work = on_then (part_on tid participant.refused (λ part. refl) work) (part_on tid (participant.add_cause cause) (λ part. refl) (with_manager (tm.refused tid) work))
+block_on tid cause work = on_then (part_on tid participant.refused (λ part. (refl, refl)) work) (part_on tid (participant.add_cause cause) (λ part. (refl, refl)) (with_manager (tm.refused tid) work))
 
 pub refusal_came_on : (tid : Tid) (cause : Cause) (work : Work) → SaysOn work (refusal_came tid cause work)
 refusal_came_on tid cause work = by (part_of tid work)

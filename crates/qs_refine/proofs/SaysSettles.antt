@@ -33,9 +33,9 @@ use Rattle.qs_step.specs.Telling.{record_learnt, end_record}
 use Rattle.qs_step.specs.Voting.{owes_note, issue_note, note_text, change_count, served_count, enter_vote, vote_with, vote_frame, vote_next, due_votes, vote_pass}
 use Rattle.qs_refine.specs.SaidLaws.{no_flags, flags_at, SaysOn}
 use Rattle.qs_refine.specs.Sound.{is_sound, where_so}
-use Rattle.qs_refine.proofs.SaysLogs.{log_on, log_if_on}
+use Rattle.qs_refine.proofs.SaysLogs.{ListsIt, log_on, log_if_on}
 use Rattle.qs_refine.proofs.SaysOn.{on_itself, on_then, fold_on, if_on, rest_on, enter_on, send_on, sends_on, queues_on, doings_on, server_on, part_on}
-use Rattle.qs_refine.proofs.SaysOutcomes.{IsKnown, part_known, end_members_on, notices_on, notices_known, decide_on, decide_commit_on, forget_on}
+use Rattle.qs_refine.proofs.SaysOutcomes.{open_of, IsKnown, part_known, end_members_on, notices_on, notices_known, decide_on, decide_commit_on, forget_on}
 use Rattle.qs_refine.proofs.SaysRules.{issue_on, block_on}
 use Rattle.qs_refine.proofs.SoundHolds.{Holds, known_sound, is_open, open_held}
 use Rattle.qs_refine.proofs.SoundNotices.{end_members_hold}
@@ -49,7 +49,7 @@ use Rattle.qs_refine.proofs.SoundVotes.{vote_next_holds, pass_open, pass_rule_so
 enter_vote_on : (tid : Tid) (server : ServerNo) (ballot : Vote) (work : Work) → SaysOn work (enter_vote tid server ballot work)
 enter_vote_on tid server ballot work =
     on_then (server_on server (λ value. after_vote value tid ballot) work)
-    (on_then (part_on tid (participant.voted (member_here work server) ballot (served_count tid server work)) (λ part. refl) (change_server server (λ value. after_vote value tid ballot) work))
+    (on_then (part_on tid (participant.voted (member_here work server) ballot (served_count tid server work)) (λ part. (refl, refl)) (change_server server (λ value. after_vote value tid ballot) work))
     (on_then (doings_on tid (λ doings. record doings { voted = true }) _) (enter_on _ _)))
 
 held_known : (tid : Tid) (work : Work) → Holds is_open tid work.node → IsKnown tid work
@@ -69,7 +69,7 @@ vote_with_on tid server votes.Recoverable work known =
     on_then (enter_vote_on tid server votes.Recoverable work)
     (on_then (doings_on tid (λ doings. record doings { prepared = true }) entered)
     (log_on (records.Prepare tid server (served_count tid server entered) (changes_in (server_at entered.node.servers server) tid)) (with_doings tid (λ doings. record doings { prepared = true }) entered)
-    (inr (part_known tid (participant.voted (member_here work server) votes.Recoverable (served_count tid server work)) (change_server server (λ value. after_vote value tid votes.Recoverable) work) known))))
+    (inr (part_known tid (participant.voted (member_here work server) votes.Recoverable (served_count tid server work)) (change_server server (λ value. after_vote value tid votes.Recoverable) work) known)) tt))
   where
     entered : Work
     entered = enter_vote tid server votes.Recoverable work
@@ -99,19 +99,19 @@ module _ (tid : Tid) (part : Participant) (work : Work) (known : part_of tid wor
       by true is = vote_pass_on tid work (pass_open tid part work known open_now sound is)
       by false is = on_itself work
 
-  pub ready_on : SaysOn work (ready_rule tid part work)
-  ready_on = if_on (may_answer tid part work) (if_on part.engage.home (if_on (is_quiet (doings_of tid work)) (decide_commit_on tid work) (on_itself work)) (answers (release_of part.engage))) (on_itself work)
+  pub ready_on : is_undecided part ≡ true → SaysOn work (ready_rule tid part work)
+  ready_on open_now = if_on (may_answer tid part work) (if_on part.engage.home (if_on (is_quiet (doings_of tid work)) (decide_commit_on tid work (open_of tid work part known open_now)) (on_itself work)) (answers (release_of part.engage))) (on_itself work)
     where
       answers : (o : Option (NodeNo × ℕ)) → SaysOn work (elim o [ None ↦ work | Some superior ↦ say_yes tid part superior work ])
       answers None = on_itself work
-      answers (Some superior) = on_then (part_on tid participant.released (λ part. refl) work) (send_on _ _ (with_manager (tm.released tid) work))
+      answers (Some superior) = on_then (part_on tid participant.released (λ part. (refl, refl)) work) (send_on _ _ (with_manager (tm.released tid) work))
 
-  pub refuse_on : SaysOn work (refuse_rule tid part work)
-  refuse_on = if_on part.engage.home (first part.causes) (on_then (part_on tid participant.take_causes (λ part. refl) work) (fold_on (send_refusal tid (refusal_goes_to tid part)) (λ w cause. send_on _ _ w) part.causes (with_manager (tm.take_causes tid) work)))
+  pub refuse_on : is_undecided part ≡ true → SaysOn work (refuse_rule tid part work)
+  refuse_on open_now = if_on part.engage.home (first part.causes) (on_then (part_on tid participant.take_causes (λ part. (refl, refl)) work) (fold_on (send_refusal tid (refusal_goes_to tid part)) (λ w cause. send_on _ _ w) part.causes (with_manager (tm.take_causes tid) work)))
     where
       first : (list : List Cause) → SaysOn work (elim list [ [] ↦ work | cause ∷ more ↦ decide tid outcomes.Abort (Some cause) work ])
       first [] = on_itself work
-      first (cause ∷ more) = decide_on tid outcomes.Abort (Some cause) work
+      first (cause ∷ more) = decide_on tid outcomes.Abort (Some cause) work (open_of tid work part known open_now)
 
   -- what is forgotten has nothing in the log
   pub forget_rule_on : is_sound work.node ≡ true → SaysOn work (forget_rule tid part work)
@@ -159,8 +159,8 @@ known_on tid rule work each = by (part_of tid work) refl
 settle_tid_on : (work : Work) (tid : Tid) → is_sound work.node ≡ true → SaysOn work (settle_tid work tid)
 settle_tid_on work tid sound =
     on_then (known_on tid pass_rule work (λ part known open_now. pass_on tid part work known open_now sound))
-    (on_then (known_on tid ready_rule passed (λ part known open_now. ready_on tid part passed known))
-    (on_then (known_on tid refuse_rule readied (λ part known open_now. refuse_on tid part readied known))
+    (on_then (known_on tid ready_rule passed (λ part known open_now. ready_on tid part passed known open_now))
+    (on_then (known_on tid refuse_rule readied (λ part known open_now. refuse_on tid part readied known open_now))
     (known_on tid forget_rule refused (λ part known open_now. forget_rule_on tid part refused known refused_sound))))
   where
     passed : Work
@@ -208,7 +208,7 @@ notice_tid_on peer old new work tid = by (part_of tid work)
 
     by : (o : Option Participant) → SaysOn work (elim o [ None ↦ work | Some part ↦ notice_part peer old new tid part restarted ])
     by None = on_itself work
-    by (Some part) = on_then (part_on tid (participant.restarted peer) (λ part. refl) work) (at part part.outcome)
+    by (Some part) = on_then (part_on tid (participant.restarted peer) (λ part. (refl, refl)) work) (at part part.outcome)
 
 pub peer_restarted_on : (peer : NodeNo) (old new : ℕ) (work : Work) → SaysOn work (peer_restarted peer old new work)
 peer_restarted_on peer old new work = on_then (queues_on (ipc.mark_queues peer) work) (fold_on (notice_tid peer old new) (notice_tid_on peer old new) (tm.concerned peer work.node.manager) (with_queues (ipc.mark_queues peer) work))
@@ -217,8 +217,12 @@ peer_restarted_on peer old new work = on_then (queues_on (ipc.mark_queues peer) 
 
 resume_home_on : (tid : Tid) (part : Participant) (outcome : Outcome) (work : Work) → part_of tid work ≡ Some part → SaysOn work (resume_home tid part outcome work)
 resume_home_on tid part outcomes.Commit work known = sends_on (listed part.tell) (messages.Tell tid outcomes.Commit) work
-resume_home_on tid part outcomes.Abort work known = on_then (notices_on tid outcomes.Abort work) (log_if_on (record_learnt tid outcomes.Abort part) _ (λ rec is. inr (subst (λ (t : Tid). IsKnown t (Rattle.qs_step.specs.Deciding.give_notices tid outcomes.Abort work)) (sym (of_it rec part.log.prepared is)) (notices_known tid outcomes.Abort work (part, known)))))
+resume_home_on tid part outcomes.Abort work known = on_then (notices_on tid outcomes.Abort work) (log_if_on (record_learnt tid outcomes.Abort part) _ (λ rec is. (inr (subst (λ (t : Tid). IsKnown t (Rattle.qs_step.specs.Deciding.give_notices tid outcomes.Abort work)) (sym (of_it rec part.log.prepared is)) (notices_known tid outcomes.Abort work (part, known))), unlisted rec part.log.prepared is (Rattle.qs_step.specs.Deciding.give_notices tid outcomes.Abort work))))
   where
+    unlisted : (rec : Rattle.qs_record.specs.declared.record.Record.Record) (b : Bool) → (if b then Some (end_record tid outcomes.Abort) else None) ≡ Some rec → (w : Work) → ListsIt rec w
+    unlisted rec true is w = let same : end_record tid outcomes.Abort ≡ rec = cc (is) in subst (λ (r : Rattle.qs_record.specs.declared.record.Record.Record). ListsIt r w) same tt
+    unlisted rec false is w = absurd (cc (is))
+
     of_it : (rec : Rattle.qs_record.specs.declared.record.Record.Record) (b : Bool) → (if b then Some (end_record tid outcomes.Abort) else None) ≡ Some rec → Rattle.qs_step.specs.Bringing.tid_of rec ≡ tid
     of_it rec true is = let same : end_record tid outcomes.Abort ≡ rec = cc (is) in subst (λ (r : Rattle.qs_record.specs.declared.record.Record.Record). Rattle.qs_step.specs.Bringing.tid_of r ≡ tid) same refl
     of_it rec false is = absurd (cc (is))

@@ -1,5 +1,5 @@
 -- Commands, messages and whole steps leave a node sound over its log.
-use Rattle.std.proofs.Common.{◌≡◌, ℕ, ◌+◌, true, List, [], ◌∷◌, Option, Some, None, refl}
+use Rattle.std.proofs.Common.{◌≡◌, ℕ, ◌+◌, true, List, [], ◌∷◌, Option, Some, None, refl, fold, Bool, if◌then◌else◌, sym, subst, ◌&&◌, false}
 use Rattle.std.specs.List.{list_all}
 use Rattle.std.specs.Map.{lookup, set_value}
 use Rattle.std.specs.BTreeMap.{insert_entry, is_at}
@@ -23,7 +23,7 @@ use Rattle.qs_ops.specs.declared.operation.Op.{Op}
 use Rattle.qs_packet.specs.declared.message.Message.{Message}
 use Rattle.qs_packet.specs.declared.message.Message.TheVariants as messages
 use Rattle.qs_tm.specs.Manager as tm
-use Rattle.qs_tm.specs.Participant.{begun_participant}
+use Rattle.qs_tm.specs.Participant.{begun_participant, is_undecided}
 use Rattle.qs_tm.specs.declared.manager.BeginFault.{BeginFault}
 use Rattle.qs_tm.specs.declared.manager.BeginFault.TheVariants as faults
 use Rattle.qs_tm.specs.declared.participant.Participant.{Participant}
@@ -41,14 +41,20 @@ use Rattle.qs_step.specs.declared.event.Event.TheVariants as events
 use Rattle.qs_step.specs.declared.state.Issued.{Issued}
 use Rattle.qs_step.specs.declared.state.OpenCommand.{OpenCommand}
 use Rattle.qs_refine.specs.SaidLaws.{SaysOn, BeginsNew}
-use Rattle.qs_refine.specs.Sound.{in_order, goes_in_run}
+use Rattle.qs_refine.specs.Sound.{in_order, goes_in_run, where_so}
 use Rattle.qs_refine.specs.SoundSteps.{MayHappen, is_open_in_run, commands_in_run}
 use Rattle.qs_refine.proofs.SaysOn.{on_itself, on_then, fold_on, if_on, rest_on, enter_on, answer_on, kept_on, doings_on, put_on, plain_on}
-use Rattle.qs_refine.proofs.SaysOutcomes.{decide_on, tell_came_on, told_came_on, inquiry_came_on}
+use Rattle.qs_refine.proofs.SaysOutcomes.{NotCommitted, open_commit, open_of, decide_on, tell_came_on, told_came_on, inquiry_came_on}
 use Rattle.qs_refine.proofs.SaysRules.{issue_as_on, reply_came_on, request_came_on, serve_all_on, become_asked_on, undecided_on, ask_came_on, closer_came_on, refusal_came_on}
 use Rattle.qs_refine.proofs.SaysSettles.{peer_restarted_on}
 use Rattle.qs_refine.proofs.SoundParts.{and_both, both_and}
 use Rattle.qs_refine.proofs.SoundStep.{all_changed}
+use Rattle.qs_refine.proofs.SoundHolds.{told_part}
+use Rattle.qs_refine.proofs.SoundFrames.{behind, order_tail}
+use Rattle.qs_refine.proofs.SoundAge.{picked, put_all, all_fit, is_home_open, is_open_at, still_fits, fits_on}
+use Rattle.qs_tm.specs.declared.manager.Which.{Which}
+use Rattle.qs_tm.specs.Manager.{is_one}
+use Rattle.qs_tm.specs.declared.manager.Which.TheVariants as whiches
 
 -- ---- what clients command
 
@@ -56,7 +62,7 @@ use Rattle.qs_refine.proofs.SoundStep.{all_changed}
 begin_as_on : (line : ScriptLine) (work : Work) → tm.part_of (tm.next_tid work.node.manager) work.node.manager ≡ None → SaysOn work (begin_as line (tm.next_tid work.node.manager) work)
 begin_as_on line work new =
     on_then (rest_on work counted refl refl refl refl refl)
-    (on_then (put_on (tm.next_tid work.node.manager) (begun_participant line.client work.node.manager.ticks) counted new refl)
+    (on_then (put_on (tm.next_tid work.node.manager) (begun_participant line.client work.node.manager.ticks) counted new refl refl)
     (on_then (rest_on begun (put_label (record { label = line.label; tid = Some (tm.next_tid work.node.manager); owner = Some line.client }) begun) refl refl refl refl refl) (on_then (enter_on _ _) (answer_on line.client answers.Done _))))
   where
     begun : Work
@@ -94,8 +100,8 @@ ask_on : (tid : Tid) (part : Participant) (work : Work) → SaysOn work (ask tid
 ask_on tid part work = if_on part.asked (on_itself work) (on_then (enter_on _ work) (on_then (doings_on tid (λ doings. record doings { asked = true }) _) (become_asked_on tid part (enter_ask tid work))))
 
 open_command_on : (client : ClientNo) (tid : Tid) (command : Command) (work : Work) → SaysOn work (open_command client tid command work)
-open_command_on client tid commands.Commit work = undecided_on tid (ask tid) work (λ part known. ask_on tid part work)
-open_command_on client tid commands.Abort work = undecided_on tid (λ part. decide tid outcomes.Abort (Some causes.Asked)) work (λ part known. decide_on tid outcomes.Abort (Some causes.Asked) work)
+open_command_on client tid commands.Commit work = undecided_on tid (ask tid) work (λ part known open_now. ask_on tid part work)
+open_command_on client tid commands.Abort work = undecided_on tid (λ part. decide tid outcomes.Abort (Some causes.Asked)) work (λ part known open_now. decide_on tid outcomes.Abort (Some causes.Asked) work (open_of tid work part known open_now))
 open_command_on client tid (commands.Request member op) work = request_command_on client tid member op work
 open_command_on client tid commands.Begin work = on_itself work
 open_command_on client tid commands.Take work = on_itself work
@@ -201,22 +207,47 @@ message_came_on peer (messages.Tell tid outcome) work ordered = tell_came_on pee
 message_came_on peer (messages.Told tid further) work ordered = told_came_on peer tid further work ordered
 message_came_on peer (messages.Inquire tid) work ordered = inquiry_came_on peer tid work
 
-tick_on : (work : Work) → SaysOn work (tick work)
-tick_on work = on_then (rest_on work ticked refl refl refl refl refl) (by work.node.setting.age)
+-- who is that old, and not decided, is aborted
+old_on : (which : Which) (age : ℕ) (es : List (Tid × Participant)) (work : Work) → in_order es ≡ true → list_all (still_fits which age work) es ≡ true → SaysOn work (fold (abort_old age) work (picked which es))
+old_on which age [] work ordered all = on_itself work
+old_on which age (e ∷ es) work ordered all = by (is_one which e.0 e.1) both.0 (λ (new : Work) (left : list_all (still_fits which age new) es ≡ true). old_on which age es new (order_tail e es ordered) left)
+  where
+    both : (still_fits which age work e ≡ true) × (list_all (still_fits which age work) es ≡ true)
+    both = and_both (still_fits which age work e) (list_all (still_fits which age work) es) all
+
+    closed : is_open_at work e.0 ≡ true → NotCommitted e.0 work
+    closed opened part known = open_commit part.outcome (and_both part.engage.home (is_undecided part) (told_part is_home_open e.0 work.node.manager part known opened)).1
+
+    by : (b : Bool) → where_so b (is_open_at work e.0) ≡ true → ((new : Work) → list_all (still_fits which age new) es ≡ true → SaysOn new (fold (abort_old age) new (picked which es)))
+        → SaysOn work (fold (abort_old age) work (if b then e.0 ∷ picked which es else picked which es))
+    by true opened more = on_then (decide_on e.0 outcomes.Abort (Some (causes.Old age)) work (closed opened)) (more (abort_old age work e.0) (fits_on which age e.0 work es (behind e es ordered) both.1))
+    by false opened more = more work both.1
+
+tick_on : (work : Work) → in_order work.node.manager.known ≡ true → SaysOn work (tick work)
+tick_on work ordered = on_then (rest_on work ticked refl refl refl refl refl) (by work.node.setting.age)
   where
     ticked : Work
     ticked = with_manager tm.tick (change_server Rattle.qs_servers.specs.Servers.timers_no (λ value. record value { timers = Rattle.qs_ops.specs.Timers.ticked value.timers }) (enter Rattle.qs_journal.specs.declared.entry.Act.TheVariants.Tick work))
 
     by : (o : Option ℕ) → SaysOn ticked (age_rule o ticked)
     by None = on_itself ticked
-    by (Some age) = fold_on (abort_old age) (λ w tid. decide_on tid outcomes.Abort (Some (causes.Old age)) w) (tm.aged age ticked.node.manager) ticked
+    by (Some age) = subst (λ (tids : List Tid). SaysOn ticked (fold (abort_old age) ticked tids)) (sym (put_all (whiches.Aged ticked.node.manager.ticks age) ticked.node.manager.known []))
+        (old_on (whiches.Aged ticked.node.manager.ticks age) age ticked.node.manager.known ticked ordered (all_fit (whiches.Aged ticked.node.manager.ticks age) opens ticked.node.manager.known ordered))
+      where
+        opens : (tid : Tid) (part : Participant) → is_one (whiches.Aged ticked.node.manager.ticks age) tid part ≡ true → is_home_open part ≡ true
+        opens tid part so = at (is_undecided part) part.engage.home _ so
+          where
+            at : (u h b : Bool) → (u && (h && b)) ≡ true → (h && u) ≡ true
+            at true true b so = refl
+            at true false b so = absurd (cc so)
+            at false h b so = absurd (cc so)
 
 pub happen_on : (event : Event) (work : Work) → MayHappen event work → BeginsNew event work → in_order work.node.manager.known ≡ true → SaysOn work (happen event work)
 happen_on (events.Command client line label command) work may new ordered = command_came_on (record { client = client; line = line; label = label; command = command }) work may.0 new
 happen_on (events.Received peer message) work may new ordered = message_came_on peer message work ordered
 happen_on events.ServeAll work may new ordered = serve_all_on work
 happen_on (events.PeerRestarted peer old now) work may new ordered = peer_restarted_on peer old now work
-happen_on events.Tick work may new ordered = tick_on work
+happen_on events.Tick work may new ordered = tick_on work ordered
 
 -- ---- commands that stay open
 

@@ -26,7 +26,8 @@ use Rattle.qs_tm.specs.declared.participant.Participant.{Participant}
 use Rattle.qs_world.specs.World.{Parcel, World}
 use Rattle.qs_refine.specs.Begun.{begun_among, past_among, inc_in, count_in, has_begun, may_be_known, is_drawn, fits}
 use Rattle.qs_refine.specs.Links.{names_node, node_no}
-use Rattle.qs_refine.specs.Listed.{IsListedWorld, SteadyGives, tell_at, tell_of_part}
+use Rattle.qs_refine.specs.Listed.{IsListedWorld, SteadyGives}
+use Rattle.qs_refine.specs.Lists.{AreListed, last_list, tell_of_part}
 use Rattle.qs_refine.specs.NodeFaces.{began_here, is_past_commit, waiting_at}
 use Rattle.qs_refine.specs.Sights.{list_of, server_no}
 use Rattle.qs_refine.specs.Sound.{same_flag}
@@ -37,6 +38,7 @@ use Rattle.qs_refine.specs.SteadyFacts.{NodeFacts}
 use Rattle.qs_refine.specs.Tidy.{are_servers_apart, is_settled}
 use Rattle.qs_refine.specs.Tidy as tidy_specs
 use Rattle.qs_refine.proofs.StartWorlds.{alike_at}
+use Rattle.qs_refine.proofs.NodeLists.{joined_below}
 use Rattle.qs_refine.proofs.SaidTidy.{log_tidy, takes_up, all_parted}
 use Rattle.qs_refine.proofs.SoundBegin.{all_implied}
 use Rattle.qs_refine.proofs.SoundHolds.{known_sound}
@@ -171,8 +173,11 @@ module _ (world : World) (steady : IsSteadyWorld world) (listed : IsListedWorld 
   -- whom a Commit names the home is to tell
   tells : (t : Tid) (part : Participant) (low : t.home.0 < world.size) → world.channels.up t.home.0 ≡ true → tm.part_of t (world.hosts t.home.0).node.manager ≡ Some part → part.outcome ≡ Some outcomes.Commit
       → (m : ℕ) → names_node (list_of t (recovery ((world.hosts t.home.0).log ++ (world.hosts t.home.0).waiting))) (node_no m) ≡ true → has_node part.tell (node_no m) ≡ true
-  tells t part low up known commit m names = subst (λ (s : Nodes). has_node s (node_no m) ≡ true) (ap found known ∙ told part commit) (listed.nodes t.home.0 low up t m names)
+  tells t part low up known commit m names = subst (λ (s : Nodes). has_node s (node_no m) ≡ true) (ap found known ∙ told part commit) (its.named t m (joined_below (last_list t (recovery ((world.hosts t.home.0).log ++ (world.hosts t.home.0).waiting))) m (its.taken t m names)) names)
     where
+      its : AreListed (world.hosts t.home.0).node (recovery ((world.hosts t.home.0).log ++ (world.hosts t.home.0).waiting))
+      its = listed.nodes t.home.0 low up
+
       found : Option Participant → Nodes
       found o = elim o [ None ↦ Rattle.qs_engage.specs.Nodes.no_nodes | Some part ↦ tell_of_part part ]
 

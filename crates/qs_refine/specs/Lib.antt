@@ -36,6 +36,7 @@ pub mod RestartFound
 pub mod OutcomeWhole
 pub mod RequestWhole
 pub mod RiseLaws
+pub mod Lists
 pub mod SaidLaws
 pub mod MoveLaws
 pub mod OpenLaws

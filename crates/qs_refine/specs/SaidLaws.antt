@@ -16,6 +16,7 @@ use Rattle.qs_step.specs.declared.event.Event.TheVariants as events
 use Rattle.qs_world.specs.Openings.{IsOpening, is_untold}
 use Rattle.qs_world.specs.World.{Host, Opening, World, start}
 use Rattle.qs_world.specs.Moves.{Move, Step, Cut, Stop, Rise, Meet, event_of, reopened, may_move, moved}
+use Rattle.qs_refine.specs.Lists.{AreListed}
 use Rattle.qs_refine.specs.Sound.{is_sound, is_sound_said, has_doubt, may_take_up}
 use Rattle.qs_refine.specs.SoundMoves.{MayMove}
 use Rattle.qs_refine.specs.SoundSteps.{MayHappen, commands_in_run, begun, settled}
@@ -44,7 +45,7 @@ abbrev pub SeenSaid : Type 0
 SeenSaid = (node : NodeValue) (said : Recovery) → is_sound node ≡ true → AreSaid node said → is_sound_said node said ≡ true
 
 -- ---- a piece of a step leaves a node sound over its log: the setting stays, the log goes on by the records that it appended, and is forced
--- for these; and what is open goes to nodes of the run
+-- for these; what is open goes to nodes of the run; and whom a Commit in the log names is to be told
 
 pub record SaysOn (work new : Work) : Type 0 where
   pub setting : new.node.setting ≡ work.node.setting
@@ -53,6 +54,7 @@ pub record SaysOn (work new : Work) : Type 0 where
   pub forced : new.out.force ≡ (work.out.force || list_any is_forced more)
   pub commands : commands_in_run work.node ≡ true → commands_in_run new.node ≡ true
   pub said : (said : Recovery) → AreSaid work.node said → AreSaid new.node (fold found_record said more)
+  pub lists : (said : Recovery) → AreSaid work.node said → AreListed work.node said → AreListed new.node (fold found_record said more)
 
 -- where a client begins a transaction, its number is new
 abbrev pub BeginsNew : Event → Work → Type 0
