@@ -303,3 +303,4 @@ pub mod SteadyFrom
 pub mod ShownMoves
 pub mod ShownBegins
 pub mod Outside
+pub mod NodesAgree

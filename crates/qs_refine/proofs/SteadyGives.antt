@@ -37,7 +37,7 @@ use Rattle.qs_refine.proofs.TidyHappens.{fresh_next}
 use Rattle.qs_refine.proofs.TidyNodes.{part_read}
 
 -- what it keeps of one may be known
-past_of : (c : Stage) (node : NodeValue) → IsTidyNode c node → (tid : Tid) (part : Participant) → tm.part_of tid node.manager ≡ Some part → c.past tid ≡ true
+pub past_of : (c : Stage) (node : NodeValue) → IsTidyNode c node → (tid : Tid) (part : Participant) → tm.part_of tid node.manager ≡ Some part → c.past tid ≡ true
 past_of c node n tid part known = (and_both (c.past tid) _ (and_both (c.past tid && same_flag part.engage.home (same_node tid.home c.setting.node)) _ (part_read c node n tid part known)).0).0
 
 unknown_of : (c : Stage) (node : NodeValue) → IsTidyNode c node → (tid : Tid) → c.past tid ≡ false → tm.part_of tid node.manager ≡ None

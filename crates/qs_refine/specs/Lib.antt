@@ -69,3 +69,4 @@ pub mod Lefts
 pub mod LeftLaws
 pub mod Listed
 pub mod ShownWorlds
+pub mod WorldLaws

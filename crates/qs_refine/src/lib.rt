@@ -3,6 +3,7 @@
 
 pub mod begins;
 pub mod events;
+pub mod laws;
 pub mod moves;
 pub mod rules;
 pub mod sound_rules;

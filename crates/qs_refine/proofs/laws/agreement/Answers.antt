@@ -1,0 +1,5 @@
+use Rattle.qs_refine.proofs.NodesAgree.{nodes_agree}
+use Rattle.qs_refine.proofs.laws.agreement.Goals as goal
+
+pub returns : goal.returns
+returns c = record { nodes = nodes_agree }
