@@ -287,5 +287,7 @@ pub mod SteadyMoves
 pub mod SteadyMeets
 pub mod SteadyRises
 pub mod SteadyGives
+pub mod TakenLists
+pub mod Listing
 pub mod SteadyFrom
 pub mod ShownMoves
