@@ -290,4 +290,5 @@ pub mod SteadyGives
 pub mod TakenLists
 pub mod Listing
 pub mod SteadyFrom
+pub mod BegunStays
 pub mod ShownMoves
