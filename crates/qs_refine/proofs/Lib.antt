@@ -299,7 +299,10 @@ pub mod PassedOver
 pub mod ToCome
 pub mod BeginSteps
 pub mod EachBeginning
+pub mod TakenLists
+pub mod Listing
 pub mod SteadyFrom
+pub mod BegunStays
 pub mod ShownMoves
 pub mod ShownBegins
 pub mod Outside

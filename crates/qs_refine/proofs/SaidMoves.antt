@@ -69,7 +69,7 @@ module _ (said : Recovery) (unended : are_left_open said ≡ true) where
           let its : (names_transaction v.tid ≡ true) × (not (list_any (is_untold_of v.tid) said.untold) ≡ true) = open_is v.committed (names_transaction v.tid) (not (list_any (is_untold_of v.tid) said.untold)) (and_both (is_open_vote said v) (list_all (is_open_vote said) votes) all).0 both.1 in
           subst (λ (t : Tid). (names_transaction t ≡ true) × (list_any (is_untold_of t) said.untold ≡ false)) (same_is v.tid tid both.0) (its.0, off (list_any (is_untold_of v.tid) said.untold) its.1)
 
-  untold_named : (tid : Tid) (commits : List Untold) → list_all is_untold commits ≡ true → list_any (is_untold_of tid) commits ≡ true → names_transaction tid ≡ true
+  pub untold_named : (tid : Tid) (commits : List Untold) → list_all is_untold commits ≡ true → list_any (is_untold_of tid) commits ≡ true → names_transaction tid ≡ true
   untold_named tid [] all some = absurd (cc (some))
   untold_named tid (c ∷ commits) all some = by (is_untold_of tid c) refl some (untold_named tid commits (and_both (is_untold c) (list_all is_untold commits) all).1)
     where

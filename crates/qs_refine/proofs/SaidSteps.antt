@@ -9,7 +9,7 @@ use Rattle.qs_step.specs.State.{NodeValue, work_on}
 use Rattle.qs_step.specs.Step.{happen, accept, after_step, effects_of, step_work}
 use Rattle.qs_step.specs.declared.event.Event.{Event}
 use Rattle.qs_refine.specs.SaidLaws.{AreSaid, SaysOn, BeginsNew, StepSaid, StepSeated, StepForces, StepOpen}
-use Rattle.qs_refine.specs.Sound.{is_sound}
+use Rattle.qs_refine.specs.Sound.{is_sound, is_sound_said}
 use Rattle.qs_refine.specs.SoundSteps.{MayHappen, commands_in_run, begun, settled}
 use Rattle.qs_refine.proofs.SaysOn.{on_then}
 use Rattle.qs_refine.proofs.SaysSeen.{said_seen, seen_said}
@@ -19,6 +19,7 @@ use Rattle.qs_refine.proofs.SoundHappen.{happen_sound}
 use Rattle.qs_refine.proofs.SoundRestart.{begin_incarnation_sound}
 use Rattle.qs_refine.proofs.SoundStep.{step_sound}
 use Rattle.qs_refine.proofs.SoundViews.{seen}
+use Rattle.qs_refine.specs.Lists.{AreListed}
 
 pub step_on : (node : NodeValue) (event : Event) (free : ℕ) → MayHappen event (begun node free) → BeginsNew event (begun node free) → is_sound node ≡ true → SaysOn (work_on node free) (step_work node event free)
 step_on node event free may new sound =
@@ -43,6 +44,21 @@ step_said node event free log may new in_run sound said =
   where
     on : SaysOn (work_on node free) (step_work node event free)
     on = step_on node event free may new sound
+
+    log_is : recovery (log ++ (effects_of node event free).records) ≡ fold found_record (recovery log) on.more
+    log_is = ap (λ (records : List Record). recovery (log ++ records)) on.records ∙ fold-append found_record nothing_said log on.more
+
+-- whom a Commit names that is in the log, with the step's records, the node is to tell then
+pub step_lists : (node : NodeValue) (event : Event) (free : ℕ) (log : List Record) → MayHappen event (begun node free) → BeginsNew event (begun node free) → is_sound node ≡ true → is_sound_said node (recovery log) ≡ true → AreListed node (recovery log)
+    → AreListed (after_step node event free) (recovery (log ++ (effects_of node event free).records))
+step_lists node event free log may new sound said listed =
+    subst (λ (r : Recovery). AreListed (after_step node event free) r) (sym log_is) (record { named = after.named; taken = after.taken })
+  where
+    on : SaysOn (work_on node free) (step_work node event free)
+    on = step_on node event free may new sound
+
+    after : AreListed (step_work node event free).node (fold found_record (recovery log) on.more)
+    after = on.lists (recovery log) (said_seen node (recovery log) sound said) listed
 
     log_is : recovery (log ++ (effects_of node event free).records) ≡ fold found_record (recovery log) on.more
     log_is = ap (λ (records : List Record). recovery (log ++ records)) on.records ∙ fold-append found_record nothing_said log on.more

@@ -23,13 +23,16 @@ use Rattle.qs_refine.specs.EachMove.{ShowsAll, AllGoes, IsAbout, MessagesFit}
 use Rattle.qs_refine.specs.Links.{node_no}
 use Rattle.qs_refine.specs.ShownWorlds.{IsShown, IsShownWorld, BegunAreShown, EachBegunShown, ShownFit, ShownGives, ShownGoes, MoveShown, RunShown, ShownRunGoes}
 use Rattle.qs_refine.specs.SoundSteps.{FitsMessage, begun}
-use Rattle.qs_refine.specs.Steadies.{MachineGives, GivesAt, is_steady_parcel, are_two}
+use Rattle.qs_refine.specs.Steadies.{MachineMoves, MachineGives, GivesAt, is_steady_parcel, are_two}
 use Rattle.qs_refine.specs.Steady.{IsSteady}
+use Rattle.qs_refine.proofs.BegunStays.{begun_stays}
 use Rattle.qs_refine.proofs.EachMay.{all_get, from_client, from_node, from_notice}
 use Rattle.qs_refine.proofs.EachMoveGoes.{each_move_goes, shown_fits}
+use Rattle.qs_refine.proofs.Listing.{move_listed}
 use Rattle.qs_refine.proofs.MoveGoes.{StepMay, step_may}
 use Rattle.qs_refine.proofs.SoundParts.{and_both, both_and}
 use Rattle.qs_refine.proofs.SteadyFrom.{begun_low, steady_gives}
+use Rattle.qs_refine.proofs.SteadyRises.{move_steady}
 
 -- ---- a message
 
@@ -128,3 +131,30 @@ shown_gives world (Meet n stamp m inc) may is = tt
 
 pub shown_goes : ShownGoes
 shown_goes tid world move w may is begun shows = each_move_goes tid world move w may (steady world is) (messages_fit world is) (in_run world is tid begun) (begun_low world tid begun) shows
+
+-- ---- the world after it
+
+pub move_shown : MoveShown
+move_shown world move may is begun = record {
+  steady = move_steady world move may gives is.steady;
+  listed = move_listed world move may gives is.steady is.listed;
+  shown = λ tid has. by tid has (has_begun world tid) refl;
+}
+  where
+    gives : MachineMoves world move
+    gives = shown_gives world move may is
+
+    by : (tid : Tid) → has_begun (moved move world) tid ≡ true → (b : Bool) → has_begun world tid ≡ b → IsShown tid (moved move world)
+    by tid has true before = let goes : AllGoes tid (moved move world) (is.shown tid before).machine = shown_goes tid world move (is.shown tid before).machine may is before (is.shown tid before).shows in record { machine = goes.next; shows = goes.shown }
+    by tid has false now = begun tid now has
+
+pub run_shown : RunShown
+run_shown [] old new each run is = subst IsShownWorld (sym run) is
+run_shown (move ∷ moves) old new each run is = run_shown moves (moved move old) new each run.1 (move_shown old move run.0 is (each old move run.0 is))
+
+pub shown_run_goes : ShownRunGoes
+shown_run_goes tid [] old new w each run is begun shows = subst (λ (world : World). AllGoes tid world w) (sym run) (record { next = w; leads = record { events = []; run = refl }; shown = shows })
+shown_run_goes tid (move ∷ moves) old new w each run is begun shows =
+    let first = shown_goes tid old move w run.0 is begun shows in
+    let rest = shown_run_goes tid moves (moved move old) new first.next each run.1 (move_shown old move run.0 is (each old move run.0 is)) (begun_stays tid old move run.0 (shown_gives old move run.0 is) is.steady begun) first.shown in
+    record { next = rest.next; leads = leads_on w first.next rest.next first.leads rest.leads; shown = rest.shown }

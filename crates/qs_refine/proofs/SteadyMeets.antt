@@ -27,7 +27,7 @@ module _ (world : World) (steady : IsSteadyWorld world) (n stamp m inc : ℕ) (l
       by true same = rw same (ap (λ (j : ℕ). (world.hosts j).node.manager.begun) (sym (as_equal k n same)))
       by false off = rw off refl
 
-  meet_grows : Grows world new
+  pub meet_grows : Grows world new
   meet_grows = record { size = refl; rises = λ k. inr (refl, by k (world.channels.up k)) }
     where
       by : (k : ℕ) (b : Bool) → (if b then (world.hosts k).node.manager.begun else 0) ≤ (if b then (new.hosts k).node.manager.begun else 0)

@@ -49,7 +49,7 @@ module _ (world : World) (steady : IsSteadyWorld world) (n stamp free : ℕ) (so
   count_is : count_in world n ≡ (world.hosts n).node.manager.begun
   count_is = rw up refl
 
-  in_stage : IsTidy (c world steady n free low up) (step_work (world.hosts n).node event free) → Ends world steady n stamp free source event is low up (c world steady n free low up)
+  pub in_stage : IsTidy (c world steady n free low up) (step_work (world.hosts n).node event free) → Ends world steady n stamp free source event is low up (c world steady n free low up)
   in_stage t = record {
     setting = refl;
     tidy = t;
@@ -63,7 +63,7 @@ module _ (world : World) (steady : IsSteadyWorld world) (n stamp free : ℕ) (so
       rises : Rises (inc_in world) (count_in world) (inc_in new) (count_in new)
       rises = counts_rise world steady n stamp free source event is low up (count_in world) (λ k apart. refl) (let own : (step_work (world.hosts n).node event free).node.manager.begun ≡ (world.hosts n).node.manager.begun = t.node.count in grind (arith, own, count_is))
 
-  in_next : IsTidy (d world steady n free low up) (step_work (world.hosts n).node event free) → Ends world steady n stamp free source event is low up (d world steady n free low up)
+  pub in_next : IsTidy (d world steady n free low up) (step_work (world.hosts n).node event free) → Ends world steady n stamp free source event is low up (d world steady n free low up)
   in_next t = record {
     setting = refl;
     tidy = t;

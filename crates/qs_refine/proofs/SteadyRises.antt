@@ -64,7 +64,7 @@ module _ (world : World) (steady : IsSteadyWorld world) (n stamp inc : ℕ) (low
       by true less = inl (grind (arith, nat_tests, before, after, less))
       by false off = inr (grind (arith, nat_tests, before, after, off, later), grind (arith, none))
 
-  grows : Grows world up
+  pub grows : Grows world up
   grows = record { size = refl; rises = λ k. by k (k == n) refl }
     where
       none : count_in world n ≡ 0

@@ -69,7 +69,7 @@ module _ (world : World) (steady : IsSteadyWorld world) (n free : ℕ) (low : n 
   incs : inc_in world n ≡ c.setting.inc
   incs = (rw up refl) ∙ sym (steady.seated.inc n low)
 
-  more : Rises (inc_in world) (count_in world) (inc_in world) (bump n (count_in world))
+  pub more : Rises (inc_in world) (count_in world) (inc_in world) (bump n (count_in world))
   more k = inr (refl, bumped n (count_in world) k)
 
   stage_d : IsStage d

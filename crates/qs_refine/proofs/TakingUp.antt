@@ -132,7 +132,7 @@ module _ (tid : Tid) where
       by true found = (voted_before home server covers found.0, known (Some found.0) found.1, voted_bare home server covers found.0 recoverable found.2.bare)
 
   -- its node stays
-  node_taken : (rec : Record) (m : Manager) → (take_up m rec).node ≡ m.node
+  pub node_taken : (rec : Record) (m : Manager) → (take_up m rec).node ≡ m.node
   node_taken (records.Prepare u server covers changes) m = by (tm.knows u m)
     where
       by : (b : Bool) → (if b then m else tm.put_part u (new_participant (tm.is_home u m)) m).node ≡ m.node
@@ -194,7 +194,7 @@ module _ (tid : Tid) where
           clear : is_doubt_of tid v ≡ false
           clear = rw apart refl
 
-  nodes_taken : (recs : List Record) (m : Manager) → (fold take_up m recs).node ≡ m.node
+  pub nodes_taken : (recs : List Record) (m : Manager) → (fold take_up m recs).node ≡ m.node
   nodes_taken [] m = refl
   nodes_taken (rec ∷ recs) m = nodes_taken recs (take_up m rec) ∙ node_taken rec m
 

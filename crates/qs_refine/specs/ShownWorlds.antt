@@ -42,6 +42,10 @@ ShownGoes = (tid : Tid) (world : World) (move : Move) (w : machine.World) → ma
 
 -- ---- after moves
 
+-- what has begun has begun for good
+abbrev pub BegunStays : Type 0
+BegunStays = (tid : Tid) (world : World) (move : Move) → may_move world move ≡ true → MachineMoves world move → IsSteadyWorld world → has_begun world tid ≡ true → has_begun (moved move world) tid ≡ true
+
 -- those that begin in a move, or of whose home's incarnation it is the end, are shown after it
 abbrev pub BegunAreShown : World → Move → Type 0
 BegunAreShown world move = (tid : Tid) → has_begun world tid ≡ false → has_begun (moved move world) tid ≡ true → IsShown tid (moved move world)

@@ -1,0 +1,143 @@
+-- Whom a Commit in its log names a node that runs is to tell: where a world begins, and after each move.
+use Rattle.std.proofs.Common.{◌≡◌, ℕ, ◌<◌, ◌==◌, ◌&&◌, Bool, true, false, List, [], ◌++◌, Option, Some, None, refl, sym, ap, subst, ◌∙◌, if◌then◌else◌, arith, not}
+use Rattle.std.proofs.lemmas.Bool.{eqb-true}
+use Rattle.std.proofs.lemmas.Bool.Decides.{nat_tests}
+use Rattle.qs_channels.specs.Network.{with_at}
+use Rattle.qs_journal.specs.declared.entry.CrashCause.{CrashCause}
+use Rattle.qs_machine.specs.Clauses.{is_crash}
+use Rattle.qs_record.specs.declared.record.Record.{Record}
+use Rattle.qs_restart.specs.Recovery.{recovery}
+use Rattle.qs_kept.specs.Keeping.{no_kept}
+use Rattle.qs_step.specs.Opening.{recovered_of}
+use Rattle.qs_step.specs.Step.{after_step, effects_of}
+use Rattle.qs_step.specs.declared.event.Effects.{Effects}
+use Rattle.qs_step.specs.declared.event.Event.{Event}
+use Rattle.qs_world.specs.Moves.{Source, Move, Step, Cut, Stop, Rise, Meet, event_of, taken_by, step_with, cut_with, cut_log, log_after, stepped_host, stopped, stopped_host, reopened, risen, risen_host, met, may_move, may_step, moved, is_in_order, is_later}
+use Rattle.qs_world.specs.Openings.{are_unended}
+use Rattle.qs_world.specs.World.{Host, World, start}
+use Rattle.qs_world.proofs.Below.{each_is}
+use Rattle.qs_refine.specs.Listed.{IsListedWorld, StartListed, MoveListed}
+use Rattle.qs_refine.specs.Lists.{AreListed, AreTaken}
+use Rattle.qs_refine.specs.SaidLaws.{AreSoundOver, are_left_open}
+use Rattle.qs_refine.specs.SoundSteps.{MayHappen, begun}
+use Rattle.qs_refine.specs.Steadies.{IsSteadyWorld, MachineGives, GivesAt, MachineMoves}
+use Rattle.qs_refine.proofs.MoveGoes.{StepMay, step_may}
+use Rattle.qs_refine.proofs.Moving.{up_taken}
+use Rattle.qs_refine.proofs.Posted.{up_all}
+use Rattle.qs_refine.proofs.SaidMoves.{log_same}
+use Rattle.qs_refine.proofs.SaidNames.{opening_left}
+use Rattle.qs_refine.proofs.SaidSteps.{step_lists}
+use Rattle.qs_refine.proofs.SaysOn.{append_three}
+use Rattle.qs_refine.proofs.Sending.{append_nil}
+use Rattle.qs_refine.proofs.SoundParts.{and_both}
+use Rattle.qs_refine.proofs.SteadyBegins.{comes_may, comes_new}
+use Rattle.qs_refine.proofs.SteadyMays.{event_fits}
+use Rattle.qs_refine.proofs.TakenLists.{opened_lists}
+
+-- ---- one host changes
+
+pub listed_with : (world after : World) (n : ℕ) (host : Host) → after.size ≡ world.size → ((k : ℕ) → after.hosts k ≡ with_at world.hosts n host k) → ((k : ℕ) → (k == n) ≡ false → after.channels.up k ≡ true → world.channels.up k ≡ true)
+    → (n < world.size → after.channels.up n ≡ true → AreListed host.node (recovery (host.log ++ host.waiting))) → (n < world.size → AreTaken (recovery host.log)) → IsListedWorld world → IsListedWorld after
+listed_with world after n host sized hosts up_is now log is = record {
+  nodes = λ k low up. subst (λ (h : Host). AreListed h.node (recovery (h.log ++ h.waiting))) (sym (hosts k)) (node_at k (subst (λ (s : ℕ). k < s) sized low) up (k == n) refl);
+  logs = λ k low. subst (λ (h : Host). AreTaken (recovery h.log)) (sym (hosts k)) (log_at k (subst (λ (s : ℕ). k < s) sized low) (k == n) refl);
+}
+  where
+    node_at : (k : ℕ) → k < world.size → after.channels.up k ≡ true → (b : Bool) → (k == n) ≡ b → AreListed (if b then host else world.hosts k).node (recovery ((if b then host else world.hosts k).log ++ (if b then host else world.hosts k).waiting))
+    node_at k low up true same = let it : k ≡ n = eqb-true k n same in now (subst (λ (j : ℕ). j < world.size) it low) (subst (λ (j : ℕ). after.channels.up j ≡ true) it up)
+    node_at k low up false apart = is.nodes k low (up_is k apart up)
+
+    log_at : (k : ℕ) → k < world.size → (b : Bool) → (k == n) ≡ b → AreTaken (recovery (if b then host else world.hosts k).log)
+    log_at k low true same = log (subst (λ (j : ℕ). j < world.size) (eqb-true k n same) low)
+    log_at k low false apart = is.logs k low
+
+-- ---- a step
+
+module _ (world : World) (steady : IsSteadyWorld world) (listed : IsListedWorld world) (n stamp free : ℕ) (source : Source) (event : Event) (is : event_of world n stamp source ≡ Some event) (low : n < world.size) (up : world.channels.up n ≡ true)
+    (gives : MachineGives event (begun (world.hosts n).node free)) where
+  abbrev host : Host
+  host = world.hosts n
+
+  abbrev out : Effects
+  out = effects_of host.node event free
+
+  -- with all records
+  whole : AreListed (after_step host.node event free) (recovery ((host.log ++ host.waiting) ++ out.records))
+  whole = step_lists host.node event free (host.log ++ host.waiting) (comes_may world steady n free low up event (event_fits world steady n free low up stamp source event is) gives) (comes_new world steady n free low up event)
+      (steady.sound n low).node ((steady.sound n low).runs up) (listed.nodes n low up)
+
+  log_taken : AreTaken (recovery (log_after host out))
+  log_taken = by out.force
+    where
+      by : (b : Bool) → AreTaken (recovery (if b then host.log ++ (host.waiting ++ out.records) else host.log))
+      by true = subst (λ (l : List Record). AreTaken (recovery l)) (append_three host.log host.waiting out.records) whole.taken
+      by false = listed.logs n low
+
+  step_listed : IsListedWorld (step_with world n stamp free source (Some event))
+  step_listed = listed_with world (step_with world n stamp free source (Some event)) n (stepped_host stamp (after_step host.node event free) out host) refl (λ k. refl)
+      (λ k apart on. ap (λ (f : ℕ → Bool). f k) (sym up_is) ∙ on)
+      (λ _ _. subst (λ (l : List Record). AreListed (after_step host.node event free) (recovery l)) (sym (log_same out.force host.log host.waiting out.records)) whole) (λ _. log_taken) listed
+    where
+      up_is : (step_with world n stamp free source (Some event)).channels.up ≡ world.channels.up
+      up_is = up_all n stamp out.messages (taken_by world n source) ∙ up_taken world n source
+
+  cut_taken : (is_kept : Bool) → AreTaken (recovery (cut_log host is_kept out))
+  cut_taken true = log_taken
+  cut_taken false = listed.logs n low
+
+-- ---- a node stops
+
+stop_listed : (world : World) (n stamp : ℕ) (cause : CrashCause) (log : List Record) → (n < world.size → AreTaken (recovery log)) → IsListedWorld world → IsListedWorld (stopped world n stamp cause log)
+stop_listed world n stamp cause log taken is = listed_with world (stopped world n stamp cause log) n (stopped_host stamp log (world.hosts n)) refl (λ k. refl) (λ k apart on. still k apart on) (λ low on. absurd (off on)) taken is
+  where
+    still : (k : ℕ) → (k == n) ≡ false → (if k == n then false else world.channels.up k) ≡ true → world.channels.up k ≡ true
+    still k apart on = rw apart at on
+
+    off : (if n == n then false else world.channels.up n) ≡ true → ⊥
+    off on = picked (n == n) (grind (arith, nat_tests)) on
+      where
+        picked : (b : Bool) → b ≡ true → (if b then false else world.channels.up n) ≡ true → ⊥
+        picked true is on = cc (on)
+        picked false is on = cc (is)
+
+-- ---- each move
+
+pub start_listed : StartListed
+start_listed o opens taken = record {
+  nodes = λ n low up. subst (λ (l : List Record). AreListed ((start o).hosts n).node (recovery l)) (sym (append_nil (o.logs n)))
+      (opened_lists o.alloc (o.settings n) no_kept (o.logs n) (opening_left (recovery (o.logs n)) (each_is o.size (λ k. are_unended (recovery (o.logs k))) opens.unended n low)) (taken n low));
+  logs = taken;
+}
+
+pub move_listed : MoveListed
+move_listed world (Step n stamp free source) may gives steady is = by (event_of world n stamp source) refl gives
+  where
+    its : StepMay world n source
+    its = step_may world n stamp source may
+
+    by : (o : Option Event) → event_of world n stamp source ≡ o → GivesAt world n free o → IsListedWorld (step_with world n stamp free source o)
+    by None none gives = is
+    by (Some event) came gives = step_listed world steady is n stamp free source event came its.low its.runs gives
+move_listed world (Cut n stamp free source is_kept cause) may gives steady is = by (event_of world n stamp source) refl gives
+  where
+    its : StepMay world n source
+    its = step_may world n stamp source (and_both (may_step world n stamp source) (is_crash cause) may).0
+
+    by : (o : Option Event) → event_of world n stamp source ≡ o → GivesAt world n free o → IsListedWorld (cut_with world n stamp free is_kept cause o)
+    by None none gives = is
+    by (Some event) came gives = stop_listed world n stamp cause (cut_log (world.hosts n) is_kept (effects_of (world.hosts n).node event free)) (λ _. cut_taken world steady is n stamp free source event came its.low its.runs gives is_kept) is
+move_listed world (Stop n stamp cause) may gives steady is = stop_listed world n stamp cause (world.hosts n).log (λ low. is.logs n low) is
+move_listed world (Rise n stamp inc) may gives steady is = listed_with world (moved (Rise n stamp inc) world) n (risen_host stamp inc (recovered_of (world.hosts n).log) (world.hosts n)) refl (λ k. refl) (λ k apart on. still k apart on)
+    (λ low on. subst (λ (l : List Record). AreListed (reopened inc (recovered_of (world.hosts n).log) (world.hosts n).node) (recovery l)) (sym (all_logged low)) (opened_lists (world.hosts n).node.manager.alloc (record (world.hosts n).node.setting { inc = inc }) (world.hosts n).node.kept.saved (world.hosts n).log (steady.nodes n low).unended (is.logs n low)))
+    (λ low. is.logs n low) is
+  where
+    off : (b : Bool) → not b ≡ true → b ≡ false
+    off true is = absurd (cc (is))
+    off false is = refl
+
+    all_logged : n < world.size → (world.hosts n).log ++ (world.hosts n).waiting ≡ (world.hosts n).log
+    all_logged low = ap (λ (l : List Record). (world.hosts n).log ++ l) ((steady.sound n low).stopped (off (world.channels.up n) (and_both (not (world.channels.up n)) _ may).0)) ∙ append_nil (world.hosts n).log
+
+    still : (k : ℕ) → (k == n) ≡ false → (if k == n then true else world.channels.up k) ≡ true → world.channels.up k ≡ true
+    still k apart on = rw apart at on
+move_listed world (Meet n stamp m inc) may gives steady is = listed_with world (moved (Meet n stamp m inc) world) n (record (world.hosts n) { stamp = stamp }) refl (λ k. refl) (λ k apart on. on) (λ low on. is.nodes n low on) (λ low. is.logs n low) is
