@@ -307,3 +307,4 @@ pub mod ShownMoves
 pub mod ShownBegins
 pub mod Outside
 pub mod NodesAgree
+pub mod EveryRunShown

@@ -70,3 +70,4 @@ pub mod LeftLaws
 pub mod Listed
 pub mod ShownWorlds
 pub mod WorldLaws
+pub mod EveryRun

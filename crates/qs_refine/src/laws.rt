@@ -1,12 +1,22 @@
-//! What holds of the nodes of a world in which each transaction that has begun is shown by the agreement machine.
+//! What holds of the world of nodes over every run.
+ghost use Rattle.qs_refine.specs.EveryRun.{EveryRunShown, EveryRunGoes, EveryRunAgrees, EveryRunTells};
 ghost use Rattle.qs_refine.specs.WorldLaws.{NodesAgree, LogsStand};
+
+/// Over every run each transaction that has begun, in it or before, is shown by a lawful world of the agreement machine, and goes on by
+/// the machine's events.
+pub fn every_run()
+    ensures shown { EveryRunShown }
+    ensures goes { EveryRunGoes }
+{}
 
 /// Nodes agree: nobody knows a commit where another knows an abort.
 pub fn agreement()
     ensures nodes { NodesAgree }
+    ensures runs { EveryRunAgrees }
 {}
 
-/// Logs stand together: where the home's log has the Commit, each other node whose log has a vote in doubt is still to be told.
+/// Nobody is forgotten: where the home's log has the Commit, each other node whose log has a vote in doubt is still to be told.
 pub fn nobody_forgotten()
     ensures logs { LogsStand }
+    ensures runs { EveryRunTells }
 {}

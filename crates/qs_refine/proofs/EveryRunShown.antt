@@ -1,0 +1,22 @@
+-- From an opening on each transaction that has begun is shown, move by move.
+use Rattle.qs_world.specs.World.{World, start}
+use Rattle.qs_refine.specs.EveryRun.{IsReached, EveryRunShown, EveryRunGoes, EveryRunAgrees, EveryRunTells}
+use Rattle.qs_refine.specs.ShownWorlds.{IsShownWorld}
+use Rattle.qs_refine.proofs.Listing.{start_listed}
+use Rattle.qs_refine.proofs.NodesAgree.{nodes_agree, logs_stand}
+use Rattle.qs_refine.proofs.ShownBegins.{each_begun_shown, start_all_shown}
+use Rattle.qs_refine.proofs.ShownMoves.{run_shown, shown_run_goes}
+use Rattle.qs_refine.proofs.SteadyStarts.{start_steady}
+
+pub every_run_shown : EveryRunShown
+every_run_shown world is = run_shown is.moves (start is.opening) world each_begun_shown is.run
+    (record { steady = start_steady is.opening is.opens; listed = start_listed is.opening is.opens is.taken; shown = start_all_shown is.opening is.opens })
+
+pub every_run_goes : EveryRunGoes
+every_run_goes tid moves old new w is run begun shows = shown_run_goes tid moves old new w each_begun_shown run (every_run_shown old is) begun shows
+
+pub every_run_agrees : EveryRunAgrees
+every_run_agrees tid world n m is home_in commit abort = nodes_agree tid world n m (every_run_shown world is) home_in commit abort
+
+pub every_run_tells : EveryRunTells
+every_run_tells tid world n is numbered home_in n_in other committed doubt = logs_stand tid world n (every_run_shown world is) numbered home_in n_in other committed doubt
