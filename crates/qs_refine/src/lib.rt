@@ -4,6 +4,7 @@
 pub mod events;
 pub mod moves;
 pub mod rules;
+pub mod shown;
 pub mod sound_rules;
 pub mod starts;
 pub mod steadies;
