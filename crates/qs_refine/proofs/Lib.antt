@@ -105,6 +105,7 @@ pub mod SayYes
 pub mod SaysLogs
 pub mod NodeLists
 pub mod SaysOn
+pub mod SaysTells
 pub mod SaysOutcomes
 pub mod SaysRules
 pub mod SaysSeen

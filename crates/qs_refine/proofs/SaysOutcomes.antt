@@ -40,11 +40,10 @@ use Rattle.qs_refine.proofs.SoundKnown.{same_is}
 use Rattle.qs_refine.specs.Sights.{list_of}
 use Rattle.qs_refine.specs.Lists.{is_commit, tell_at, tell_of_part}
 use Rattle.qs_refine.specs.Links.{names_node, node_no}
-use Rattle.qs_refine.proofs.StartWorlds.{nobody}
-use Rattle.qs_refine.proofs.NodeTests.{where_is}
-use Rattle.qs_refine.proofs.NodeLists.{listed_within, listed_names, put_grows, unlisted}
+use Rattle.qs_refine.proofs.NodeLists.{listed_within, listed_names, unlisted}
 use Rattle.qs_engage.specs.declared.nodes.Nodes.{Nodes}
 use Rattle.qs_restart.specs.Recovery.{is_untold_of}
+use Rattle.qs_refine.proofs.SaysTells.{NotCommitted, open_of, nobody_told, names_grow, tell_grows}
 
 -- ---- notices
 
@@ -89,24 +88,6 @@ notices_known tid outcomes.Commit work known = learns_known tid outcomes.Commit 
 notices_known tid outcomes.Abort work known = learns_known tid outcomes.Abort (learners_at tid (end_members tid work)) (end_members tid work) (ends_known tid (due_endings tid work) work known)
 
 -- ---- the decision
-
--- it is not known as committed
-abbrev pub NotCommitted : Tid → Work → Type 0
-NotCommitted tid work = (part : Participant) → part_of tid work ≡ Some part → is_commit part.outcome ≡ false
-
-pub open_commit : (o : Option Outcome) → is_none o ≡ true → is_commit o ≡ false
-open_commit None is = refl
-open_commit (Some outcome) is = absurd (cc (is))
-
-pub open_of : (tid : Tid) (work : Work) (part : Participant) → part_of tid work ≡ Some part → is_undecided part ≡ true → NotCommitted tid work
-open_of tid work part known open_now other its = subst (λ (p : Participant). is_commit p.outcome ≡ false) (one part other (sym known ∙ its)) (open_commit part.outcome open_now)
-  where
-    one : (a b : Participant) → Some a ≡ Some b → a ≡ b
-    one a b same = cc (same)
-
--- so nobody is to be told that
-nobody_told : (part : Participant) → is_commit part.outcome ≡ false → (m : ℕ) → has_node (tell_of_part part) (node_no m) ≡ true → ⊥
-nobody_told part off m has = let none : has_node (tell_of_part part) (node_no m) ≡ false = ap (λ (b : Bool). has_node (if b then part.tell else no_nodes) (node_no m)) off ∙ nobody m in cc (none, has)
 
 abbrev made : Tid → Outcome → Option Participant → Decision
 made tid outcome o = elim o [ None ↦ tm.no_decision | Some part ↦ record { rec = record_of tid outcome part; tell = listed (outcome_rules.tell_of outcome part) } ]
@@ -269,19 +250,6 @@ end_told_on true tid work ordered = on_then (log_on (records.End tid) work (inl 
 take_told_on : (peer : NodeNo) (tid : Tid) (work : Work) → in_order work.node.manager.known ≡ true → SaysOn work (take_told peer tid work)
 take_told_on peer tid work ordered = on_then (part_on tid (outcome_rules.acknowledged peer) (λ part. (refl, refl)) work)
     (end_told_on (tm.all_acknowledged tid peer work.node.manager) tid (with_manager (tm.acknowledged tid peer) work) (order_changed tid (outcome_rules.acknowledged peer) work.node.manager ordered))
-
--- whom it is to tell goes on
-names_grow : (tid : Tid) (further : List NodeNo) (part : Participant) (b : Bool) (m : ℕ) → m < 16 → has_node (if b then part.tell else no_nodes) (node_no m) ≡ true
-    → has_node (if b then union part.tell (outcome_rules.new_names tid.home further part) else no_nodes) (node_no m) ≡ true
-names_grow tid further part true m below has = where_is (λ node. has_node part.tell node || has_node (outcome_rules.new_names tid.home further part) node) m below ∙ first (has_node part.tell (node_no m)) (has_node (outcome_rules.new_names tid.home further part) (node_no m)) has
-  where
-    first : (a b : Bool) → a ≡ true → (a || b) ≡ true
-    first a b is = rw is refl
-names_grow tid further part false m below has = has
-
-tell_grows : (peer : NodeNo) (part : Participant) (b : Bool) (m : ℕ) → has_node (if b then part.tell else no_nodes) (node_no m) ≡ true → has_node (if b then put_node part.tell peer else no_nodes) (node_no m) ≡ true
-tell_grows peer part true m has = put_grows part.tell peer m has
-tell_grows peer part false m has = has
 
 take_names_on : (tid : Tid) (further : List NodeNo) (work : Work) → SaysOn work (take_names tid further work)
 take_names_on tid further work = on_then (grown_on tid (outcome_rules.take_names tid.home further) (λ part. refl) work (λ part known m below has. names_grow tid further part (is_commit part.outcome) m below has)) (sends_on (listed (tm.new_names tid further work.node.manager)) (messages.Tell tid outcomes.Abort) _)

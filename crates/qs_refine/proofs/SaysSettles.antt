@@ -35,7 +35,7 @@ use Rattle.qs_refine.specs.SaidLaws.{no_flags, flags_at, SaysOn}
 use Rattle.qs_refine.specs.Sound.{is_sound, where_so}
 use Rattle.qs_refine.proofs.SaysLogs.{ListsIt, log_on, log_if_on}
 use Rattle.qs_refine.proofs.SaysOn.{on_itself, on_then, fold_on, if_on, rest_on, enter_on, send_on, sends_on, queues_on, doings_on, server_on, part_on}
-use Rattle.qs_refine.proofs.SaysOutcomes.{open_of, IsKnown, part_known, end_members_on, notices_on, notices_known, decide_on, decide_commit_on, forget_on}
+use Rattle.qs_refine.proofs.SaysOutcomes.{IsKnown, part_known, end_members_on, notices_on, notices_known, decide_on, decide_commit_on, forget_on}
 use Rattle.qs_refine.proofs.SaysRules.{issue_on, block_on}
 use Rattle.qs_refine.proofs.SoundHolds.{Holds, known_sound, is_open, open_held}
 use Rattle.qs_refine.proofs.SoundNotices.{end_members_hold}
@@ -43,6 +43,7 @@ use Rattle.qs_refine.proofs.SoundParts.{and_both}
 use Rattle.qs_refine.proofs.SoundSettle.{ready_rule_sound, refuse_rule_sound, undecided_known, settle_tid_sound}
 use Rattle.qs_refine.proofs.SoundViews.{PartSound, seen}
 use Rattle.qs_refine.proofs.SoundVotes.{vote_next_holds, pass_open, pass_rule_sound}
+use Rattle.qs_refine.proofs.SaysTells.{open_of}
 
 -- ---- votes
 

@@ -44,7 +44,7 @@ use Rattle.qs_refine.specs.SaidLaws.{SaysOn, BeginsNew}
 use Rattle.qs_refine.specs.Sound.{in_order, goes_in_run, where_so}
 use Rattle.qs_refine.specs.SoundSteps.{MayHappen, is_open_in_run, commands_in_run}
 use Rattle.qs_refine.proofs.SaysOn.{on_itself, on_then, fold_on, if_on, rest_on, enter_on, answer_on, kept_on, doings_on, put_on, plain_on}
-use Rattle.qs_refine.proofs.SaysOutcomes.{NotCommitted, open_commit, open_of, decide_on, tell_came_on, told_came_on, inquiry_came_on}
+use Rattle.qs_refine.proofs.SaysOutcomes.{decide_on, tell_came_on, told_came_on, inquiry_came_on}
 use Rattle.qs_refine.proofs.SaysRules.{issue_as_on, reply_came_on, request_came_on, serve_all_on, become_asked_on, undecided_on, ask_came_on, closer_came_on, refusal_came_on}
 use Rattle.qs_refine.proofs.SaysSettles.{peer_restarted_on}
 use Rattle.qs_refine.proofs.SoundParts.{and_both, both_and}
@@ -55,6 +55,7 @@ use Rattle.qs_refine.proofs.SoundAge.{picked, put_all, all_fit, is_home_open, is
 use Rattle.qs_tm.specs.declared.manager.Which.{Which}
 use Rattle.qs_tm.specs.Manager.{is_one}
 use Rattle.qs_tm.specs.declared.manager.Which.TheVariants as whiches
+use Rattle.qs_refine.proofs.SaysTells.{NotCommitted, open_commit, open_of}
 
 -- ---- what clients command
 

@@ -6,6 +6,7 @@ pub mod events;
 pub mod laws;
 pub mod moves;
 pub mod rules;
+pub mod shown;
 pub mod sound_rules;
 pub mod starts;
 pub mod steadies;

@@ -1,0 +1,27 @@
+//! Worlds in which each transaction that has begun is shown, so that a move asks nothing.
+ghost use Rattle.qs_refine.specs.Listed.{StartListed, MoveListed, SteadyGives};
+ghost use Rattle.qs_refine.specs.ShownWorlds.{ShownFit, ShownGives, ShownGoes, BegunStays, MoveShown, RunShown, ShownRunGoes};
+
+/// Whom a Commit in its log names the node that knows the commit is to tell, where a world begins over logs that a restart can
+/// take up whole, and after each move. So all holds of nodes, logs and channels that the law of a move asks of them.
+pub fn lists()
+    ensures start { StartListed }
+    ensures moves { MoveListed }
+    ensures gives { SteadyGives }
+{}
+
+/// Where each transaction that has begun is shown, whatever message comes fits, and is what the agreement machine has; so a move
+/// goes on to show each, with no premise.
+pub fn moves()
+    ensures fit { ShownFit }
+    ensures gives { ShownGives }
+    ensures goes { ShownGoes }
+    ensures begun { BegunStays }
+{}
+
+/// So it is after a move, where those that begin in it are shown then; and if they are in each move, over any run.
+pub fn runs()
+    ensures moved { MoveShown }
+    ensures shown { RunShown }
+    ensures goes { ShownRunGoes }
+{}
