@@ -1,16 +1,24 @@
 -- From an opening on each transaction that has begun is shown, move by move.
-use Rattle.qs_world.specs.World.{World, start}
-use Rattle.qs_refine.specs.EveryRun.{IsReached, EveryRunShown, EveryRunGoes, EveryRunAgrees, EveryRunTells}
-use Rattle.qs_refine.specs.ShownWorlds.{IsShownWorld}
+use Rattle.std.proofs.Common.{◌≤◌, nat_le, arith}
+use Rattle.std.proofs.lemmas.Bool.Decides.{nat_tests}
+use Rattle.qs_restart.specs.Recovery.{recovery}
+use Rattle.qs_world.specs.Openings.{IsOpening}
+use Rattle.qs_world.specs.World.{Opening, start}
+use Rattle.qs_refine.specs.EveryRun.{EveryRunShown, EveryRunGoes, EveryRunAgrees, EveryRunTells}
 use Rattle.qs_refine.proofs.Listing.{start_listed}
 use Rattle.qs_refine.proofs.NodesAgree.{nodes_agree, logs_stand}
 use Rattle.qs_refine.proofs.ShownBegins.{each_begun_shown, start_all_shown}
 use Rattle.qs_refine.proofs.ShownMoves.{run_shown, shown_run_goes}
+use Rattle.qs_refine.proofs.SoundParts.{and_both}
 use Rattle.qs_refine.proofs.SteadyStarts.{start_steady}
+use Rattle.qs_refine.proofs.WholeLogs.{whole_taken}
+
+small_opening : (o : Opening) → IsOpening o → o.size ≤ 16
+small_opening o opens = grind (arith, nat_tests, (and_both (nat_le 1 o.size) (nat_le o.size 16) opens.size).1)
 
 pub every_run_shown : EveryRunShown
 every_run_shown world is = run_shown is.moves (start is.opening) world each_begun_shown is.run
-    (record { steady = start_steady is.opening is.opens; listed = start_listed is.opening is.opens is.taken; shown = start_all_shown is.opening is.opens })
+    (record { steady = start_steady is.opening is.opens; listed = start_listed is.opening is.opens (λ n low. whole_taken is.opening.size (recovery (is.opening.logs n)) (small_opening is.opening is.opens) (is.whole n low)); shown = start_all_shown is.opening is.opens })
 
 pub every_run_goes : EveryRunGoes
 every_run_goes tid moves old new w is run begun shows = shown_run_goes tid moves old new w each_begun_shown run (every_run_shown old is) begun shows

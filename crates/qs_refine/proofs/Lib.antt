@@ -308,4 +308,5 @@ pub mod ShownMoves
 pub mod ShownBegins
 pub mod Outside
 pub mod NodesAgree
+pub mod WholeLogs
 pub mod EveryRunShown

@@ -1,10 +1,11 @@
 //! What holds of the world of nodes over every run.
-ghost use Rattle.qs_refine.specs.EveryRun.{EveryRunShown, EveryRunGoes, EveryRunAgrees, EveryRunTells};
+ghost use Rattle.qs_refine.specs.EveryRun.{WholeTaken, EveryRunShown, EveryRunGoes, EveryRunAgrees, EveryRunTells};
 ghost use Rattle.qs_refine.specs.WorldLaws.{NodesAgree, LogsStand};
 
 /// Over every run each transaction that has begun, in it or before, is shown by a lawful world of the agreement machine, and goes on by
 /// the machine's events.
 pub fn every_run()
+    ensures whole { WholeTaken }
     ensures shown { EveryRunShown }
     ensures goes { EveryRunGoes }
 {}
