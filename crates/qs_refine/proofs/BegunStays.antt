@@ -6,7 +6,7 @@ use Rattle.qs_machine.specs.Clauses.{is_crash}
 use Rattle.qs_step.specs.Opening.{recovered_of}
 use Rattle.qs_step.specs.Step.{step_work, effects_of}
 use Rattle.qs_step.specs.declared.event.Event.{Event}
-use Rattle.qs_world.specs.Moves.{Source, Move, Step, Cut, Stop, Rise, Meet, event_of, step_with, cut_with, cut_log, stopped, risen, met, has_begun as has_risen, is_later, is_in_order, stamp_limit, may_step}
+use Rattle.qs_world.specs.Moves.{Source, Step, Cut, Stop, Rise, Meet, event_of, step_with, cut_with, cut_log, stopped, risen, met, has_begun as has_risen, is_later, is_in_order, may_step}
 use Rattle.qs_world.specs.World.{World, known_of}
 use Rattle.qs_refine.specs.Begun.{inc_in, count_in, has_begun}
 use Rattle.qs_refine.specs.ShownWorlds.{BegunStays}

@@ -35,7 +35,7 @@ use Rattle.qs_refine.specs.Steady.{IsSteady, HasBegun, IsEarly}
 use Rattle.qs_refine.specs.StepLaws.{stepped}
 use Rattle.qs_refine.specs.TakenLaws.{rest_behind}
 use Rattle.qs_refine.proofs.BeginStands.{begin_incarnation_goes}
-use Rattle.qs_refine.proofs.Calm.{SameCore, IsCalm}
+use Rattle.qs_refine.proofs.Calm.{IsCalm}
 use Rattle.qs_refine.proofs.CommandStands.{command_goes}
 use Rattle.qs_refine.proofs.EachCame.{Came, message_arrives}
 use Rattle.qs_refine.proofs.EachHears.{opened, first, is_calm, keeps, was}

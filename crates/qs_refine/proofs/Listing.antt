@@ -1,5 +1,5 @@
 -- Whom a Commit in its log names a node that runs is to tell: where a world begins, and after each move.
-use Rattle.std.proofs.Common.{◌≡◌, ℕ, ◌<◌, ◌==◌, ◌&&◌, Bool, true, false, List, [], ◌++◌, Option, Some, None, refl, sym, ap, subst, ◌∙◌, if◌then◌else◌, arith, not}
+use Rattle.std.proofs.Common.{◌≡◌, ℕ, ◌<◌, ◌==◌, Bool, true, false, List, ◌++◌, Option, Some, None, refl, sym, ap, subst, ◌∙◌, if◌then◌else◌, arith, not}
 use Rattle.std.proofs.lemmas.Bool.{eqb-true}
 use Rattle.std.proofs.lemmas.Bool.Decides.{nat_tests}
 use Rattle.qs_channels.specs.Network.{with_at}
@@ -12,15 +12,14 @@ use Rattle.qs_step.specs.Opening.{recovered_of}
 use Rattle.qs_step.specs.Step.{after_step, effects_of}
 use Rattle.qs_step.specs.declared.event.Effects.{Effects}
 use Rattle.qs_step.specs.declared.event.Event.{Event}
-use Rattle.qs_world.specs.Moves.{Source, Move, Step, Cut, Stop, Rise, Meet, event_of, taken_by, step_with, cut_with, cut_log, log_after, stepped_host, stopped, stopped_host, reopened, risen, risen_host, met, may_move, may_step, moved, is_in_order, is_later}
+use Rattle.qs_world.specs.Moves.{Source, Step, Cut, Stop, Rise, Meet, event_of, taken_by, step_with, cut_with, cut_log, log_after, stepped_host, stopped, stopped_host, reopened, risen_host, may_step, moved}
 use Rattle.qs_world.specs.Openings.{are_unended}
 use Rattle.qs_world.specs.World.{Host, World, start}
 use Rattle.qs_world.proofs.Below.{each_is}
 use Rattle.qs_refine.specs.Listed.{IsListedWorld, StartListed, MoveListed}
 use Rattle.qs_refine.specs.Lists.{AreListed, AreTaken}
-use Rattle.qs_refine.specs.SaidLaws.{AreSoundOver, are_left_open}
-use Rattle.qs_refine.specs.SoundSteps.{MayHappen, begun}
-use Rattle.qs_refine.specs.Steadies.{IsSteadyWorld, MachineGives, GivesAt, MachineMoves}
+use Rattle.qs_refine.specs.SoundSteps.{begun}
+use Rattle.qs_refine.specs.Steadies.{IsSteadyWorld, MachineGives, GivesAt}
 use Rattle.qs_refine.proofs.MoveGoes.{StepMay, step_may}
 use Rattle.qs_refine.proofs.Moving.{up_taken}
 use Rattle.qs_refine.proofs.Posted.{up_all}

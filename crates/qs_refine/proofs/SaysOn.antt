@@ -31,7 +31,7 @@ use Rattle.qs_step.specs.declared.state.Doings.{Doings}
 use Rattle.qs_step.specs.declared.state.OpenCommand.{OpenCommand}
 use Rattle.qs_refine.specs.SaidLaws.{no_flags, flags_at, AreSaid, SaysOn}
 use Rattle.qs_refine.specs.Links.{node_no}
-use Rattle.qs_refine.specs.Lists.{AreListed, is_commit, tell_at, tell_of_part}
+use Rattle.qs_refine.specs.Lists.{AreListed, tell_at, tell_of_part}
 use Rattle.qs_refine.specs.SoundSteps.{is_open_in_run, commands_in_run}
 use Rattle.qs_refine.proofs.Maps.{lookup_put}
 use Rattle.qs_refine.proofs.Others.{put_apart}

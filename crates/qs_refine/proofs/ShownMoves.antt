@@ -1,27 +1,22 @@
 -- Where each transaction that has begun is shown, a move asks nothing, and all go on to be shown.
-use Rattle.std.proofs.Common.{◌≡◌, ℕ, ◌<◌, ◌==◌, ◌&&◌, ◌||◌, not, nat_lt, nat_le, Bool, true, false, List, [], ◌∷◌, length, Option, Some, None, refl, sym, ap, subst, ◌∙◌, arith}
+use Rattle.std.proofs.Common.{◌≡◌, ℕ, ◌<◌, ◌||◌, not, nat_lt, Bool, true, false, [], ◌∷◌, length, Option, Some, None, refl, sym, subst, arith}
 use Rattle.std.proofs.lemmas.Bool.{eqb-true}
 use Rattle.std.proofs.lemmas.Bool.Decides.{nat_tests}
-use Rattle.qs_base.specs.declared.identifiers.Outcome.TheVariants as outcomes
 use Rattle.qs_base.specs.declared.identifiers.Tid.{Tid}
 use Rattle.qs_engage.specs.Nodes.{same_node}
-use Rattle.qs_journal.specs.declared.entry.CrashCause.{CrashCause}
 use Rattle.qs_machine.specs.Clauses.{is_crash}
 use Rattle.qs_packet.specs.declared.message.Message.{Message}
 use Rattle.qs_packet.specs.declared.message.Message.TheVariants as messages
 use Rattle.qs_restart.specs.Recovery.{names_transaction}
 use Rattle.qs_step.specs.declared.event.Event.{Event}
 use Rattle.qs_step.specs.declared.event.Event.TheVariants as events
-use Rattle.qs_world.specs.Moves.{Source, Commanded, Handed, Queues, Clock, Noticed, Move, Step, Cut, Stop, Rise, Meet, event_of, may_move, may_step, moved}
-use Rattle.qs_world.specs.Posting.{next_parcel}
-use Rattle.qs_world.specs.Runs.{Run}
-use Rattle.qs_world.specs.World.{Parcel, World}
-use Rattle.qs_agree.specs.World as machine
+use Rattle.qs_world.specs.Moves.{Source, Commanded, Handed, Queues, Clock, Noticed, Step, Cut, Stop, Rise, Meet, event_of, may_step, moved}
+use Rattle.qs_world.specs.World.{World}
 use Rattle.qs_agree.proofs.Carries.{leads_on}
 use Rattle.qs_refine.specs.Begun.{has_begun, may_be_known, inc_in, count_in, begun_among, fits}
-use Rattle.qs_refine.specs.EachMove.{ShowsAll, AllGoes, IsAbout, MessagesFit}
+use Rattle.qs_refine.specs.EachMove.{AllGoes, IsAbout, MessagesFit}
 use Rattle.qs_refine.specs.Links.{node_no}
-use Rattle.qs_refine.specs.ShownWorlds.{IsShown, IsShownWorld, BegunAreShown, EachBegunShown, ShownFit, ShownGives, ShownGoes, MoveShown, RunShown, ShownRunGoes}
+use Rattle.qs_refine.specs.ShownWorlds.{IsShown, IsShownWorld, ShownFit, ShownGives, ShownGoes, MoveShown, RunShown, ShownRunGoes}
 use Rattle.qs_refine.specs.SoundSteps.{FitsMessage, begun}
 use Rattle.qs_refine.specs.Steadies.{MachineMoves, MachineGives, GivesAt, is_steady_parcel, are_two}
 use Rattle.qs_refine.specs.Steady.{IsSteady}
@@ -30,7 +25,7 @@ use Rattle.qs_refine.proofs.EachMay.{all_get, from_client, from_node, from_notic
 use Rattle.qs_refine.proofs.EachMoveGoes.{each_move_goes, shown_fits}
 use Rattle.qs_refine.proofs.Listing.{move_listed}
 use Rattle.qs_refine.proofs.MoveGoes.{StepMay, step_may}
-use Rattle.qs_refine.proofs.SoundParts.{and_both, both_and}
+use Rattle.qs_refine.proofs.SoundParts.{and_both}
 use Rattle.qs_refine.proofs.SteadyFrom.{begun_low, steady_gives}
 use Rattle.qs_refine.proofs.SteadyRises.{move_steady}
 

@@ -1,21 +1,19 @@
 -- A world that is steady, with each Commit of its logs listed at its node, has all that the law of each move asks of its nodes, logs and channels.
-use Rattle.std.proofs.Common.{◌≡◌, ◌≢◌, ℕ, ◌+◌, ◌≤◌, ◌<◌, ◌==◌, ◌&&◌, ◌||◌, not, nat_lt, nat_le, Bool, true, false, List, [], ◌∷◌, ◌++◌, Option, Some, None, is_some, refl, sym, ap, subst, ◌∙◌, arith, if◌then◌else◌}
+use Rattle.std.proofs.Common.{◌≡◌, ℕ, ◌+◌, ◌≤◌, ◌<◌, ◌==◌, ◌&&◌, ◌||◌, not, nat_lt, nat_le, Bool, true, false, [], ◌∷◌, ◌++◌, Option, Some, None, refl, ap, subst, ◌∙◌, arith, if◌then◌else◌}
 use Rattle.std.specs.List.{list_all, list_any}
 use Rattle.std.proofs.lemmas.Bool.{eqb-true}
 use Rattle.std.proofs.lemmas.Bool.Decides.{nat_tests}
 use Rattle.qs_base.specs.Order.{same_tid}
-use Rattle.qs_base.specs.declared.identifiers.NodeNo.{NodeNo}
 use Rattle.qs_base.specs.declared.identifiers.Outcome.{Outcome}
 use Rattle.qs_base.specs.declared.identifiers.Outcome.TheVariants as outcomes
 use Rattle.qs_base.specs.declared.identifiers.ServerNo.{ServerNo}
 use Rattle.qs_base.specs.declared.identifiers.Tid.{Tid}
-use Rattle.qs_engage.specs.Engage.{peer_of, no_peer, new_engage}
+use Rattle.qs_engage.specs.Engage.{peer_of, no_peer}
 use Rattle.qs_engage.specs.Nodes.{same_node, has_node}
 use Rattle.qs_engage.specs.declared.engage.Engage.{Engage}
 use Rattle.qs_engage.specs.declared.nodes.Nodes.{Nodes}
 use Rattle.qs_ipc.specs.Ipc.{IpcValue, queue_at}
 use Rattle.qs_ipc.specs.Queue.{QueueValue, count_of, is_for}
-use Rattle.qs_journal.specs.declared.script_line.ScriptLine.{ScriptLine}
 use Rattle.qs_packet.specs.declared.message.Message.{Message}
 use Rattle.qs_packet.specs.declared.message.Message.TheVariants as messages
 use Rattle.qs_restart.specs.Recovery.{recovery, names_transaction}
@@ -24,11 +22,11 @@ use Rattle.qs_step.specs.State.{NodeValue}
 use Rattle.qs_tm.specs.Manager as tm
 use Rattle.qs_tm.specs.declared.participant.Participant.{Participant}
 use Rattle.qs_world.specs.World.{Parcel, World}
-use Rattle.qs_refine.specs.Begun.{begun_among, past_among, inc_in, count_in, has_begun, may_be_known, is_drawn, fits}
+use Rattle.qs_refine.specs.Begun.{inc_in, count_in, has_begun, may_be_known, is_drawn, fits}
 use Rattle.qs_refine.specs.Links.{names_node, node_no}
 use Rattle.qs_refine.specs.Listed.{IsListedWorld, SteadyGives}
 use Rattle.qs_refine.specs.Lists.{AreListed, last_list, tell_of_part}
-use Rattle.qs_refine.specs.NodeFaces.{began_here, is_past_commit, waiting_at}
+use Rattle.qs_refine.specs.NodeFaces.{began_here, is_past_commit}
 use Rattle.qs_refine.specs.Sights.{list_of, server_no}
 use Rattle.qs_refine.specs.Sound.{same_flag}
 use Rattle.qs_refine.specs.Steadies.{IsSteadyWorld, IsTaken, is_steady_line, is_steady_parcel, are_two, stage_of}

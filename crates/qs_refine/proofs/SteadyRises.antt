@@ -12,7 +12,7 @@ use Rattle.qs_restart.specs.Recovery.{recovery}
 use Rattle.qs_step.specs.Opening.{recovered_of}
 use Rattle.qs_step.specs.State.{NodeValue}
 use Rattle.qs_step.specs.declared.event.Event.{Event}
-use Rattle.qs_world.specs.Moves.{Source, Move, Step, Cut, Stop, Rise, Meet, event_of, step_with, cut_with, risen_host, reopened, risen, is_later, is_in_order, may_step, stamp_limit, has_begun as has_risen, may_move, moved}
+use Rattle.qs_world.specs.Moves.{Move, Step, Cut, Stop, Rise, Meet, event_of, step_with, cut_with, risen_host, reopened, risen, is_later, is_in_order, may_step, stamp_limit, has_begun as has_risen, may_move, moved}
 use Rattle.qs_world.specs.World.{Host, Parcel, World, known_of}
 use Rattle.qs_refine.specs.Begun.{inc_in, count_in, has_begun, may_be_known}
 use Rattle.qs_refine.specs.Links.{node_no}

@@ -1,13 +1,13 @@
 -- A node that opens over its log takes up the last Commit of each transaction, and is to tell those that it names.
-use Rattle.std.proofs.Common.{◌≡◌, ℕ, ◌<◌, ◌==◌, ◌&&◌, ◌||◌, not, Bool, true, false, List, [], ◌∷◌, ◌++◌, fold, map, length, Option, Some, None, refl, sym, ap, subst, ◌∙◌, arith, if◌then◌else◌}
+use Rattle.std.proofs.Common.{◌≡◌, ℕ, ◌==◌, ◌||◌, not, Bool, true, false, List, [], ◌∷◌, ◌++◌, fold, map, length, Option, Some, None, refl, sym, ap, subst, ◌∙◌, arith, if◌then◌else◌}
 use Rattle.std.specs.Global.{Global}
 use Rattle.std.specs.List.{filter, list_all, list_any}
 use Rattle.std.proofs.lemmas.Bool.Decides.{nat_tests}
 use Rattle.std.proofs.lemmas.List.Sums.{fold-append}
-use Rattle.qs_base.specs.Order.{same_tid, tid_cmp}
+use Rattle.qs_base.specs.Order.{tid_cmp}
 use Rattle.qs_base.specs.declared.identifiers.NodeNo.{NodeNo}
 use Rattle.qs_base.specs.declared.identifiers.Tid.{Tid}
-use Rattle.qs_engage.specs.Nodes.{same_node, has_node, joined, no_nodes}
+use Rattle.qs_engage.specs.Nodes.{same_node, has_node, no_nodes}
 use Rattle.qs_engage.specs.declared.nodes.Nodes.{Nodes}
 use Rattle.qs_kept.specs.declared.kept.Kept.{Kept}
 use Rattle.qs_record.specs.declared.record.Record.{Record}
@@ -23,7 +23,6 @@ use Rattle.qs_refine.specs.Links.{names_node, node_no}
 use Rattle.qs_refine.specs.Lists.{AreListed, AreTaken, later_list, last_list, tell_at, tell_of_part}
 use Rattle.qs_refine.specs.SaidLaws.{are_left_open, is_open_vote}
 use Rattle.qs_refine.specs.Sights.{list_of}
-use Rattle.qs_refine.specs.Starts.{is_of_other}
 use Rattle.qs_refine.proofs.Maps.{lookup_put}
 use Rattle.qs_refine.proofs.NodeLists.{unlisted}
 use Rattle.qs_refine.proofs.RisenFaces.{lists_from}
