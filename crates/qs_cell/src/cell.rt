@@ -218,8 +218,8 @@ impl<D: Disk> NodeCell<D> {
 
     /// A node that is down starts again, and the answer says whether it is up: it is not exactly where the fuse tripped in
     /// this call. `DiskFailed` comes only where the disk's own count of faults rose, in this call and since the disk was handed
-    /// in; `NoMemory` where memory was refused or the log is damaged. The node is still down then. A node that is up is left
-    /// alone.
+    /// in; `NoMemory` where memory was refused, the log is damaged, or a fault of the disk is not borne out by that count. The
+    /// node is still down then. A node that is up is left alone.
     pub fn restart(&mut self) -> Result<bool, RestartFault>
         ensures starts { StartsAgain D.told D.state D.fault_count self.old.alloc self.old.seat.node self.new.seat.node result }
         ensures failed { result ≡ Err restart_faults.DiskFailed → Rose self.old.faults (D.fault_count (disk_of self.new.seat.node).disk) }
@@ -355,8 +355,8 @@ impl<D: Disk> NodeCell<D> {
     }
 }
 
-/// A fault of the disk is told only where its own count rose since the disk was handed in: what the calls of a log say of the
-/// count before the fuse says nothing of the one behind it. In place of it a refusal of memory is told.
+/// A fault of the disk is told only where its own count rose since the disk was handed in, and a refusal of memory in place of
+/// one that is not borne out: a log tells that the count of fuse and disk together does not fall, and of the disk's own nothing.
 fn founded(answer: Result<bool, RestartFault>, before: u64, now: u64) -> Result<bool, RestartFault>
     ensures answer { (result ≡ answer) ⊎ ((answer ≡ Err restart_faults.DiskFailed) × (result ≡ Err restart_faults.NoMemory)) }
     ensures failed { result ≡ Err restart_faults.DiskFailed → Rose before now }

@@ -35,7 +35,7 @@ pub enum RestartFault {
     /// The disk itself failed a call.
     #[error("a disk call failed")]
     DiskFailed,
-    /// Memory was refused, or the log is damaged.
+    /// Memory was refused, the log is damaged, or a fault of the disk is not borne out by its count.
     #[error("memory was refused")]
     NoMemory,
 }

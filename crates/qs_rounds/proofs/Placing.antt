@@ -1,6 +1,6 @@
 -- The clients of a script at their seats: their lanes to the node are whole, and no number stands twice.
-use Rattle.std.proofs.Common.{◌≡◌, ◌≢◌, ◌∙◌, ◌≤◌, ◌<◌, ap, subst, sym, refl, ℕ, zero, suc, ◌+◌, Bool, true, false, List, [], ◌∷◌, ◌++◌, map, length, arith, cond}
-use Rattle.std.specs.Prelude.{Option, Some, None, ◌==◌, ⊤, if◌then◌else◌}
+use Rattle.std.proofs.Common.{◌≡◌, ◌≢◌, ◌∙◌, ◌≤◌, ◌<◌, ap, subst, sym, refl, ℕ, zero, suc, ◌+◌, Bool, true, false, List, [], ◌∷◌, ◌++◌, map, length, arith}
+use Rattle.std.specs.Prelude.{⊤}
 use Rattle.qs_base.specs.declared.identifiers.ClientNo.{ClientNo}
 use Rattle.qs_client.specs.declared.cell.ClientCell.{ClientCell}
 use Rattle.qs_client.specs.Progress.{begun}
@@ -8,10 +8,10 @@ use Rattle.qs_journal.specs.declared.script_line.LineAnswer.{LineAnswer}
 use Rattle.qs_journal.specs.declared.script_line.ScriptLine.{ScriptLine}
 use Rattle.qs_link.specs.Lane.{FeedValue, DrawValue, IsLane, on_way}
 use Rattle.qs_plans.specs.Plan.{commands_of}
-use Rattle.qs_lanes.specs.Lanes.{is_of, ends_of, SendsTo, SendsFrom}
+use Rattle.qs_lanes.specs.Lanes.{is_of}
 use Rattle.qs_lanes.specs.declared.ends.NodeEnds.{NodeEnds}
 use Rattle.qs_rounds.specs.Lanes.{IsJoined, AllJoined, AreJoined}
-use Rattle.qs_rounds.specs.Seats.{AreSeated, IsSeated, IsOneMore, has_seat, number_of, seated_as, seated_below}
+use Rattle.qs_rounds.specs.Seats.{AreSeated, IsSeated, IsOneMore, has_seat, number_of, seated_below}
 use Rattle.qs_statements.specs.declared.script.Script.{Script}
 use Rattle.qs_statements.specs.declared.script.Seat.{Seat}
 use Rattle.std.proofs.lemmas.List.{append-nil, length-map}

@@ -1,12 +1,12 @@
 -- Rounds, one after the other, and how they end.
-use Rattle.std.proofs.Common.{◌≡◌, ◌⊎◌, ◌∙◌, ◌≤◌, ◌<◌, ap, subst, sym, refl, inl, inr, ℕ, zero, suc, ◌+◌, ◌-◌, Bool, true, false, ◌&&◌, List, arith}
+use Rattle.std.proofs.Common.{◌≡◌, ◌∙◌, ◌≤◌, subst, sym, refl, inl, inr, ℕ, zero, suc, ◌+◌, ◌-◌, Bool, arith}
 use Rattle.qs_base.specs.Causes.{Rose}
 use Rattle.qs_cell.specs.Starts.{journal_of}
 use Rattle.qs_disk.specs.Disk.{DiskState}
 use Rattle.qs_plans.specs.Budget.{budget}
 use Rattle.qs_plans.specs.Order.{seeded, drawn_order}
 use Rattle.qs_rounds.specs.Breaks.{BreaksRound, own_faults}
-use Rattle.qs_rounds.specs.Endings.{EndsWith, IsEnding, IsCutShort, IsOver, IsStill}
+use Rattle.qs_rounds.specs.Endings.{EndsWith, IsEnding, IsCutShort, IsOver}
 use Rattle.qs_rounds.specs.Rounds.{Cast, IsRound, IsSameStart, Rounds, count_of}
 use Rattle.qs_rounds.specs.declared.rounds.Ending.{Ending}
 use Rattle.qs_statements.specs.declared.script.Script.{Script}

@@ -1,4 +1,4 @@
-use Rattle.std.proofs.Common.{◌<◌, ◌≤◌, ◌+◌, ◌∙◌, rules, arith}
+use Rattle.std.proofs.Common.{◌+◌, rules}
 use Rattle.qs_cell.specs.Starts.{journal_of}
 use Rattle.qs_plans.specs.Budget.{budget}
 use Rattle.qs_plans.specs.Order.{seeded}

@@ -1,4 +1,4 @@
-use Rattle.std.proofs.Common.{◌≡◌, ◌≤◌, ◌∙◌, ap, arith}
+use Rattle.std.proofs.Common.{◌≡◌, ◌∙◌, ap, arith}
 use Rattle.qs_rounds.specs.Seats.{seated, seated_below}
 use Rattle.qs_rounds.proofs.Placing.{joined_seats}
 use Rattle.qs_rounds.proofs.seating.seat_all.Goals as goal

@@ -1,5 +1,4 @@
-use Rattle.std.proofs.Common.{◌∙◌}
-use Rattle.qs_rounds.proofs.Placing.{seats_after, numbers_after}
+use Rattle.qs_rounds.proofs.Placing.{seats_after}
 use Rattle.qs_rounds.proofs.seating.seat_if.Goals as goal
 
 pub returns-in_ok-seat-clause-seats : goal.returns-in_ok-seat-clause-seats

@@ -1,4 +1,4 @@
-use Rattle.std.proofs.Common.{arith, ◌<◌, ◌≤◌, length}
+use Rattle.std.proofs.Common.{arith, ◌<◌, length}
 use Rattle.qs_rounds.proofs.Joining.{set_joined, visited_at, visited_none}
 use Rattle.qs_rounds.proofs.visits.visit_client.Goals as goal
 

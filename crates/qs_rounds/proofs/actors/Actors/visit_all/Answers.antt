@@ -1,6 +1,5 @@
-use Rattle.std.proofs.Common.{refl, subst, sym, rules, take, ◌∙◌, ◌+◌}
+use Rattle.std.proofs.Common.{refl, subst, sym, rules, take, ◌+◌}
 use Rattle.qs_cell.specs.Starts.{journal_of}
-use Rattle.qs_rounds.specs.Breaks.{FailsAt}
 use Rattle.qs_rounds.specs.Rounds.{VisitAll}
 use Rattle.qs_rounds.proofs.Repeating.{same_start}
 use Rattle.qs_rounds.proofs.Turning.{visits_more, visits_broken, grows_on, grows_none}
