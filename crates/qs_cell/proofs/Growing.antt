@@ -1,5 +1,5 @@
 -- A cell only adds to its journal: in an event, in a visit and in a restart.
-use Rattle.std.proofs.Common.{◌≡◌, ◌⊎◌, ◌∙◌, ap, subst, sym, refl, inl, inr, ℕ, Bool, true, false, List, [], ◌∷◌, ◌++◌, map, append_assoc}
+use Rattle.std.proofs.Common.{◌≡◌, ◌∙◌, ap, subst, sym, refl, inl, inr, ℕ, Bool, true, false, List, [], ◌∷◌, ◌++◌, map, append_assoc}
 use Rattle.std.proofs.lemmas.List.{append-nil}
 use Rattle.std.specs.Prelude.{Option, Some, None, Result}
 use Rattle.std.specs.Global.{Global}
@@ -15,7 +15,7 @@ use Rattle.qs_lanes.specs.declared.ends.NodeEnds.{NodeEnds}
 use Rattle.qs_cell.specs.Cell.{IsOutcome, begun, stepped, out_of}
 use Rattle.qs_cell.specs.Restart.{in_round_as, IsRestarted}
 use Rattle.qs_cell.specs.State.{Up, IsSeenAs, state_of, state_after, carried_of, StartsAgain}
-use Rattle.qs_cell.specs.Visits.{Seat, Makes, MakesIn, TakesTurn, Turns, IsBroken, TurnsAll, TurnsSome, Visits, Breaks, Grows, entries_in, due, left_by}
+use Rattle.qs_cell.specs.Visits.{Seat, MakesIn, TakesTurn, Turns, IsBroken, TurnsAll, TurnsSome, Visits, Breaks, Grows, entries_in, due, left_by}
 use Rattle.qs_cell.specs.declared.cell.Source.{Source}
 use Rattle.qs_cell.specs.declared.running.Outcome.{Outcome}
 use Rattle.qs_cell.specs.declared.running.Outcome.TheVariants as outcomes

@@ -1,5 +1,5 @@
 -- A node that memory was refused to is still down with what it carried.
-use Rattle.std.proofs.Common.{◌≡◌, ◌≢◌, ◌↔◌, ◌∙◌, ap, subst, sym, refl, ℕ, List}
+use Rattle.std.proofs.Common.{◌≡◌, ◌≢◌, ◌↔◌, ◌∙◌, ap, subst, ℕ, List}
 use Rattle.std.specs.Global.{Global}
 use Rattle.qs_base.specs.Causes.{Rose}
 use Rattle.qs_disk.specs.Fuse.{FusedValue}
@@ -7,10 +7,10 @@ use Rattle.qs_incarnation.specs.declared.counts.Counts.{Counts}
 use Rattle.qs_incarnation.specs.declared.incarnation.ReopenFault.TheVariants as reopen_faults
 use Rattle.qs_log.specs.Log.{LogValue}
 use Rattle.qs_points.specs.declared.points.Watched.{Watched}
-use Rattle.qs_chronicle.specs.Carried.{Seen, Commands, seen}
+use Rattle.qs_chronicle.specs.Carried.{Commands, seen}
 use Rattle.qs_chronicle.specs.Chronicle.{Told}
 use Rattle.qs_chronicle.specs.declared.carried.Carried.{Carried}
-use Rattle.qs_cell.specs.Within.{IsLeft, IsLeftDown, Begins}
+use Rattle.qs_cell.specs.Within.{IsLeftDown, Begins}
 use Rattle.qs_cell.specs.declared.stopped.Rest.{Rest}
 use Rattle.qs_cell.specs.declared.stopped.Restarted.{Restarted}
 use Rattle.qs_cell.specs.declared.stopped.Restarted.TheVariants as restarts

@@ -10,3 +10,9 @@ pub mod Growing
 pub mod Written
 -- A node that memory was refused to is still down.
 pub mod Leaving
+-- What stays of the lanes.
+pub mod Rings
+-- Each image of the disk has a log.
+pub mod Logging
+-- A refusal of memory in place of a fault of the disk.
+pub mod Founding

@@ -21,6 +21,8 @@ use Rattle.qs_step.specs.declared.setting.Setting.{Setting}
 use Rattle.qs_world.specs.Histories.{opened_with}
 use Rattle.qs_chronicle.specs.Carried.{Seen}
 use Rattle.qs_chronicle.specs.declared.occasion.Occasion.{Occasion}
+use Rattle.qs_cell.specs.Logged.{IsLogged}
+use Rattle.qs_cell.proofs.Logging.{logged_stands}
 use Rattle.qs_cell.specs.Cell.{IsOutcome, IfStands, StandsAfter, out_of, disk_after}
 use Rattle.qs_cell.specs.Restart.{IsRestarted, IfUp, restarted_disk, found_in}
 use Rattle.qs_cell.specs.Starts.{IsSound, IsStarted, Begins, setting_in}
@@ -83,6 +85,7 @@ pub sound_seen : {D : Type 0} (told : Type 0) (state : D → DiskState) (f : See
     → IsSound told state new
 sound_seen told state f (states.Up old) (states.Up new) is sound = record {
   stands = λ yes. subst (λ h. Stands h.log (state h.log.disk.disk)) (sym is.0) (sound.stands yes);
+  logged = λ yes. subst (λ h. IsLogged (state h.log.disk.disk).now) (sym is.0) (sound.logged yes);
   allowed = record {
     batch = subst (λ (s : Setting). s.extra ≤ 8) (sym is.1.1) sound.allowed.batch;
     keep = subst (λ (s : Setting). s.keep ≤ 144) (sym is.1.1) sound.allowed.keep;
@@ -90,6 +93,7 @@ sound_seen told state f (states.Up old) (states.Up new) is sound = record {
 }
 sound_seen told state f (states.Down old) (states.Down new) is sound = record {
   stands = λ yes. tt;
+  logged = λ yes. subst (λ d. IsLogged (state d.disk).now) (sym is.0) (sound.logged yes);
   allowed = record {
     batch = subst (λ (s : Setting). s.extra ≤ 8) (sym is.1.1.1.1) sound.allowed.batch;
     keep = subst (λ (s : Setting). s.keep ≤ 144) (sym is.1.1.1.1) sound.allowed.keep;
@@ -100,9 +104,10 @@ sound_seen told state f (states.Down old) (states.Up new) is sound = absurd is
 
 -- and so does what an event leaves
 pub sound_after : {D : Type 0} (told : Type 0) (state : D → DiskState) (old new : NodeState D) → (told → LogStands state new)
-    → (carried_of new).setting ≡ (carried_of old).setting → IsSound told state old → IsSound told state new
-sound_after told state old new stands setting sound = record {
+    → (told → IsLogged (state (disk_of new).disk).now) → (carried_of new).setting ≡ (carried_of old).setting → IsSound told state old → IsSound told state new
+sound_after told state old new stands logged setting sound = record {
   stands = stands;
+  logged = logged;
   allowed = record {
     batch = subst (λ (s : Setting). s.extra ≤ 8) (sym setting) sound.allowed.batch;
     keep = subst (λ (s : Setting). s.keep ≤ 144) (sym setting) sound.allowed.keep;
@@ -119,11 +124,11 @@ started_moments {D} state P s alloc setting crashes points log running begins ke
     subst (λ (l : LogValue (FusedValue D)). Keeps P s (state l.disk.disk)) (sym (ap (λ (h : HostValue (FusedValue D)). h.log) begins.host)) keeps
 
 pub started_of : {D : Type 0} (told : Type 0) (state : D → DiskState) (alloc : Global) (disk : D) (setting : Setting) (ends : List NodeEnds) (plan : NodePlan)
-    (log : LogValue (FusedValue D)) (running : Up D) (found : Recovered) → Begins alloc setting plan.crashes plan.points log running → found ≡ found_in log
+    (log : LogValue (FusedValue D)) (running : Up D) (found : Recovered) (faults : ℕ) → Begins alloc setting plan.crashes plan.points log running → found ≡ found_in log
     → (told → IsRaisedLog open_limit (state disk).content log) → IsArmed plan.stops log.disk.fuse
     → IsStarted told state alloc disk setting ends plan
-    (record { alloc = alloc; seat = record { node = states.Up running; ends = ends }; opened = opened_with running.carried.setting found })
-started_of {D} told state alloc disk setting ends plan log running found begins is raised armed =
+    (record { alloc = alloc; seat = record { node = states.Up running; ends = ends }; opened = opened_with running.carried.setting found; faults = faults })
+started_of {D} told state alloc disk setting ends plan log running found faults begins is raised armed =
     let same : log ≡ running.host.log = sym (ap (λ (h : HostValue (FusedValue D)). h.log) begins.host) in
     record {
       running = running;
@@ -135,6 +140,22 @@ started_of {D} told state alloc disk setting ends plan log running found begins 
       opened = ap (λ (s : Setting). opened_with s found) begins.setting ∙ ap (opened_with (setting_in log setting)) is
           ∙ ap (λ (l : LogValue (FusedValue D)). opened_with (setting_in l setting) (found_in l)) same;
     }
+
+-- the node that began holds what is asked of each
+pub sound_started : {D : Type 0} (told : Type 0) (state : D → DiskState) (alloc : Global) (setting : Setting) (crashes : List ℕ) (points : List Point)
+    (log : LogValue (FusedValue D)) (running : Up D) → Begins alloc setting crashes points log running → setting.extra ≤ 8 → setting.keep ≤ 144
+    → (told → Stands log (state log.disk.disk)) → IsSound told state (states.Up running)
+sound_started {D} told state alloc setting crashes points log running begins extra keep stands = record {
+  stands = now;
+  allowed = record {
+    batch = subst (λ (s : Setting). s.extra ≤ 8) (sym begins.setting) extra;
+    keep = subst (λ (s : Setting). s.keep ≤ 144) (sym begins.setting) keep;
+  };
+  logged = λ is_told. logged_stands running.host.log (state running.host.log.disk.disk) (now is_told);
+}
+  where
+    now : told → Stands running.host.log (state running.host.log.disk.disk)
+    now is_told = subst (λ (l : LogValue (FusedValue D)). Stands l (state l.disk.disk)) (sym (ap (λ (h : HostValue (FusedValue D)). h.log) begins.host)) (stands is_told)
 
 -- ---- a restart
 

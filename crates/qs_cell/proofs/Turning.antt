@@ -4,7 +4,6 @@ use Rattle.std.specs.Prelude.{Option, Some, None, Result, Ok, Err, OnOk, OnErr}
 use Rattle.qs_disk.specs.Disk.{DiskState}
 use Rattle.qs_step.specs.declared.event.ClientAnswer.{ClientAnswer}
 use Rattle.qs_chronicle.specs.declared.occasion.Occasion.{Occasion}
-use Rattle.qs_cell.specs.State.{IsSeenAs}
 use Rattle.qs_cell.specs.Visits.{Seat, Turns, TakesTurn, MakesIn, IsBroken, TurnsAll, TurnsSome, IsSameNode, sources_of, due, left_by, all_delivered}
 use Rattle.qs_cell.specs.declared.cell.Source.{Source}
 use Rattle.qs_cell.specs.declared.state.NodeState.{NodeState}

@@ -1,5 +1,5 @@
 -- What an event of a cell does: a whole step, a crash right behind it, a crash in place of it, or one that cuts it off.
-use Rattle.std.specs.Prelude.{◌≡◌, ◌⊎◌, ℕ, ◌==◌, Bool, true, false, List, [], map, Option, Some, None, if◌then◌else◌}
+use Rattle.std.specs.Prelude.{◌≡◌, ◌⊎◌, ℕ, ◌==◌, Bool, true, false, List, map, Option, Some, None, if◌then◌else◌}
 use Rattle.std.specs.List.{list_any}
 use Rattle.qs_disk.specs.Disk.{DiskState}
 use Rattle.qs_disk.specs.Fuse.{FusedValue}
@@ -9,10 +9,8 @@ use Rattle.qs_journal.specs.declared.entry.CrashCause.TheVariants as causes
 use Rattle.qs_log.specs.Log.{LogValue, Stands}
 use Rattle.qs_step.specs.declared.event.ClientAnswer.{ClientAnswer}
 use Rattle.qs_step.specs.declared.event.Effects.{Effects}
-use Rattle.qs_step.specs.declared.trace.Did.{Did}
 use Rattle.qs_step.specs.declared.trace.Did.TheVariants as dids
 use Rattle.qs_chronicle.specs.declared.occasion.Occasion.{Occasion}
-use Rattle.qs_chronicle.specs.declared.carried.Carried.{Carried}
 use Rattle.qs_points.specs.declared.points.Watched.{Watched}
 use Rattle.qs_cell.specs.declared.running.Outcome.{Outcome}
 use Rattle.qs_cell.specs.declared.running.Outcome.TheVariants as outcomes

@@ -10,3 +10,7 @@ pub mod State
 pub mod Visits
 -- The start of a cell.
 pub mod Starts
+-- Each image of a node's disk has a log.
+pub mod Logged
+-- The lanes of a node stay joined to the other ends.
+pub mod Joined

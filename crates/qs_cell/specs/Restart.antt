@@ -1,5 +1,5 @@
 -- What a restart finds on the disk, and what it makes of the cell.
-use Rattle.std.specs.Prelude.{◌≡◌, ◌↔◌, ℕ, List, [], ◌∷◌, map, None}
+use Rattle.std.specs.Prelude.{◌≡◌, ◌↔◌, ℕ, [], ◌∷◌, map, None}
 use Rattle.std.specs.Global.{Global}
 use Rattle.qs_base.specs.Causes.{Rose}
 use Rattle.qs_disk.specs.Fuse.{FusedValue}

@@ -1,12 +1,16 @@
 //! The cell of a node: its visits and restarts, between its clients and its disk.
-ghost use Rattle.std.specs.Prelude.{◌≡◌, ◌≤◌, ℕ, false, drop, is_none, IfOk, IfErr, OnOk, OnErr};
+ghost use Rattle.std.specs.Prelude.{◌≡◌, ◌≤◌, ◌⊎◌, ℕ, false, drop, is_none, Err, IfOk, IfErr, OnOk, OnErr, IsTrue};
 ghost use Rattle.std.specs.List.{list_any};
 ghost use Rattle.qs_base.specs.Causes.{Rose};
+ghost use Rattle.qs_cell.specs.Joined.{HaveSameRings, StayJoined};
+ghost use Rattle.qs_cell.specs.Logged.{HasLog, IsLogged};
 ghost use Rattle.qs_cell.specs.Starts.{IsStarted, started_disk, journal_of, trace_of};
 ghost use Rattle.qs_cell.specs.Restart.{in_round_as};
 ghost use Rattle.qs_cell.specs.State.{IsSeenAs, LogStands, IsAllowed, StartsAgain, carried_of, cause_of, disk_of, has_undecided, is_settled_node};
 ghost use Rattle.qs_cell.specs.Visits.{Turns, IsBroken, TurnsAll, TurnsSome, Visits, Breaks, Grows, sources_of, due, left_by, held_by, as_command, due_command, due_again, left_of, all_delivered, deliver, has_noted, is_noted, MakesIn};
 ghost use Rattle.qs_chronicle.specs.Chronicle.{HasRoom};
+ghost use Rattle.qs_cell.specs.declared.state.RestartFault.TheVariants as restart_faults;
+ghost use Rattle.qs_disk.specs.Disk.{EachImage};
 ghost use Rattle.qs_disk.specs.Moments.{Keeps};
 ghost use Rattle.qs_incarnation.specs.Incarnation.{open_limit, IsTouched};
 ghost use Rattle.qs_lanes.specs.Lanes.{ends_of, SendsTo, SendsFrom, CarriesIn, CarriesOut};
@@ -40,6 +44,8 @@ pub struct NodeCell<D: Disk> {
     /// What its log said as it was started, and for which setting.
     first: Setting,
     found: Recovered,
+    /// What the disk itself had counted as it was handed in.
+    faults: u64,
 }
 
 /// What came of a visit.
@@ -68,7 +74,7 @@ impl<D: Disk> Model for NodeCell<D> {
 
     ghost Value = { CellValue D };
 
-    ghost view = { λ c. record { alloc = c.alloc; seat = record { node = c.state; ends = c.ends.items }; opened = opened_with c.first c.found } };
+    ghost view = { λ c. record { alloc = c.alloc; seat = record { node = c.state; ends = c.ends.items }; opened = opened_with c.first c.found; faults = c.faults } };
 
     ghost invariant = { λ c. IsSound D.told D.state c.state };
 }
@@ -88,6 +94,7 @@ impl<D: Disk> NodeCell<D> {
         requires batch { setting.extra ≤ 8 }
         requires keep { setting.keep ≤ 144 }
         ensures started { IfOk result (IsStarted D.told D.state alloc disk.disk setting ends.items plan) }
+        ensures faults { IfOk result (λ cell. cell.faults ≡ D.fault_count disk.disk) }
 
         // Why it is not started.
         ensures damaged { D.told → IfErr result (λ back. (at : ℕ) → back.why ≡ open_faults.Damaged at → IsDamaged open_limit (D.state disk.disk).content at) }
@@ -102,6 +109,7 @@ impl<D: Disk> NodeCell<D> {
             stops,
             points,
         } = plan;
+        let faults = disk.own_faults();
         let log = match begin_run(alloc, disk, stops) {
             Ok(log) => log,
             Err(LogOpen { disk, why }) => return Err(CellOpen { disk, why }),
@@ -117,6 +125,7 @@ impl<D: Disk> NodeCell<D> {
             ends,
             first,
             found,
+            faults,
         })
     }
 
@@ -131,6 +140,11 @@ impl<D: Disk> NodeCell<D> {
         ensures breaks { OnErr result (Breaks D.told D.state D.fault_count D.byte_count self.old.seat self.new.seat) }
         ensures grows { Grows (journal_of self.old) (journal_of self.new) }
         ensures opened { self.new.opened ≡ self.old.opened }
+        ensures faults { self.new.faults ≡ self.old.faults }
+
+        // The lanes stay joined to the clients' ends.
+        ensures rings { HaveSameRings self.old.seat.ends self.new.seat.ends }
+        ensures joined { StayJoined self.old.seat.ends self.new.seat.ends }
     {
         let before = self.journal().len();
         self.begin_round();
@@ -146,6 +160,7 @@ impl<D: Disk> NodeCell<D> {
         ensures node { IsSeenAs in_round_as self.old.seat.node self.new.seat.node }
         ensures ends { self.new.seat.ends ≡ self.old.seat.ends }
         ensures opened { self.new.opened ≡ self.old.opened }
+        ensures faults { self.new.faults ≡ self.old.faults }
     {
         self.state.begin_round();
     }
@@ -155,6 +170,8 @@ impl<D: Disk> NodeCell<D> {
         ensures turns { OnOk result (TurnsAll D.told D.state D.fault_count D.byte_count (sources_of self.old.seat.ends) self.old.seat self.new.seat) }
         ensures breaks { OnErr result (TurnsSome D.told D.state D.fault_count D.byte_count (sources_of self.old.seat.ends) self.old.seat self.new.seat) }
         ensures opened { self.new.opened ≡ self.old.opened }
+        ensures faults { self.new.faults ≡ self.old.faults }
+        ensures rings { HaveSameRings self.old.seat.ends self.new.seat.ends }
     {
         let sources = sources_of(self.alloc, self.ends.as_slice())?;
         self.turn_each(sources.as_slice())
@@ -164,6 +181,8 @@ impl<D: Disk> NodeCell<D> {
         ensures turns { OnOk result (TurnsAll D.told D.state D.fault_count D.byte_count sources.now self.old.seat self.new.seat) }
         ensures breaks { OnErr result (TurnsSome D.told D.state D.fault_count D.byte_count sources.now self.old.seat self.new.seat) }
         ensures opened { self.new.opened ≡ self.old.opened }
+        ensures faults { self.new.faults ≡ self.old.faults }
+        ensures rings { HaveSameRings self.old.seat.ends self.new.seat.ends }
     {
         for source in sources {
             self.turn(*source)?;
@@ -176,6 +195,8 @@ impl<D: Disk> NodeCell<D> {
         ensures turns { OnOk result (Turns D.told D.state D.fault_count D.byte_count source self.old.seat self.new.seat) }
         ensures breaks { OnErr result (IsBroken D.told D.state D.fault_count D.byte_count source self.old.seat self.new.seat) }
         ensures opened { self.new.opened ≡ self.old.opened }
+        ensures faults { self.new.faults ≡ self.old.faults }
+        ensures rings { HaveSameRings self.old.seat.ends self.new.seat.ends }
     {
         self.state.make_room()?;
         let Some(occasion) = next(&self.state, &mut self.ends, source)? else {
@@ -196,15 +217,18 @@ impl<D: Disk> NodeCell<D> {
     }
 
     /// A node that is down starts again, and the answer says whether it is up: it is not exactly where the fuse tripped in
-    /// this call. `DiskFailed` comes only where the disk's own count of faults rose, `NoMemory` where memory was refused or
-    /// the log is damaged; the node is still down then. A node that is up is left alone.
+    /// this call. `DiskFailed` comes only where the disk's own count of faults rose, in this call and since the disk was handed
+    /// in; `NoMemory` where memory was refused, the log is damaged, or a fault of the disk is not borne out by that count. The
+    /// node is still down then. A node that is up is left alone.
     pub fn restart(&mut self) -> Result<bool, RestartFault>
         ensures starts { StartsAgain D.told D.state D.fault_count self.old.alloc self.old.seat.node self.new.seat.node result }
+        ensures failed { result ≡ Err restart_faults.DiskFailed → Rose self.old.faults (D.fault_count (disk_of self.new.seat.node).disk) }
         ensures grows { Grows (journal_of self.old) (journal_of self.new) }
         ensures ends { self.new.seat.ends ≡ self.old.seat.ends }
         ensures opened { self.new.opened ≡ self.old.opened }
+        ensures faults { self.new.faults ≡ self.old.faults }
     {
-        mem::replace_with(
+        let answer = mem::replace_with(
             &mut self.state,
             self.alloc,
             |state, alloc|
@@ -214,7 +238,8 @@ impl<D: Disk> NodeCell<D> {
                 ensures stands { D.told → LogStands D.state result.0 }
                 ensures allowed { IsAllowed (carried_of result.0) }
             { state.restart(alloc) },
-        )
+        );
+        founded(answer, self.faults, self.state.own_faults())
     }
 
     /// Moves what the client has sent into the inbox of its lane here, and says how many commands that then holds. After
@@ -229,6 +254,8 @@ impl<D: Disk> NodeCell<D> {
         ensures carries { CarriesIn client from.old from.new self.old.seat.ends self.new.seat.ends result (ends_of client self.old.seat.ends) }
         ensures node { self.new.seat.node ≡ self.old.seat.node }
         ensures opened { self.new.opened ≡ self.old.opened }
+        ensures faults { self.new.faults ≡ self.old.faults }
+        ensures joined { StayJoined self.old.seat.ends self.new.seat.ends }
     {
         carry_in(self.ends.as_mut_slice(), client, from)
     }
@@ -243,6 +270,8 @@ impl<D: Disk> NodeCell<D> {
         ensures carries { CarriesOut client to.old to.new self.old.seat.ends self.new.seat.ends result (ends_of client self.old.seat.ends) }
         ensures node { self.new.seat.node ≡ self.old.seat.node }
         ensures opened { self.new.opened ≡ self.old.opened }
+        ensures faults { self.new.faults ≡ self.old.faults }
+        ensures joined { StayJoined self.old.seat.ends self.new.seat.ends }
     {
         carry_out(self.ends.as_mut_slice(), client, to)
     }
@@ -311,6 +340,41 @@ impl<D: Disk> NodeCell<D> {
     {
         self.state.into_disk()
     }
+
+    /// The disk of its log, and the entries and the steps so far, in order. It takes no memory.
+    pub fn into_parts(self) -> (Fused<D>, List<Entry>, List<Step>)
+        ensures disk { result.0 ≡ disk_of self.seat.node }
+        ensures journal { result.1 ≡ journal_of self }
+        ensures trace { result.2 ≡ trace_of self }
+
+        // Each image of the disk has a log, and they have the records of one log or of another.
+        ensures logged { D.told → EachImage HasLog (D.state result.0.disk).now }
+        ensures records { D.told → IsLogged (D.state result.0.disk).now }
+    {
+        self.state.into_parts()
+    }
+}
+
+/// A fault of the disk is told only where its own count rose since the disk was handed in, and a refusal of memory in place of
+/// one that is not borne out: a log tells that the count of fuse and disk together does not fall, and of the disk's own nothing.
+fn founded(answer: Result<bool, RestartFault>, before: u64, now: u64) -> Result<bool, RestartFault>
+    ensures answer { (result ≡ answer) ⊎ ((answer ≡ Err restart_faults.DiskFailed) × (result ≡ Err restart_faults.NoMemory)) }
+    ensures failed { result ≡ Err restart_faults.DiskFailed → Rose before now }
+{
+    if rose(before, now) {
+        return answer;
+    }
+    match answer {
+        Err(RestartFault::DiskFailed) => Err(RestartFault::NoMemory),
+        answer => answer,
+    }
+}
+
+/// Whether a count rose, or stands at its last value.
+fn rose(before: u64, now: u64) -> bool
+    ensures { IsTrue result → Rose before now }
+{
+    now > before || now == u64::MAX
 }
 
 /// The clients in order, then the queues, then the clock.
@@ -388,7 +452,8 @@ fn as_command(line: Option<ScriptLine>) -> Option<Occasion>
 /// Puts answers into the lanes of their clients, in order. After `NoMemory`, which comes where memory was refused, a front
 /// was put.
 fn deliver_all(ends: &mut Vec<NodeEnds>, answers: List<ClientAnswer>) -> Result<(), NoMemory>
-    ensures { OnOk result (ends.new.items ≡ all_delivered answers ends.old.items) }
+    ensures ok { OnOk result (ends.new.items ≡ all_delivered answers ends.old.items) }
+    ensures rings { HaveSameRings ends.old.items ends.new.items }
 {
     for said in answers.into_vec() {
         deliver_one(ends, said)?;
@@ -397,7 +462,8 @@ fn deliver_all(ends: &mut Vec<NodeEnds>, answers: List<ClientAnswer>) -> Result<
 }
 
 fn deliver_one(ends: &mut Vec<NodeEnds>, said: ClientAnswer) -> Result<(), NoMemory>
-    ensures { OnOk result (ends.new.items ≡ deliver ends.old.items said) }
+    ensures ok { OnOk result (ends.new.items ≡ deliver ends.old.items said) }
+    ensures err { OnErr result (ends.new.items ≡ ends.old.items) }
 {
     deliver(ends.as_mut_slice(), said.client, said.answer)
 }

@@ -12,9 +12,9 @@ use qs_chronicle::{Carried, Occasion};
 use qs_disk::{Disk, Fused};
 use qs_files::Files;
 use qs_incarnation::ReopenFault;
-use qs_journal::CrashCause;
+use qs_journal::{CrashCause, Entry};
 use qs_ops::NoServer;
-use qs_step::ClientAnswer;
+use qs_step::{ClientAnswer, Step};
 use std::alloc::Global;
 use thiserror::Error;
 
@@ -35,7 +35,7 @@ pub enum RestartFault {
     /// The disk itself failed a call.
     #[error("a disk call failed")]
     DiskFailed,
-    /// Memory was refused, or the log is damaged.
+    /// Memory was refused, the log is damaged, or a fault of the disk is not borne out by its count.
     #[error("memory was refused")]
     NoMemory,
 }
@@ -155,6 +155,42 @@ impl<D: Disk> NodeState<D> {
             NodeState::Down { stopped } => stopped.disk,
         }
     }
+
+    /// The disk of its log, and the entries and the steps so far, in order. It takes no memory.
+    pub fn into_parts(self) -> (Fused<D>, List<Entry>, List<Step>)
+        ensures disk { result.0 ≡ disk_of self }
+        ensures journal { result.1 ≡ (carried_of self).chronicle.told.journal }
+        ensures trace { result.2 ≡ (carried_of self).chronicle.told.trace }
+    {
+        match self {
+            NodeState::Up { running } => {
+                let Running { host, carried } = running;
+                let (disk, _, _) = host.into_parts();
+                parts(disk, carried)
+            }
+            NodeState::Down { stopped } => parts(stopped.disk, stopped.carried),
+        }
+    }
+
+    /// What the disk itself has counted.
+    pub fn own_faults(&self) -> u64
+        ensures { result ≡ D.fault_count (disk_of self.now).disk }
+    {
+        match self {
+            NodeState::Up { running } => running.host.disk().own_faults(),
+            NodeState::Down { stopped } => stopped.disk.own_faults(),
+        }
+    }
+}
+
+/// The disk, and the entries and the steps so far, in order.
+fn parts<D: Disk>(disk: Fused<D>, carried: Carried) -> (Fused<D>, List<Entry>, List<Step>)
+    ensures disk { result.0 ≡ disk }
+    ensures journal { result.1 ≡ carried.chronicle.told.journal }
+    ensures trace { result.2 ≡ carried.chronicle.told.trace }
+{
+    let (journal, trace) = carried.chronicle.into_parts();
+    (disk, journal, trace)
 }
 
 fn after_event<D: Disk>(

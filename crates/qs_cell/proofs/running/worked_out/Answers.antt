@@ -1,4 +1,4 @@
-use Rattle.std.proofs.Common.{◌∙◌, ap, refl}
+use Rattle.std.proofs.Common.{◌∙◌, ap}
 use Rattle.qs_cell.specs.Cell.{disk_after}
 use Rattle.qs_cell.proofs.Happening.{untouched, disk_of_log, unplanned_by, begun_on, worked, stands_as, moments_as}
 use Rattle.qs_cell.proofs.running.worked_out.Goals as goal

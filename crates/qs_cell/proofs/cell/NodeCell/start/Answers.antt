@@ -1,7 +1,7 @@
 use Rattle.std.proofs.Common.{subst, sym, ◌∙◌}
 use Rattle.qs_disk.specs.Moments.{Keeps}
 use Rattle.qs_incarnation.specs.Incarnation.{IsTouched}
-use Rattle.qs_cell.proofs.Standing.{started_of, started_moments}
+use Rattle.qs_cell.proofs.Standing.{started_of, started_moments, sound_started}
 use Rattle.qs_cell.proofs.cell.NodeCell.start.Goals as goal
 
 pub returns-in-Err-begin-clause-moments : goal.returns-in-Err-begin-clause-moments
@@ -15,9 +15,14 @@ returns-in-Err-begin-clause-damaged g c = λ told at is. absurd (cc (sym c.in-Er
 pub returns-clause-started : goal.returns-clause-started
 returns-clause-started g c =
     started_of g.D.Disk.told g.D.Disk.state c.args.alloc c.args.disk.disk c.args.setting c.args.ends.items c.args.plan c.in-Ok.log c.in-Ok-begin.started.running
-    c.in-Ok-begin.started.found c.in-Ok-begin.ensures.begins c.in-Ok-begin.ensures.found c.in-Ok.ensures.raised c.in-Ok.ensures.armed
+    c.in-Ok-begin.started.found c.own_faults-faults.result c.in-Ok-begin.ensures.begins c.in-Ok-begin.ensures.found c.in-Ok.ensures.raised c.in-Ok.ensures.armed
 
 pub returns-clause-moments : goal.returns-clause-moments
 returns-clause-moments g c = λ told.
     started_moments g.D.Disk.state (IsTouched (g.D.Disk.state c.args.disk.disk)) (g.D.Disk.state c.args.disk.disk) c.args.alloc c.args.setting c.args.plan.crashes
     c.args.plan.points c.in-Ok.log c.in-Ok-begin.started.running c.in-Ok-begin.ensures.begins (c.in-Ok.ensures.moments told)
+
+pub invariant_of-result : goal.invariant_of-result
+invariant_of-result g c =
+    sound_started g.D.Disk.told g.D.Disk.state c.args.alloc c.args.setting c.args.plan.crashes c.args.plan.points c.in-Ok.log c.in-Ok-begin.started.running
+    c.in-Ok-begin.ensures.begins c.requires.batch c.requires.keep c.in-Ok.ensures.stands

@@ -1,4 +1,7 @@
-use Rattle.std.proofs.Common.{◌∙◌, ap, sym}
+use Rattle.std.proofs.Common.{◌∙◌, ap, subst, sym}
+use Rattle.qs_cell.proofs.Logging.{logged_made}
+use Rattle.qs_cell.specs.Joined.{HaveSameRings}
+use Rattle.qs_cell.proofs.Rings.{rings_as, rings_on, rings_left}
 use Rattle.qs_cell.proofs.Standing.{sound_seen, sound_after}
 use Rattle.qs_cell.proofs.Turning.{turn_none, turn_made, turn_broken, on_err_all, on_ok_map}
 use Rattle.qs_cell.proofs.cell.NodeCell.turn.Goals as goal
@@ -27,11 +30,14 @@ replace_with-answers-requires g c = (
 
 pub invariant_of-self-2 : goal.invariant_of-self-2
 invariant_of-self-2 g c =
-    sound_after g.D.Disk.told g.D.Disk.state c.make_room.new.self c.replace_with-answers.new.dest c.replace_with-answers.ensures.1.0 c.replace_with-answers.ensures.1.1
-    (sound_seen g.D.Disk.told g.D.Disk.state (λ s. s) c.self.inside.state c.make_room.new.self c.make_room.ensures.same c.self.invariant)
+    let ready = sound_seen g.D.Disk.told g.D.Disk.state (λ s. s) c.self.inside.state c.make_room.new.self c.make_room.ensures.same c.self.invariant in
+    sound_after g.D.Disk.told g.D.Disk.state c.make_room.new.self c.replace_with-answers.new.dest c.replace_with-answers.ensures.1.0
+    (logged_made g.D.Disk.told g.D.Disk.state g.D.Disk.fault_count g.D.Disk.byte_count c.in-Some.occasion c.make_room.new.self c.replace_with-answers.new.dest
+    c.replace_with-answers.result c.replace_with-answers.ensures.0 ready.logged)
+    c.replace_with-answers.ensures.1.1 ready
 
 pub returns-clause-turns : goal.returns-clause-turns
-returns-clause-turns g c = on_ok_map c.deliver_all.result c.deliver_all.ensures (λ after.
+returns-clause-turns g c = on_ok_map c.deliver_all.result c.deliver_all.ensures.ok (λ after.
     turn_made g.D.Disk.told g.D.Disk.state g.D.Disk.fault_count g.D.Disk.byte_count c.args.source c.in-Some.occasion c.args.self.now.seat c.self.inside.state c.make_room.new.self c.replace_with-answers.new.dest
     c.self.inside.ends.items c.next.new.ends.items c.deliver_all.new.ends.items c.replace_with-answers.result (ap (λ cell. cell.seat) c.self.view_is)
     c.make_room.ensures.same (sym c.in_ok-occasion.ensures.due ∙ c.in-Some.is) c.in_ok-occasion.ensures.left c.replace_with-answers.ensures.0 after)
@@ -41,3 +47,22 @@ returns-clause-breaks g c = on_err_all c.deliver_all.result
     (turn_broken g.D.Disk.told g.D.Disk.state g.D.Disk.fault_count g.D.Disk.byte_count c.args.source c.in-Some.occasion c.args.self.now.seat (record { node = c.replace_with-answers.new.dest; ends = c.deliver_all.new.ends.items })
     c.self.inside.state c.make_room.new.self c.self.inside.ends.items c.replace_with-answers.result (ap (λ cell. cell.seat) c.self.view_is)
     c.make_room.ensures.same (sym c.in_ok-occasion.ensures.due ∙ c.in-Some.is) c.replace_with-answers.ensures.0)
+
+pub returns-in_err-make_room-clause-rings : goal.returns-in_err-make_room-clause-rings
+returns-in_err-make_room-clause-rings g c = rings_as c.args.self.now.seat.ends c.self.inside.ends.items (ap (λ cell. cell.seat.ends) c.self.view_is)
+
+pub returns-in_err-occasion-clause-rings : goal.returns-in_err-occasion-clause-rings
+returns-in_err-occasion-clause-rings g c =
+    rings_as c.args.self.now.seat.ends c.next.new.ends.items (c.in_err-occasion.ensures.err ∙ ap (λ cell. cell.seat.ends) c.self.view_is)
+
+pub returns-in_default-clause-rings : goal.returns-in_default-clause-rings
+returns-in_default-clause-rings g c =
+    subst (λ ends. HaveSameRings ends c.next.new.ends.items) (ap (λ cell. cell.seat.ends) c.self.view_is)
+    (subst (HaveSameRings c.self.inside.ends.items) (sym c.in_ok-occasion.ensures.left) (rings_left c.args.source c.make_room.new.self c.self.inside.ends.items))
+
+pub returns-clause-rings : goal.returns-clause-rings
+returns-clause-rings g c =
+    subst (λ ends. HaveSameRings ends c.deliver_all.new.ends.items) (ap (λ cell. cell.seat.ends) c.self.view_is)
+    (rings_on c.self.inside.ends.items c.next.new.ends.items c.deliver_all.new.ends.items
+    (subst (HaveSameRings c.self.inside.ends.items) (sym c.in_ok-occasion.ensures.left) (rings_left c.args.source c.make_room.new.self c.self.inside.ends.items))
+    c.deliver_all.ensures.rings)

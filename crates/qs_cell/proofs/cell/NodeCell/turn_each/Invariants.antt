@@ -1,4 +1,5 @@
 use Rattle.std.proofs.Common.{◌≡◌, take}
+use Rattle.qs_cell.specs.Joined.{HaveSameRings}
 use Rattle.qs_cell.specs.Visits.{TurnsAll}
 use Rattle.qs_cell.proofs.cell.NodeCell.turn_each.Given as goal
 
@@ -6,4 +7,6 @@ abbrev pub invariant-loop-source : goal.invariant-loop-source
 invariant-loop-source g l = record {
   turns : TurnsAll g.D.Disk.told g.D.Disk.state g.D.Disk.fault_count g.D.Disk.byte_count (take l.source-index l.sources) l.initial.self.seat l.self.seat;
   opened : l.self.opened ≡ l.initial.self.opened;
+  faults : l.self.faults ≡ l.initial.self.faults;
+  rings : HaveSameRings l.initial.self.seat.ends l.self.seat.ends;
 }

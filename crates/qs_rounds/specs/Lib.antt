@@ -1,0 +1,10 @@
+-- The actors, what is carried, who is visited, and when a round is quiet.
+pub mod Rounds
+-- A round that is cut short.
+pub mod Breaks
+-- How the rounds of a run end.
+pub mod Endings
+-- The lanes between the node and its clients.
+pub mod Lanes
+-- The actors as a run begins.
+pub mod Seats
