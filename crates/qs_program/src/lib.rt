@@ -7,19 +7,20 @@ mod tests;
 ghost use Rattle.std.specs.Prelude.{◌≡◌, length, IfOk};
 
 use qs_base::NoMemory;
-use qs_disk::MemDisk;
+use qs_file::FileDisk;
 use qs_io::{StdSink, StdSource};
 use qs_text::{Status, status_line};
 use qs_top::run;
 use std::alloc::Global;
+use std::fs::Files;
 use std::io::ErrorKind;
 use std::process::ExitCode;
 use std::rt::Env;
 use std::thread::Threads;
 use std::{env, io};
 
-/// The bytes of each disk.
-const DISK_SIZE: u64 = 65_536;
+/// How many disks there are, one for each node that a run may have.
+const DISK_COUNT: u8 = 8;
 
 /// The words after the program's name; else why there are none.
 fn words_of<R: Env + AllocGlobal>(rt: &R) -> Result<Vec<String>, Status> {
@@ -57,13 +58,15 @@ fn tell(rt: &impl Eprint, alloc: Global, status: &Status) -> io::Result<()> {
     }
 }
 
-/// Eight disks in memory, one for each node that a run may have.
-fn disks(alloc: Global) -> Result<Vec<MemDisk>, NoMemory>
+/// Eight disks, over the files `node0.disk` to `node7.disk` of the current folder. A file is opened at the first use of its
+/// disk.
+fn disks<'a, R: Files>(rt: &'a R, alloc: Global) -> Result<Vec<FileDisk<&'a R>>, NoMemory>
     ensures { IfOk result (λ disks. length disks.items ≡ 8) }
 {
     let mut disks = Vec::new(alloc);
-    for seed in 0..8 {
-        disks.push(MemDisk::new(alloc, DISK_SIZE, seed, &[])?)?;
+    for node in 0..DISK_COUNT {
+        let path = format!(in alloc; "node{node}.disk")?;
+        disks.push(FileDisk::new(rt, alloc, path.as_str())?)?;
     }
     Ok(disks)
 }
@@ -72,10 +75,10 @@ fn disks(alloc: Global) -> Result<Vec<MemDisk>, NoMemory>
 /// on standard error, and answers its number.
 pub fn program<R>(rt: &R) -> ExitCode
 where
-    R: Env + AllocGlobal + Input + Print + Eprint + Threads + Sync,
+    R: Env + AllocGlobal + Files + Input + Print + Eprint + Threads + Sync,
 {
     let alloc = rt.alloc();
-    let status = match (words_of(rt), disks(alloc)) {
+    let status = match (words_of(rt), disks(rt, alloc)) {
         (Ok(words), Ok(mut disks)) => {
             let mut source = StdSource::new(rt.reader());
             let mut sink = StdSink::new(io::writer(rt));

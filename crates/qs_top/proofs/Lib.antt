@@ -1,13 +1,12 @@
-pub mod CarriedOut
-pub mod Chain
-pub mod CutOff
-pub mod Flows
-pub mod Hearing
-pub mod MapSteps
-pub mod MoreFlows
-pub mod OpeningLemmas
-pub mod Parts
-pub mod Ready
-pub mod Requests
-pub mod Steps
-pub mod VerdictLemmas
+-- What a run is once its output was given.
+mod Given
+-- What the machine opens with.
+mod Held
+-- What a run over one disk comes to.
+mod Overs
+-- What it comes to, whatever its rounds were answered.
+mod Ran
+-- What it comes to where the log was not opened.
+mod Unopened
+-- The lines of a history that was read are few enough to be numbered.
+mod VerdictLemmas

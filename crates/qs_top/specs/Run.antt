@@ -1,137 +1,94 @@
--- What the top call promises: of the text that was read, of the journal, and of what was given.
-use Rattle.std.specs.Prelude.{◌≡◌, ◌⊎◌, ◌<◌, ◌^◌, ℕ, false, List, [], ◌∷◌, length, Option, Result, Ok, Err, ⊤}
-use Rattle.std.specs.Io.KnownBytes.{Consumes, Appends}
-use Rattle.qs_base.specs.Causes.{Rose}
-use Rattle.qs_base.specs.declared.identifiers.NodeNo.{NodeNo}
-use Rattle.qs_journal.specs.declared.entry.Entry.{Entry}
+-- What the top call promises of a run: what its journal is, how it ended, and what was given.
+use Rattle.std.specs.Prelude.{◌≡◌, ◌⊎◌, ◌<◌, ℕ, Bool, List, [], ◌∷◌, length}
+use Rattle.std.specs.Global.{Global}
+use Rattle.qs_cell.specs.Starts.{CellValue, journal_of, trace_of}
+use Rattle.qs_conformance.specs.Conforming.{Conforms}
 use Rattle.qs_disk.specs.Disk.{DiskState}
-use Rattle.qs_io.specs.Streams.{IsWholeOrLonger, GivesPart}
-use Rattle.qs_log.specs.Image.{IsDamaged, IsLog}
-use Rattle.qs_log.specs.declared.fault.OpenFault.{OpenFault}
-use Rattle.qs_log.specs.declared.fault.OpenFault.TheVariants as faults
+use Rattle.qs_journal.specs.declared.entry.Entry.{Entry}
+use Rattle.qs_machine.specs.Book.{BookValue}
 use Rattle.qs_machine.specs.Lawful.{IsLawful, book_after}
-use Rattle.qs_script.specs.Kept.{at_start, IsAnswered, IsKept}
-use Rattle.qs_text.specs.Output.{out_of}
-use Rattle.qs_script.specs.Plain.{plain_script_of}
-use Rattle.qs_script.specs.declared.reading.ScriptFailed.{ScriptFailed}
+use Rattle.qs_machine.specs.Opening.{opening}
+use Rattle.qs_machine.specs.declared.opened.Opened.{Opened}
+use Rattle.qs_plans.specs.Waiting.{waiting_of}
+use Rattle.qs_rounds.specs.Endings.{IsEnding, IsCutShort}
+use Rattle.qs_rounds.specs.Rounds.{Cast}
+use Rattle.qs_rounds.specs.Seats.{HasBegun}
+use Rattle.qs_rounds.specs.declared.rounds.Ending.{Ending}
 use Rattle.qs_statements.specs.declared.script.Script.{Script}
 use Rattle.qs_statements.specs.declared.status.Status.{Status}
-use Rattle.qs_statements.specs.declared.status.Status.TheVariants.{Finished, Usage, ReadFault, WriteFault, DiskFault, Damaged, NoMemory}
-use Rattle.qs_statements.specs.declared.status.Status.TheVariants as statuses
-use Rattle.qs_slot.specs.Slot.{Present}
-use Rattle.qs_top.specs.Carrying.{opening}
-use Rattle.qs_top.specs.Node.{node_count}
-use Rattle.qs_top.specs.Opening.{IsRaised, IsTouched, OfFirst}
+use Rattle.qs_step.specs.declared.trace.Step.{Step}
+use Rattle.qs_text.specs.Output.{out_of}
+use Rattle.qs_verdict.specs.Ends.{status_of}
+use Rattle.qs_verdict.specs.Verdicts.{IsRefusedAt}
+use Rattle.qs_top.specs.Disks.{OfFirst, IsHeldIn}
 
--- the source was read to its end, or to the byte past the limit, and its text has P
-pub record ReadWhole (limit : ℕ) (old new : Option (List ℕ)) (P : List ℕ → Type 0) : Type 0 where
-  pub text : List ℕ
-  pub consumed : Consumes old new text
-  pub whole : IsWholeOrLonger new text limit
-  pub holds : P text
+-- ---- the rounds
 
--- the text is a script that is carried out at this stage
-pub record IsScript (text : List ℕ) : Type 0 where
-  pub script : Script
-  pub read : plain_script_of node_count text ≡ Ok script
+-- the node began over this disk, and its clients with it, as the script sets them; after rounds in orders that the seed draws it stood so
+pub record HasRun {D : Type 0} (told : Type 0) (state : D → DiskState) (own size : D → ℕ) (seed : ℕ) (script : Script) (disk : D) (node : CellValue D) (ending : Ending) : Type 0 where
+  pub alloc : Global
+  pub first : Cast D
+  pub last : Cast D
+  pub begins : HasBegun told state own alloc script disk first
+  pub ends : IsEnding told state own size script seed first last ending
+  pub node_is : last.node ≡ node
 
--- the bytes hold a log with no record
-pub record HasNoRecord (content : List ℕ) : Type 0 where
-  pub present : Present
-  pub used : ℕ
-  pub log : IsLog present [] used content
+-- so it stood as its disk failed in a restart, in the last of these rounds
+pub record HasRunShort {D : Type 0} (told : Type 0) (state : D → DiskState) (own size : D → ℕ) (seed : ℕ) (script : Script) (disk : D) (node : CellValue D) : Type 0 where
+  pub alloc : Global
+  pub first : Cast D
+  pub last : Cast D
+  pub begins : HasBegun told state own alloc script disk first
+  pub ends : IsCutShort told state own size seed first last
+  pub node_is : last.node ≡ node
 
--- the log of the first disk holds no record, where the disk tells what it holds
-abbrev pub HoldsNoRecord : {D : Type 0} → Type 0 → (D → DiskState) → List D → Type 0
-HoldsNoRecord told state [] = ⊥
-HoldsNoRecord told state (first ∷ rest) = told → HasNoRecord (state first).content
+-- ---- the journal
 
--- the log of the first disk was raised, and the other disks are as they were
-pub record IsFirstRaised {D : Type 0} (told : Type 0) (state : D → DiskState) (old new : List D) : Type 0 where
-  pub inc : ℕ
-  pub raised : OfFirst (λ first after. told → IsRaised inc (state first) (state after)) old new
+-- the reference machine over what the log of the node held
+abbrev pub machine_over : Opened → BookValue
+machine_over opened = opening (opened ∷ [])
 
--- the journal is a run of the script that the text is: it keeps to the script, and answers every command
-pub record IsRunOf (inc : ℕ) (text : List ℕ) (journal : List Entry) : Type 0 where
-  pub script : Script
-  pub read : plain_script_of node_count text ≡ Ok script
-  pub kept : IsKept script (opening inc) at_start journal
-  pub answered : IsAnswered script (opening inc) journal
-
--- the output of a journal, by the text that it is a run of
-abbrev pub output_of : ℕ → List Entry → Result Script ScriptFailed → List ℕ
-output_of inc journal (Ok script) = out_of script journal (book_after (opening inc) journal) false
-output_of inc journal (Err fault) = []
-
--- the machine opened in an incarnation, and the entries are lawful from there; where there is any, the log was raised to it
+-- the entries are lawful from what the log of the first disk held
 pub record HasLawful {D : Type 0} (told : Type 0) (state : D → DiskState) (journal : List Entry) (old new : List D) : Type 0 where
-  pub inc : ℕ
-  pub lawful : IsLawful (opening inc) journal
-  pub raised : 0 < length journal → OfFirst (λ first after. told → IsRaised inc (state first) (state after)) old new
+  pub opened : Opened
+  pub lawful : IsLawful (machine_over opened) journal
+  pub held : 0 < length journal → OfFirst (λ disk after. told → (script : Script) × IsHeldIn script (state disk).content opened) old new
 
--- a run that was given whole, over the log of the first disk
-pub record IsGiven {D : Type 0} (told : Type 0) (state : D → DiskState) (text : List ℕ) (journal : List Entry) (before after : Option (List ℕ)) (old new : List D) : Type 0 where
-  pub inc : ℕ
-  pub run : IsRunOf inc text journal
-  pub raised : OfFirst (λ first later. told → IsRaised inc (state first) (state later)) old new
-  pub given : Appends before after (output_of inc journal (plain_script_of node_count text))
+-- what is told is the node's, and conforms to the script, from what the log of the disk held
+pub record IsTold {D : Type 0} (told : Type 0) (state : D → DiskState) (script : Script) (disk : D) (node : CellValue D) (journal : List Entry) (trace : List Step) : Type 0 where
+  pub held : told → IsHeldIn script (state disk).content node.opened
+  pub entries : journal ≡ journal_of node
+  pub steps : trace ≡ trace_of node
+  pub conforms : Conforms script (machine_over node.opened) journal
 
--- a run of which a part was given
-pub record IsCutOff {D : Type 0} (told : Type 0) (state : D → DiskState) (text : List ℕ) (journal : List Entry) (before after : Option (List ℕ)) (old new : List D) : Type 0 where
-  pub inc : ℕ
-  pub run : IsRunOf inc text journal
-  pub raised : OfFirst (λ first later. told → IsRaised inc (state first) (state later)) old new
-  pub given : GivesPart before after (output_of inc journal (plain_script_of node_count text))
+-- nothing is told
+pub record IsNothing (journal : List Entry) (trace : List Step) : Type 0 where
+  pub entries : journal ≡ []
+  pub steps : trace ≡ []
 
--- the node's disk is the first, and its count of faults rose
-pub record IsFaultOf {D : Type 0} (faults : D → ℕ) (node : NodeNo) (old new : List D) : Type 0 where
-  pub node_is : node.0 ≡ 0
-  pub rose : OfFirst (λ first after. Rose (faults first) (faults after)) old new
+-- ---- how a run ended
 
--- the node's disk is the first, and a slot or a batch of what it held is damaged there
-pub record IsDamageOf {D : Type 0} (told : Type 0) (state : D → DiskState) (node : NodeNo) (at : ℕ) (old new : List D) : Type 0 where
-  pub node_is : node.0 ≡ 0
-  pub shown : OfFirst (λ first after. told → IsDamaged (2 ^ 61) (state first).content at) old new
+abbrev pub output_of : Script → List Entry → Bool → Opened → List ℕ
+output_of script journal shown opened = out_of script journal (book_after (machine_over opened) journal) shown
 
--- the disks are as they were, or the first was changed at most by its own raise
-abbrev pub AreTouched : {D : Type 0} → Type 0 → (D → DiskState) → List D → List D → Type 0
-AreTouched told state old new = (new ≡ old) ⊎ OfFirst (λ first after. told → IsTouched (state first) (state after)) old new
+-- with all its rounds, so that it has this status, and of its output that much was given
+pub record IsWhole {D : Type 0} (told : Type 0) (state : D → DiskState) (own size : D → ℕ) (seed : ℕ) (script : Script) (shown : Bool) (Has : Status → Type 0) (Gave : List ℕ → Type 0) (journal : List Entry) (trace : List Step) (disk after : D) : Type 0 where
+  pub node : CellValue D
+  pub ending : Ending
+  pub ran : HasRun told state own size seed script disk node ending
+  pub is_told : IsTold told state script disk node journal trace
+  pub status : Has (status_of ending.rounds ending.settled (waiting_of script journal))
+  pub gave : Gave (output_of script journal shown node.opened)
 
--- the status of a run whose node's disk was not opened
-abbrev pub not_opened : OpenFault → Status
-not_opened faults.DiskFailed = DiskFault (record { 0 = 0 })
-not_opened (faults.Damaged at) = Damaged (record { 0 = 0 }) at
-not_opened faults.NoMemory = NoMemory
+-- with a fault of its disk
+pub record IsShort {D : Type 0} (told : Type 0) (state : D → DiskState) (own size : D → ℕ) (seed : ℕ) (script : Script) (journal : List Entry) (trace : List Step) (disk after : D) : Type 0 where
+  pub node : CellValue D
+  pub ran : HasRunShort told state own size seed script disk node
+  pub is_told : IsTold told state script disk node journal trace
 
--- the statuses that come before a disk is opened; want of memory may come later
-abbrev pub IsEarly : Status → Type 0
-IsEarly Usage = ⊤
-IsEarly (statuses.Script line fault) = ⊤
-IsEarly ReadFault = ⊤
-IsEarly _ = ⊥
-
--- the statuses that come after the script was read; want of memory may come earlier
-abbrev pub IsPastScript : Status → Type 0
-IsPastScript Finished = ⊤
-IsPastScript WriteFault = ⊤
-IsPastScript (DiskFault node) = ⊤
-IsPastScript (Damaged node at) = ⊤
-IsPastScript _ = ⊥
-
--- the statuses that come after the log was raised
-abbrev pub IsPastOpening : Status → Type 0
-IsPastOpening Finished = ⊤
-IsPastOpening WriteFault = ⊤
-IsPastOpening _ = ⊥
-
--- the statuses of a run at this stage
-abbrev pub IsBuilt : Status → Type 0
-IsBuilt Finished = ⊤
-IsBuilt Usage = ⊤
-IsBuilt (statuses.Script line fault) = ⊤
-IsBuilt ReadFault = ⊤
-IsBuilt WriteFault = ⊤
-IsBuilt (DiskFault node) = ⊤
-IsBuilt (Damaged node at) = ⊤
-IsBuilt NoMemory = ⊤
-IsBuilt _ = ⊥
+-- the judge refused the node's journal, at this line for this clause
+pub record IsRefused {D : Type 0} (told : Type 0) (state : D → DiskState) (own size : D → ℕ) (seed : ℕ) (script : Script) (line clause : ℕ) (disk after : D) : Type 0 where
+  pub node : CellValue D
+  pub ran : ((ending : Ending) × HasRun told state own size seed script disk node ending) ⊎ HasRunShort told state own size seed script disk node
+  pub held : told → IsHeldIn script (state disk).content node.opened
+  pub refused : IsRefusedAt script (machine_over node.opened) (journal_of node) line clause

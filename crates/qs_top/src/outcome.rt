@@ -2,13 +2,15 @@
 
 use qs_base::List;
 use qs_journal::Entry;
+use qs_step::Step;
 use qs_text::Status;
 
 /// How a run ended, and what happened in it.
 #[derive(Debug, Drop)]
 pub struct Run {
     pub status: Status,
-    /// All entries, in the order in which they were made. It is empty but on `Finished` and
-    /// `WriteFault`.
+    /// All entries, in the order in which they were made.
     pub journal: List<Entry>,
+    /// All steps of the node, in the order in which it made them.
+    pub trace: List<Step>,
 }

@@ -1,40 +1,36 @@
 //! The top call.
-ghost use Rattle.std.specs.Prelude.{◌≡◌, ◌≢◌, ◌↔◌, ◌≤◌, ℕ, [], Ok, Err, None, Some, IfOk, IfSome, length};
+ghost use Rattle.std.specs.Prelude.{◌≡◌, ◌≢◌, ◌↔◌, ◌≤◌, ◌⊎◌, ⊤, ℕ, Bool, List, [], Ok, Err, None, Some, length, IfOk, IfErr};
 ghost use Rattle.std.specs.Io.KnownBytes.{Appends};
-ghost use Rattle.qs_base.specs.declared.identifiers.NodeNo.{NodeNo};
-ghost use Rattle.qs_machine.specs.Lawful.{IsLawful, book_after};
 ghost use Rattle.qs_base.specs.Causes.{Rose};
+ghost use Rattle.qs_base.specs.declared.identifiers.NodeNo.{NodeNo};
 ghost use Rattle.qs_io.specs.Streams.{TakesAtMost, GivesPart};
-ghost use Rattle.std.specs.Prelude.{false};
-ghost use Rattle.qs_script.specs.Fits.{Fits, IsSeated};
-ghost use Rattle.qs_script.specs.declared.reading.ScriptFailed.TheVariants.{Fault};
-ghost use Rattle.qs_text.specs.Output.{out_of};
-ghost use Rattle.qs_script.specs.Plain.{plain_script_of};
-ghost use Rattle.qs_script.specs.Words.{form_of};
-ghost use Rattle.qs_statements.specs.declared.status.ScriptFault.{ScriptFault};
 ghost use Rattle.qs_reader.specs.Journal.{IsFault};
-ghost use Rattle.qs_top.specs.Built.{is_built, built_form};
-ghost use Rattle.qs_top.specs.Carrying.{opening};
-ghost use Rattle.qs_top.specs.Node.{node_count};
-ghost use Rattle.qs_top.specs.Run.{ReadWhole, IsRunOf, HasLawful, IsFaultOf, IsDamageOf, IsGiven, IsCutOff, IsBuilt, IsEarly, IsScript, IsPastScript, IsPastOpening, IsFirstRaised, HoldsNoRecord, AreTouched, not_opened};
+ghost use Rattle.qs_rounds.specs.Seats.{node_count};
+ghost use Rattle.qs_script.specs.Script.{script_of};
+ghost use Rattle.qs_script.specs.Words.{form_of};
+ghost use Rattle.qs_script.specs.declared.reading.ScriptFailed.TheVariants.{Fault};
+ghost use Rattle.qs_statements.specs.declared.status.ScriptFault.{ScriptFault};
+ghost use Rattle.qs_top.specs.Asking.{asked_by};
+ghost use Rattle.qs_top.specs.Disks.{OfFirst, IsFaultOver, IsDamageOver, IsLogged, AreBesides};
+ghost use Rattle.qs_top.specs.Giving.{IsGiven, IsGivenOf, IsNoScript};
+ghost use Rattle.qs_top.specs.Over.{IsOver};
+ghost use Rattle.qs_top.specs.Run.{HasLawful, IsNothing, IsWhole, IsShort, IsRefused};
+ghost use Rattle.qs_top.specs.Statuses.{IfNot, IsEarly, IsEnd, IsPastScript, IsPastOpening, IsOfRun, Gives, Tells};
+ghost use Rattle.qs_top.specs.Texts.{ReadWhole, OfScript};
 ghost use Rattle.qs_top.specs.Verdict.{IsUnlawfulText, IsVerdict, IsOfCheck};
 
-use crate::carrying::{Course, carry_out_all};
+use crate::asking::{Asked, asked_by};
 use crate::checking::check_source;
-use crate::node::NODE;
-use crate::opening::raise_first;
 use crate::outcome::Run;
-use qs_base::{Bytes, List, NoMemory};
+use crate::whole::{Made, run_over};
+use core::mem;
+use qs_base::{Bytes, List};
 use qs_disk::Disk;
 use qs_io::{ReadFault, Sink, Source, give_all, read_text};
-use qs_journal::Entry;
-use qs_log::OpenFault;
-use qs_text::{Form, Script, ScriptFailed, Status, out_text, read_plain_script, read_words};
+use qs_rounds::NODE_COUNT;
+use qs_text::{Script, ScriptFailed, Status, read_script};
 use std::alloc::Global;
 use std::thread::Threads;
-
-/// How many nodes a run has.
-const NODE_COUNT: u8 = 1;
 
 /// The most bytes that a script may have.
 const SCRIPT_LIMIT: usize = 1_048_576;
@@ -42,42 +38,97 @@ const SCRIPT_LIMIT: usize = 1_048_576;
 /// A run that ended before it made an entry.
 fn ended(alloc: Global, status: Status) -> Run
     ensures status { result.status ≡ status }
-    ensures journal { result.journal ≡ [] }
+    ensures nothing { IsNothing result.journal result.trace }
 {
     Run {
         status,
         journal: List::new(alloc),
+        trace: List::new(alloc),
     }
 }
 
-/// The journal of a script that was read, on a node in this incarnation, and the output of the run.
-fn made(
-    alloc: Global,
-    inc: u64,
-    text: &[u8],
-    script: &Script,
-) -> Result<(List<Entry>, Bytes), NoMemory>
-    requires read { plain_script_of node_count text.now ≡ Ok script.now }
-    requires fits { Fits node_count (λ label. false) 0 script.now.lines }
-    requires seated { IsSeated node_count script.now }
-    ensures lawful { IfOk result (λ done. IsLawful (opening inc) done.0) }
-    ensures run { IfOk result (λ done. IsRunOf inc text.now done.0) }
-    ensures output { IfOk result (λ done. done.1 ≡ out_of script.now done.0 (book_after (opening inc) done.0) false) }
+/// The script that the source holds; else the status of a run without one.
+fn script_from<S: Source>(alloc: Global, source: &mut S) -> Result<Script, Status>
+    ensures read { IfOk result (λ script. ReadWhole 1048576 (S.left source.old) (S.left source.new) (λ text. script_of node_count text ≡ Ok script)) }
+    ensures fault { (line : ℕ) (fault : ScriptFault) → result ≡ Err (Status.Script line fault)
+        → ReadWhole 1048576 (S.left source.old) (S.left source.new) (λ text. script_of node_count text ≡ Err (Fault line fault)) }
+    ensures rose { result ≡ Err Status.ReadFault → Rose (S.faults source.old) (S.faults source.new) }
+    ensures none { IfErr result IsNoScript }
+    ensures bound { TakesAtMost 1048577 (S.left source.old) (S.left source.new) }
 {
-    let Course { book, journal, .. } = carry_out_all(alloc, inc, script)?;
-    let journal = List::from_vec(journal);
-    let output = out_text(alloc, script, &journal, &book, false)?;
-    Ok((journal, output))
+    let text = match read_text(alloc, source, SCRIPT_LIMIT) {
+        Ok(text) => text,
+        Err(ReadFault::Failed) => return Err(Status::ReadFault),
+        Err(ReadFault::NoMemory) => return Err(Status::NoMemory),
+    };
+    match read_script(alloc, text.as_slice(), NODE_COUNT) {
+        Ok(script) => Ok(script),
+        Err(ScriptFailed::Fault { line, fault }) => Err(Status::Script { line, fault }),
+        Err(ScriptFailed::NoMemory) => Err(Status::NoMemory),
+    }
 }
 
-/// The status of a run whose node's disk was not opened.
-fn not_opened(why: OpenFault) -> Status
-    ensures { result ≡ not_opened why }
+/// Runs a script on one node over the first disk, which is then in its place again.
+fn run_first<D: Disk>(
+    alloc: Global,
+    disks: &mut Vec<D>,
+    script: &Script,
+    seed: u64,
+    shown: bool,
+) -> Made
+    requires disks { 8 ≤ length disks.old.items }
+    ensures over { OfFirst (λ disk after. IsOver D.told D.state D.fault_count D.byte_count seed script.now shown result disk after) disks.old.items disks.new.items }
 {
-    match why {
-        OpenFault::DiskFailed => Status::DiskFault { node: NODE },
-        OpenFault::Damaged { at } => Status::Damaged { node: NODE, at },
-        OpenFault::NoMemory => Status::NoMemory,
+    over_place(alloc, &mut disks[0], script, seed, shown)
+}
+
+/// Runs a script over the disk of that place, which is then in its place again.
+fn over_place<D: Disk>(
+    alloc: Global,
+    place: &mut D,
+    script: &Script,
+    seed: u64,
+    shown: bool,
+) -> Made
+    ensures over { IsOver D.told D.state D.fault_count D.byte_count seed script.now shown result place.old place.new }
+{
+    mem::replace_with(
+        place,
+        alloc,
+        |disk, alloc|
+            ensures over { IsOver D.told D.state D.fault_count D.byte_count seed script.entry.now shown result.1 disk result.0 }
+        { run_over(alloc, disk, script, seed, shown) },
+    )
+}
+
+/// The output goes to the sink, where there is any. The status stands, but where the sink fails.
+fn give_output<K: Sink>(sink: &mut K, output: Option<Bytes>, status: Status) -> Status
+    ensures { IsGivenOf K.faults K.given sink.old sink.new output status result }
+{
+    match output {
+        None => status,
+        Some(bytes) => match give_all(sink, bytes.as_slice()) {
+            Ok(()) => status,
+            Err(_) => Status::WriteFault,
+        },
+    }
+}
+
+/// Gives what a run is to give.
+fn give<K: Sink>(sink: &mut K, made: Made) -> Run
+    ensures { IsGiven K.faults K.given sink.old sink.new made result }
+{
+    let Made {
+        status,
+        journal,
+        trace,
+        output,
+    } = made;
+    let status = give_output(sink, output, status);
+    Run {
+        status,
+        journal,
+        trace,
     }
 }
 
@@ -85,134 +136,73 @@ fn not_opened(why: OpenFault) -> Status
 /// output to the sink.
 fn run_source<S: Source, K: Sink, D: Disk>(
     alloc: Global,
+    seed: u64,
+    shown: bool,
     source: &mut S,
     sink: &mut K,
     disks: &mut Vec<D>,
 ) -> Run
     requires disks { 8 ≤ length disks.old.items }
-
-    // The journal is a lawful run of the machine with one outcome cell for each transaction,
-    // whatever the status; the machine opens in the incarnation that the log was raised to.
     ensures lawful { HasLawful D.told D.state result.journal disks.old.items disks.new.items }
-
-    // Each status has its cause.
-    ensures script { (line : ℕ) (fault : ScriptFault) → result.status ≡ Status.Script line fault
-        → ReadWhole 1048576 (S.left source.old) (S.left source.new) (λ text. plain_script_of node_count text ≡ Err (Fault line fault)) }
+    ensures ran { result.status ≢ Status.Usage }
     ensures read_fault { result.status ≡ Status.ReadFault → Rose (S.faults source.old) (S.faults source.new) }
     ensures write_fault { result.status ≡ Status.WriteFault → Rose (K.faults sink.old) (K.faults sink.new) }
     ensures disk_fault { (node : NodeNo) → result.status ≡ Status.DiskFault node
-        → IsFaultOf D.fault_count node disks.old.items disks.new.items }
+        → OfFirst (IsFaultOver D.fault_count node) disks.old.items disks.new.items }
     ensures damaged { (node : NodeNo) (at : ℕ) → result.status ≡ Status.Damaged node at
-        → IsDamageOf D.told D.state node at disks.old.items disks.new.items }
-    ensures built { IsBuilt result.status }
-    ensures ran { result.status ≢ Status.Usage }
-
-    // A disk is opened for a script alone, and its log is raised before anything is made.
-    ensures past_script { IsPastScript result.status → ReadWhole 1048576 (S.left source.old) (S.left source.new) (λ text. IsScript text) }
-    ensures past_opening { IsPastOpening result.status → IsFirstRaised D.told D.state disks.old.items disks.new.items }
-
-    // The journal is a run of the script that was read, every command was answered, and the output
-    // was given whole; at a write fault a part of it was, and else nothing.
-    ensures finished { result.status ≡ Status.Finished
-        → ReadWhole 1048576 (S.left source.old) (S.left source.new)
-        (λ text. IsGiven D.told D.state text result.journal (K.given sink.old) (K.given sink.new) disks.old.items disks.new.items) }
+        → OfFirst (IsDamageOver D.told D.state node at) disks.old.items disks.new.items }
+    ensures script { (line : ℕ) (fault : ScriptFault) → result.status ≡ Status.Script line fault
+        → ReadWhole 1048576 (S.left source.old) (S.left source.new) (λ text. script_of node_count text ≡ Err (Fault line fault)) }
+    ensures past_script { IsPastScript result.status
+        → ReadWhole 1048576 (S.left source.old) (S.left source.new) (OfScript (λ script. ⊤)) }
+    ensures ended { IsEnd result.status
+        → ReadWhole 1048576 (S.left source.old) (S.left source.new) (OfScript (λ script. OfFirst
+        (IsWhole D.told D.state D.fault_count D.byte_count seed script shown (λ status. result.status ≡ status) (Appends (K.given sink.old) (K.given sink.new)) result.journal result.trace)
+        disks.old.items disks.new.items)) }
     ensures cut_off { result.status ≡ Status.WriteFault
-        → ReadWhole 1048576 (S.left source.old) (S.left source.new)
-        (λ text. IsCutOff D.told D.state text result.journal (K.given sink.old) (K.given sink.new) disks.old.items disks.new.items) }
-    ensures silent { result.status ≢ Status.Finished → result.status ≢ Status.WriteFault → K.given sink.new ≡ K.given sink.old }
-    ensures empty { result.status ≢ Status.Finished → result.status ≢ Status.WriteFault → result.journal ≡ [] }
-
-    // What was taken of the source: never more than the limit and one byte.
+        → ReadWhole 1048576 (S.left source.old) (S.left source.new) (OfScript (λ script. OfFirst
+        (IsWhole D.told D.state D.fault_count D.byte_count seed script shown IsEnd (GivesPart (K.given sink.old) (K.given sink.new)) result.journal result.trace)
+        disks.old.items disks.new.items)) }
+    ensures cut_short { (node : NodeNo) → result.status ≡ Status.DiskFault node → IsNothing result.journal result.trace
+        ⊎ ReadWhole 1048576 (S.left source.old) (S.left source.new) (OfScript (λ script. OfFirst
+        (IsShort D.told D.state D.fault_count D.byte_count seed script result.journal result.trace) disks.old.items disks.new.items)) }
+    ensures refused { (line clause : ℕ) → result.status ≡ Status.Unlawful line clause
+        → ReadWhole 1048576 (S.left source.old) (S.left source.new) (OfScript (λ script. OfFirst
+        (IsRefused D.told D.state D.fault_count D.byte_count seed script line clause) disks.old.items disks.new.items)) }
+    ensures silent { IfNot (Gives result.status) (K.given sink.new ≡ K.given sink.old) }
+    ensures empty { IfNot (Tells result.status) (IsNothing result.journal result.trace) }
     ensures bound { TakesAtMost 1048577 (S.left source.old) (S.left source.new) }
-
-    // The disks: as they were before the log is opened, and changed at most by its raise.
+    ensures built { IsOfRun result.status }
     ensures early { IsEarly result.status → disks.new.items ≡ disks.old.items }
-    ensures touched { AreTouched D.told D.state disks.old.items disks.new.items }
+    ensures others { AreBesides disks.old.items disks.new.items }
+    ensures logged { IsPastOpening result.status
+        → OfFirst (IsLogged D.told D.state) disks.old.items disks.new.items }
 {
-    let text = match read_text(alloc, source, SCRIPT_LIMIT) {
-        Ok(text) => text,
-        Err(ReadFault::Failed) => return ended(alloc, Status::ReadFault),
-        Err(ReadFault::NoMemory) => return ended(alloc, Status::NoMemory),
-    };
-    let script = match read_plain_script(alloc, text.as_slice(), NODE_COUNT) {
+    let script = match script_from(alloc, source) {
         Ok(script) => script,
-        Err(ScriptFailed::Fault { line, fault }) => {
-            return ended(alloc, Status::Script { line, fault });
-        }
-        Err(ScriptFailed::NoMemory) => return ended(alloc, Status::NoMemory),
+        Err(status) => return ended(alloc, status),
     };
-    let inc = match raise_first(alloc, disks) {
-        Ok(inc) => inc,
-        Err(why) => return ended(alloc, not_opened(why)),
-    };
-    let Ok((journal, output)) = made(alloc, inc, text.as_slice(), &script) else {
-        return ended(alloc, Status::NoMemory);
-    };
-    let status = match give_all(sink, output.as_slice()) {
-        Ok(()) => Status::Finished,
-        Err(_) => Status::WriteFault,
-    };
-    Run { status, journal }
+    let made = run_first(alloc, disks, &script, seed, shown);
+    give(sink, made)
 }
 
-/// Whether the form is carried out at this stage: a run of one node in one thread, without the
-/// history, and a check.
-fn is_built(form: Form) -> bool
-    ensures { result ≡ is_built form }
-{
-    match form {
-        Form::Run {
-            nodes,
-            serial,
-            journal,
-        } => nodes == NODE_COUNT && serial.is_some() && !journal,
-        Form::Check => true,
-    }
-}
-
-/// The form that the words are of, where it is carried out.
-fn form_to_run(words: &[String]) -> Option<Form>
-    ensures value { result ≡ built_form (form_of words.now) }
-    ensures form { IfSome result (λ form. form_of words.now ≡ Some form) }
-    ensures none { result ≡ None → form_of words.now ≢ Some Form.Check }
-{
-    match read_words(words) {
-        Ok(form) => built_form(form),
-        Err(_) => None,
-    }
-}
-
-/// The form, where it is carried out.
-fn built_form(form: Form) -> Option<Form>
-    ensures value { result ≡ built_form (Some form) }
-    ensures same { IfSome result (λ other. other ≡ form) }
-    ensures none { result ≡ None → form ≢ Form.Check }
-{
-    if is_built(form) { Some(form) } else { None }
-}
-
-/// What the words ask for. They are those after the program's name: `run N [--serial SEED]
-/// [--journal]` in any order behind `run`, of which `1` with a seed and without `--journal` is
-/// carried out at this stage, or `check`. A form that is not carried out yet is `Usage`.
+/// What the words ask for. They are those after the program's name: `run 1 --serial SEED`, with `--journal` or without, in any
+/// order behind `run`, or `check`. A form that is not carried out yet is `Usage`.
 ///
-/// `run` reads a script from the source, runs it on one node over the log of the first disk, and
-/// gives the output to the sink. A script with a line that is not carried out yet is `Script` with
-/// `BadWord` at the first such line; one with a fault is told that fault. At most 1,048,577 bytes are taken of the source. After the script the
-/// log of the first disk is opened and its incarnation raised; nothing else is written to it yet, and
-/// the other disks are not used. There are at least 8 disks.
+/// `run` reads a script from the source, opens the log of the first disk and raises its incarnation, and runs the script on one
+/// node over it, in rounds whose orders are drawn from the seed. It judges its own journal, and gives the output to the sink:
+/// whole on `Finished` and `Unfinished`, a front of it on `WriteFault`, and else nothing. At most 1,048,577 bytes are taken of
+/// the source. The other disks are not used. There are at least 8 disks.
 ///
-/// The log is not recovered yet: the machine opens as over a log that holds nothing. So what is said
-/// of the journal and of the output has the premise that the log of the first disk holds no record.
+/// A script with a fault is told the first one. `ReadFault`, `WriteFault` and `DiskFault` come only where the count of faults of
+/// the source, the sink or the disk rose in this call; `Damaged` only where a slot or a batch of the disk that was handed in is
+/// damaged at that byte. `Unfinished` comes only after a quiet round or with all rounds spent, and tells who waits by the
+/// journal. `Unlawful` comes only where the run's own journal does not conform to the script: the line is that of the entry
+/// in the history, and the clause 0 for a rule of the script.
 ///
-/// `check` reads a history from the source and judges it: where it is lawful, `lawful E` and a line
-/// feed go to the sink, E the number of its entries, and else nothing. At most 67,108,865 bytes are
-/// taken of the source. No disk is opened, and the journal is empty.
-///
-/// `ReadFault`, `WriteFault` and `DiskFault` come only where the count of faults of the source, the
-/// sink or the disk rose in this call; `Damaged` only where a slot or a batch of the disk that was
-/// handed in is damaged at that byte; `DiskFault` and `Damaged` only once the source was read to its
-/// end and is a script. The journal is empty but on `Finished` and `WriteFault`, and the
-/// disks are as they were on `Usage`, `Script` and `ReadFault`.
+/// `check` reads a history from the source and judges it: where it is lawful, `lawful E` and a line feed go to the sink, E the
+/// number of its entries, and else nothing. At most 67,108,865 bytes are taken of the source. No disk is opened, and the journal
+/// is empty.
 pub fn run<R: Threads + Sync, S: Source, K: Sink, D: Disk>(
     _rt: &R,
     alloc: Global,
@@ -223,69 +213,85 @@ pub fn run<R: Threads + Sync, S: Source, K: Sink, D: Disk>(
 ) -> Run
     requires disks { 8 ≤ length disks.old.items }
 
-    // Where the log holds no record: the journal is a lawful run of the machine with one outcome
-    // cell for each transaction, whatever the status; the machine opens in the incarnation that the
-    // log was raised to.
-    ensures lawful { HoldsNoRecord D.told D.state disks.old.items → HasLawful D.told D.state result.journal disks.old.items disks.new.items }
+    // The journal is a lawful run of the machine with one outcome cell for each transaction, from what the log of the first
+    // disk held, whatever the status.
+    ensures lawful { HasLawful D.told D.state result.journal disks.old.items disks.new.items }
 
     // Each status has its cause.
-    ensures usage { (result.status ≡ Status.Usage) ↔ (built_form (form_of words.now) ≡ None) }
-    ensures script { (line : ℕ) (fault : ScriptFault) → result.status ≡ Status.Script line fault
-        → ReadWhole 1048576 (S.left source.old) (S.left source.new) (λ text. plain_script_of node_count text ≡ Err (Fault line fault)) }
+    ensures usage { (result.status ≡ Status.Usage) ↔ (asked_by (form_of words.now) ≡ None) }
     ensures read_fault { result.status ≡ Status.ReadFault → Rose (S.faults source.old) (S.faults source.new) }
     ensures write_fault { result.status ≡ Status.WriteFault → Rose (K.faults sink.old) (K.faults sink.new) }
     ensures disk_fault { (node : NodeNo) → result.status ≡ Status.DiskFault node
-        → IsFaultOf D.fault_count node disks.old.items disks.new.items }
+        → OfFirst (IsFaultOver D.fault_count node) disks.old.items disks.new.items }
     ensures damaged { (node : NodeNo) (at : ℕ) → result.status ≡ Status.Damaged node at
-        → IsDamageOf D.told D.state node at disks.old.items disks.new.items }
-    ensures built { form_of words.now ≢ Some Form.Check → IsBuilt result.status }
+        → OfFirst (IsDamageOver D.told D.state node at) disks.old.items disks.new.items }
 
-    // Of a run: a disk is opened for a script alone, and its log is raised before anything is made.
-    ensures past_script { form_of words.now ≢ Some Form.Check → IsPastScript result.status
-        → ReadWhole 1048576 (S.left source.old) (S.left source.new) (λ text. IsScript text) }
-    ensures past_opening { form_of words.now ≢ Some Form.Check → IsPastOpening result.status
-        → IsFirstRaised D.told D.state disks.old.items disks.new.items }
+    // Of a run. A script fault is the first of the text, and a disk is opened for a script alone.
+    ensures script { (seed : ℕ) (shown : Bool) → asked_by (form_of words.now) ≡ Some (Asked.Serial seed shown)
+        → (line : ℕ) (fault : ScriptFault) → result.status ≡ Status.Script line fault
+        → ReadWhole 1048576 (S.left source.old) (S.left source.new) (λ text. script_of node_count text ≡ Err (Fault line fault)) }
+    ensures past_script { (seed : ℕ) (shown : Bool) → asked_by (form_of words.now) ≡ Some (Asked.Serial seed shown) → IsPastScript result.status
+        → ReadWhole 1048576 (S.left source.old) (S.left source.new) (OfScript (λ script. ⊤)) }
 
-    // Where the log holds no record: the journal is a run of the script that was read, every command
-    // was answered, and the output was given whole; at a write fault a part of it was. Else nothing
-    // was given, and the journal is empty.
-    ensures finished { form_of words.now ≢ Some Form.Check → HoldsNoRecord D.told D.state disks.old.items → result.status ≡ Status.Finished
-        → ReadWhole 1048576 (S.left source.old) (S.left source.new)
-        (λ text. IsGiven D.told D.state text result.journal (K.given sink.old) (K.given sink.new) disks.old.items disks.new.items) }
-    ensures cut_off { form_of words.now ≢ Some Form.Check → HoldsNoRecord D.told D.state disks.old.items → result.status ≡ Status.WriteFault
-        → ReadWhole 1048576 (S.left source.old) (S.left source.new)
-        (λ text. IsCutOff D.told D.state text result.journal (K.given sink.old) (K.given sink.new) disks.old.items disks.new.items) }
-    ensures silent { result.status ≢ Status.Finished → result.status ≢ Status.WriteFault → K.given sink.new ≡ K.given sink.old }
-    ensures empty { result.status ≢ Status.Finished → result.status ≢ Status.WriteFault → result.journal ≡ [] }
+    // A run that ended made its rounds, the journal is its node's and conforms to the script, the status is that of the journal
+    // and of how the rounds ended, and the output was given whole; at a write fault a part of it was.
+    ensures ended { (seed : ℕ) (shown : Bool) → asked_by (form_of words.now) ≡ Some (Asked.Serial seed shown) → IsEnd result.status
+        → ReadWhole 1048576 (S.left source.old) (S.left source.new) (OfScript (λ script. OfFirst
+        (IsWhole D.told D.state D.fault_count D.byte_count seed script shown (λ status. result.status ≡ status) (Appends (K.given sink.old) (K.given sink.new)) result.journal result.trace)
+        disks.old.items disks.new.items)) }
+    ensures cut_off { (seed : ℕ) (shown : Bool) → asked_by (form_of words.now) ≡ Some (Asked.Serial seed shown) → result.status ≡ Status.WriteFault
+        → ReadWhole 1048576 (S.left source.old) (S.left source.new) (OfScript (λ script. OfFirst
+        (IsWhole D.told D.state D.fault_count D.byte_count seed script shown IsEnd (GivesPart (K.given sink.old) (K.given sink.new)) result.journal result.trace)
+        disks.old.items disks.new.items)) }
+
+    // Where its disk failed as the node was started again, the journal is what the node had made, and conforms. Where the judge
+    // refuses what a node made, the line and the clause are told.
+    ensures cut_short { (seed : ℕ) (shown : Bool) → asked_by (form_of words.now) ≡ Some (Asked.Serial seed shown)
+        → (node : NodeNo) → result.status ≡ Status.DiskFault node → IsNothing result.journal result.trace
+        ⊎ ReadWhole 1048576 (S.left source.old) (S.left source.new) (OfScript (λ script. OfFirst
+        (IsShort D.told D.state D.fault_count D.byte_count seed script result.journal result.trace) disks.old.items disks.new.items)) }
+    ensures refused { (seed : ℕ) (shown : Bool) → asked_by (form_of words.now) ≡ Some (Asked.Serial seed shown)
+        → (line clause : ℕ) → result.status ≡ Status.Unlawful line clause
+        → ReadWhole 1048576 (S.left source.old) (S.left source.new) (OfScript (λ script. OfFirst
+        (IsRefused D.told D.state D.fault_count D.byte_count seed script line clause) disks.old.items disks.new.items)) }
+
+    // Else nothing is given, and nothing told.
+    ensures silent { IfNot (Gives result.status) (K.given sink.new ≡ K.given sink.old) }
+    ensures empty { IfNot (Tells result.status) (IsNothing result.journal result.trace) }
 
     // What was taken of the source: nothing on Usage, and never more than the limit and one byte.
     ensures unread { result.status ≡ Status.Usage → S.left source.new ≡ S.left source.old }
-    ensures bound { form_of words.now ≢ Some Form.Check → TakesAtMost 1048577 (S.left source.old) (S.left source.new) }
+    ensures bound { asked_by (form_of words.now) ≢ Some Asked.Check → TakesAtMost 1048577 (S.left source.old) (S.left source.new) }
+    ensures built { asked_by (form_of words.now) ≢ Some Asked.Check → IsOfRun result.status }
 
-    // The disks: as they were before the log is opened, and changed at most by its raise.
+    // The disks: as they were before the log is opened. Afterwards each image of the first has a log, and the others are as
+    // they were.
     ensures early { IsEarly result.status → disks.new.items ≡ disks.old.items }
-    ensures touched { AreTouched D.told D.state disks.old.items disks.new.items }
+    ensures others { AreBesides disks.old.items disks.new.items }
+    ensures logged { asked_by (form_of words.now) ≢ Some Asked.Check → IsPastOpening result.status
+        → OfFirst (IsLogged D.told D.state) disks.old.items disks.new.items }
 
-    // Of a check: the text that was read is a history, and the verdict on it is what was given; no
-    // disk is opened.
-    ensures unlawful { (line clause : ℕ) → result.status ≡ Status.Unlawful line clause
+    // Of a check: the text that was read is a history, and the verdict on it is what was given; no disk is opened.
+    ensures unlawful { asked_by (form_of words.now) ≡ Some Asked.Check → (line clause : ℕ) → result.status ≡ Status.Unlawful line clause
         → ReadWhole 67108864 (S.left source.old) (S.left source.new) (λ text. IsUnlawfulText text line clause) }
     ensures journal { (line : ℕ) → result.status ≡ Status.Journal line
         → ReadWhole 67108864 (S.left source.old) (S.left source.new) (λ text. IsFault text line) }
-    ensures checked { form_of words.now ≡ Some Form.Check → result.status ≡ Status.Finished
+    ensures checked { asked_by (form_of words.now) ≡ Some Asked.Check → result.status ≡ Status.Finished
         → ReadWhole 67108864 (S.left source.old) (S.left source.new)
         (λ text. IsVerdict text (Appends (K.given sink.old) (K.given sink.new))) }
-    ensures check_cut_off { form_of words.now ≡ Some Form.Check → result.status ≡ Status.WriteFault
+    ensures check_cut_off { asked_by (form_of words.now) ≡ Some Asked.Check → result.status ≡ Status.WriteFault
         → ReadWhole 67108864 (S.left source.old) (S.left source.new)
         (λ text. IsVerdict text (GivesPart (K.given sink.old) (K.given sink.new))) }
-    ensures check_built { form_of words.now ≡ Some Form.Check → IsOfCheck result.status }
-    ensures check_bound { form_of words.now ≡ Some Form.Check → TakesAtMost 67108865 (S.left source.old) (S.left source.new) }
-    ensures check_journal { form_of words.now ≡ Some Form.Check → result.journal ≡ [] }
-    ensures check_disks { form_of words.now ≡ Some Form.Check → disks.new.items ≡ disks.old.items }
+    ensures check_built { asked_by (form_of words.now) ≡ Some Asked.Check → IsOfCheck result.status }
+    ensures check_bound { asked_by (form_of words.now) ≡ Some Asked.Check → TakesAtMost 67108865 (S.left source.old) (S.left source.new) }
+    ensures check_journal { asked_by (form_of words.now) ≡ Some Asked.Check → result.journal ≡ [] }
+    ensures check_disks { asked_by (form_of words.now) ≡ Some Asked.Check → disks.new.items ≡ disks.old.items }
 {
-    match form_to_run(words) {
-        Some(Form::Run { .. }) => run_source(alloc, source, sink, disks),
-        Some(Form::Check) => ended(alloc, check_source(alloc, source, sink)),
+    match asked_by(words) {
+        Some(Asked::Serial { seed, journal }) => {
+            run_source(alloc, seed, journal, source, sink, disks)
+        }
+        Some(Asked::Check) => ended(alloc, check_source(alloc, source, sink)),
         None => ended(alloc, Status::Usage),
     }
 }

@@ -102,8 +102,7 @@ fn bad_input_gives_nothing(rt: HostRuntime) -> Result<(), Fail> {
         ("client 0 0\n0 put a 0 f x\n", 3),
         ("client 0 0\nclient 0 0\n", 3),
         ("client 0 0\n0 begin a\n0 begin a\n0 commit a\n", 3),
-        ("client 0 0\n0 begin a\n0 list a 0\n0 commit a\n", 3),
-        ("client 0 0\naudit 0\n", 3),
+        ("client 0 0\naudit 0\naudit 0\n", 3),
     ];
     for (script, number) in rows {
         let mut sink = wide_sink(rt.alloc())?;

@@ -1,27 +1,44 @@
-use Rattle.std.proofs.Common.{rules, ◌∙◌, sym}
-use Rattle.qs_top.proofs.CutOff.{cut_off}
-use Rattle.qs_top.proofs.OpeningLemmas.{damage_first}
+use Rattle.qs_top.proofs.Given.{map_right, of_script, nothing_lawful, given_lawful, given_ended, given_cut_off, given_short, given_refused, given_logged}
+use Rattle.qs_top.proofs.Unopened.{nothing_opened}
 use Rattle.qs_top.proofs.running.run_source.Goals as goal
-use Rattle.qs_top.proofs.running.run_source.Goals.{in-Ok-give_all, in-Err-give_all}
 
--- src/running.rt:149:21
-pub returns-in-Err-clause-damaged : goal.returns-in-Err-clause-damaged
-returns-in-Err-clause-damaged g c = λ node at e.
-    damage_first g.D.Disk.told g.D.Disk.state g.D.Disk.fault_count c.in-Err.why node at c.args.disks.now.items c.raise_first.new.disks.items c.in-Err.ensures
-    (sym c.not_opened.ensures ∙ sym c.ended-in-Err.ensures.status ∙ e)
+-- src/running.rt:183:24
+pub returns-in-Err-clause-lawful : goal.returns-in-Err-clause-lawful
+returns-in-Err-clause-lawful g c = nothing_lawful g.D.Disk.told g.D.Disk.state nothing_opened c.ended.result.journal c.args.disks.now.items c.args.disks.now.items c.ended.ensures.nothing.entries
 
--- src/running.rt:87:1
-pub returns-clause-damaged : goal.returns-clause-damaged
-returns-clause-damaged g c = λ node at e.
-    elim c.match-give_all.branch [
-      | in-Ok-give_all w ↦ absurd (cc (w.status-is, e))
-      | in-Err-give_all w ↦ absurd (cc (w.status-is, e))
-    ]
+-- src/running.rt:137:1
+pub returns-clause-lawful : goal.returns-clause-lawful
+returns-clause-lawful g c =
+    let first = c.run_first-made.ensures.over in
+    given_lawful g.D.Disk.told g.D.Disk.state g.D.Disk.fault_count g.D.Disk.byte_count c.args.seed c.in-Ok.script c.args.shown g.K.Sink.faults g.K.Sink.given c.args.sink.now c.give.new.sink c.run_first-made.result c.give.result first.first first.after first.holds c.give.ensures
+    c.args.disks.now.items c.run_first-made.new.disks.items first.rest first.old_is first.new_is
 
--- src/running.rt:86:1
+-- src/running.rt:137:1
+pub returns-clause-ended : goal.returns-clause-ended
+returns-clause-ended g c =
+    let first = c.run_first-made.ensures.over in
+    λ e. of_script c.in-Ok.script _ c.in-Ok.ensures.read (record { first = first.first; after = first.after; rest = first.rest; old_is = first.old_is; new_is = first.new_is; holds = given_ended g.D.Disk.told g.D.Disk.state g.D.Disk.fault_count g.D.Disk.byte_count c.args.seed c.in-Ok.script c.args.shown g.K.Sink.faults g.K.Sink.given c.args.sink.now c.give.new.sink c.run_first-made.result c.give.result first.first first.after first.holds c.give.ensures e })
+
+-- src/running.rt:137:1
 pub returns-clause-cut_off : goal.returns-clause-cut_off
-returns-clause-cut_off g c = λ e.
-    elim c.match-give_all.branch [
-      | in-Ok-give_all w ↦ absurd (cc (w.status-is, e))
-      | in-Err-give_all w ↦ first_of (search (rules, cut_off), search rules)
-    ]
+returns-clause-cut_off g c =
+    let first = c.run_first-made.ensures.over in
+    λ fault. of_script c.in-Ok.script _ c.in-Ok.ensures.read (record { first = first.first; after = first.after; rest = first.rest; old_is = first.old_is; new_is = first.new_is; holds = given_cut_off g.D.Disk.told g.D.Disk.state g.D.Disk.fault_count g.D.Disk.byte_count c.args.seed c.in-Ok.script c.args.shown g.K.Sink.faults g.K.Sink.given c.args.sink.now c.give.new.sink c.run_first-made.result c.give.result first.first first.after first.holds c.give.ensures fault })
+
+-- src/running.rt:137:1
+pub returns-clause-cut_short : goal.returns-clause-cut_short
+returns-clause-cut_short g c =
+    let first = c.run_first-made.ensures.over in
+    λ node is. map_right (λ short. of_script c.in-Ok.script _ c.in-Ok.ensures.read (record { first = first.first; after = first.after; rest = first.rest; old_is = first.old_is; new_is = first.new_is; holds = short })) (given_short g.D.Disk.told g.D.Disk.state g.D.Disk.fault_count g.D.Disk.byte_count c.args.seed c.in-Ok.script c.args.shown g.K.Sink.faults g.K.Sink.given c.args.sink.now c.give.new.sink c.run_first-made.result c.give.result first.first first.after first.holds c.give.ensures node is)
+
+-- src/running.rt:137:1
+pub returns-clause-refused : goal.returns-clause-refused
+returns-clause-refused g c =
+    let first = c.run_first-made.ensures.over in
+    λ line clause is. of_script c.in-Ok.script _ c.in-Ok.ensures.read (record { first = first.first; after = first.after; rest = first.rest; old_is = first.old_is; new_is = first.new_is; holds = given_refused g.D.Disk.told g.D.Disk.state g.D.Disk.fault_count g.D.Disk.byte_count c.args.seed c.in-Ok.script c.args.shown g.K.Sink.faults g.K.Sink.given c.args.sink.now c.give.new.sink c.run_first-made.result c.give.result first.first first.after first.holds c.give.ensures line clause is })
+
+-- src/running.rt:137:1
+pub returns-clause-logged : goal.returns-clause-logged
+returns-clause-logged g c =
+    let first = c.run_first-made.ensures.over in
+    λ past. record { first = first.first; after = first.after; rest = first.rest; old_is = first.old_is; new_is = first.new_is; holds = given_logged g.D.Disk.told g.D.Disk.state g.D.Disk.fault_count g.D.Disk.byte_count c.args.seed c.in-Ok.script c.args.shown g.K.Sink.faults g.K.Sink.given c.args.sink.now c.give.new.sink c.run_first-made.result c.give.result first.first first.after first.holds c.give.ensures past }

@@ -1,0 +1,143 @@
+//! Runs a row, and tells where it comes to none of its ends.
+
+use crate::memory::made;
+use crate::row::Row;
+use anyhow::{Context, Error, bail};
+use qs_base::NoMemory;
+use qs_disk::MemDisk;
+use qs_io::{MemSink, MemSource};
+use qs_text::status_line;
+use qs_top::run;
+use std::alloc::Global;
+use std::collections::BTreeMap;
+use std::thread::Threads;
+
+/// The bytes of a sink.
+const SINK_BYTES: usize = 1_048_576;
+
+/// The bytes of each disk but the first.
+const SPARE_BYTES: u64 = 65_536;
+
+/// How many disks a run is given.
+const DISK_COUNT: u64 = 8;
+
+/// The first disk that the last row left, by its seed, and the other disks, which no run uses.
+#[derive(Drop)]
+pub struct Disks {
+    left: BTreeMap<u64, MemDisk>,
+    spare: Vec<MemDisk>,
+}
+
+impl Disks {
+    pub fn new(alloc: Global) -> Result<Disks, Error> {
+        let mut spare = Vec::new(alloc);
+        for other in 1..DISK_COUNT {
+            spare.push(made(MemDisk::new(alloc, SPARE_BYTES, other, &[]))?)?;
+        }
+        Ok(Disks {
+            left: BTreeMap::new(alloc),
+            spare,
+        })
+    }
+
+    /// The disks of a run: the first as the row says.
+    fn take(&mut self, alloc: Global, row: &Row, seed: u64) -> Result<Vec<MemDisk>, Error> {
+        let mut disks = Vec::new(alloc);
+        disks.push(self.first(alloc, row, seed)?)?;
+        disks.append(&mut self.spare)?;
+        Ok(disks)
+    }
+
+    fn first(&mut self, alloc: Global, row: &Row, seed: u64) -> Result<MemDisk, Error> {
+        if !row.again {
+            return made(MemDisk::new(
+                alloc,
+                row.disk_bytes,
+                seed,
+                row.disk_fails.as_slice(),
+            ));
+        }
+        let left = self.left.get(&seed).context("no row left such a disk")?;
+        let mut bytes = Vec::from_slice(alloc, left.bytes())?;
+        for place in row.flips.iter() {
+            if let Some(byte) = bytes.get_mut(*place) {
+                *byte ^= 1;
+            }
+        }
+        made(MemDisk::from_bytes(alloc, bytes.as_slice(), seed, row.disk_fails.as_slice()))
+    }
+
+    /// Keeps the disks for the next row.
+    fn keep(&mut self, disks: Vec<MemDisk>, seed: u64) -> Result<(), Error> {
+        let mut disks = disks;
+        if !disks.is_empty() {
+            self.left.insert(seed, disks.remove(0))?;
+        }
+        self.spare.append(&mut disks)?;
+        Ok(())
+    }
+}
+
+/// Runs a row under each of its seeds.
+pub fn judge<R>(rt: &R, row: &Row, disks: &mut Disks) -> Result<(), Error>
+where
+    R: AllocGlobal + Print + Threads + Sync,
+{
+    for seed in row.seeds.iter() {
+        judge_one(rt, row, disks, *seed)?;
+    }
+    Ok(())
+}
+
+/// Runs a row under a seed, and prints what it came to where that is none of its ends.
+fn judge_one<R>(rt: &R, row: &Row, disks: &mut Disks, seed: u64) -> Result<(), Error>
+where
+    R: AllocGlobal + Print + Threads + Sync,
+{
+    let alloc = rt.alloc();
+    let words = made(with_seed(alloc, row, seed))?;
+    let mut given = disks.take(alloc, row, seed)?;
+    let mut source = made(MemSource::new(
+        alloc,
+        row.script.as_bytes(),
+        row.source_fails.as_slice(),
+    ))?;
+    if row.sink_piece == 0 {
+        bail!("a sink takes no bytes");
+    }
+    let mut sink = made(MemSink::new(
+        alloc,
+        SINK_BYTES,
+        row.sink_piece,
+        row.sink_fails.as_slice(),
+    ))?;
+    let ran = run(rt, alloc, words.as_slice(), &mut source, &mut sink, &mut given);
+    let line = made(status_line(alloc, &ran.status))?;
+    let status = str::from_utf8(line.as_slice()).context("a status is no text")?;
+    let output = str::from_utf8(sink.given()).context("an output is no text")?;
+    if !row.ends.iter().any(|end| end.is(status, output)) {
+        println!(rt; "  seed {seed} {status}")?;
+        print_all(rt, output)?;
+    }
+    disks.keep(given, seed)
+}
+
+fn print_all<R: AllocGlobal + Print>(rt: &R, output: &str) -> Result<(), Error> {
+    for line in output.split('\n') {
+        println!(rt; "    {line}")?;
+    }
+    Ok(())
+}
+
+/// The words, with the seed in its place.
+fn with_seed(alloc: Global, row: &Row, seed: u64) -> Result<Vec<String>, NoMemory> {
+    let mut words = Vec::new(alloc);
+    for word in row.words.iter() {
+        words.push(if word.as_str() == "S" {
+            format!(in alloc; "{seed}")?
+        } else {
+            word.clone()?
+        })?;
+    }
+    Ok(words)
+}

@@ -1,0 +1,164 @@
+-- What a run is once its output was given: from what it came to over the first disk.
+use Rattle.std.proofs.Common.{◌≡◌, ◌⊎◌, inl, inr, ℕ, ◌<◌, Bool, List, [], ◌∷◌, length, Option, Some, None, Ok, refl, sym, ap, subst, ◌∙◌, arith}
+use Rattle.std.specs.Prelude.{⊤}
+use Rattle.std.specs.Io.KnownBytes.{Appends}
+use Rattle.qs_base.specs.declared.identifiers.NodeNo.{NodeNo}
+use Rattle.qs_cell.specs.Starts.{CellValue}
+use Rattle.qs_disk.specs.Disk.{DiskState}
+use Rattle.qs_io.specs.Streams.{GivesPart}
+use Rattle.qs_journal.specs.declared.entry.Entry.{Entry}
+use Rattle.qs_machine.specs.Lawful.{IsLawful}
+use Rattle.qs_machine.specs.declared.opened.Opened.{Opened}
+use Rattle.qs_plans.specs.Plan.{setting_of}
+use Rattle.qs_plans.specs.Waiting.{waiting_of}
+use Rattle.qs_rounds.specs.Seats.{node_count, first_node}
+use Rattle.qs_script.specs.Script.{script_of}
+use Rattle.qs_statements.specs.declared.script.Script.{Script}
+use Rattle.qs_statements.specs.declared.status.Status.{Status}
+use Rattle.qs_statements.specs.declared.status.Status.TheVariants as statuses
+use Rattle.qs_step.specs.declared.trace.Step.{Step}
+use Rattle.qs_verdict.specs.Ends.{status_of}
+use Rattle.qs_top.specs.Disks.{OfFirst, IsLogged}
+use Rattle.qs_top.specs.Giving.{IsGiven, IsGivenOf, WasGiven, WasCutOff, WasSilent}
+use Rattle.qs_top.specs.Over.{IsOver, IsOutput}
+use Rattle.qs_top.specs.Run.{HasLawful, IsNothing, IsWhole, IsShort, IsRefused, machine_over, output_of}
+use Rattle.qs_top.specs.Statuses.{IsEnd, IsOfRounds, IsPastOpening}
+use Rattle.qs_top.specs.Texts.{ReadWhole, OfScript}
+use Rattle.qs_top.specs.declared.outcome.Run.{Run}
+use Rattle.qs_top.specs.declared.whole.Made.{Made}
+use Rattle.qs_top.proofs.Overs.{end_or, end_past}
+
+-- ---- the text
+
+pub of_script : {l m : Option (List ℕ)} (script : Script) (P : Script → Type 0) → ReadWhole 1048576 l m (λ text. script_of node_count text ≡ Ok script) → P script → ReadWhole 1048576 l m (OfScript P)
+of_script script P read holds = record { text = read.text; consumed = read.consumed; whole = read.whole; holds = record { script = script; read = read.holds; holds = holds } }
+
+pub map_right : {A B C : Type 0} → (B → C) → A ⊎ B → A ⊎ C
+map_right f (inl a) = inl a
+map_right f (inr b) = inr (f b)
+
+-- ---- no entry was made
+
+none_made : (journal : List Entry) → journal ≡ [] → 0 < length journal → ⊥
+none_made journal is some = by (length journal) (ap length is) some
+  where
+    by : (n : ℕ) → n ≡ 0 → 0 < n → ⊥
+    by n zero more = omega (arith, zero, more)
+
+pub nothing_lawful : {D : Type 0} (told : Type 0) (state : D → DiskState) (opened : Opened) (journal : List Entry) (old new : List D) → journal ≡ [] → HasLawful told state journal old new
+nothing_lawful told state opened journal old new is = record {
+  opened = opened;
+  lawful = subst (IsLawful (machine_over opened)) (sym is) tt;
+  held = λ some. absurd (none_made journal is some);
+}
+
+-- ---- how the output was given
+
+-- of nothing that was to be given, or of all, the status is that of what was made; else the sink failed
+given_status : {K : Type 0} (faults : K → ℕ) (given : K → Option (List ℕ)) (old new : K) (output : Option (List ℕ)) (before after : Status) → IsGivenOf faults given old new output before after → (after ≡ before) ⊎ ((after ≡ statuses.WriteFault) × ((bytes : List ℕ) × (output ≡ Some bytes)))
+given_status faults given old new None before after g = inl g.status
+given_status faults given old new (Some bytes) before after (inl g) = inl g.status
+given_status faults given old new (Some bytes) before after (inr g) = inr (g.status, (bytes, refl))
+
+-- these bytes were to be given, and were, where the status is an end
+given_whole : {K : Type 0} (faults : K → ℕ) (given : K → Option (List ℕ)) (old new : K) (output : Option (List ℕ)) (before after : Status) (bytes : List ℕ) → IsGivenOf faults given old new output before after → output ≡ Some bytes → IsEnd after → (after ≡ before) × Appends (given old) (given new) bytes
+given_whole faults given old new None before after bytes g is e = absurd (cc (is))
+given_whole faults given old new (Some other) before after bytes (inl g) is e = (g.status, subst (λ (o : List ℕ). Appends (given old) (given new) o) (some_is is) g.all)
+  where
+    some_is : Some other ≡ Some bytes → other ≡ bytes
+    some_is same = cc (same)
+given_whole faults given old new (Some other) before after bytes (inr g) is e = absurd (subst IsEnd g.status e)
+
+given_part : {K : Type 0} (faults : K → ℕ) (given : K → Option (List ℕ)) (old new : K) (output : Option (List ℕ)) (before after : Status) (bytes : List ℕ) → IsGivenOf faults given old new output before after → output ≡ Some bytes → IsEnd before → after ≡ statuses.WriteFault → GivesPart (given old) (given new) bytes
+given_part faults given old new None before after bytes g is e fault = absurd (cc (is))
+given_part faults given old new (Some other) before after bytes (inl g) is e fault = absurd (subst IsEnd (sym g.status ∙ fault) e)
+given_part faults given old new (Some other) before after bytes (inr g) is e fault = subst (λ (o : List ℕ). GivesPart (given old) (given new) o) (some_is is) g.part
+  where
+    some_is : Some other ≡ Some bytes → other ≡ bytes
+    some_is same = cc (same)
+
+-- ---- the run
+
+module _ {D K : Type 0} (told : Type 0) (state : D → DiskState) (own size : D → ℕ) (seed : ℕ) (script : Script) (shown : Bool) (faults : K → ℕ) (given : K → Option (List ℕ)) (before after : K) (made : Made) (run : Run) (disk end : D) (over : IsOver told state own size seed script shown made disk end) (gave : IsGiven faults given before after made run) where
+  status_or : (run.status ≡ made.status) ⊎ ((run.status ≡ statuses.WriteFault) × ((bytes : List ℕ) × (made.output ≡ Some bytes)))
+  status_or = given_status faults given before after made.output made.status run.status gave.output
+
+  -- what was to be given is that of an end
+  ends : (bytes : List ℕ) → made.output ≡ Some bytes → IsEnd made.status
+  ends bytes is = by (end_or made.status)
+    where
+      by : IsEnd made.status ⊎ (IsEnd made.status → ⊥) → IsEnd made.status
+      by (inl e) = e
+      by (inr n) = absurd (cc (is, over.silent n))
+
+  told_as : (Has : Status → Type 0) (Gave : List ℕ → Type 0) → IsWhole told state own size seed script shown Has Gave made.journal made.trace disk end → IsWhole told state own size seed script shown Has Gave run.journal run.trace disk end
+  told_as Has Gave w = subst (λ (entries : List Entry). IsWhole told state own size seed script shown Has Gave entries run.trace disk end) (sym gave.entries) (subst (λ (steps : List Step). IsWhole told state own size seed script shown Has Gave made.journal steps disk end) (sym gave.steps) w)
+
+  pub given_ended : IsEnd run.status → IsWhole told state own size seed script shown (λ status. run.status ≡ status) (Appends (given before) (given after)) run.journal run.trace disk end
+  given_ended e = told_as (λ status. run.status ≡ status) (Appends (given before) (given after)) (record {
+    node = w.node;
+    ending = w.ending;
+    ran = w.ran;
+    is_told = w.is_told;
+    status = (whole_of w).0 ∙ w.status;
+    gave = (whole_of w).1;
+  })
+    where
+      made_ends : (run.status ≡ made.status) ⊎ ((run.status ≡ statuses.WriteFault) × ((bytes : List ℕ) × (made.output ≡ Some bytes))) → IsEnd made.status
+      made_ends (inl same) = subst IsEnd same e
+      made_ends (inr cut) = absurd (subst IsEnd cut.0 e)
+
+      w : IsWhole told state own size seed script shown (λ status. made.status ≡ status) (IsOutput made.output) made.journal made.trace disk end
+      w = over.whole (made_ends status_or)
+
+      whole_of : (v : IsWhole told state own size seed script shown (λ status. made.status ≡ status) (IsOutput made.output) made.journal made.trace disk end) → (run.status ≡ made.status) × Appends (given before) (given after) (output_of script made.journal shown v.node.opened)
+      whole_of v = given_whole faults given before after made.output made.status run.status (output_of script made.journal shown v.node.opened) gave.output v.gave e
+
+  pub given_cut_off : run.status ≡ statuses.WriteFault → IsWhole told state own size seed script shown IsEnd (GivesPart (given before) (given after)) run.journal run.trace disk end
+  given_cut_off fault = told_as IsEnd (GivesPart (given before) (given after)) (by status_or)
+    where
+      part_of : (v : IsWhole told state own size seed script shown (λ status. made.status ≡ status) (IsOutput made.output) made.journal made.trace disk end) → IsEnd made.status → IsWhole told state own size seed script shown IsEnd (GivesPart (given before) (given after)) made.journal made.trace disk end
+      part_of v e = record {
+        node = v.node;
+        ending = v.ending;
+        ran = v.ran;
+        is_told = v.is_told;
+        status = subst IsEnd v.status e;
+        gave = given_part faults given before after made.output made.status run.status (output_of script made.journal shown v.node.opened) gave.output v.gave e fault;
+      }
+
+      by : (run.status ≡ made.status) ⊎ ((run.status ≡ statuses.WriteFault) × ((bytes : List ℕ) × (made.output ≡ Some bytes))) → IsWhole told state own size seed script shown IsEnd (GivesPart (given before) (given after)) made.journal made.trace disk end
+      by (inl same) = absurd (subst IsOfRounds (sym same ∙ fault) over.built)
+      by (inr cut) = part_of (over.whole (ends cut.1.0 cut.1.1)) (ends cut.1.0 cut.1.1)
+
+  -- a status that is no fault of the sink is that of what was made
+  made_status : (status : Status) → run.status ≡ status → (statuses.WriteFault ≡ status → ⊥) → made.status ≡ status
+  made_status status is other = by status_or
+    where
+      by : (run.status ≡ made.status) ⊎ ((run.status ≡ statuses.WriteFault) × ((bytes : List ℕ) × (made.output ≡ Some bytes))) → made.status ≡ status
+      by (inl same) = sym same ∙ is
+      by (inr cut) = absurd (other (sym cut.0 ∙ is))
+
+  pub given_short : (node : NodeNo) → run.status ≡ statuses.DiskFault node → IsNothing run.journal run.trace ⊎ IsShort told state own size seed script run.journal run.trace disk end
+  given_short node is = by (over.short node (made_status (statuses.DiskFault node) is (λ same. absurd (cc (same)))))
+    where
+      by : IsNothing made.journal made.trace ⊎ IsShort told state own size seed script made.journal made.trace disk end → IsNothing run.journal run.trace ⊎ IsShort told state own size seed script run.journal run.trace disk end
+      by (inl nothing) = inl (record { entries = gave.entries ∙ nothing.entries; steps = gave.steps ∙ nothing.steps })
+      by (inr short) = inr (subst (λ (entries : List Entry). IsShort told state own size seed script entries run.trace disk end) (sym gave.entries) (subst (λ (steps : List Step). IsShort told state own size seed script made.journal steps disk end) (sym gave.steps) short))
+
+  pub given_refused : (line clause : ℕ) → run.status ≡ statuses.Unlawful line clause → IsRefused told state own size seed script line clause disk end
+  given_refused line clause is = over.refused line clause (made_status (statuses.Unlawful line clause) is (λ same. absurd (cc (same))))
+
+  pub given_logged : IsPastOpening run.status → IsLogged told state disk end
+  given_logged past = by status_or
+    where
+      by : (run.status ≡ made.status) ⊎ ((run.status ≡ statuses.WriteFault) × ((bytes : List ℕ) × (made.output ≡ Some bytes))) → IsLogged told state disk end
+      by (inl same) = over.logged (subst IsPastOpening same past)
+      by (inr cut) = over.logged (end_past made.status (ends cut.1.0 cut.1.1))
+
+  pub given_lawful : (old new rest : List D) → old ≡ disk ∷ rest → new ≡ end ∷ rest → HasLawful told state run.journal old new
+  given_lawful old new rest old_is new_is = record {
+    opened = over.lawful.opened;
+    lawful = subst (IsLawful (machine_over over.lawful.opened)) (sym gave.entries) over.lawful.lawful;
+    held = λ some. record { first = disk; after = end; rest = rest; old_is = old_is; new_is = new_is; holds = λ yes. (script, over.lawful.held (subst (λ (entries : List Entry). 0 < length entries) gave.entries some) yes) };
+  }

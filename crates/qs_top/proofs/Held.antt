@@ -1,0 +1,41 @@
+-- What the machine opens with is what the log of the disk held.
+use Rattle.std.proofs.Common.{◌≡◌, ℕ, ◌+◌, List, [], ◌++◌, refl, sym, ap, subst, ◌∙◌, append-nil}
+use Rattle.std.specs.Global.{Global}
+use Rattle.qs_cell.specs.Restart.{inc_of, found_in}
+use Rattle.qs_disk.specs.Disk.{DiskState}
+use Rattle.qs_disk.specs.Fuse.{FusedValue}
+use Rattle.qs_incarnation.specs.Incarnation.{open_limit, IsRaisedLog}
+use Rattle.qs_log.specs.Log.{LogValue}
+use Rattle.qs_machine.specs.declared.opened.Opened.{Opened}
+use Rattle.qs_plans.specs.Plan.{setting_of}
+use Rattle.qs_record.specs.declared.record.Record.{Record}
+use Rattle.qs_rounds.specs.Rounds.{Cast}
+use Rattle.qs_rounds.specs.Seats.{HasBegun, node_count, first_node}
+use Rattle.qs_slot.specs.Slot.{Present}
+use Rattle.qs_statements.specs.declared.script.Script.{Script}
+use Rattle.qs_step.specs.Opening.{recovered_of}
+use Rattle.qs_world.specs.Histories.{opened_with}
+use Rattle.qs_top.specs.Disks.{IsHeldIn}
+
+-- no record waits behind those of the batches
+no_more : {A : Type 0} (xs ys : List A) → ys ≡ [] → xs ++ ys ≡ xs
+no_more xs ys is = ap (λ (more : List _). xs ++ more) is ∙ append-nil xs
+
+pub held_in : {D : Type 0} (told : Type 0) (state : D → DiskState) (own : D → ℕ) (alloc : Global) (script : Script) (disk : D) (cast : Cast D) → HasBegun told state own alloc script disk cast → told
+    → IsHeldIn script (state disk).content cast.node.opened
+held_in {D} told state own alloc script disk cast begins is = record {
+  present = raised.present;
+  records = log.forced;
+  used = log.used;
+  log = raised.records;
+  opened_is = begins.started.opened ∙ (ap (λ (inc : ℕ). opened_with (setting_of script node_count first_node inc) (found_in log)) inc ∙ ap (λ (records : List Record). opened_with (setting_of script node_count first_node (raised.present.value.inc + 1)) (recovered_of records)) (no_more log.forced log.waiting raised.waiting));
+}
+  where
+    log : LogValue (FusedValue D)
+    log = begins.started.running.host.log
+
+    raised : IsRaisedLog open_limit (state disk).content log
+    raised = begins.started.raised is
+
+    inc : inc_of log ≡ raised.present.value.inc + 1
+    inc = ap (λ (present : Present). present.value.inc) raised.raised

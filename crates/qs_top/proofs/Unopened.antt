@@ -1,0 +1,132 @@
+-- What a run over one disk comes to whose log was not opened, or for which memory was refused.
+use Rattle.std.proofs.Common.{◌≡◌, inl, ℕ, ◌^◌, Bool, Result, Err, IfErr, refl, sym, ap, subst, ◌∙◌, List, [], None}
+use Rattle.std.specs.Prelude.{⊤}
+use Rattle.qs_base.specs.Causes.{Rose}
+use Rattle.qs_base.specs.declared.identifiers.NodeNo.{NodeNo}
+use Rattle.qs_disk.specs.Disk.{DiskState}
+use Rattle.qs_log.specs.Image.{IsDamaged}
+use Rattle.qs_log.specs.declared.fault.OpenFault.{OpenFault}
+use Rattle.qs_log.specs.declared.fault.OpenFault.TheVariants as faults
+use Rattle.qs_machine.specs.declared.opened.Opened.{Opened}
+use Rattle.qs_plans.specs.Plan.{setting_of}
+use Rattle.qs_rounds.specs.Seats.{node_count, first_node}
+use Rattle.qs_statements.specs.declared.script.Script.{Script}
+use Rattle.qs_statements.specs.declared.status.Status.{Status}
+use Rattle.qs_statements.specs.declared.status.Status.TheVariants as statuses
+use Rattle.qs_step.specs.Opening.{recovered_of}
+use Rattle.qs_world.specs.Histories.{opened_with}
+use Rattle.qs_top.specs.Disks.{IsFaultOver, IsDamageOver}
+use Rattle.qs_top.specs.Making.{IsNothingMade, IsOutOfMemory, not_opened}
+use Rattle.qs_top.specs.Over.{IsOver}
+use Rattle.qs_top.specs.Statuses.{IsEnd, IsOfRounds, IsPastOpening}
+use Rattle.qs_top.specs.declared.whole.Made.{Made}
+use Rattle.qs_top.proofs.Overs.{IsFaultStatus, nothing_lawful, same_node}
+
+-- those of a log that was not opened
+abbrev IsUnopened : Status → Type 0
+IsUnopened (statuses.DiskFault node) = ⊤
+IsUnopened (statuses.Damaged node at) = ⊤
+IsUnopened statuses.NoMemory = ⊤
+IsUnopened _ = ⊥
+
+unopened_built : (status : Status) → IsUnopened status → IsOfRounds status
+unopened_built (statuses.DiskFault node) u = tt
+unopened_built (statuses.Damaged node at) u = tt
+unopened_built statuses.NoMemory u = tt
+unopened_built (statuses.Unlawful line clause) u = absurd u
+unopened_built statuses.Finished u = absurd u
+unopened_built (statuses.Unfinished rounds waiting) u = absurd u
+unopened_built statuses.Usage u = absurd u
+unopened_built (statuses.Script line fault) u = absurd u
+unopened_built statuses.ReadFault u = absurd u
+unopened_built statuses.WriteFault u = absurd u
+unopened_built (statuses.NoRoom node need room) u = absurd u
+unopened_built (statuses.Journal line) u = absurd u
+unopened_built (statuses.LastGeneration node) u = absurd u
+
+unopened_early : (status : Status) → IsUnopened status → IsPastOpening status → ⊥
+unopened_early (statuses.DiskFault node) u past = past
+unopened_early (statuses.Damaged node at) u past = past
+unopened_early statuses.NoMemory u past = past
+unopened_early (statuses.Unlawful line clause) u past = u
+unopened_early statuses.Finished u past = u
+unopened_early (statuses.Unfinished rounds waiting) u past = u
+unopened_early statuses.Usage u past = u
+unopened_early (statuses.Script line fault) u past = u
+unopened_early statuses.ReadFault u past = u
+unopened_early statuses.WriteFault u past = u
+unopened_early (statuses.NoRoom node need room) u past = u
+unopened_early (statuses.Journal line) u past = u
+unopened_early (statuses.LastGeneration node) u past = u
+
+unopened_ends : (status : Status) → IsUnopened status → IsEnd status → ⊥
+unopened_ends (statuses.DiskFault node) u e = e
+unopened_ends (statuses.Damaged node at) u e = e
+unopened_ends statuses.NoMemory u e = e
+unopened_ends (statuses.Unlawful line clause) u e = e
+unopened_ends statuses.Finished u e = u
+unopened_ends (statuses.Unfinished rounds waiting) u e = u
+unopened_ends statuses.Usage u e = e
+unopened_ends (statuses.Script line fault) u e = e
+unopened_ends statuses.ReadFault u e = e
+unopened_ends statuses.WriteFault u e = e
+unopened_ends (statuses.NoRoom node need room) u e = e
+unopened_ends (statuses.Journal line) u e = e
+unopened_ends (statuses.LastGeneration node) u e = e
+
+abbrev IsRefusedMemory : Status → Type 0
+IsRefusedMemory statuses.NoMemory = ⊤
+IsRefusedMemory _ = ⊥
+
+abbrev IsDamageStatus : Status → Type 0
+IsDamageStatus (statuses.Damaged node at) = ⊤
+IsDamageStatus _ = ⊥
+
+abbrev damage_place : Status → ℕ
+damage_place (statuses.Damaged node place) = place
+damage_place _ = 0
+
+abbrev damage_node : Status → NodeNo
+damage_node (statuses.Damaged node place) = node
+damage_node _ = first_node
+
+-- the machine over a log that holds nothing
+pub nothing_opened : Opened
+nothing_opened = opened_with (setting_of (record { seats = []; quotas = []; audit = None; faults = []; lines = []; count = 0 }) node_count first_node 1) (recovered_of [])
+
+module _ {D : Type 0} (told : Type 0) (state : D → DiskState) (own size : D → ℕ) (seed : ℕ) (script : Script) (shown : Bool) (disk after : D) (made : Made) (nothing : IsNothingMade made) where
+  over_unopened : IsUnopened made.status → ((node : NodeNo) → made.status ≡ statuses.DiskFault node → IsFaultOver own node disk after) → ((node : NodeNo) (at : ℕ) → made.status ≡ statuses.Damaged node at → IsDamageOver told state node at disk after)
+      → IsOver told state own size seed script shown made disk after
+  over_unopened unopened fault damage = record {
+    lawful = nothing_lawful told state script disk nothing_opened made.journal nothing.nothing.entries;
+    fault = fault;
+    damage = damage;
+    whole = λ e. absurd (unopened_ends made.status unopened e);
+    short = λ node is. inl nothing.nothing;
+    refused = λ line clause is. absurd (subst IsUnopened is unopened);
+    logged = λ past. absurd (unopened_early made.status unopened past);
+    silent = λ not_end. nothing.output;
+    empty = λ untold. nothing.nothing;
+    built = unopened_built made.status unopened;
+  }
+
+  -- memory was refused
+  pub over_refused : made.status ≡ statuses.NoMemory → IsOver told state own size seed script shown made disk after
+  over_refused is = over_unopened (subst IsUnopened (sym is) tt) (λ node fault. absurd (subst IsRefusedMemory (sym is ∙ fault) tt)) (λ node at damage. absurd (subst IsRefusedMemory (sym is ∙ damage) tt))
+
+  -- the log was not opened
+  pub over_closed : (why : OpenFault) → made.status ≡ not_opened why → (told → (at : ℕ) → why ≡ faults.Damaged at → IsDamaged (2 ^ 61) (state disk).content at) → (why ≡ faults.DiskFailed → Rose (own disk) (own after))
+      → IsOver told state own size seed script shown made disk after
+  over_closed faults.NoMemory is damaged failed = over_refused is
+  over_closed faults.DiskFailed is damaged failed = over_unopened (subst IsUnopened (sym is) tt)
+    (λ node fault. record { node_is = sym (same_node (sym is ∙ fault)); rose = failed refl })
+    (λ node at damage. absurd (subst IsFaultStatus (sym is ∙ damage) tt))
+  over_closed (faults.Damaged at) is damaged failed = over_unopened (subst IsUnopened (sym is) tt)
+    (λ node fault. absurd (subst IsDamageStatus (sym is ∙ fault) tt))
+    (λ node place damage. by (sym is ∙ damage))
+    where
+      by : {node : NodeNo} {place : ℕ} → statuses.Damaged first_node at ≡ statuses.Damaged node place → IsDamageOver told state node place disk after
+      by {node} {place} same = record {
+        node_is = sym (ap damage_node same);
+        shown = λ yes. subst (IsDamaged (2 ^ 61) (state disk).content) (ap damage_place same) (damaged yes at refl);
+      }

@@ -1,0 +1,30 @@
+use Rattle.std.proofs.Common.{◌≡◌, ◌⊎◌, ℕ, subst}
+use Rattle.qs_top.specs.Disks.{OfFirst}
+use Rattle.qs_top.specs.Run.{IsNothing, IsShort, IsRefused}
+use Rattle.qs_top.specs.Texts.{ReadWhole, OfScript}
+use Rattle.qs_top.proofs.Given.{nothing_lawful}
+use Rattle.qs_top.proofs.Unopened.{nothing_opened}
+use Rattle.qs_top.proofs.running.run.Goals as goal
+
+-- src/running.rt:206:1
+pub returns-in-Some-Serial-clause-cut_short : goal.returns-in-Some-Serial-clause-cut_short
+returns-in-Some-Serial-clause-cut_short g c = λ seed shown asked node is.
+    let same : c.in-Some-Serial.seed ≡ seed = cc (c.asked_by.ensures, c.in-Some-Serial.is, c.in-Some-Serial.field-0-is, asked) in
+    subst (λ (s : ℕ). IsNothing c.run_source.result.journal c.run_source.result.trace
+    ⊎ ReadWhole 1048576 (g.S.Source.left c.args.source.now) (g.S.Source.left c.run_source.new.source) (OfScript (λ script. OfFirst (IsShort g.D.Disk.told g.D.Disk.state g.D.Disk.fault_count g.D.Disk.byte_count s script c.run_source.result.journal c.run_source.result.trace) c.args.disks.now.items c.run_source.new.disks.items)))
+    same (c.run_source.ensures.cut_short node is)
+
+-- src/running.rt:206:1
+pub returns-in-Some-Serial-clause-refused : goal.returns-in-Some-Serial-clause-refused
+returns-in-Some-Serial-clause-refused g c = λ seed shown asked line clause is.
+    let same : c.in-Some-Serial.seed ≡ seed = cc (c.asked_by.ensures, c.in-Some-Serial.is, c.in-Some-Serial.field-0-is, asked) in
+    subst (λ (s : ℕ). ReadWhole 1048576 (g.S.Source.left c.args.source.now) (g.S.Source.left c.run_source.new.source) (OfScript (λ script. OfFirst (IsRefused g.D.Disk.told g.D.Disk.state g.D.Disk.fault_count g.D.Disk.byte_count s script line clause) c.args.disks.now.items c.run_source.new.disks.items)))
+    same (c.run_source.ensures.refused line clause is)
+
+-- src/running.rt:206:1
+pub returns-in-Some-Check-clause-lawful : goal.returns-in-Some-Check-clause-lawful
+returns-in-Some-Check-clause-lawful g c = nothing_lawful g.D.Disk.told g.D.Disk.state nothing_opened c.ended.result.journal c.args.disks.now.items c.args.disks.now.items c.ended.ensures.nothing.entries
+
+-- src/running.rt:206:1
+pub returns-in-None-clause-lawful : goal.returns-in-None-clause-lawful
+returns-in-None-clause-lawful g c = nothing_lawful g.D.Disk.told g.D.Disk.state nothing_opened c.ended-in-None.result.journal c.args.disks.now.items c.args.disks.now.items c.ended-in-None.ensures.nothing.entries

@@ -1,0 +1,50 @@
+-- The disks of a run: what the log of the node's disk held, what a fault or a damage shows, and what is left on the disk.
+use Rattle.std.specs.Prelude.{◌≡◌, ◌⊎◌, ◌^◌, ⊤, ℕ, ◌+◌, List, ◌∷◌}
+use Rattle.qs_base.specs.Causes.{Rose}
+use Rattle.qs_base.specs.declared.identifiers.NodeNo.{NodeNo}
+use Rattle.qs_disk.specs.Disk.{DiskState, EachImage}
+use Rattle.qs_log.specs.Image.{IsDamaged, IsLog}
+use Rattle.qs_machine.specs.declared.opened.Opened.{Opened}
+use Rattle.qs_plans.specs.Plan.{setting_of}
+use Rattle.qs_record.specs.declared.record.Record.{Record}
+use Rattle.qs_rounds.specs.Seats.{node_count, first_node}
+use Rattle.qs_slot.specs.Slot.{Present}
+use Rattle.qs_statements.specs.declared.script.Script.{Script}
+use Rattle.qs_step.specs.Opening.{recovered_of}
+use Rattle.qs_world.specs.Histories.{opened_with}
+use Rattle.qs_cell.specs.Logged.{HasLog}
+
+-- P of the first of a list before and after, and the others are as they were
+pub record OfFirst {D : Type 0} (P : D → D → Type 0) (old new : List D) : Type 0 where
+  pub first : D
+  pub after : D
+  pub rest : List D
+  pub old_is : old ≡ first ∷ rest
+  pub new_is : new ≡ after ∷ rest
+  pub holds : P first after
+
+-- this is what the log of the content held, with the incarnation that it is raised to
+pub record IsHeldIn (script : Script) (content : List ℕ) (opened : Opened) : Type 0 where
+  pub present : Present
+  pub records : List Record
+  pub used : ℕ
+  pub log : IsLog present records used content
+  pub opened_is : opened ≡ opened_with (setting_of script node_count first_node (present.value.inc + 1)) (recovered_of records)
+
+-- the node is the first, and the count of faults of its disk rose
+pub record IsFaultOver {D : Type 0} (faults : D → ℕ) (node : NodeNo) (disk after : D) : Type 0 where
+  pub node_is : node ≡ first_node
+  pub rose : Rose (faults disk) (faults after)
+
+-- the node is the first, and a slot or a batch of what its disk held is damaged there
+pub record IsDamageOver {D : Type 0} (told : Type 0) (state : D → DiskState) (node : NodeNo) (at : ℕ) (disk after : D) : Type 0 where
+  pub node_is : node ≡ first_node
+  pub shown : told → IsDamaged (2 ^ 61) (state disk).content at
+
+-- each image of the disk has a log
+abbrev pub IsLogged : {D : Type 0} → Type 0 → (D → DiskState) → D → D → Type 0
+IsLogged told state disk after = told → EachImage HasLog (state after).now
+
+-- the disks are as they were, but for the first of them at most
+abbrev pub AreBesides : {D : Type 0} → List D → List D → Type 0
+AreBesides old new = (new ≡ old) ⊎ OfFirst (λ disk after. ⊤) old new

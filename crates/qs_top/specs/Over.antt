@@ -1,0 +1,35 @@
+-- What a run over one disk comes to, before its output is given.
+use Rattle.std.specs.Prelude.{◌≡◌, ◌⊎◌, ◌<◌, ℕ, Bool, List, [], length, Option, Some, None}
+use Rattle.qs_base.specs.declared.identifiers.NodeNo.{NodeNo}
+use Rattle.qs_disk.specs.Disk.{DiskState}
+use Rattle.qs_journal.specs.declared.entry.Entry.{Entry}
+use Rattle.qs_machine.specs.Lawful.{IsLawful}
+use Rattle.qs_machine.specs.declared.opened.Opened.{Opened}
+use Rattle.qs_statements.specs.declared.script.Script.{Script}
+use Rattle.qs_statements.specs.declared.status.Status.TheVariants as statuses
+use Rattle.qs_top.specs.Disks.{IsHeldIn, IsFaultOver, IsDamageOver, IsLogged}
+use Rattle.qs_top.specs.Run.{machine_over, IsNothing, IsWhole, IsShort, IsRefused}
+use Rattle.qs_top.specs.Statuses.{IfNot, IsEnd, IsPastOpening, Tells, IsOfRounds}
+use Rattle.qs_top.specs.declared.whole.Made.{Made}
+
+-- the entries are lawful from what the log of the disk held
+pub record HasLawfulOver {D : Type 0} (told : Type 0) (state : D → DiskState) (script : Script) (journal : List Entry) (disk : D) : Type 0 where
+  pub opened : Opened
+  pub lawful : IsLawful (machine_over opened) journal
+  pub held : 0 < length journal → told → IsHeldIn script (state disk).content opened
+
+-- these bytes are to be given
+abbrev pub IsOutput : Option (List ℕ) → List ℕ → Type 0
+IsOutput output bytes = output ≡ Some bytes
+
+pub record IsOver {D : Type 0} (told : Type 0) (state : D → DiskState) (own size : D → ℕ) (seed : ℕ) (script : Script) (shown : Bool) (made : Made) (disk after : D) : Type 0 where
+  pub lawful : HasLawfulOver told state script made.journal disk
+  pub fault : (node : NodeNo) → made.status ≡ statuses.DiskFault node → IsFaultOver own node disk after
+  pub damage : (node : NodeNo) (at : ℕ) → made.status ≡ statuses.Damaged node at → IsDamageOver told state node at disk after
+  pub whole : IsEnd made.status → IsWhole told state own size seed script shown (λ status. made.status ≡ status) (IsOutput made.output) made.journal made.trace disk after
+  pub short : (node : NodeNo) → made.status ≡ statuses.DiskFault node → IsNothing made.journal made.trace ⊎ IsShort told state own size seed script made.journal made.trace disk after
+  pub refused : (line clause : ℕ) → made.status ≡ statuses.Unlawful line clause → IsRefused told state own size seed script line clause disk after
+  pub logged : IsPastOpening made.status → IsLogged told state disk after
+  pub silent : IfNot (IsEnd made.status) (made.output ≡ None)
+  pub empty : IfNot (Tells made.status) (IsNothing made.journal made.trace)
+  pub built : IsOfRounds made.status

@@ -1,0 +1,41 @@
+//! What the words ask for.
+ghost use Rattle.std.specs.Prelude.{◌≡◌};
+ghost use Rattle.qs_script.specs.Words.{form_of};
+ghost use Rattle.qs_top.specs.Asking.{asked_in, asked_by};
+
+use qs_rounds::NODE_COUNT;
+use qs_text::{Form, read_words};
+
+/// What the words ask for, as far as it is carried out at this stage.
+#[derive(Clone, Copy, Debug, PartialEq, Eq)]
+pub enum Asked {
+    /// A run of one node in one thread.
+    Serial { seed: u64, journal: bool },
+    /// A history is to be judged.
+    Check,
+}
+
+/// What words ask for; `None` where they are of no form, or of one that is not carried out yet.
+pub fn asked_by(words: &[String]) -> Option<Asked>
+    ensures { result ≡ asked_by (form_of words.now) }
+{
+    match read_words(words) {
+        Ok(form) => asked_in(form),
+        Err(_) => None,
+    }
+}
+
+/// What a form asks for: of runs that of one node with a seed.
+fn asked_in(form: Form) -> Option<Asked>
+    ensures { result ≡ asked_in form }
+{
+    match form {
+        Form::Run {
+            nodes: NODE_COUNT,
+            serial: Some(seed),
+            journal,
+        } => Some(Asked::Serial { seed, journal }),
+        Form::Run { .. } => None,
+        Form::Check => Some(Asked::Check),
+    }
+}

@@ -1,0 +1,150 @@
+//! A script is run on one node over its disk, its journal is judged, and its output made.
+ghost use Rattle.std.specs.Prelude.{◌≡◌};
+ghost use Rattle.qs_top.specs.Making.{not_opened, IsJudgedEnd, IsJudgedShort, IsMadeOf, IsNothingMade};
+ghost use Rattle.qs_top.specs.Over.{IsOver};
+
+use qs_base::{Bytes, List, NoMemory, NodeNo};
+use qs_book::Opened;
+use qs_cell::CellOpen;
+use qs_disk::{Disk, Fused};
+use qs_journal::Entry;
+use qs_log::OpenFault;
+use qs_rounds::{Ending, NODE, RoundFault, rounds_of, start};
+use qs_step::Step;
+use qs_text::{Script, Status};
+use qs_verdict::{judged, told};
+use std::alloc::Global;
+
+/// What a run came to before anything was given.
+#[derive(Drop)]
+pub struct Made {
+    pub status: Status,
+    pub journal: List<Entry>,
+    pub trace: List<Step>,
+    /// What is to be given, where anything is.
+    pub output: Option<Bytes>,
+}
+
+/// A run that ended before it made an entry.
+fn nothing_made(alloc: Global, status: Status) -> Made
+    ensures nothing { IsNothingMade result }
+    ensures status { result.status ≡ status }
+{
+    Made {
+        status,
+        journal: List::new(alloc),
+        trace: List::new(alloc),
+        output: None,
+    }
+}
+
+/// Runs a script on one node over the log of its disk, in the order that the seed draws; the history is to be shown or not.
+/// The disk is handed back.
+pub fn run_over<D: Disk>(
+    alloc: Global,
+    disk: D,
+    script: &Script,
+    seed: u64,
+    shown: bool,
+) -> (D, Made)
+    ensures over { IsOver D.told D.state D.fault_count D.byte_count seed script.now shown result.1 disk result.0 }
+{
+    let mut actors = match start(alloc, script, Fused::new(disk)) {
+        Ok(actors) => actors,
+        Err(CellOpen { disk, why }) => {
+            return (
+                disk.into_inner(),
+                nothing_made(alloc, not_opened(why)),
+            );
+        }
+    };
+    let ending = rounds_of(alloc, script, seed, &mut actors);
+    let node = actors.into_node();
+    let opened = node.opened();
+    let (disk, journal, trace) = node.into_parts();
+    (
+        disk.into_inner(),
+        made_of(alloc, script, shown, ending, opened, journal, trace),
+    )
+}
+
+/// The status of a run whose node's disk was not opened.
+fn not_opened(why: OpenFault) -> Status
+    ensures { result ≡ not_opened why }
+{
+    match why {
+        OpenFault::DiskFailed => Status::DiskFault { node: NODE },
+        OpenFault::Damaged { at } => Status::Damaged { node: NODE, at },
+        OpenFault::NoMemory => Status::NoMemory,
+    }
+}
+
+/// What came of the rounds.
+fn made_of(
+    alloc: Global,
+    script: &Script,
+    shown: bool,
+    ending: Result<Ending, RoundFault>,
+    opened: Result<Opened, NoMemory>,
+    journal: List<Entry>,
+    trace: List<Step>,
+) -> Made
+    ensures { IsMadeOf script.now shown ending opened journal trace result }
+{
+    let Ok(opened) = opened else {
+        return nothing_made(alloc, Status::NoMemory);
+    };
+    match ending {
+        Ok(ending) => ended(alloc, script, shown, ending, opened, journal, trace),
+        Err(RoundFault::DiskFault { node }) => {
+            cut_short(alloc, script, node, opened, journal, trace)
+        }
+        Err(RoundFault::NoMemory) => nothing_made(alloc, Status::NoMemory),
+    }
+}
+
+/// A run that came to its end: it is judged, and its output made.
+fn ended(
+    alloc: Global,
+    script: &Script,
+    shown: bool,
+    ending: Ending,
+    opened: Opened,
+    journal: List<Entry>,
+    trace: List<Step>,
+) -> Made
+    ensures { IsJudgedEnd script.now shown ending opened journal trace result }
+{
+    let Ending { rounds, settled } = ending;
+    match told(alloc, script, rounds, settled, opened, &journal, shown) {
+        Ok((status, output)) => Made {
+            status,
+            journal,
+            trace,
+            output: Some(output),
+        },
+        Err(status) => nothing_made(alloc, status),
+    }
+}
+
+/// A run whose node's disk failed as the node was started again. It is judged too, and gives nothing.
+fn cut_short(
+    alloc: Global,
+    script: &Script,
+    node: NodeNo,
+    opened: Opened,
+    journal: List<Entry>,
+    trace: List<Step>,
+) -> Made
+    ensures { IsJudgedShort script.now node opened journal trace result }
+{
+    match judged(alloc, script, opened, journal.as_slice()) {
+        Ok(_) => Made {
+            status: Status::DiskFault { node },
+            journal,
+            trace,
+            output: None,
+        },
+        Err(why) => nothing_made(alloc, why),
+    }
+}
