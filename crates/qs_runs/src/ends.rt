@@ -51,10 +51,13 @@ impl End {
     fn count(&mut self, alloc: Global, line: &str) -> Result<(), Error> {
         let (from, rest) = line.split_once(" ").context("a range has no end")?;
         let (to, text) = rest.split_once(" ").context("a range has no text")?;
-        let from = from.parse::<u32>().context("a range begins with no number")?;
+        let from = from
+            .parse::<u32>()
+            .context("a range begins with no number")?;
         let to = to.parse::<u32>().context("a range ends with no number")?;
         for number in from..=to {
-            self.output.push_str(format!(in alloc; "{number} {text}\n")?.as_str())?;
+            self.output
+                .push_str(format!(in alloc; "{number} {text}\n")?.as_str())?;
         }
         Ok(())
     }

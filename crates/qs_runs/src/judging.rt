@@ -50,12 +50,7 @@ impl Disks {
 
     fn first(&mut self, alloc: Global, row: &Row, seed: u64) -> Result<MemDisk, Error> {
         if !row.again {
-            return made(MemDisk::new(
-                alloc,
-                row.disk_bytes,
-                seed,
-                row.disk_fails.as_slice(),
-            ));
+            return made(MemDisk::new(alloc, row.disk_bytes, seed, row.disk_fails.as_slice()));
         }
         let left = self.left.get(&seed).context("no row left such a disk")?;
         let mut bytes = Vec::from_slice(alloc, left.bytes())?;
@@ -111,7 +106,14 @@ where
         row.sink_piece,
         row.sink_fails.as_slice(),
     ))?;
-    let ran = run(rt, alloc, words.as_slice(), &mut source, &mut sink, &mut given);
+    let ran = run(
+        rt,
+        alloc,
+        words.as_slice(),
+        &mut source,
+        &mut sink,
+        &mut given,
+    );
     let line = made(status_line(alloc, &ran.status))?;
     let status = str::from_utf8(line.as_slice()).context("a status is no text")?;
     let output = str::from_utf8(sink.given()).context("an output is no text")?;

@@ -65,7 +65,10 @@ impl Row {
         } else if let Some(status) = line.strip_prefix("= ") {
             self.ends.push(End::new(alloc, status)?)?;
         } else if is_of_end(line) {
-            self.ends.last_mut().context("no end has begun")?.add(alloc, line)?;
+            self.ends
+                .last_mut()
+                .context("no end has begun")?
+                .add(alloc, line)?;
         } else {
             self.set(alloc, line)?;
         }
@@ -96,7 +99,8 @@ impl Row {
         } else if line == "again" {
             self.again = true;
         } else if let Some(place) = line.strip_prefix("flip ") {
-            self.flips.push(place.parse::<usize>().context("a place is no number")?)?;
+            self.flips
+                .push(place.parse::<usize>().context("a place is no number")?)?;
         } else if let Some(calls) = line.strip_prefix("source ") {
             self.source_fails = numbers_of(alloc, calls)?;
         } else if let Some(rest) = line.strip_prefix("sink ") {

@@ -44,14 +44,14 @@ module _ {D : Type 0} (told : Type 0) (state : D → DiskState) (own size : D �
   pub over_ran : (ending : Result Ending RoundFault) (opened : Result Opened NoMemory) → IfOk ending (IsEnding told state own size script seed first last) → ((n : NodeNo) → ending ≡ Err (faults.DiskFault n) → IsCutShort told state own size seed first last)
       → ((n : NodeNo) → ending ≡ Err (faults.DiskFault n) → n ≡ first_node) → IfOk opened (λ found. found ≡ node.opened) → IsMadeOf script shown ending opened journal trace made → IsOver told state own size seed script shown made disk after
   over_ran (Ok ending) (Ok opened) ends cut named is j = over_end told state own size seed script shown alloc disk after first last begins start logged made ending ends
-    (subst (λ (steps : List Step). IsJudgedEnd script shown ending last.node.opened (journal_of last.node) steps made) trace_is
-    (subst (λ (entries : List Entry). IsJudgedEnd script shown ending last.node.opened entries trace made) journal_is
-    (subst (λ (found : Opened). IsJudgedEnd script shown ending found journal trace made) (is ∙ ap (λ (cell : CellValue D). cell.opened) left.node_is) j)))
+      (subst (λ (steps : List Step). IsJudgedEnd script shown ending last.node.opened (journal_of last.node) steps made) trace_is
+      (subst (λ (entries : List Entry). IsJudgedEnd script shown ending last.node.opened entries trace made) journal_is
+      (subst (λ (found : Opened). IsJudgedEnd script shown ending found journal trace made) (is ∙ ap (λ (cell : CellValue D). cell.opened) left.node_is) j)))
   over_ran (Err (faults.DiskFault n)) (Ok opened) ends cut named is j = over_short told state own size seed script shown alloc disk after first last begins start logged made n (named n refl)
-    (subst (λ (d : D). Rose (own disk) (own d)) (sym after_is) (subst (λ (before : ℕ). Rose before (own (disk_of last.node.seat.node).disk)) begins.faults (cut n refl).rose)) (cut n refl)
-    (subst (λ (steps : List Step). IsJudgedShort script n last.node.opened (journal_of last.node) steps made) trace_is
-    (subst (λ (entries : List Entry). IsJudgedShort script n last.node.opened entries trace made) journal_is
-    (subst (λ (found : Opened). IsJudgedShort script n found journal trace made) (is ∙ ap (λ (cell : CellValue D). cell.opened) left.node_is) j)))
+      (subst (λ (d : D). Rose (own disk) (own d)) (sym after_is) (subst (λ (before : ℕ). Rose before (own (disk_of last.node.seat.node).disk)) begins.faults (cut n refl).rose)) (cut n refl)
+      (subst (λ (steps : List Step). IsJudgedShort script n last.node.opened (journal_of last.node) steps made) trace_is
+      (subst (λ (entries : List Entry). IsJudgedShort script n last.node.opened entries trace made) journal_is
+      (subst (λ (found : Opened). IsJudgedShort script n found journal trace made) (is ∙ ap (λ (cell : CellValue D). cell.opened) left.node_is) j)))
   over_ran (Err faults.NoMemory) (Ok opened) ends cut named is j = over_refused told state own size seed script shown disk after made j.nothing j.status
   over_ran (Ok ending) (Err fault) ends cut named is j = over_refused told state own size seed script shown disk after made j.nothing j.status
   over_ran (Err fault) (Err other) ends cut named is j = over_refused told state own size seed script shown disk after made j.nothing j.status

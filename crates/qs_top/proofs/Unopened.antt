@@ -119,11 +119,11 @@ module _ {D : Type 0} (told : Type 0) (state : D → DiskState) (own size : D �
       → IsOver told state own size seed script shown made disk after
   over_closed faults.NoMemory is damaged failed = over_refused is
   over_closed faults.DiskFailed is damaged failed = over_unopened (subst IsUnopened (sym is) tt)
-    (λ node fault. record { node_is = sym (same_node (sym is ∙ fault)); rose = failed refl })
-    (λ node at damage. absurd (subst IsFaultStatus (sym is ∙ damage) tt))
+      (λ node fault. record { node_is = sym (same_node (sym is ∙ fault)); rose = failed refl })
+      (λ node at damage. absurd (subst IsFaultStatus (sym is ∙ damage) tt))
   over_closed (faults.Damaged at) is damaged failed = over_unopened (subst IsUnopened (sym is) tt)
-    (λ node fault. absurd (subst IsDamageStatus (sym is ∙ fault) tt))
-    (λ node place damage. by (sym is ∙ damage))
+      (λ node fault. absurd (subst IsDamageStatus (sym is ∙ fault) tt))
+      (λ node place damage. by (sym is ∙ damage))
     where
       by : {node : NodeNo} {place : ℕ} → statuses.Damaged first_node at ≡ statuses.Damaged node place → IsDamageOver told state node place disk after
       by {node} {place} same = record {

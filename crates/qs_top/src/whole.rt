@@ -52,10 +52,7 @@ pub fn run_over<D: Disk>(
     let mut actors = match start(alloc, script, Fused::new(disk)) {
         Ok(actors) => actors,
         Err(CellOpen { disk, why }) => {
-            return (
-                disk.into_inner(),
-                nothing_made(alloc, not_opened(why)),
-            );
+            return (disk.into_inner(), nothing_made(alloc, not_opened(why)));
         }
     };
     let ending = rounds_of(alloc, script, seed, &mut actors);
