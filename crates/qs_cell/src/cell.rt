@@ -347,9 +347,11 @@ impl<D: Disk> NodeCell<D> {
         ensures journal { result.1 ≡ journal_of self }
         ensures trace { result.2 ≡ trace_of self }
 
-        // Each image of the disk has a log, and they have the records of one log or of another.
+        // Each image of the disk has a log, and they have the records of one log or of another; of a node that is up they are
+        // those of its own.
         ensures logged { D.told → EachImage HasLog (D.state result.0.disk).now }
         ensures records { D.told → IsLogged (D.state result.0.disk).now }
+        ensures stands { D.told → LogStands D.state self.seat.node }
     {
         self.state.into_parts()
     }
