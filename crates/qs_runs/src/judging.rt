@@ -4,7 +4,7 @@ use crate::memory::made;
 use crate::row::Row;
 use anyhow::{Context, Error, bail};
 use qs_base::NoMemory;
-use qs_disk::MemDisk;
+use qs_disk::{MemDisk, is_size};
 use qs_io::{MemSink, MemSource};
 use qs_text::status_line;
 use qs_top::run;
@@ -50,6 +50,9 @@ impl Disks {
 
     fn first(&mut self, alloc: Global, row: &Row, seed: u64) -> Result<MemDisk, Error> {
         if !row.again {
+            if !is_size(row.disk_bytes) {
+                bail!("no disk has so many bytes");
+            }
             return made(MemDisk::new(alloc, row.disk_bytes, seed, row.disk_fails.as_slice()));
         }
         let left = self.left.get(&seed).context("no row left such a disk")?;
@@ -58,6 +61,9 @@ impl Disks {
             if let Some(byte) = bytes.get_mut(*place) {
                 *byte ^= 1;
             }
+        }
+        if !is_size(bytes.len() as u64) {
+            bail!("no disk has so many bytes");
         }
         made(MemDisk::from_bytes(alloc, bytes.as_slice(), seed, row.disk_fails.as_slice()))
     }
