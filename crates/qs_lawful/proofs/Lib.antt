@@ -195,3 +195,10 @@ pub mod GivenEvents
 pub mod OthersLog
 pub mod OthersDown
 pub mod RisesWhole
+pub mod Turning
+pub mod TurningParts
+pub mod ActsHere
+pub mod TurningActs
+pub mod AnyRestart
+pub mod PastStops
+pub mod EntryTurns
