@@ -202,3 +202,6 @@ pub mod TurningActs
 pub mod AnyRestart
 pub mod PastStops
 pub mod EntryTurns
+pub mod TurnedRequests
+pub mod LastsWell
+pub mod LastsEntry

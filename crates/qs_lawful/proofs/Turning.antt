@@ -37,6 +37,7 @@ pub record Issues (here now place : ℕ) (tx later : TransactionValue) : Type 0 
   pub unserved : request.served ≡ false
   pub fits : is_for request.op request.member ≡ true
   pub undone : is_commit tx.cell ≡ false
+  pub cell : later.cell ≡ tx.cell
   pub requests : later.requests ≡ insert_entry request_cmp tx.requests at (requests_at tx at ++ request ∷ [])
   pub crossed : later.crossed ≡ crossed_by (standing_request tx at request.member) place request.member tx.crossed
 

@@ -66,7 +66,7 @@ module _ (book : BookValue) (stamp here : ℕ) (state : machine.NodeValue) where
 
       turns : (tx : TransactionValue) → MayIssue here state (length book.nodes) tid tx issuer member number op → R tid tx (issued at request (inc_at book member.node) book.place tx)
       turns tx m = record {
-        requests = inr (inl (record { at = at; request = request; from = refl; to = refl; issuer = m.own; inc = refl; unserved = refl; fits = m.fits; undone = m.undone; requests = refl; crossed = refl }));
+        requests = inr (inl (record { at = at; request = request; from = refl; to = refl; issuer = m.own; inc = refl; unserved = refl; fits = m.fits; undone = m.undone; cell = refl; requests = refl; crossed = refl }));
         sent = issue_sent here now at request refl refl tx;
         issued = issue_issued here now at request refl refl tx m.own;
         noted = λ node i text is. inl is;
