@@ -195,3 +195,5 @@ pub mod GivenEvents
 pub mod OthersLog
 pub mod OthersDown
 pub mod RisesWhole
+pub mod OnlyRead
+pub mod BesideParts
