@@ -133,7 +133,7 @@ notes_served here inc tid tx part h at member i stamp done = record {
 
 module _ (stamp : ℕ) (before : BookValue) (size : ℕ) (nodes : ℕ → NodeValue) (n : ℕ) (work : Work) (s : Stands stamp before size nodes n work) where
   notes_of : (tid : Tid) (tx : TransactionValue) (part : Participant) → find_transaction (book_at stamp before work) tid ≡ Some tx → tm.part_of tid work.node.manager ≡ Some part → HoldsNotes work.node.setting.node work.node.setting.inc tid tx part
-  notes_of tid tx part found known = (s.by.beside.parts s.held.holds.state tid tx part s.held.holds.there found known).notes
+  notes_of tid tx part found known = ((s.by.beside.at tid).parts tx part found known).notes
 
   -- a reply may come, whichever it is
   pub may_reply : (tid : Tid) (member : Member) (number : ℕ) → MayReply stamp before work tid member number
