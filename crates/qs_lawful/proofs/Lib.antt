@@ -9,6 +9,9 @@ pub mod EntryTurns
 pub mod TurnedRequests
 pub mod LastsWell
 pub mod LastsEntry
+pub mod LastsOpening
+pub mod NumberedLogs
+pub mod LastsAlways
 pub mod Casting
 pub mod Apart
 pub mod Frames

@@ -25,6 +25,7 @@ pub mod StepStands
 pub mod GivenTests
 pub mod TriedGiven
 pub mod Lasting
+pub mod LastingLaws
 pub mod Said
 pub mod Worlds
 pub mod WorldTests

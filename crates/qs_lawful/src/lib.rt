@@ -4,6 +4,7 @@
 mod lawful_commands;
 mod lawful_entries;
 mod lawful_given;
+mod lawful_histories;
 mod lawful_logs;
 mod lawful_outcomes;
 mod lawful_restarts;
@@ -43,6 +44,7 @@ pub use lawful_given::step_is_given_beside;
 pub use lawful_given::what_is_said_stays;
 pub use lawful_given::world_gives_events;
 pub use lawful_given::world_gives_what_comes;
+pub use lawful_histories::histories_last;
 pub use lawful_logs::crash_is_lawful;
 pub use lawful_logs::others_keep_the_log;
 pub use lawful_logs::requests_keep_the_log;
