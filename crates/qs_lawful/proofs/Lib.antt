@@ -12,6 +12,7 @@ pub mod LastsEntry
 pub mod LastsOpening
 pub mod NumberedLogs
 pub mod LastsAlways
+pub mod AsideTid
 pub mod Casting
 pub mod Apart
 pub mod Frames

@@ -26,6 +26,7 @@ pub mod GivenTests
 pub mod TriedGiven
 pub mod Lasting
 pub mod LastingLaws
+pub mod Aside
 pub mod Said
 pub mod Worlds
 pub mod WorldTests
