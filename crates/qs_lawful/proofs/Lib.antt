@@ -13,6 +13,8 @@ pub mod LastsOpening
 pub mod NumberedLogs
 pub mod LastsAlways
 pub mod AsideTid
+pub mod AsideActs
+pub mod AsideIssue
 pub mod Casting
 pub mod Apart
 pub mod Frames

@@ -41,7 +41,7 @@ by_on : (o : Option Request) (place : ℕ) (member m : Member) (xs : List (Membe
 by_on None place member m xs h = h
 by_on (Some earlier) place member m xs h = from_on member m place xs h
 
-crossing_new : (place : ℕ) (member : Member) (crossed : List (Member × ℕ)) → is_some (lookup (is_at (member_cmp member)) (crossed_from place member crossed)) ≡ true
+pub crossing_new : (place : ℕ) (member : Member) (crossed : List (Member × ℕ)) → is_some (lookup (is_at (member_cmp member)) (crossed_from place member crossed)) ≡ true
 crossing_new place member crossed = by (lookup (is_at (member_cmp member)) crossed) refl
   where
     by : (o : Option ℕ) → lookup (is_at (member_cmp member)) crossed ≡ o → is_some (lookup (is_at (member_cmp member)) (elim o [ Some earlier ↦ crossed | None ↦ insert_entry member_cmp crossed member place ])) ≡ true
