@@ -22,7 +22,8 @@ use Rattle.qs_machine.specs.declared.transaction.RequestNo.{RequestNo}
 use Rattle.qs_ops.specs.Servers.{client_no}
 use Rattle.qs_servers.specs.Servers.{ServersValue}
 use Rattle.qs_tm.specs.Members as rules
-use Rattle.qs_tm.specs.Participant.{awaits_note, has_noted, member_of}
+use Rattle.qs_tm.specs.Participant.{awaits_note, begun_participant, has_noted, member_of}
+use Rattle.qs_tm.specs.declared.members.MemberPart.{MemberPart}
 use Rattle.qs_tm.specs.declared.participant.Participant.{Participant}
 use Rattle.qs_lawful.specs.Aside.{HoldsIssuedOf}
 use Rattle.qs_lawful.specs.Beside.{has_issued}
@@ -30,7 +31,7 @@ use Rattle.qs_lawful.specs.Face.{Face, IsEmpty, at_server, is_given_back, is_hel
 use Rattle.qs_lawful.specs.Holds.{HoldsHome, HoldsMember, HoldsTid}
 use Rattle.qs_lawful.specs.Lasting.{StandsOnce}
 use Rattle.qs_lawful.specs.Waits.{HoldsWaits, IsWithin, op_in, waiting_ops}
-use Rattle.qs_lawful.proofs.Begins.{begun_tid}
+use Rattle.qs_lawful.proofs.Begins.{begun_tid, new_member, new_peer}
 use Rattle.qs_lawful.proofs.Faces.{filter_last, filter_more}
 use Rattle.qs_lawful.proofs.Parts.{member_like}
 use Rattle.qs_lawful.proofs.TurnedRequests.{AtNumber, OneMore, OneServed, at_number}
@@ -184,3 +185,25 @@ module _ (acting now place : ℕ) (here : NodeNo) (i : ℕ) (tid : Tid) (tx late
     once = λ server at clean. once.once (at_server here server) at clean;
     fits = λ server at to. once.fits (at_server here server) at;
   }
+
+-- ---- a transaction that another node begins
+
+pub begun_away : (here : NodeNo) (inc : ℕ) (tid : Tid) (label : List ℕ) (client : ClientNo) (ticks : ℕ) (face : Face) → IsEmpty face → (tid.home ≡ here → ⊥) → HoldsTid here inc tid (begun label client ticks) (record face { known = None })
+begun_away here inc tid label client ticks face none far = record {
+  sized = refl;
+  members = λ held server kept. subst (λ (m : MemberPart). HoldsMember (begun label client ticks) (at_server here server) inc m) (new_member true server ∙ sym (new_member false server)) (b.members refl server kept);
+  asked = λ is. absurd (cc is);
+  outcome = λ o is. absurd (cc is);
+  silent = λ is. absurd (cc is);
+  local = b.local;
+  sent = λ held peer apart. sym (ap (λ p. p.sent) (new_peer false peer));
+  pending = b.pending;
+  noted = λ held count some is. absurd (cc is);
+  queued = b.queued;
+  made = b.made;
+  yielded = b.yielded;
+  home = λ at. absurd (far at);
+}
+  where
+    b : HoldsTid here inc tid (begun label client ticks) (record face { known = Some (begun_participant client 0) })
+    b = begun_tid here inc tid label client ticks 0 face none

@@ -100,7 +100,7 @@ module _ (book : BookValue) (entry : Entry) (i : Inv book) (h : broken book entr
       t : Turned (Turns entry.node.0 inc book.place) book (restart entry.node.0 inc pend done book)
       t = restart_turns book entry.node.0 inc pend done a.state a.there may
 
-  begins : (tid : Tid) (label : List ℕ) (client : ClientNo) → entry.act ≡ acts.Begin tid label client → Begins book entry
+  pub begins : (tid : Tid) (label : List ℕ) (client : ClientNo) → entry.act ≡ acts.Begin tid label client → Begins book entry
   begins tid label client is = record {
     tid = tid;
     label = label;

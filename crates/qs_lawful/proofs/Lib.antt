@@ -15,6 +15,8 @@ pub mod LastsAlways
 pub mod AsideTid
 pub mod AsideActs
 pub mod AsideIssue
+pub mod AsideBook
+pub mod AsideNode
 pub mod Casting
 pub mod Apart
 pub mod Frames
