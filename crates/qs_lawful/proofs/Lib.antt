@@ -17,6 +17,7 @@ pub mod AsideActs
 pub mod AsideIssue
 pub mod AsideBook
 pub mod AsideNode
+pub mod AsideKept
 pub mod Casting
 pub mod Apart
 pub mod Frames
