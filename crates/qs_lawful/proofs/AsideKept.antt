@@ -49,7 +49,7 @@ module _ (book : BookValue) (entry : Entry) (w : LastsWell book) (h : broken boo
   order_back next k is = next_back book.stamp entry.stamp book.node entry.node.0 k next (held (is_in_order book entry) 1 _ h).0 is
 
   module _ (k : ℕ) (far : (entry.node.0 == k) ≡ false) (of_step : IsOfStep entry.act) where
-    home_far : (tid : Tid) → tid.home.0 ≡ k → (tid.home.0 == entry.node.0) ≡ false
+    pub home_far : (tid : Tid) → tid.home.0 ≡ k → (tid.home.0 == entry.node.0) ≡ false
     home_far tid home = ap (λ (n : ℕ). n == entry.node.0) home ∙ turned entry.node.0 k far
       where
         turned : (m n : ℕ) → (m == n) ≡ false → (n == m) ≡ false

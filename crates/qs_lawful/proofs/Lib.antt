@@ -18,6 +18,7 @@ pub mod AsideIssue
 pub mod AsideBook
 pub mod AsideNode
 pub mod AsideKept
+pub mod AsideDown
 pub mod Casting
 pub mod Apart
 pub mod Frames

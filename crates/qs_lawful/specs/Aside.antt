@@ -10,7 +10,7 @@ use Rattle.qs_journal.specs.declared.entry.Act.TheVariants as acts
 use Rattle.qs_journal.specs.declared.entry.Entry.{Entry}
 use Rattle.qs_machine.specs.Book.{BookValue, find_transaction}
 use Rattle.qs_machine.specs.Clauses.{note_text}
-use Rattle.qs_machine.specs.Transaction.{TransactionValue}
+use Rattle.qs_machine.specs.Transaction.{TransactionValue, is_open, is_unanimous}
 use Rattle.qs_step.specs.State.{NodeValue, client_cmp}
 use Rattle.qs_tm.specs.Participant.{awaits_note, has_noted}
 use Rattle.qs_lawful.specs.Beside.{has_issued}
@@ -43,3 +43,7 @@ pub record IsAside (k : ℕ) (node : NodeValue) (entry : Entry) : Type 0 where
   pub far : (entry.node.0 ≡ k) → ⊥
   pub of_step : IsOfStep entry.act
   pub answers : AnswersElsewhere node entry.act
+
+-- what is unanimous, and open at a home that is down, stays unanimous: the agreement protocol gives it
+abbrev pub StaysUnanimous : ℕ → BookValue → BookValue → Type 0
+StaysUnanimous k book new = (tid : Tid) (tx later : TransactionValue) → find_transaction book tid ≡ Some tx → find_transaction new tid ≡ Some later → tid.home.0 ≡ k → is_open tx.cell ≡ true → is_unanimous tx ≡ true → is_unanimous later ≡ true
