@@ -18,7 +18,10 @@ pub mod AsideIssue
 pub mod AsideBook
 pub mod AsideNode
 pub mod AsideKept
+pub mod AsideThen
 pub mod AsideDown
+pub mod AsideLeft
+pub mod AsideWhole
 pub mod Casting
 pub mod Apart
 pub mod Frames

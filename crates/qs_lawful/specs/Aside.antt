@@ -1,6 +1,6 @@
 -- What an entry of one node has to find at another node, so that it leaves all that is held of that: the notes that its files issued are noted
 -- there or waited for, and no client is answered that has a command in hand there.
-use Rattle.std.specs.Prelude.{◌≡◌, ◌≤◌, ◌⊎◌, ℕ, true, None, Some, List, ⊤}
+use Rattle.std.specs.Prelude.{◌≡◌, ◌≤◌, ◌⊎◌, ℕ, true, None, Some, List, [], ◌∷◌, ⊤}
 use Rattle.std.specs.Map.{lookup}
 use Rattle.std.specs.BTreeMap.{is_at}
 use Rattle.qs_base.specs.declared.identifiers.NodeNo.{NodeNo}
@@ -10,6 +10,7 @@ use Rattle.qs_journal.specs.declared.entry.Act.TheVariants as acts
 use Rattle.qs_journal.specs.declared.entry.Entry.{Entry}
 use Rattle.qs_machine.specs.Book.{BookValue, find_transaction}
 use Rattle.qs_machine.specs.Clauses.{note_text}
+use Rattle.qs_machine.specs.Lawful.{effect}
 use Rattle.qs_machine.specs.Transaction.{TransactionValue, is_open, is_unanimous}
 use Rattle.qs_step.specs.State.{NodeValue, client_cmp}
 use Rattle.qs_tm.specs.Participant.{awaits_note, has_noted}
@@ -47,3 +48,8 @@ pub record IsAside (k : ℕ) (node : NodeValue) (entry : Entry) : Type 0 where
 -- what is unanimous, and open at a home that is down, stays unanimous: the agreement protocol gives it
 abbrev pub StaysUnanimous : ℕ → BookValue → BookValue → Type 0
 StaysUnanimous k book new = (tid : Tid) (tx later : TransactionValue) → find_transaction book tid ≡ Some tx → find_transaction new tid ≡ Some later → tid.home.0 ≡ k → is_open tx.cell ≡ true → is_unanimous tx ≡ true → is_unanimous later ≡ true
+
+-- at each of these entries
+abbrev pub KeepsUnanimous : ℕ → BookValue → List Entry → Type 0
+KeepsUnanimous k book [] = ⊤
+KeepsUnanimous k book (entry ∷ entries) = StaysUnanimous k book (effect book entry) × KeepsUnanimous k (effect book entry) entries

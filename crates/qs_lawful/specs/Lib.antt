@@ -27,6 +27,7 @@ pub mod TriedGiven
 pub mod Lasting
 pub mod LastingLaws
 pub mod Aside
+pub mod AsideLaws
 pub mod Said
 pub mod Worlds
 pub mod WorldTests

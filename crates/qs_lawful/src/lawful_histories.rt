@@ -1,4 +1,5 @@
 //! Histories of the machine: what stands in it at every time, whatever its nodes have.
+ghost use Rattle.qs_lawful.specs.AsideLaws.{EachKeepsOthers};
 ghost use Rattle.qs_lawful.specs.LastingLaws.{EachLasts, EachRunLasts};
 
 /// After every lawful history that opens from coherent logs, which name transactions by their numbers from 1, nothing is kept of
@@ -7,4 +8,12 @@ ghost use Rattle.qs_lawful.specs.LastingLaws.{EachLasts, EachRunLasts};
 pub fn histories_last()
     ensures always { EachLasts }
     ensures runs { EachRunLasts }
+{}
+
+/// The entries that a node makes in a step, where they are lawful, leave all that is held of every other node, whether it runs or not: what it has
+/// of each transaction, its servers, where a request crosses a transaction there too, its log, and what is kept for clients. Of a node that runs
+/// each note that its files issued is noted or waited for, and no client is answered elsewhere that has a command in hand there; where a node
+/// is down what is unanimous, and open at it, stays unanimous, which the agreement protocol is to give.
+pub fn steps_leave_other_nodes()
+    ensures { EachKeepsOthers }
 {}
