@@ -22,6 +22,8 @@ pub mod AsideThen
 pub mod AsideDown
 pub mod AsideLeft
 pub mod AsideWhole
+pub mod TriedOpeningRuns
+pub mod TriedAsideRuns
 pub mod Casting
 pub mod Apart
 pub mod Frames

@@ -28,6 +28,8 @@ pub mod Lasting
 pub mod LastingLaws
 pub mod Aside
 pub mod AsideLaws
+pub mod TriedOpenings
+pub mod TriedAside
 pub mod Said
 pub mod Worlds
 pub mod WorldTests

@@ -118,4 +118,6 @@ pub use lawful_worlds::stop_is_held;
 pub use tried::given_at_stages;
 pub use tried::given_in_runs;
 pub use tried::held_in_runs;
+pub use tried_worlds::openings_held_in_runs;
+pub use tried_worlds::others_held_in_runs;
 pub use tried_worlds::worlds_held_in_runs;
