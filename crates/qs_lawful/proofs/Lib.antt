@@ -22,6 +22,9 @@ pub mod AsideThen
 pub mod AsideDown
 pub mod AsideLeft
 pub mod AsideWhole
+pub mod OpenedContents
+pub mod OpenedBook
+pub mod OpenedLogs
 pub mod TriedOpeningRuns
 pub mod TriedAsideRuns
 pub mod Casting
