@@ -27,7 +27,7 @@ and_both : (a b : Bool) → (a && b) ≡ true → (a ≡ true) × (b ≡ true)
 and_both true b e = (refl, e)
 and_both false b e = absurd (cc e)
 
-each_is : (n : ℕ) (test : ℕ → Bool) → each_below n test ≡ true → (k : ℕ) → k < n → test k ≡ true
+pub each_is : (n : ℕ) (test : ℕ → Bool) → each_below n test ≡ true → (k : ℕ) → k < n → test k ≡ true
 each_is zero test all k low = absurd (none low)
   where
     none : {m : ℕ} → m < 0 → ⊥
@@ -46,16 +46,16 @@ each_is (suc n) test all k low = by (k == n) refl (λ less. each_is n test (and_
 
 -- ---- what holds of each record's transaction holds of what the log says
 
-abbrev tid_of : Record → Tid
+abbrev pub tid_of : Record → Tid
 tid_of (records.Prepare tid server covers changes) = tid
 tid_of (records.Commit tid told) = tid
 tid_of (records.Aborted tid) = tid
 tid_of (records.End tid) = tid
 
 module _ (P : Tid → Type 0) where
-  record Says (said : Recovery) : Type 0 where
-    votes : Every (λ (v : Prepared). P v.tid) said.prepared
-    commits : Every P said.committed
+  pub record Says (said : Recovery) : Type 0 where
+    pub votes : Every (λ (v : Prepared). P v.tid) said.prepared
+    pub commits : Every P said.committed
 
   listed : (tid : Tid) (told : List NodeNo) (said : Recovery) (files audit extra : List Op) (done : List Tid) → Every (λ (v : Prepared). P v.tid) said.prepared → Every P done
       → Says (with_list tid told (record said { files = files; audit = audit; extra = extra; committed = done }))
@@ -87,10 +87,10 @@ module _ (P : Tid → Type 0) where
   says_from [] said all s = s
   says_from (rec ∷ log) said all s = says_from log (found_record said rec) all.1 (says_record said rec all.0 s)
 
-  says_all : (log : List Record) → Every (λ (rec : Record). P (tid_of rec)) log → Says (recovery log)
+  pub says_all : (log : List Record) → Every (λ (rec : Record). P (tid_of rec)) log → Says (recovery log)
   says_all log all = says_from log nothing_said all (record { votes = tt; commits = tt })
 
-every_of : {A : Type 0} (p : A → Bool) (xs : List A) → list_all p xs ≡ true → Every (λ (x : A). p x ≡ true) xs
+pub every_of : {A : Type 0} (p : A → Bool) (xs : List A) → list_all p xs ≡ true → Every (λ (x : A). p x ≡ true) xs
 every_of p [] all = tt
 every_of p (x ∷ xs) all = ((and_both (p x) _ all).0, every_of p xs (and_both (p x) _ all).1)
 

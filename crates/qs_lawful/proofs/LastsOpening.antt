@@ -151,7 +151,7 @@ opening_empty opened tid = opening_so tid IsEmptyYet
     (λ cell cause. record { requests = refl; sent = refl; noted = refl; crossed = refl; undecided = refl; unasked = refl; owner = refl; label = refl })
     (λ member inc covers changes tx e. record { requests = e.requests; sent = e.sent; noted = e.noted; crossed = e.crossed; undecided = e.undecided; unasked = e.unasked; owner = e.owner; label = e.label }) opened
 
-empty_once : (tx : TransactionValue) → IsEmptyYet tx → StandsOnce tx
+pub empty_once : (tx : TransactionValue) → IsEmptyYet tx → StandsOnce tx
 empty_once tx e = record {
   whole = λ is. ap transaction.is_empty e.crossed;
   once = λ member at clean. subst (λ (rs : List Request). length (filter (is_standing member) rs) ≤ 1) (sym (none at)) low;

@@ -25,6 +25,8 @@ pub mod AsideWhole
 pub mod OpenedContents
 pub mod OpenedBook
 pub mod OpenedLogs
+pub mod OpenedCommits
+pub mod OpenedFresh
 pub mod TriedOpeningRuns
 pub mod TriedAsideRuns
 pub mod Casting
