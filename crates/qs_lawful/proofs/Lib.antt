@@ -27,6 +27,8 @@ pub mod OpenedBook
 pub mod OpenedLogs
 pub mod OpenedCommits
 pub mod OpenedFresh
+pub mod OpenedRecords
+pub mod OpenedSaid
 pub mod TriedOpeningRuns
 pub mod TriedAsideRuns
 pub mod Casting

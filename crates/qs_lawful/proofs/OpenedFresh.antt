@@ -80,7 +80,7 @@ opened_there o n (suc more) (suc k) low = opened_there o (n + 1) more k (fall lo
 abbrev pub as_pending : Prepared → Pending
 as_pending v = record { tid = v.tid; server = v.server; covers = v.covers; changes = v.changes }
 
-last_as : (tid : Tid) (s : ℕ) (votes : List Prepared) (d : Option Prepared) → fold (last_pending tid s) (option_map as_pending d) (flat_map pending_of (map prepare_of (filter is_in_doubt votes))) ≡ option_map as_pending (fold (last_doubt tid s) d votes)
+pub last_as : (tid : Tid) (s : ℕ) (votes : List Prepared) (d : Option Prepared) → fold (last_pending tid s) (option_map as_pending d) (flat_map pending_of (map prepare_of (filter is_in_doubt votes))) ≡ option_map as_pending (fold (last_doubt tid s) d votes)
 last_as tid s [] d = refl
 last_as tid s (v ∷ votes) d = by (is_in_doubt v) refl (λ e. last_as tid s votes e)
   where
@@ -167,7 +167,7 @@ module _ (o : Opening) (opens : IsOpening o) where
             by true is h more = subst (λ (t : Tid). is_among log.committed t ≡ true) (same_tid-true c.tid tid is) (listed.0 (and_both (is_untold c) _ all).0)
             by false is h more = more h
 
-    far_of : (v : Prepared) → is_doubt log v ≡ true → v.committed ≡ false → is_among log.committed v.tid ≡ false
+    pub far_of : (v : Prepared) → is_doubt log v ≡ true → v.committed ≡ false → is_among log.committed v.tid ≡ false
     far_of v is clear = of (names_transaction v.tid) (list_any (is_untold_of v.tid) log.untold) (is_among log.committed v.tid) (subst (λ (b : Bool). (b || (names_transaction v.tid && (not (list_any (is_untold_of v.tid) log.untold) && not (list_any (same_tid v.tid) log.committed)))) ≡ true) clear is)
       where
         of : (b c d : Bool) → (b && (not c && not d)) ≡ true → d ≡ false
