@@ -29,6 +29,8 @@ pub mod OpenedCommits
 pub mod OpenedFresh
 pub mod OpenedRecords
 pub mod OpenedSaid
+pub mod OpenedServers
+pub mod OpenedWorld
 pub mod TriedOpeningRuns
 pub mod TriedAsideRuns
 pub mod Casting

@@ -1,6 +1,6 @@
 //! Moves of the world against the machine: what the machine has of a whole world is had on through a move.
 ghost use Rattle.qs_lawful.specs.CoherentOpenings.{EachOpensSoundly};
-ghost use Rattle.qs_lawful.specs.WorldLaws.{EachLosesItsBatch, EachMeets, EachRiseKeepsOthers, EachRises, EachStops};
+ghost use Rattle.qs_lawful.specs.WorldLaws.{EachLosesItsBatch, EachMeets, EachOpensHeld, EachRiseKeepsOthers, EachRises, EachStops};
 
 /// A node that is down restarts, and begins an incarnation with what its log says: the entry is lawful, what it finds in its log with it;
 /// and the machine after it has all that the node keeps then. What the log has committed is applied once, in order, and committed; what
@@ -28,4 +28,10 @@ pub fn stop_is_held()
 /// has a vote in doubt of a transaction that it has committed.
 pub fn opening_is_coherent()
     ensures sound { EachOpensSoundly }
+{}
+
+/// As a run begins the machine has the whole world that begins: each node with the votes that stand in doubt in its log, the Commits that it
+/// still has to tell, and what its log has committed; with what the log says of contents and changes; and nothing for clients.
+pub fn opening_is_held()
+    ensures held { EachOpensHeld }
 {}

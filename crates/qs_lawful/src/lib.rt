@@ -113,6 +113,7 @@ pub use lawful_steps::step_is_lawful;
 pub use lawful_steps::vote_pass_is_lawful;
 pub use lawful_worlds::meeting_is_held;
 pub use lawful_worlds::opening_is_coherent;
+pub use lawful_worlds::opening_is_held;
 pub use lawful_worlds::restart_is_held;
 pub use lawful_worlds::stop_is_held;
 pub use tried::given_at_stages;
