@@ -197,3 +197,6 @@ pub mod OthersDown
 pub mod RisesWhole
 pub mod OnlyRead
 pub mod BesideParts
+pub mod BesideActs
+pub mod BesideGoes
+pub mod BesidePlain
