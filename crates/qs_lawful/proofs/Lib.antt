@@ -200,3 +200,5 @@ pub mod BesideParts
 pub mod BesideActs
 pub mod BesideGoes
 pub mod BesidePlain
+pub mod NoteTexts
+pub mod BesideIssue
