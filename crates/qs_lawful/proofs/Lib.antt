@@ -202,3 +202,7 @@ pub mod BesideGoes
 pub mod BesidePlain
 pub mod NoteTexts
 pub mod BesideIssue
+pub mod BesideOwn
+pub mod BesideClocks
+pub mod BesideServe
+pub mod BesideServed
