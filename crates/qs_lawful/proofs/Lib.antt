@@ -206,3 +206,5 @@ pub mod BesideOwn
 pub mod BesideClocks
 pub mod BesideServe
 pub mod BesideServed
+pub mod BesideVote
+pub mod BesideVoted
