@@ -208,3 +208,5 @@ pub mod BesideServe
 pub mod BesideServed
 pub mod BesideVote
 pub mod BesideVoted
+pub mod BesideNotice
+pub mod BesideLearnt
