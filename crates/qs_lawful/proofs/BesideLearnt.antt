@@ -38,7 +38,8 @@ use Rattle.qs_step.specs.State.{NodeValue, Work, here}
 use Rattle.qs_tm.specs.Manager as tm
 use Rattle.qs_tm.specs.Members as rules
 use Rattle.qs_tm.specs.Outcomes as outcome_rules
-use Rattle.qs_tm.specs.Participant.{member_of}
+use Rattle.qs_tm.specs.Participant.{learners, servers_due}
+use Rattle.qs_tm.specs.declared.participant.Due.TheVariants as dues
 use Rattle.qs_tm.specs.declared.members.MemberPart.{MemberPart}
 use Rattle.qs_tm.specs.declared.participant.Participant.{Participant}
 use Rattle.qs_world.specs.Posting.{entry_of}
@@ -167,29 +168,56 @@ module _ (stamp : ℕ) (before : BookValue) (run : InRun before) where
 
   -- ---- all of them, in their order
 
-  -- it is known with that outcome, or not at all
-  pub record Ended (tid : Tid) (work : Work) : Type 0 where
+  -- it is known with that outcome
+  pub record Ended (tid : Tid) (o : Outcome) (work : Work) : Type 0 where
     pub part : Participant
-    pub outcome : Outcome
     pub known : tm.part_of tid work.node.manager ≡ Some part
-    pub decided : part.outcome ≡ Some outcome
+    pub decided : part.outcome ≡ Some o
 
-  told_still : (tid : Tid) (work new : Work) (server : ServerNo) → new.node.manager ≡ tm.settled tid server work.node.manager → Ended tid work → Ended tid new
-  told_still tid work new server is e = record { part = outcome_rules.settled server e.part; outcome = e.outcome; known = ap (tm.part_of tid) is ∙ part_changed tid (outcome_rules.settled server) work.node.manager e.part e.known; decided = e.decided }
+  told_still : (tid : Tid) (o : Outcome) (work new : Work) (server : ServerNo) → new.node.manager ≡ tm.settled tid server work.node.manager → Ended tid o work → Ended tid o new
+  told_still tid o work new server is e = record { part = outcome_rules.settled server e.part; known = ap (tm.part_of tid) is ∙ part_changed tid (outcome_rules.settled server) work.node.manager e.part e.known; decided = e.decided }
 
   pub goes_ends : (tid : Tid) (work : Work) → On work (end_members tid work)
   goes_ends tid work = goes_fold stamp before run (end_member tid) (λ w server. goes_ended stamp before run w tid server) (due_endings tid work) work
 
-  ends_still : (tid : Tid) (servers : List ServerNo) (work : Work) → Ended tid work → Ended tid (fold (end_member tid) work servers)
-  ends_still tid [] work e = e
-  ends_still tid (server ∷ servers) work e = ends_still tid servers (end_member tid work server) (told_still tid work (end_member tid work server) server refl e)
+  ends_still : (tid : Tid) (o : Outcome) (servers : List ServerNo) (work : Work) → Ended tid o work → Ended tid o (fold (end_member tid) work servers)
+  ends_still tid o [] work e = e
+  ends_still tid o (server ∷ servers) work e = ends_still tid o servers (end_member tid work server) (told_still tid o work (end_member tid work server) server refl e)
 
-  goes_learns : (tid : Tid) (outcome : Outcome) (servers : List ServerNo) (work : Work) → Ended tid work → On work (fold (learn_member tid outcome) work servers)
-  goes_learns tid outcome [] work e = goes_self stamp before run work
-  goes_learns tid outcome (server ∷ servers) work e = goes_then stamp before run work (learn_member tid outcome work server) (fold (learn_member tid outcome) (learn_member tid outcome work server) servers)
-      (goes_learnt work tid outcome server e.part e.outcome e.known e.decided) (goes_learns tid outcome servers (learn_member tid outcome work server) (told_still tid work (learn_member tid outcome work server) server refl e))
+  learns_still : (tid : Tid) (o outcome : Outcome) (servers : List ServerNo) (work : Work) → Ended tid o work → Ended tid o (fold (learn_member tid outcome) work servers)
+  learns_still tid o outcome [] work e = e
+  learns_still tid o outcome (server ∷ servers) work e = learns_still tid o outcome servers (learn_member tid outcome work server) (told_still tid o work (learn_member tid outcome work server) server refl e)
 
-  pub goes_notices : (tid : Tid) (outcome : Outcome) (work : Work) → Ended tid work → On work (give_notices tid outcome work)
-  goes_notices tid outcomes.Commit work e = goes_learns tid outcomes.Commit (learners_at tid work) work e
-  goes_notices tid outcomes.Abort work e = goes_then stamp before run work (end_members tid work) (give_notices tid outcomes.Abort work) (goes_ends tid work)
-      (goes_learns tid outcomes.Abort (learners_at tid (end_members tid work)) (end_members tid work) (ends_still tid (due_endings tid work) work e))
+  goes_learns : (tid : Tid) (o outcome : Outcome) (servers : List ServerNo) (work : Work) → Ended tid o work → On work (fold (learn_member tid outcome) work servers)
+  goes_learns tid o outcome [] work e = goes_self stamp before run work
+  goes_learns tid o outcome (server ∷ servers) work e = goes_then stamp before run work (learn_member tid outcome work server) (fold (learn_member tid outcome) (learn_member tid outcome work server) servers)
+      (goes_learnt work tid outcome server e.part o e.known e.decided) (goes_learns tid o outcome servers (learn_member tid outcome work server) (told_still tid o work (learn_member tid outcome work server) server refl e))
+
+  pub goes_notices : (tid : Tid) (o outcome : Outcome) (work : Work) → Ended tid o work → On work (give_notices tid outcome work)
+  goes_notices tid o outcomes.Commit work e = goes_learns tid o outcomes.Commit (learners_at tid work) work e
+  goes_notices tid o outcomes.Abort work e = goes_then stamp before run work (end_members tid work) (give_notices tid outcomes.Abort work) (goes_ends tid work)
+      (goes_learns tid o outcomes.Abort (learners_at tid (end_members tid work)) (end_members tid work) (ends_still tid o (due_endings tid work) work e))
+
+  pub notices_still : (tid : Tid) (o outcome : Outcome) (work : Work) → Ended tid o work → Ended tid o (give_notices tid outcome work)
+  notices_still tid o outcomes.Commit work e = learns_still tid o outcomes.Commit (learners_at tid work) work e
+  notices_still tid o outcomes.Abort work e = learns_still tid o outcomes.Abort (learners_at tid (end_members tid work)) (end_members tid work) (ends_still tid o (due_endings tid work) work e)
+
+  -- of what is unknown nobody learns
+  pub no_notices : (tid : Tid) (outcome : Outcome) (work : Work) → tm.part_of tid work.node.manager ≡ None → give_notices tid outcome work ≡ work
+  no_notices tid outcome work none = by outcome
+    where
+      learners_none : (w : Work) → tm.part_of tid w.node.manager ≡ None → learners_at tid w ≡ []
+      learners_none w is = ap (λ (x : Option Participant). elim x [ None ↦ [] | Some q ↦ learners q ]) is
+
+      endings_none : due_endings tid work ≡ []
+      endings_none = ap (λ (x : Option Participant). elim x [ None ↦ [] | Some q ↦ servers_due dues.Ending q ]) none
+
+      ends_none : end_members tid work ≡ work
+      ends_none = ap (λ (servers : List ServerNo). fold (end_member tid) work servers) endings_none
+
+      learns_none : (w : Work) → tm.part_of tid w.node.manager ≡ None → learn_members tid outcomes.Abort w ≡ w
+      learns_none w is = ap (λ (servers : List ServerNo). fold (learn_member tid outcomes.Abort) w servers) (learners_none w is)
+
+      by : (x : Outcome) → give_notices tid x work ≡ work
+      by outcomes.Commit = ap (λ (servers : List ServerNo). fold (learn_member tid outcomes.Commit) work servers) (learners_none work none)
+      by outcomes.Abort = ap (learn_members tid outcomes.Abort) ends_none ∙ learns_none work none

@@ -210,3 +210,4 @@ pub mod BesideVote
 pub mod BesideVoted
 pub mod BesideNotice
 pub mod BesideLearnt
+pub mod BesideDecide
