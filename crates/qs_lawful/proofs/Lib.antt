@@ -211,3 +211,6 @@ pub mod BesideVoted
 pub mod BesideNotice
 pub mod BesideLearnt
 pub mod BesideDecide
+pub mod BesideKnown
+pub mod BesideReply
+pub mod BesideBegin
