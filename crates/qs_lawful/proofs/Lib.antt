@@ -214,3 +214,5 @@ pub mod BesideDecide
 pub mod BesideKnown
 pub mod BesideReply
 pub mod BesideBegin
+pub mod BesideRequests
+pub mod BesidePass
