@@ -216,3 +216,4 @@ pub mod BesideReply
 pub mod BesideBegin
 pub mod BesideRequests
 pub mod BesidePass
+pub mod BesideSettle
