@@ -93,7 +93,7 @@ part_self p = record { notes = notes_self p; asked = refl; outcome = refl; cause
 
 -- ---- notes and reads stand
 
-same_issued : (here : NodeNo) (inc : ℕ) (text : List ℕ) (tx later : TransactionValue) → later.requests ≡ tx.requests → has_issued later here inc text ≡ has_issued tx here inc text
+pub same_issued : (here : NodeNo) (inc : ℕ) (text : List ℕ) (tx later : TransactionValue) → later.requests ≡ tx.requests → has_issued later here inc text ≡ has_issued tx here inc text
 same_issued here inc text tx later same = ap (λ (rs : List (RequestNo × List Request)). list_any (has_note_in here inc text) rs) same
 
 pub notes_on : (here : NodeNo) (inc : ℕ) (tid : Tid) (tx later : TransactionValue) (p q : Participant) → later.requests ≡ tx.requests → later.noted ≡ tx.noted → NotesOn p q → HoldsNotes here inc tid tx p → HoldsNotes here inc tid later q

@@ -40,3 +40,4 @@ pub mod Doubtful
 pub mod WorldLaws
 pub mod CoherentOpenings
 pub mod WorldGives
+pub mod Amid
