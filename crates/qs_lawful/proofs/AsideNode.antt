@@ -62,20 +62,20 @@ module _ (book : BookValue) (entry : Entry) (w : LastsWell book) (h : broken boo
     abbrev here : NodeNo
     here = node.setting.node
 
-    far : (entry.node.0 == here.0) ≡ false
+    pub far : (entry.node.0 == here.0) ≡ false
     far = by (entry.node.0 == here.0) refl
       where
         by : (b : Bool) → (entry.node.0 == here.0) ≡ b → b ≡ false
         by false is = refl
         by true is = absurd (aside.far (same_number entry.node.0 here.0 is))
 
-    near : (here.0 == entry.node.0) ≡ false
+    pub near : (here.0 == entry.node.0) ≡ false
     near = turned entry.node.0 here.0 far
       where
         turned : (m n : ℕ) → (m == n) ≡ false → (n == m) ≡ false
         turned m n e = grind (arith, nat_tests, e)
 
-    home_far : (tid : Tid) → tid.home ≡ here → (tid.home.0 == entry.node.0) ≡ false
+    pub home_far : (tid : Tid) → tid.home ≡ here → (tid.home.0 == entry.node.0) ≡ false
     home_far tid home = ap (λ (n : NodeNo). n.0 == entry.node.0) home ∙ near
 
     not_answered : (client : ClientNo) (command : OpenCommand) → lookup (is_at (client_cmp client)) node.commands ≡ Some command → IsAnsweredBy client.0 entry.act → ⊥

@@ -39,7 +39,7 @@ use Rattle.qs_lawful.proofs.Turning.{IsFar, Turns}
 use Rattle.qs_lawful.proofs.Within.{map_last, within_right}
 
 module _ (acting now place : ℕ) (here : NodeNo) (i : ℕ) (tid : Tid) (tx later : TransactionValue) (t : Turns acting now place tid tx later) (far : (here.0 == acting) ≡ false) where
-  other : (j : ℕ) → IsFar acting now here j
+  pub other : (j : ℕ) → IsFar acting now here j
   other j = rw far refl
 
   pub part_same : (server : ServerNo) (j : ℕ) → part_of later (record { node = here; server = server }) j ≡ part_of tx (record { node = here; server = server }) j
@@ -81,7 +81,7 @@ module _ (acting now place : ℕ) (here : NodeNo) (i : ℕ) (tid : Tid) (tx late
   shut outcomes.Commit cells.Open e = absurd (cc e)
   shut outcomes.Abort cells.Open e = absurd (cc e)
 
-  asked_on : is_some tx.asked ≡ true → is_some later.asked ≡ true
+  pub asked_on : is_some tx.asked ≡ true → is_some later.asked ≡ true
   asked_on is = by t.asked
     where
       by : (later.asked ≡ tx.asked) ⊎ (((tid.home.0 == acting) ≡ true) × ((tx.asked ≡ None) × (later.asked ≡ Some place))) → is_some later.asked ≡ true

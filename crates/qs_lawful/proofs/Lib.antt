@@ -14,6 +14,7 @@ pub mod NumberedLogs
 pub mod LastsAlways
 pub mod AsideTid
 pub mod AsideActs
+pub mod AsideBegun
 pub mod AsideIssue
 pub mod AsideBook
 pub mod AsideNode
@@ -22,6 +23,9 @@ pub mod AsideThen
 pub mod AsideDown
 pub mod AsideLeft
 pub mod AsideWhole
+pub mod AsideBeside
+pub mod AsideBesides
+pub mod AsideIssued
 pub mod OpenedContents
 pub mod OpenedBook
 pub mod OpenedLogs

@@ -1,8 +1,9 @@
 -- What an entry of one node has to find at another node, so that it leaves all that is held of that: the notes that its files issued are noted
 -- there or waited for, and no client is answered that has a command in hand there.
-use Rattle.std.specs.Prelude.{◌≡◌, ◌≤◌, ◌⊎◌, ℕ, true, None, Some, List, [], ◌∷◌, ⊤}
+use Rattle.std.specs.Prelude.{◌≡◌, ◌≤◌, ◌⊎◌, ℕ, true, None, Some, List, [], ◌∷◌, is_some, slice_get, ⊤}
 use Rattle.std.specs.Map.{lookup}
 use Rattle.std.specs.BTreeMap.{is_at}
+use Rattle.qs_base.specs.declared.identifiers.ClientNo.{ClientNo}
 use Rattle.qs_base.specs.declared.identifiers.NodeNo.{NodeNo}
 use Rattle.qs_base.specs.declared.identifiers.Tid.{Tid}
 use Rattle.qs_journal.specs.declared.entry.Act.{Act}
@@ -53,3 +54,8 @@ StaysUnanimous k book new = (tid : Tid) (tx later : TransactionValue) → find_t
 abbrev pub KeepsUnanimous : ℕ → BookValue → List Entry → Type 0
 KeepsUnanimous k book [] = ⊤
 KeepsUnanimous k book (entry ∷ entries) = StaysUnanimous k book (effect book entry) × KeepsUnanimous k (effect book entry) entries
+
+-- ---- what begins has an owner
+
+abbrev pub BeginsOwned : BookValue → Entry → Type 0
+BeginsOwned book entry = (tid : Tid) (label : List ℕ) (client : ClientNo) → entry.act ≡ acts.Begin tid label client → is_some (slice_get book.owners client.0) ≡ true

@@ -46,6 +46,7 @@ pub use lawful_given::world_gives_events;
 pub use lawful_given::world_gives_what_comes;
 pub use lawful_histories::histories_last;
 pub use lawful_histories::steps_leave_other_nodes;
+pub use lawful_histories::steps_leave_what_stands_beside;
 pub use lawful_logs::crash_is_lawful;
 pub use lawful_logs::others_keep_the_log;
 pub use lawful_logs::requests_keep_the_log;
