@@ -217,3 +217,4 @@ pub mod BesideBegin
 pub mod BesideRequests
 pub mod BesidePass
 pub mod BesideSettle
+pub mod BesideTold
