@@ -218,3 +218,4 @@ pub mod BesideRequests
 pub mod BesidePass
 pub mod BesideSettle
 pub mod BesideTold
+pub mod BesideRestarts
