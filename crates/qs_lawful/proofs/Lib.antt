@@ -219,3 +219,4 @@ pub mod BesidePass
 pub mod BesideSettle
 pub mod BesideTold
 pub mod BesideRestarts
+pub mod BesideCommands
