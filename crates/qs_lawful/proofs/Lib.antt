@@ -255,3 +255,6 @@ pub mod BesideBegin
 pub mod BesideRequests
 pub mod BesidePass
 pub mod BesideSettle
+pub mod BesideTold
+pub mod BesideRestarts
+pub mod BesideCommands

@@ -41,3 +41,4 @@ pub mod WorldLaws
 pub mod CoherentOpenings
 pub mod WorldGives
 pub mod Amid
+pub mod BesideStep
