@@ -35,6 +35,8 @@ pub mod OpenedRecords
 pub mod OpenedSaid
 pub mod OpenedServers
 pub mod OpenedWorld
+pub mod OpenedScripts
+pub mod ScriptsLike
 pub mod TriedOpeningRuns
 pub mod TriedAsideRuns
 pub mod Casting

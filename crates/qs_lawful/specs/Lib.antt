@@ -1,3 +1,4 @@
+pub mod WayLaws
 pub mod Face
 pub mod Holds
 pub mod Entering
