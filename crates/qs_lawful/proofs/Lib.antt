@@ -37,6 +37,8 @@ pub mod OpenedServers
 pub mod OpenedWorld
 pub mod OpenedScripts
 pub mod ScriptsLike
+pub mod WithinParts
+pub mod WaysOn
 pub mod TriedOpeningRuns
 pub mod TriedAsideRuns
 pub mod Casting

@@ -104,7 +104,7 @@ module _ (o : Opening) (opens : IsOpening o) where
   scripts = record { clients = client; apart = opens.labels }
 
 -- nothing is on its way
-none_from : (at : ℕ → List Parcel) → ((i : ℕ) → at i ≡ []) → (i more : ℕ) → pending_from at i more ≡ []
+pub none_from : (at : ℕ → List Parcel) → ((i : ℕ) → at i ≡ []) → (i more : ℕ) → pending_from at i more ≡ []
 none_from at none i zero = refl
 none_from at none i (suc more) = rw (none i) (none_from at none (suc i) more)
 

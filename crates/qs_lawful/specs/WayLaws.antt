@@ -56,7 +56,7 @@ pub record AreSound (c : Channels Parcel) : Type 0 where
 -- ---- a restart
 
 abbrev pub EachRiseKeepsScripts : Type 0
-EachRiseKeepsScripts = (o : Opening) (book : BookValue) (world : World) (n stamp inc : ℕ) → HoldsScripts o book world
+EachRiseKeepsScripts = (o : Opening) (book : BookValue) (world : World) (n stamp inc : ℕ) → Lasts book → HoldsWorld book world → may_move world (Rise n stamp inc) ≡ true → HoldsScripts o book world
     → HoldsScripts o (book_after book (rise_entry world n stamp inc ∷ [])) (moved (Rise n stamp inc) world)
 
 abbrev pub EachRiseKeepsWays : Type 0
