@@ -39,6 +39,7 @@ pub mod OpenedScripts
 pub mod ScriptsLike
 pub mod WithinParts
 pub mod WaysOn
+pub mod RisenScripts
 pub mod TriedOpeningRuns
 pub mod TriedAsideRuns
 pub mod Casting
