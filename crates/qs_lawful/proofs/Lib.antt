@@ -40,6 +40,7 @@ pub mod ScriptsLike
 pub mod WithinParts
 pub mod WaysOn
 pub mod RisenScripts
+pub mod MetWays
 pub mod TriedOpeningRuns
 pub mod TriedAsideRuns
 pub mod Casting
