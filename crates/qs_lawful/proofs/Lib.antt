@@ -41,6 +41,7 @@ pub mod WithinParts
 pub mod WaysOn
 pub mod RisenScripts
 pub mod MetWays
+pub mod SoundChannels
 pub mod TriedOpeningRuns
 pub mod TriedAsideRuns
 pub mod Casting

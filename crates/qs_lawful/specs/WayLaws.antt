@@ -1,5 +1,6 @@
 -- The laws of scripts and of what is on its way: as a run begins, and through each thing that happens in the world but a step of the node itself.
 use Rattle.std.specs.Prelude.{◌≡◌, ◌⊎◌, ◌≤◌, ◌<◌, ℕ, ◌==◌, true, false, List, [], ◌∷◌, ◌++◌, length, Some}
+use Rattle.qs_channels.specs.Channels as channel
 use Rattle.qs_channels.specs.Channels.{Channels}
 use Rattle.qs_journal.specs.declared.entry.Act.TheVariants as acts
 use Rattle.qs_journal.specs.declared.entry.CrashCause.{CrashCause}
@@ -52,6 +53,13 @@ pub record AreSound (c : Channels Parcel) : Type 0 where
   pub by_none : (n m i j : ℕ) → c.inc n < i → c.posted n m i j ≡ []
   pub for_none : (n m i j : ℕ) → c.inc m < j → c.posted n m i j ≡ []
   pub within : (n m i j : ℕ) → length (c.handed n m i j) ≤ length (c.posted n m i j)
+
+abbrev pub EachOpensSound : Type 0
+EachOpensSound = (o : Opening) → AreSound (start o).channels
+
+-- through each thing that may happen to them, where nodes know incarnations that began
+abbrev pub EachMovesSoundly : Type 0
+EachMovesSoundly = (move : channel.Move Parcel) (c : Channels Parcel) → channel.May move c → ((n m : ℕ) → c.peer n m ≤ c.inc m) → AreSound c → AreSound (channel.moved move c)
 
 -- ---- a restart
 
