@@ -42,6 +42,8 @@ pub mod WaysOn
 pub mod RisenScripts
 pub mod MetWays
 pub mod SoundChannels
+pub mod OtherWays
+pub mod StepWays
 pub mod TriedOpeningRuns
 pub mod TriedAsideRuns
 pub mod Casting
