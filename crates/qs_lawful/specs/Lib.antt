@@ -37,3 +37,4 @@ pub mod CoherentOpenings
 pub mod WorldGives
 pub mod Amid
 pub mod BesideStep
+pub mod StepOn
