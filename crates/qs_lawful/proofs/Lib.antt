@@ -220,3 +220,4 @@ pub mod BesideSettle
 pub mod BesideTold
 pub mod BesideRestarts
 pub mod BesideCommands
+pub mod BesideHappens
