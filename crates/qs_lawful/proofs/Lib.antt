@@ -221,3 +221,4 @@ pub mod BesideTold
 pub mod BesideRestarts
 pub mod BesideCommands
 pub mod BesideHappens
+pub mod BesideWhole
