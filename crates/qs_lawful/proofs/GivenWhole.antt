@@ -63,12 +63,12 @@ module _ (stamp : ℕ) (before : BookValue) (size : ℕ) (nodes : ℕ → NodeVa
   happens : MayHappen stamp before event first
   happens = may_happen event refl s.comes s.agreed.comes
 
-  done : Stands stamp before size nodes n (done_work node event free)
+  pub done : Stands stamp before size nodes n (done_work node event free)
   done = let held : HoldsWork stamp before (done_work node event free) = by_happen stamp before event first s.first.held happens in record { held = held; by = s.happens s.comes s.first held }
 
   -- ---- settling
 
-  given_so : AtEach (λ (work : Work) (tid : Tid). AgreementGives stamp before size nodes n work tid × HasCountRoom work tid) settle_tid (done_work node event free) (due_tids (done_work node event free))
+  pub given_so : AtEach (λ (work : Work) (tid : Tid). AgreementGives stamp before size nodes n work tid × HasCountRoom work tid) settle_tid (done_work node event free) (due_tids (done_work node event free))
   given_so = both_at (AgreementGives stamp before size nodes n) HasCountRoom settle_tid (due_tids (done_work node event free)) (done_work node event free) s.agreed.settles s.rooms
 
   settles : AtEach (MaySettle stamp before) settle_tid (done_work node event free) (due_tids (done_work node event free))
@@ -77,7 +77,7 @@ module _ (stamp : ℕ) (before : BookValue) (size : ℕ) (nodes : ℕ → NodeVa
       (λ work tid k any g. s_settled stamp before size nodes n s.rules work tid k g.0 g.1)
       (due_tids (done_work node event free)) (done_work node event free) done (all_any (due_tids (done_work node event free))) given_so
 
-  settled : Stands stamp before size nodes n (settle (done_work node event free))
+  pub settled : Stands stamp before size nodes n (settle (done_work node event free))
   settled = reached (Stands stamp before size nodes n) (λ (tid : Tid). Unit {0}) (λ (work : Work) (tid : Tid). AgreementGives stamp before size nodes n work tid × HasCountRoom work tid) settle_tid
       (λ work tid k any g. s_settled stamp before size nodes n s.rules work tid k g.0 g.1)
       (due_tids (done_work node event free)) (done_work node event free) done (all_any (due_tids (done_work node event free))) given_so
