@@ -118,7 +118,7 @@ module _ (stamp : ℕ) (before : BookValue) (size : ℕ) (nodes : ℕ → NodeVa
       (goes_settles stamp before s.in_run size nodes n s.homes s.sounds (due_tids done_at) done_at (done stamp before size nodes n node event free stands) (given_so stamp before size nodes n node event free stands))
       (goes_fold stamp before s.in_run wait_on (goes_wait stamp before s.in_run) (waiting_clients settled_at) settled_at)))
 
-  held_after : HoldsWork stamp before (step_work node event free)
+  pub held_after : HoldsWork stamp before (step_work node event free)
   held_after = by_answer_waiting stamp before (settle (done_work node event free)) (settled stamp before size nodes n node event free stands).held may_step_on.waits
 
   -- what is beside the node after it, and what was sent

@@ -222,3 +222,4 @@ pub mod BesideRestarts
 pub mod BesideCommands
 pub mod BesideHappens
 pub mod BesideWhole
+pub mod BesideSent
