@@ -223,3 +223,4 @@ pub mod BesideCommands
 pub mod BesideHappens
 pub mod BesideWhole
 pub mod BesideSent
+pub mod LeftElse
