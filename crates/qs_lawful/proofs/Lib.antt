@@ -224,3 +224,5 @@ pub mod BesideHappens
 pub mod BesideWhole
 pub mod BesideSent
 pub mod LeftElse
+pub mod AgedTids
+pub mod OldEnough
