@@ -1,5 +1,5 @@
 -- What the machine has beside the node goes on through each rule, so that a whole step is given what it needs of it, and keeps it.
-use Rattle.std.proofs.Common.{◌≡◌, ℕ, List, [], ◌∷◌, refl, fold}
+use Rattle.std.proofs.Common.{◌≡◌, ℕ, List, [], ◌∷◌, refl, subst, fold}
 use Rattle.qs_base.specs.declared.identifiers.Tid.{Tid}
 use Rattle.qs_machine.specs.Book.{BookValue}
 use Rattle.qs_step.specs.Serving.{serve_next}
@@ -7,13 +7,15 @@ use Rattle.qs_step.specs.Settling.{due_tids, forget_rule, pass_rule, ready_rule,
 use Rattle.qs_step.specs.State.{NodeValue, Work, work_on}
 use Rattle.qs_step.specs.Step.{after_step, happen, step_work, wait_on, waiting_clients}
 use Rattle.qs_step.specs.declared.event.Event.{Event}
+use Rattle.qs_step.specs.declared.event.Event.TheVariants as events
 use Rattle.qs_lawful.specs.Agreed.{AgreementGives}
 use Rattle.qs_lawful.specs.Amid.{AreSent, InRun}
 use Rattle.qs_lawful.specs.Beside.{HoldsBeside}
-use Rattle.qs_lawful.specs.BesideStep.{HasCountRoom}
+use Rattle.qs_lawful.specs.BesideStep.{HappensSo, HasCountRoom}
+use Rattle.qs_lawful.specs.Coming.{ComesTo}
 use Rattle.qs_lawful.specs.Entering.{HoldsWork, book_at}
 use Rattle.qs_lawful.specs.Given.{AtEach}
-use Rattle.qs_lawful.specs.GivenStep.{MayStep, done_work, first_work}
+use Rattle.qs_lawful.specs.GivenStep.{MayAge, MayStep, done_work, first_work, tick_work}
 use Rattle.qs_lawful.specs.Standing.{HoldsHomes, KeepsStanding, Stands}
 use Rattle.qs_lawful.specs.StandingOn.{BesideOn, KeepsBeside, StandsBeside, StepBeside}
 use Rattle.qs_lawful.specs.StepOn.{KeepsSound, SoundOn, StepOn}
@@ -26,9 +28,11 @@ use Rattle.qs_lawful.proofs.BesideRequests.{goes_next}
 use Rattle.qs_lawful.proofs.BesideRestarts.{goes_incarnation}
 use Rattle.qs_lawful.proofs.BesideSettle.{goes_forgets, goes_ready, goes_refuse, unkept}
 use Rattle.qs_lawful.proofs.CommandCame.{by_answer_waiting}
+use Rattle.qs_lawful.proofs.FactsTold.{begin_incarnation_keeps}
 use Rattle.qs_lawful.proofs.GivenSettling.{may_pass}
 use Rattle.qs_lawful.proofs.GivenStages.{s_passed, s_refused, s_settled}
 use Rattle.qs_lawful.proofs.GivenWhole.{done, given_so, settled}
+use Rattle.qs_lawful.proofs.OldEnough.{may_age}
 use Rattle.qs_lawful.proofs.StandsOn.{beside_gives, keeps_standing, step_stands}
 
 module _ (stamp : ℕ) (before : BookValue) (run : InRun before) (size : ℕ) (nodes : ℕ → NodeValue) (n : ℕ) where
@@ -83,6 +87,11 @@ module _ (stamp : ℕ) (before : BookValue) (size : ℕ) (nodes : ℕ → NodeVa
   first_beside : StandsBeside stamp before (first_work node free)
   first_beside = record { sound = s.sound; beside = goes_first.keeps s.held.lawful s.beside }
 
+  -- what is old enough the machine finds that old
+  ages_so : event ≡ events.Tick → MayAge stamp before (first_work node free).node.setting.age (tick_work (first_work node free))
+  ages_so is = may_age stamp before s.in_run (first_work node free) s.held first_beside.beside (begin_incarnation_keeps (work_on node free) s.facts)
+      (subst (λ (e : Event). ComesTo (book_at stamp before (first_work node free)) e (first_work node free)) is s.comes) (subst (λ (e : Event). HappensSo stamp before e (first_work node free)) is s.so)
+
   pub step_beside : StepBeside stamp before size nodes n node event free
   step_beside = record {
     at = s.at;
@@ -95,7 +104,7 @@ module _ (stamp : ℕ) (before : BookValue) (size : ℕ) (nodes : ℕ → NodeVa
     rules = keeps_beside stamp before s.in_run size nodes n s.sounds;
     happens = λ comes here held. on_by stamp before s.in_run size nodes n (first_work node free) (happen event (first_work node free)) (goes_happens stamp before s.in_run size nodes n s.homes s.sounds event (first_work node free) here comes s.agreed.comes s.so) s.happens_sound here held;
     comes = s.comes;
-    ages = s.ages;
+    ages = ages_so;
     agreed = s.agreed;
     rooms = s.rooms;
   }

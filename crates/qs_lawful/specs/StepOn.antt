@@ -9,7 +9,6 @@ use Rattle.qs_step.specs.Settling.{due_tids, forget_rule, pass_rule, ready_rule,
 use Rattle.qs_step.specs.State.{NodeValue, Work}
 use Rattle.qs_step.specs.Step.{happen, wait_on}
 use Rattle.qs_step.specs.declared.event.Event.{Event}
-use Rattle.qs_step.specs.declared.event.Event.TheVariants as events
 use Rattle.qs_lawful.specs.Agreed.{StepAgrees}
 use Rattle.qs_lawful.specs.Amid.{InRun}
 use Rattle.qs_lawful.specs.Beside.{HoldsBeside}
@@ -17,7 +16,7 @@ use Rattle.qs_lawful.specs.BesideStep.{HappensSo, HasCountRoom}
 use Rattle.qs_lawful.specs.Coming.{ComesTo}
 use Rattle.qs_lawful.specs.Entering.{HoldsWork, book_at}
 use Rattle.qs_lawful.specs.Given.{AtEach}
-use Rattle.qs_lawful.specs.GivenStep.{MayAge, done_work, first_work, tick_work}
+use Rattle.qs_lawful.specs.GivenStep.{done_work, first_work}
 use Rattle.qs_lawful.specs.NodeFacts.{FitsEvent, HasNodeFacts, HasSoundFacts}
 use Rattle.qs_lawful.specs.Standing.{HoldsHomes, Stands}
 
@@ -47,6 +46,5 @@ pub record StepOn (stamp : ℕ) (before : BookValue) (size : ℕ) (nodes : ℕ �
   pub happens_sound : SoundOn stamp before size nodes n (first_work node free) (happen event (first_work node free))
   pub comes : ComesTo (book_at stamp before (first_work node free)) event (first_work node free)
   pub so : HappensSo stamp before event (first_work node free)
-  pub ages : event ≡ events.Tick → MayAge stamp before (first_work node free).node.setting.age (tick_work (first_work node free))
   pub agreed : StepAgrees stamp before size nodes n node event free
   pub rooms : AtEach HasCountRoom settle_tid (done_work node event free) (due_tids (done_work node event free))
