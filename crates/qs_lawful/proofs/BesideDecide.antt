@@ -93,7 +93,7 @@ committed_more t node fresh d outcomes committed is = by (kept_outcome t node) r
 abbrev made_of : Tid → Outcome → Option Participant → Decision
 made_of tid outcome o = elim o [ None ↦ tm.no_decision | Some part ↦ record { rec = outcome_rules.record_of tid outcome part; tell = listed (outcome_rules.tell_of outcome part) } ]
 
-decision_of : (tid : Tid) (outcome : Outcome) (manager : Manager) (rec : Record) → (tm.decision tid outcome manager).rec ≡ Some rec → tid_of rec ≡ tid
+pub decision_of : (tid : Tid) (outcome : Outcome) (manager : Manager) (rec : Record) → (tm.decision tid outcome manager).rec ≡ Some rec → tid_of rec ≡ tid
 decision_of tid outcome manager rec is = by (tm.part_of tid manager) is
   where
     of : (o : Outcome) (part : Participant) → outcome_rules.record_of tid o part ≡ Some rec → tid_of rec ≡ tid

@@ -33,7 +33,7 @@ use Rattle.qs_tm.specs.Participant.{is_undecided}
 use Rattle.qs_tm.specs.declared.manager.Manager.{Manager}
 use Rattle.qs_tm.specs.declared.participant.Participant.{Participant}
 use Rattle.qs_world.specs.Posting.{entries_of, entry_of}
-use Rattle.qs_lawful.specs.Amid.{GoesOn, HoldsOn, InRun, IsSent}
+use Rattle.qs_lawful.specs.Amid.{GoesOn, InRun, IsSent}
 use Rattle.qs_lawful.specs.Beside.{HasOwner, HoldsBeside, HoldsClock, HoldsTidBeside, IsTrueCause}
 use Rattle.qs_lawful.specs.Entering.{book_at, entries_so_far}
 use Rattle.qs_lawful.specs.Logs.{Every}
@@ -93,7 +93,7 @@ module _ (stamp : ℕ) (before : BookValue) (run : InRun before) where
   -- ---- how rules are put together
 
   pub goes_self : (work : Work) → Goes work work
-  goes_self work = record { more = []; entries = sym (append-nil work.out.entries); setting = refl; keeps = λ lawful h. h }
+  goes_self work = record { more = []; entries = sym (append-nil work.out.entries); setting = refl; keeps = λ lawful h. h; sends = λ lawful h all. all }
 
   pub goes_then : (work mid new : Work) → Goes work mid → Goes mid new → Goes work new
   goes_then work mid new a b = record {
@@ -101,6 +101,7 @@ module _ (stamp : ℕ) (before : BookValue) (run : InRun before) where
     entries = b.entries ∙ (ap (λ (acted : List Act). acted ++ b.more) a.entries ∙ append_assoc work.out.entries a.more b.more);
     setting = b.setting ∙ a.setting;
     keeps = λ lawful h. b.keeps lawful (a.keeps (lawful_then mid new b.more b.entries b.setting lawful) h);
+    sends = λ lawful h all. b.sends lawful (a.keeps (lawful_then mid new b.more b.entries b.setting lawful) h) (a.sends (lawful_then mid new b.more b.entries b.setting lawful) h all);
   }
 
   pub goes_if : (b : Bool) (work x y : Work) → (b ≡ true → Goes work x) → (b ≡ false → Goes work y) → Goes work (if b then x else y)
@@ -131,10 +132,8 @@ module _ (stamp : ℕ) (before : BookValue) (run : InRun before) where
     more = [];
     entries = grows;
     setting = setting;
-    keeps = λ lawful h. record {
-      beside = subst (λ (b : BookValue). HoldsBeside b new.node) (sym (book_is stamp before i [] [] work new [] grows setting)) (keeps h.beside);
-      sent = subst (Every (IsSent (book_at stamp before new) new.node.setting)) (sym sendings) (sent_on work new [] grows setting lawful work.out.messages h.sent);
-    };
+    keeps = λ lawful h. subst (λ (b : BookValue). HoldsBeside b new.node) (sym (book_is stamp before i [] [] work new [] grows setting)) (keeps h);
+    sends = λ lawful h all. subst (Every (IsSent (book_at stamp before new) new.node.setting)) (sym sendings) (sent_on work new [] grows setting lawful work.out.messages all);
   }
     where
       grows : new.out.entries ≡ work.out.entries ++ []
@@ -153,10 +152,8 @@ module _ (stamp : ℕ) (before : BookValue) (run : InRun before) where
         more = [];
         entries = sym (append-nil work.out.entries);
         setting = refl;
-        keeps = λ lawful h. record {
-          beside = h.beside;
-          sent = every_append (IsSent (book_at stamp before work) work.node.setting) work.out.messages (record { to = to; message = message } ∷ []) h.sent (record { other = other; goes = goes; says = says h.beside }, tt);
-        };
+        keeps = λ lawful h. h;
+        sends = λ lawful h all. every_append (IsSent (book_at stamp before work) work.node.setting) work.out.messages (record { to = to; message = message } ∷ []) all (record { other = other; goes = goes; says = says h }, tt);
       }
 
   pub goes_sends : (nodes : List NodeNo) (message : Message) (work : Work) → ((to : NodeNo) → GoesTo to.0 message) → ((w : Work) → w.node ≡ work.node → w.out.entries ≡ work.out.entries → HoldsBeside (book_at stamp before w) w.node → IsSaid (book_at stamp before w) message)
@@ -189,12 +186,10 @@ module _ (stamp : ℕ) (before : BookValue) (run : InRun before) where
     keeps = λ lawful h.
         let fine : broken (book_at stamp before work) (entry_of (here work).0 stamp act) ≡ None = (lawful_since stamp before i [] [] work new (act ∷ []) grows setting lawful).0 in
         let was_lawful : IsLawful before (entries_so_far stamp work) = lawful_then work new (act ∷ []) grows setting lawful in
-        record {
-          beside = subst (λ (b : BookValue). HoldsBeside b new.node) (sym (book_now stamp before work new act setting grows))
-              (keeps fine (ran (entries_so_far stamp work) before i was_lawful).inv
-              (λ tid cause is. said_on before run (entries_so_far stamp work) (entry_of (here work).0 stamp act ∷ []) was_lawful (fine, tt) (messages.VotedAbort tid cause) is) h.beside);
-          sent = subst (Every (IsSent (book_at stamp before new) new.node.setting)) (sym sendings) (sent_on work new (act ∷ []) grows setting lawful work.out.messages h.sent);
-        };
+        subst (λ (b : BookValue). HoldsBeside b new.node) (sym (book_now stamp before work new act setting grows))
+        (keeps fine (ran (entries_so_far stamp work) before i was_lawful).inv
+        (λ tid cause is. said_on before run (entries_so_far stamp work) (entry_of (here work).0 stamp act ∷ []) was_lawful (fine, tt) (messages.VotedAbort tid cause) is) h);
+    sends = λ lawful h all. subst (Every (IsSent (book_at stamp before new) new.node.setting)) (sym sendings) (sent_on work new (act ∷ []) grows setting lawful work.out.messages all);
   }
 
   -- ---- the node alone
@@ -244,3 +239,4 @@ module _ (stamp : ℕ) (before : BookValue) (run : InRun before) where
 
   pub goes_part : (tid : Tid) (f : Participant → Participant) (work : Work) → ((p : Participant) → part_of tid work ≡ Some p → PartOn p (f p)) → Goes work (with_manager (tm.with_part tid f) work)
   goes_part tid f work on = goes_still work (with_manager (tm.with_part tid f) work) refl refl refl (beside_part (book_at stamp before work) work.node tid f on)
+

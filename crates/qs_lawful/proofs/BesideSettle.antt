@@ -30,7 +30,7 @@ use Rattle.qs_tm.specs.Outcomes.{told_with_own}
 use Rattle.qs_tm.specs.Participant as participant
 use Rattle.qs_tm.specs.Participant.{is_forgotten, is_undecided, member_of, only_read}
 use Rattle.qs_tm.specs.declared.participant.Participant.{Participant}
-use Rattle.qs_lawful.specs.Amid.{GoesOn, HoldsOn, InRun}
+use Rattle.qs_lawful.specs.Amid.{InRun}
 use Rattle.qs_lawful.specs.Beside.{HoldsBeside, HoldsPart, HoldsReads, HoldsStranger, IsTrueCause, has_issued}
 use Rattle.qs_lawful.specs.Entering.{HoldsWork, book_at, entries_so_far}
 use Rattle.qs_lawful.specs.Face.{at_server, face_of}
@@ -77,7 +77,7 @@ module _ (stamp : ℕ) (before : BookValue) (run : InRun before) where
 
   -- where nothing is entered, what stands before may be used all along
   pub goes_given : (work new : Work) → new.out.entries ≡ work.out.entries → new.node.setting ≡ work.node.setting → (HoldsBeside (book_at stamp before work) work.node → On work new) → On work new
-  goes_given work new entries setting body = record { more = []; entries = entries ∙ sym (append-nil work.out.entries); setting = setting; keeps = λ lawful h. (body h.beside).keeps lawful h }
+  goes_given work new entries setting body = record { more = []; entries = entries ∙ sym (append-nil work.out.entries); setting = setting; keeps = λ lawful h. (body h).keeps lawful h; sends = λ lawful h all. (body h).sends lawful h all }
 
   -- ---- readiness
 

@@ -34,7 +34,7 @@ use Rattle.qs_tm.specs.Participant.{is_undecided}
 use Rattle.qs_tm.specs.declared.manager.Manager.{Manager}
 use Rattle.qs_tm.specs.declared.participant.Participant.{Participant}
 use Rattle.qs_world.specs.Posting.{entries_of}
-use Rattle.qs_lawful.specs.Amid.{GoesOn, HoldsOn, InRun, IsSent}
+use Rattle.qs_lawful.specs.Amid.{InRun, IsSent}
 use Rattle.qs_lawful.specs.Beside.{HoldsBeside, HoldsEnded, HoldsPart}
 use Rattle.qs_lawful.specs.Entering.{HoldsWork, book_at, entries_so_far}
 use Rattle.qs_lawful.specs.Face.{face_of}
@@ -91,11 +91,9 @@ module _ (stamp : ℕ) (before : BookValue) (run : InRun before) where
         more = g.more;
         entries = g.entries;
         setting = g.setting;
-        keeps = λ lawful h. let m : HoldsOn stamp before mid = g.keeps lawful h in record {
-          beside = m.beside;
-          sent = every_append (IsSent (book_at stamp before mid) mid.node.setting) mid.out.messages (record { to = to; message = message } ∷ []) m.sent
-              (record { other = is; goes = goes; says = says_on stamp before run work mid g.more g.entries g.setting lawful message (says h.beside) }, tt);
-        };
+        keeps = g.keeps;
+        sends = λ lawful h all. every_append (IsSent (book_at stamp before mid) mid.node.setting) mid.out.messages (record { to = to; message = message } ∷ []) (g.sends lawful h all)
+            (record { other = is; goes = goes; says = says_on stamp before run work mid g.more g.entries g.setting lawful message (says h) }, tt);
       }
 
   -- ---- a record of what is decided

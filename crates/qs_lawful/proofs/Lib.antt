@@ -267,3 +267,9 @@ pub mod BesideSettle
 pub mod BesideTold
 pub mod BesideRestarts
 pub mod BesideCommands
+pub mod BesideHappens
+pub mod BesideWhole
+pub mod BesideSent
+pub mod LeftElse
+pub mod AgedTids
+pub mod OldEnough

@@ -30,13 +30,14 @@ pub record IsSent (book : BookValue) (setting : Setting) (sending : Sending) : T
   pub goes : GoesTo sending.to.0 sending.message
   pub says : IsSaid book sending.message
 
-pub record HoldsOn (stamp : ℕ) (before : BookValue) (work : Work) : Type 0 where
-  pub beside : HoldsBeside (book_at stamp before work) work.node
-  pub sent : Every (IsSent (book_at stamp before work) work.node.setting) work.out.messages
+-- all that a step sent so far
+abbrev pub AreSent : ℕ → BookValue → Work → Type 0
+AreSent stamp before work = Every (IsSent (book_at stamp before work) work.node.setting) work.out.messages
 
 -- a rule adds entries, and where these are lawful what stood before it stands after it
 pub record GoesOn (stamp : ℕ) (before : BookValue) (work new : Work) : Type 0 where
   pub more : List Act
   pub entries : new.out.entries ≡ work.out.entries ++ more
   pub setting : new.node.setting ≡ work.node.setting
-  pub keeps : IsLawful before (entries_so_far stamp new) → HoldsOn stamp before work → HoldsOn stamp before new
+  pub keeps : IsLawful before (entries_so_far stamp new) → HoldsBeside (book_at stamp before work) work.node → HoldsBeside (book_at stamp before new) new.node
+  pub sends : IsLawful before (entries_so_far stamp new) → HoldsBeside (book_at stamp before work) work.node → AreSent stamp before work → AreSent stamp before new

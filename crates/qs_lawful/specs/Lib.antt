@@ -43,3 +43,4 @@ pub mod CoherentOpenings
 pub mod WorldGives
 pub mod Amid
 pub mod BesideStep
+pub mod StepOn

@@ -1,6 +1,7 @@
 //! Steps of nodes are lawful steps of the reference machine: what the two have alike, and what each rule of a node enters.
 #![tactic(auto)]
 
+mod lawful_beside;
 mod lawful_commands;
 mod lawful_entries;
 mod lawful_given;
@@ -16,6 +17,9 @@ mod lawful_worlds;
 mod tried;
 mod tried_worlds;
 
+pub use lawful_beside::rules_keep_what_is_beside;
+pub use lawful_beside::step_keeps_what_is_beside;
+pub use lawful_beside::what_is_sent_is_so;
 pub use lawful_commands::borrowers_request_is_lawful;
 pub use lawful_commands::coming_abort_is_lawful;
 pub use lawful_commands::coming_begin_is_lawful;
