@@ -1,4 +1,5 @@
 pub mod WayLaws
+pub mod CutLaws
 pub mod Face
 pub mod Holds
 pub mod Entering
