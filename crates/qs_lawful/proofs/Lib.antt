@@ -42,6 +42,7 @@ pub mod WaysOn
 pub mod RisenScripts
 pub mod MetWays
 pub mod SoundChannels
+pub mod SoundWorlds
 pub mod OtherWays
 pub mod StepWays
 pub mod TriedOpeningRuns

@@ -17,7 +17,7 @@ never n e = absurd (no_less n e)
 low : (a b : ℕ) → a ≤ b → b < a → ⊥
 low a b e f = grind (arith, e, f)
 
-length_both : (xs ys : List Parcel) → length (xs ++ ys) ≡ length xs + length ys
+pub length_both : (xs ys : List Parcel) → length (xs ++ ys) ≡ length xs + length ys
 length_both [] ys = zero_plus (length ys)
   where
     zero_plus : (n : ℕ) → n ≡ 0 + n
@@ -35,7 +35,7 @@ longer k xs ys e = of k (length xs) (length ys) (length (xs ++ ys)) (length_both
 
 module _ (c : Channels Parcel) (known : (n m : ℕ) → c.peer n m ≤ c.inc m) (s : AreSound c) where
   -- more is posted by the present incarnation, for one that began
-  more_posted : (n m b : ℕ) (more : List Parcel) → b ≤ c.inc m → AreSound (record c { posted = with_at4 c.posted n m (c.inc n) b (c.posted n m (c.inc n) b ++ more) })
+  pub more_posted : (n m b : ℕ) (more : List Parcel) → b ≤ c.inc m → AreSound (record c { posted = with_at4 c.posted n m (c.inc n) b (c.posted n m (c.inc n) b ++ more) })
   more_posted n m b more begun = record {
     by_none = λ p q i j late. at_two (λ (p q : ℕ) (g : ℕ → ℕ → List Parcel). (i j : ℕ) → c.inc p < i → g i j ≡ []) c.posted n m (with_at2 (c.posted n m) (c.inc n) b (c.posted n m (c.inc n) b ++ more))
         (at_two (λ (i j : ℕ) (ps : List Parcel). c.inc n < i → ps ≡ []) (c.posted n m) (c.inc n) b (c.posted n m (c.inc n) b ++ more) (λ late. never (c.inc n) late) (λ i j. s.by_none n m i j)) s.by_none p q i j late;
@@ -45,7 +45,7 @@ module _ (c : Channels Parcel) (known : (n m : ℕ) → c.peer n m ≤ c.inc m) 
         (at_two (λ (i j : ℕ) (ps : List Parcel). length (c.handed n m i j) ≤ length ps) (c.posted n m) (c.inc n) b (c.posted n m (c.inc n) b ++ more) (longer (length (c.handed n m (c.inc n) b)) (c.posted n m (c.inc n) b) more (s.within n m (c.inc n) b)) (s.within n m)) s.within p q;
   }
 
-  same_sound : (d : Channels Parcel) → d.inc ≡ c.inc → d.posted ≡ c.posted → d.handed ≡ c.handed → AreSound d
+  pub same_sound : (d : Channels Parcel) → d.inc ≡ c.inc → d.posted ≡ c.posted → d.handed ≡ c.handed → AreSound d
   same_sound d inc posted handed = record {
     by_none = λ n m i j late. ap (λ f. f n m i j) posted ∙ s.by_none n m i j (subst (λ (f : ℕ → ℕ). f n < i) inc late);
     for_none = λ n m i j late. ap (λ f. f n m i j) posted ∙ s.for_none n m i j (subst (λ (f : ℕ → ℕ). f m < j) inc late);

@@ -12,7 +12,7 @@ use Rattle.qs_machine.specs.Opening.{opening}
 use Rattle.qs_machine.specs.declared.opened.Opened.{Opened}
 use Rattle.qs_record.specs.declared.record.Record.{Record}
 use Rattle.qs_world.specs.Histories.{book_of}
-use Rattle.qs_world.specs.Moves.{Meet, Rise, Step, Source, may_move, moved, stopped}
+use Rattle.qs_world.specs.Moves.{Meet, Move, Rise, Step, Source, may_move, moved, stopped}
 use Rattle.qs_world.specs.Openings.{IsOpening}
 use Rattle.qs_world.specs.Posting.{entry_of}
 use Rattle.qs_world.specs.World.{Opening, Parcel, World, start}
@@ -60,6 +60,10 @@ EachOpensSound = (o : Opening) → AreSound (start o).channels
 -- through each thing that may happen to them, where nodes know incarnations that began
 abbrev pub EachMovesSoundly : Type 0
 EachMovesSoundly = (move : channel.Move Parcel) (c : Channels Parcel) → channel.May move c → ((n m : ℕ) → c.peer n m ≤ c.inc m) → AreSound c → AreSound (channel.moved move c)
+
+-- and so of each move of the world
+abbrev pub EachWorldMovesSoundly : Type 0
+EachWorldMovesSoundly = (move : Move) (world : World) → may_move world move ≡ true → ((n m : ℕ) → world.channels.peer n m ≤ world.channels.inc m) → AreSound world.channels → AreSound (moved move world).channels
 
 -- ---- a restart
 

@@ -1,5 +1,5 @@
 //! What comes to the nodes: scripts of clients, and messages on their way, as a run begins and through each thing that happens in the world.
-ghost use Rattle.qs_lawful.specs.WayLaws.{EachCrashKeepsScripts, EachCrashKeepsWays, EachMeetKeepsScripts, EachMeetKeepsWays, EachMovesSoundly, EachOpensScripts, EachOpensSound, EachOpensWays, EachRiseKeepsScripts, EachRiseKeepsWays, EachStepKeepsOtherWays};
+ghost use Rattle.qs_lawful.specs.WayLaws.{EachCrashKeepsScripts, EachCrashKeepsWays, EachMeetKeepsScripts, EachMeetKeepsWays, EachMovesSoundly, EachOpensScripts, EachOpensSound, EachOpensWays, EachRiseKeepsScripts, EachRiseKeepsWays, EachStepKeepsOtherWays, EachWorldMovesSoundly};
 
 /// As a run begins the machine has the scripts of all clients: lines rise behind what was answered, and each label that is still to be begun is
 /// fresh. Nothing is on its way, and the channels are sound.
@@ -35,5 +35,6 @@ pub fn steps_leave_other_ways()
 /// Channels stay sound through each thing that may happen to them: nothing is posted by or for an incarnation that is to come, and what was
 /// handed up was posted.
 pub fn channels_stay_sound()
-    ensures { EachMovesSoundly }
+    ensures channels { EachMovesSoundly }
+    ensures worlds { EachWorldMovesSoundly }
 {}

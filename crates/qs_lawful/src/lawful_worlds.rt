@@ -1,4 +1,5 @@
 //! Moves of the world against the machine: what the machine has of a whole world is had on through a move.
+ghost use Rattle.qs_lawful.specs.CutLaws.{EachCutIsHeld, EachKeepsItsQuietBatch};
 ghost use Rattle.qs_lawful.specs.CoherentOpenings.{EachOpensSoundly};
 ghost use Rattle.qs_lawful.specs.WorldLaws.{EachLosesItsBatch, EachMeets, EachOpensHeld, EachRiseKeepsOthers, EachRises, EachStops};
 
@@ -22,6 +23,13 @@ pub fn meeting_is_held()
 pub fn stop_is_held()
     ensures stops { EachStops }
     ensures cut { EachLosesItsBatch }
+{}
+
+/// And so it is in a step whose batch is kept, where that step forces nothing or has no record of its own; and in any that is cut off where the
+/// machine has what the node's log says then, which is all that is left to show of it.
+pub fn kept_cut_is_held()
+    ensures quiet { EachKeepsItsQuietBatch }
+    ensures said { EachCutIsHeld }
 {}
 
 /// What the logs of an opening hold is coherent: each transaction that a log names began in an earlier incarnation of its home, and no log

@@ -123,6 +123,7 @@ pub use lawful_ways::meeting_keeps_what_comes;
 pub use lawful_ways::opening_holds_what_comes;
 pub use lawful_ways::restart_keeps_what_comes;
 pub use lawful_ways::steps_leave_other_ways;
+pub use lawful_worlds::kept_cut_is_held;
 pub use lawful_worlds::meeting_is_held;
 pub use lawful_worlds::opening_is_coherent;
 pub use lawful_worlds::opening_is_held;
