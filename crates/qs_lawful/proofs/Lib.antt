@@ -45,6 +45,7 @@ pub mod SoundChannels
 pub mod SoundWorlds
 pub mod OtherWays
 pub mod StepWays
+pub mod OtherScripts
 pub mod TriedOpeningRuns
 pub mod TriedAsideRuns
 pub mod Casting

@@ -1,10 +1,12 @@
 -- The laws of scripts and of what is on its way: as a run begins, and through each thing that happens in the world but a step of the node itself.
-use Rattle.std.specs.Prelude.{◌≡◌, ◌⊎◌, ◌≤◌, ◌<◌, ℕ, ◌==◌, true, false, List, [], ◌∷◌, ◌++◌, length, Some}
+use Rattle.std.specs.Prelude.{◌≡◌, ◌≤◌, ◌<◌, ℕ, ◌==◌, ⊤, true, false, List, [], ◌∷◌, ◌++◌, length}
 use Rattle.qs_channels.specs.Channels as channel
 use Rattle.qs_channels.specs.Channels.{Channels}
+use Rattle.qs_journal.specs.declared.entry.Act.{Act}
 use Rattle.qs_journal.specs.declared.entry.Act.TheVariants as acts
 use Rattle.qs_journal.specs.declared.entry.CrashCause.{CrashCause}
 use Rattle.qs_journal.specs.declared.entry.Entry.{Entry}
+use Rattle.qs_journal.specs.declared.script_line.ScriptLine.{ScriptLine}
 use Rattle.qs_laws.specs.Laws.{IsCoherent}
 use Rattle.qs_machine.specs.Book.{BookValue}
 use Rattle.qs_machine.specs.Lawful.{IsLawful, book_after}
@@ -13,7 +15,7 @@ use Rattle.qs_machine.specs.declared.opened.Opened.{Opened}
 use Rattle.qs_record.specs.declared.record.Record.{Record}
 use Rattle.qs_world.specs.Histories.{book_of}
 use Rattle.qs_world.specs.Moves.{Meet, Move, Rise, Step, Source, may_move, moved, stopped}
-use Rattle.qs_world.specs.Openings.{IsOpening}
+use Rattle.qs_world.specs.Openings.{IsOpening, labels_begun, same_label}
 use Rattle.qs_world.specs.Posting.{entry_of}
 use Rattle.qs_world.specs.World.{Opening, Parcel, World, start}
 use Rattle.qs_lawful.specs.Aside.{IsOfStep}
@@ -22,7 +24,7 @@ use Rattle.qs_lawful.specs.Lasting.{Lasts}
 use Rattle.qs_lawful.specs.LastingLaws.{IsNumbered}
 use Rattle.qs_lawful.specs.Logs.{Every}
 use Rattle.qs_lawful.specs.Parcels.{HoldsChannels, HoldsWay, HoldsWays}
-use Rattle.qs_lawful.specs.Scripts.{HoldsScripts}
+use Rattle.qs_lawful.specs.Scripts.{AreBehind, HoldsScripts, IsFresh}
 use Rattle.qs_lawful.specs.WorldLaws.{rise_entry}
 use Rattle.qs_lawful.specs.Worlds.{HoldsWorld}
 
@@ -92,3 +94,29 @@ EachStepKeepsOtherWays = (opened : List Opened) (history more : List Entry) → 
     → (a b next : ℕ) → (a == n) ≡ false → (b == n) ≡ false → HoldsChannels (book_after (opening opened) history) world.size world.channels → (world.hosts b).node.setting.node.0 ≡ b → Holds next (book_after (opening opened) history) (world.hosts b).node
     → HoldsWay (book_after (opening opened) history) world.channels a b (world.hosts b).node
     → HoldsWay (book_after (opening opened) (history ++ more)) (moved (Step n stamp free source) world).channels a b ((moved (Step n stamp free source) world).hosts b).node
+
+-- ---- and the script of a client that is not answered, where nothing begins under a label that is still to be begun in it
+
+abbrev pub IsSilentTo : ℕ → Act → Type 0
+IsSilentTo k (acts.Answer client line said) = (client.0 ≡ k) → ⊥
+IsSilentTo k act = ⊤
+
+abbrev pub IsOther : List ℕ → List ℕ → Type 0
+IsOther begun label = same_label label begun ≡ false
+
+abbrev pub BeginsNone : List (List ℕ) → Act → Type 0
+BeginsNone labels (acts.Begin tid label client) = Every (IsOther label) labels
+BeginsNone labels act = ⊤
+
+pub record LeavesScript (k : ℕ) (lines : List ScriptLine) (entry : Entry) : Type 0 where
+  pub of_step : IsOfStep entry.act
+  pub silent : IsSilentTo k entry.act
+  pub begins : BeginsNone (labels_begun lines) entry.act
+
+-- the script of a client as the machine has it
+pub record HoldsScript (book : BookValue) (k : ℕ) (lines : List ScriptLine) : Type 0 where
+  pub behind : AreBehind book k lines
+  pub fresh : Every (IsFresh book) (labels_begun lines)
+
+abbrev pub EachStepKeepsOtherScripts : Type 0
+EachStepKeepsOtherScripts = (more : List Entry) (book : BookValue) (k : ℕ) (lines : List ScriptLine) → Every (LeavesScript k lines) more → HoldsScript book k lines → HoldsScript (book_after book more) k lines

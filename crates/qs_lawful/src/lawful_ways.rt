@@ -1,5 +1,5 @@
 //! What comes to the nodes: scripts of clients, and messages on their way, as a run begins and through each thing that happens in the world.
-ghost use Rattle.qs_lawful.specs.WayLaws.{EachCrashKeepsScripts, EachCrashKeepsWays, EachMeetKeepsScripts, EachMeetKeepsWays, EachMovesSoundly, EachOpensScripts, EachOpensSound, EachOpensWays, EachRiseKeepsScripts, EachRiseKeepsWays, EachStepKeepsOtherWays, EachWorldMovesSoundly};
+ghost use Rattle.qs_lawful.specs.WayLaws.{EachCrashKeepsScripts, EachCrashKeepsWays, EachMeetKeepsScripts, EachMeetKeepsWays, EachMovesSoundly, EachOpensScripts, EachOpensSound, EachOpensWays, EachRiseKeepsScripts, EachRiseKeepsWays, EachStepKeepsOtherScripts, EachStepKeepsOtherWays, EachWorldMovesSoundly};
 
 /// As a run begins the machine has the scripts of all clients: lines rise behind what was answered, and each label that is still to be begun is
 /// fresh. Nothing is on its way, and the channels are sound.
@@ -27,9 +27,11 @@ pub fn meeting_keeps_what_comes()
     ensures ways { EachMeetKeepsWays }
 {}
 
-/// A whole step of one node leaves what two others have on its way between them.
+/// A whole step of one node leaves what two others have on its way between them, and the script of each client that it does not answer, where it
+/// begins nothing under a label of that.
 pub fn steps_leave_other_ways()
-    ensures { EachStepKeepsOtherWays }
+    ensures ways { EachStepKeepsOtherWays }
+    ensures scripts { EachStepKeepsOtherScripts }
 {}
 
 /// Channels stay sound through each thing that may happen to them: nothing is posted by or for an incarnation that is to come, and what was
