@@ -46,6 +46,7 @@ pub mod SoundWorlds
 pub mod OtherWays
 pub mod StepWays
 pub mod OtherScripts
+pub mod StepOthers
 pub mod TriedOpeningRuns
 pub mod TriedAsideRuns
 pub mod Casting

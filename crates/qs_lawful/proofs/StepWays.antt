@@ -35,15 +35,16 @@ use Rattle.qs_lawful.proofs.OtherWays.{HoldsOps, entries_leave, none_of, on_way_
 record KeepsPair (c d : Channels Parcel) (a b : ℕ) : Type 0 where
   peer : d.peer b a ≡ c.peer b a
   inc : d.inc ≡ c.inc
+  up : d.up ≡ c.up
   waits : d.waits a b ≡ c.waits a b
   posted : d.posted a b ≡ c.posted a b
   handed : d.handed a b ≡ c.handed a b
 
 pair_self : (c : Channels Parcel) (a b : ℕ) → KeepsPair c c a b
-pair_self c a b = record { peer = refl; inc = refl; waits = refl; posted = refl; handed = refl }
+pair_self c a b = record { peer = refl; inc = refl; up = refl; waits = refl; posted = refl; handed = refl }
 
 pair_then : (c d e : Channels Parcel) (a b : ℕ) → KeepsPair c d a b → KeepsPair d e a b → KeepsPair c e a b
-pair_then c d e a b p q = record { peer = q.peer ∙ p.peer; inc = q.inc ∙ p.inc; waits = q.waits ∙ p.waits; posted = q.posted ∙ p.posted; handed = q.handed ∙ p.handed }
+pair_then c d e a b p q = record { peer = q.peer ∙ p.peer; inc = q.inc ∙ p.inc; up = q.up ∙ p.up; waits = q.waits ∙ p.waits; posted = q.posted ∙ p.posted; handed = q.handed ∙ p.handed }
 
 -- what is on its way, of these
 abbrev way_of : ℕ → (ℕ → ℕ) → List Parcel → (ℕ → ℕ → List Parcel) → (ℕ → ℕ → List Parcel) → ℕ → ℕ → List Parcel
@@ -59,20 +60,20 @@ way_same c d a b k =
 
 module _ (a b n : ℕ) (a_far : (a == n) ≡ false) (b_far : (b == n) ≡ false) where
   pair_waits : (c : Channels Parcel) (m : ℕ) (x : Parcel) → KeepsPair c (channel.moved (channel.Wait n m x) c) a b
-  pair_waits c m x = record { peer = refl; inc = refl; waits = rw a_far refl; posted = refl; handed = refl }
+  pair_waits c m x = record { peer = refl; inc = refl; up = refl; waits = rw a_far refl; posted = refl; handed = refl }
 
   pair_posts : (c : Channels Parcel) (m : ℕ) (x : Parcel) → KeepsPair c (channel.moved (channel.Post n m x) c) a b
-  pair_posts c m x = record { peer = refl; inc = refl; waits = refl; posted = rw a_far refl; handed = refl }
+  pair_posts c m x = record { peer = refl; inc = refl; up = refl; waits = refl; posted = rw a_far refl; handed = refl }
 
   pair_hands : (c : Channels Parcel) (m : ℕ) (x : Parcel) → KeepsPair c (channel.moved (channel.Hand n m x) c) a b
-  pair_hands c m x = record { peer = refl; inc = refl; waits = refl; posted = refl; handed = rw b_far (by (a == m)) }
+  pair_hands c m x = record { peer = refl; inc = refl; up = refl; waits = refl; posted = refl; handed = rw b_far (by (a == m)) }
     where
       by : (y : Bool) → (if y then c.handed a b else c.handed a b) ≡ c.handed a b
       by true = refl
       by false = refl
 
   pair_notices : (c : Channels Parcel) (m j : ℕ) → KeepsPair c (channel.moved (channel.Notice n m j) c) a b
-  pair_notices c m j = record { peer = rw b_far refl; inc = refl; waits = refl; posted = refl; handed = refl }
+  pair_notices c m j = record { peer = rw b_far refl; inc = refl; up = refl; waits = refl; posted = refl; handed = refl }
 
   pair_all : (stamp : ℕ) (sendings : List Sending) (c : Channels Parcel) → KeepsPair c (post_all n stamp sendings c) a b
   pair_all stamp [] c = pair_self c a b
@@ -97,18 +98,29 @@ module _ (a b n : ℕ) (a_far : (a == n) ≡ false) (b_far : (b == n) ≡ false)
   pub record KeepsWay (world next : World) : Type 0 where
     pub way : on_its_way next.channels a b ≡ on_its_way world.channels a b
     pub node : (next.hosts b).node ≡ (world.hosts b).node
+    pub host : next.hosts b ≡ world.hosts b
+    pub size : next.size ≡ world.size
+    pub inc : next.channels.inc ≡ world.channels.inc
+    pub up : next.channels.up ≡ world.channels.up
 
   pub step_keeps : (world : World) (stamp free : ℕ) (source : Source) → KeepsWay world (moved (Step n stamp free source) world)
   step_keeps world stamp free source = by (event_of world n stamp source)
     where
       one : (node : NodeValue) (out : Effects) → KeepsWay world (stepped world n stamp source node out)
       one node out = record {
-        way = way_same world.channels (post_all n stamp out.messages (taken_by world n source)) a b (pair_then world.channels (taken_by world n source) (post_all n stamp out.messages (taken_by world n source)) a b (pair_taken world source) (pair_all stamp out.messages (taken_by world n source)));
+        way = way_same world.channels (post_all n stamp out.messages (taken_by world n source)) a b pair;
         node = rw b_far refl;
+        host = rw b_far refl;
+        size = refl;
+        inc = pair.inc;
+        up = pair.up;
       }
+        where
+          pair : KeepsPair world.channels (post_all n stamp out.messages (taken_by world n source)) a b
+          pair = pair_then world.channels (taken_by world n source) (post_all n stamp out.messages (taken_by world n source)) a b (pair_taken world source) (pair_all stamp out.messages (taken_by world n source))
 
       by : (o : Option Event) → KeepsWay world (step_with world n stamp free source o)
-      by None = record { way = refl; node = refl }
+      by None = record { way = refl; node = refl; host = refl; size = refl; inc = refl; up = refl }
       by (Some event) = one (after_step (world.hosts n).node event free) (effects_of (world.hosts n).node event free)
 
 -- ---- the whole

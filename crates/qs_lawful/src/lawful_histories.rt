@@ -1,5 +1,5 @@
 //! Histories of the machine: what stands in it at every time, whatever its nodes have.
-ghost use Rattle.qs_lawful.specs.AsideLaws.{EachHoldsIssued, EachKeepsOthers, EachKeepsOthersBeside};
+ghost use Rattle.qs_lawful.specs.AsideLaws.{EachHoldsIssued, EachKeepsOthers, EachKeepsOthersBeside, EachStepKeepsOtherNodes};
 ghost use Rattle.qs_lawful.specs.LastingLaws.{EachLasts, EachRunLasts};
 
 /// After every lawful history that opens from coherent logs, which name transactions by their numbers from 1, nothing is kept of
@@ -15,7 +15,8 @@ pub fn histories_last()
 /// each note that its files issued is noted or waited for, and no client is answered elsewhere that has a command in hand there; where a node
 /// is down what is unanimous, and open at it, stays unanimous, which the agreement protocol is to give.
 pub fn steps_leave_other_nodes()
-    ensures { EachKeepsOthers }
+    ensures entries { EachKeepsOthers }
+    ensures world { EachStepKeepsOtherNodes }
 {}
 
 /// And they leave what the machine has beside a node that runs, of notes, causes, ages and owners, where each transaction that one of them begins
