@@ -1,6 +1,5 @@
 -- Where an act stands: what it asks and decides at its home, and what may be issued, by the clauses of its kind.
 use Rattle.std.proofs.Common.{◌≡◌, ℕ, ◌==◌, ◌&&◌, Bool, true, false, not, List, Option, Some, None, refl, subst, nat_lt, if◌then◌else◌}
-use Rattle.std.specs.Prelude.{is_none}
 use Rattle.qs_base.specs.declared.identifiers.Member.{Member}
 use Rattle.qs_base.specs.declared.identifiers.Outcome.{Outcome}
 use Rattle.qs_base.specs.declared.identifiers.Tid.{Tid}

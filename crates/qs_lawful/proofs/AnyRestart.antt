@@ -1,5 +1,5 @@
 -- A restart turns each transaction too, whatever votes and Commits it finds; and nothing is left undecided of what its node began.
-use Rattle.std.proofs.Common.{◌≡◌, ◌⊎◌, inl, inr, ℕ, ◌==◌, ◌&&◌, ◌||◌, ◌≤◌, Bool, true, false, not, List, [], ◌∷◌, Option, Some, None, fold, refl, sym, ap, subst, ◌∙◌, if◌then◌else◌}
+use Rattle.std.proofs.Common.{◌≡◌, ℕ, ◌&&◌, ◌≤◌, Bool, true, false, List, [], ◌∷◌, Option, Some, None, fold, sym, ap, subst, ◌∙◌}
 use Rattle.std.specs.Prelude.{slice_get}
 use Rattle.std.specs.List.{list_all}
 use Rattle.qs_base.specs.declared.identifiers.Member.{Member}
@@ -14,12 +14,11 @@ use Rattle.qs_machine.specs.Book.{BookValue, find_transaction, inc_at}
 use Rattle.qs_machine.specs.Nodes as machine
 use Rattle.qs_machine.specs.Nodes.{is_recoverable}
 use Rattle.qs_machine.specs.Restart.{abort_begun, begun_at, broken_restart, commit_found, is_found_vote, is_open_here, new_votes, put_new_votes, restart, up_to, vote_found, votes_once, with_votes}
-use Rattle.qs_machine.specs.Transaction.{TransactionValue, is_open}
 use Rattle.qs_lawful.specs.Lasting.{IsOfNow}
 use Rattle.qs_lawful.specs.Logs.{Every}
-use Rattle.qs_lawful.proofs.RestartCells.{Shut, aborts_on, aborts_shut, commits_on}
-use Rattle.qs_lawful.proofs.RestartGoes.{Goes, IsElsewhere, Onward, on_fold, on_then, vote_on}
-use Rattle.qs_lawful.proofs.Turning.{Turned, Turns, turned_as, turns_quiet}
+use Rattle.qs_lawful.proofs.RestartCells.{aborts_on, aborts_shut, commits_on}
+use Rattle.qs_lawful.proofs.RestartGoes.{IsElsewhere, Onward, on_fold, on_then, vote_on}
+use Rattle.qs_lawful.proofs.Turning.{Turned, Turns, turns_quiet}
 
 module _ (book : BookValue) (here inc : ℕ) (pend : List Found) (done : List Tid) (state : machine.NodeValue) (there : slice_get book.nodes here ≡ Some state) (allowed : broken_restart here book state inc pend done ≡ None) where
   abbrev P : Member → ℕ → Type 0

@@ -1,14 +1,11 @@
 -- What an entry of a node leaves beside transactions: the state of every other node, but where a request crosses its transaction there; and what
 -- each client was told, and may be told.
-use Rattle.std.proofs.Common.{◌≡◌, ◌≢◌, ◌⊎◌, inl, inr, ℕ, ◌-◌, ◌==◌, ◌&&◌, not, Bool, true, false, List, [], ◌∷◌, ◌++◌, fold, Option, Some, None, refl, sym, ap, subst, ◌∙◌, arith, is_some, nat_lt, if◌then◌else◌}
-use Rattle.std.proofs.lemmas.Bool.Decides.{nat_tests}
+use Rattle.std.proofs.Common.{◌≡◌, ◌⊎◌, inl, inr, ℕ, ◌-◌, ◌==◌, Bool, true, false, List, [], ◌∷◌, ◌++◌, fold, Option, Some, None, refl, sym, ap, subst, ◌∙◌, if◌then◌else◌}
 use Rattle.std.specs.Prelude.{slice_get, slice_set, ⊤}
 use Rattle.std.specs.Option.{option_map}
 use Rattle.std.specs.List.{list_any}
-use Rattle.std.specs.Map.{lookup}
 use Rattle.std.specs.BTreeMap.{is_at}
 use Rattle.qs_base.specs.Order.{tid_cmp}
-use Rattle.qs_base.specs.declared.identifiers.ClientNo.{ClientNo}
 use Rattle.qs_base.specs.declared.identifiers.Member.{Member}
 use Rattle.qs_base.specs.declared.identifiers.Outcome.{Outcome}
 use Rattle.qs_base.specs.declared.identifiers.Outcome.TheVariants as outcomes
@@ -18,7 +15,7 @@ use Rattle.qs_journal.specs.declared.entry.Act.TheVariants as acts
 use Rattle.qs_laws.proofs.Holding.{fold_nodes, loan_nodes, yield_nodes}
 use Rattle.qs_laws.proofs.Holds.{elsewhere}
 use Rattle.qs_laws.proofs.Maps.{changed_alike, changed_at_either}
-use Rattle.qs_machine.specs.Book.{BookValue, changed_at, crosses, decide, find_transaction, give_back_from, hear, inc_at, loan_to, owner_of, told, waiting_of, with_owner, with_transaction, with_waiting}
+use Rattle.qs_machine.specs.Book.{BookValue, changed_at, crosses, find_transaction, give_back_from, hear, inc_at, loan_to, owner_of, told, waiting_of, with_owner, with_transaction, with_waiting}
 use Rattle.qs_machine.specs.Clauses.{borrower_at, is_known, link_to}
 use Rattle.qs_machine.specs.Lawful.{effect_act}
 use Rattle.qs_machine.specs.Nodes as machine

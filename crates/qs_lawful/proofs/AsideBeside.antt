@@ -1,5 +1,5 @@
 -- What a lawful entry that another node makes in a step leaves of what the machine has beside a transaction at a node that runs.
-use Rattle.std.proofs.Common.{◌≡◌, ◌⊎◌, inl, inr, ℕ, ◌+◌, ◌≤◌, ◌==◌, ◌||◌, Bool, true, false, List, [], ◌∷◌, Option, Some, None, refl, sym, ap, subst, ◌∙◌}
+use Rattle.std.proofs.Common.{◌≡◌, ◌⊎◌, inl, inr, ℕ, ◌+◌, ◌≤◌, ◌==◌, ◌||◌, Bool, true, false, List, refl, sym, ap, subst, ◌∙◌}
 use Rattle.std.specs.List.{list_any}
 use Rattle.qs_base.specs.declared.identifiers.NodeNo.{NodeNo}
 use Rattle.qs_base.specs.declared.identifiers.Outcome.{Outcome}
@@ -39,7 +39,7 @@ module _ (acting now place : ℕ) (here : NodeNo) (i : ℕ) (tid : Tid) (tx late
   covering_same server =
       ap (λ (p : Part). (0 == p.served + p.found) || list_any (is_start (at_server here server) i p.served 0) later.starts) (same_part server)
       ∙ ap (λ (b : Bool). (0 == (part_of tx (at_server here server) i).served + (part_of tx (at_server here server) i).found) || b)
-        (starts_same acting now place here i tid tx later t far server i (part_of tx (at_server here server) i).served 0)
+      (starts_same acting now place here i tid tx later t far server i (part_of tx (at_server here server) i).served 0)
 
   pending_same : (part_of later (at_server here rules.files_no) i).pending ≡ (part_of tx (at_server here rules.files_no) i).pending
   pending_same = ap (λ (p : Part). p.pending) (same_part rules.files_no)

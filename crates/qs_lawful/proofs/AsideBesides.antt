@@ -1,5 +1,5 @@
 -- The entries that a node makes in a step leave what the machine has beside every other node that runs.
-use Rattle.std.proofs.Common.{◌≡◌, ◌⊎◌, inl, inr, ℕ, ◌==◌, ◌&&◌, ◌++◌, Bool, true, false, List, [], ◌∷◌, Option, Some, None, refl, sym, ap, subst, ◌∙◌, is_some, is_none}
+use Rattle.std.proofs.Common.{◌≡◌, ◌⊎◌, inl, inr, ℕ, ◌++◌, true, false, List, [], ◌∷◌, Option, Some, None, refl, sym, ap, subst, ◌∙◌, is_some}
 use Rattle.std.specs.Prelude.{slice_get}
 use Rattle.std.specs.Option.{option_map}
 use Rattle.qs_base.specs.declared.identifiers.ClientNo.{ClientNo}
@@ -13,7 +13,7 @@ use Rattle.qs_laws.specs.Laws.{IsCoherent}
 use Rattle.qs_laws.proofs.Steps.{after_both, lawful_front, lawful_rest}
 use Rattle.qs_machine.specs.Book.{BookValue, find_transaction, ticks_at}
 use Rattle.qs_machine.specs.Clauses.{has_no_record}
-use Rattle.qs_machine.specs.Lawful.{IsLawful, book_after, broken, effect, effect_act}
+use Rattle.qs_machine.specs.Lawful.{IsLawful, book_after, broken, effect}
 use Rattle.qs_machine.specs.Nodes as machine
 use Rattle.qs_machine.specs.Opening.{opening}
 use Rattle.qs_machine.specs.Transaction.{TransactionValue, begun, is_commit, is_outcome}
@@ -28,7 +28,6 @@ use Rattle.qs_tm.specs.declared.participant.Participant.{Participant}
 use Rattle.qs_lawful.specs.Aside.{BeginsOwned, IsAside, IsOfStep}
 use Rattle.qs_lawful.specs.AsideLaws.{EachKeepsOthersBeside, RunsAt}
 use Rattle.qs_lawful.specs.Beside.{HasOwner, HoldsBeside, HoldsEnded, HoldsNotes, HoldsPart, HoldsReads, HoldsStranger, HoldsTidBeside, IsTrueCause}
-use Rattle.qs_lawful.specs.LastingLaws.{IsNumbered}
 use Rattle.qs_lawful.specs.Logs.{Every}
 use Rattle.qs_lawful.proofs.Apart.{Apart, same_or_apart}
 use Rattle.qs_lawful.proofs.AsideActs.{owners_keep}
@@ -38,14 +37,14 @@ use Rattle.qs_lawful.proofs.AsideBook.{Goes, cell_away, goes_on, new, new_begins
 use Rattle.qs_lawful.proofs.AsideIssue.{NodeOn}
 use Rattle.qs_lawful.proofs.AsideNode.{far, home_far, near}
 use Rattle.qs_lawful.proofs.AsideTid.{asked_on}
-use Rattle.qs_lawful.proofs.EntryTurns.{Begins, Turning, begins}
+use Rattle.qs_lawful.proofs.EntryTurns.{Begins, begins}
 use Rattle.qs_lawful.proofs.LastsEntry.{lasts_on}
 use Rattle.qs_lawful.proofs.LastsOpening.{lasts_first, lasts_ran}
 use Rattle.qs_lawful.proofs.LastsWell.{LastsWell}
 use Rattle.qs_lawful.proofs.LogFrames.{every_on}
 use Rattle.qs_lawful.proofs.NumberedLogs.{opening_named}
 use Rattle.qs_lawful.proofs.SaidStays.{said_stays, whole}
-use Rattle.qs_lawful.proofs.Turning.{Turns, some_of}
+use Rattle.qs_lawful.proofs.Turning.{some_of}
 
 some_not_none : {X : Type 0} (o : Option X) (x : X) → o ≡ Some x → o ≡ None → ⊥
 some_not_none o x is none = cc (sym is ∙ none)

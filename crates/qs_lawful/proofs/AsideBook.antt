@@ -1,10 +1,8 @@
 -- What each lawful entry that a node makes in a step leaves of the machine for every other node: its state, or that with a transaction hidden that
 -- is crossed there; the owners of transactions, and what they may be told; and of another home the cells.
-use Rattle.std.proofs.Common.{◌≡◌, ◌⊎◌, inl, inr, ℕ, ◌==◌, not, Bool, true, false, List, [], ◌∷◌, length, Option, Some, None, refl, sym, ap, subst, ◌∙◌, arith, is_some, nat_lt}
+use Rattle.std.proofs.Common.{◌≡◌, ◌⊎◌, inl, inr, ℕ, ◌==◌, true, false, List, length, Option, Some, None, refl, sym, ap, subst, ◌∙◌, arith}
 use Rattle.std.proofs.lemmas.Bool.Decides.{nat_tests}
 use Rattle.std.specs.Prelude.{slice_get}
-use Rattle.std.specs.Map.{lookup}
-use Rattle.std.specs.BTreeMap.{is_at}
 use Rattle.qs_base.specs.declared.identifiers.ClientNo.{ClientNo}
 use Rattle.qs_base.specs.declared.identifiers.Member.{Member}
 use Rattle.qs_base.specs.declared.identifiers.NodeNo.{NodeNo}
@@ -14,43 +12,30 @@ use Rattle.qs_base.specs.declared.identifiers.Tid.{Tid}
 use Rattle.qs_journal.specs.declared.entry.Act.{Act}
 use Rattle.qs_journal.specs.declared.entry.Act.TheVariants as acts
 use Rattle.qs_journal.specs.declared.entry.Entry.{Entry}
-use Rattle.qs_ipc.specs.declared.delivery.Delivery.{Delivery}
 use Rattle.qs_kept.specs.declared.kept.Decided.{Decided}
-use Rattle.qs_laws.proofs.Holding.{same_number}
-use Rattle.qs_laws.proofs.InRun.{ran_run}
-use Rattle.qs_machine.specs.Book.{BookValue, find_transaction, ticks_at}
+use Rattle.qs_machine.specs.Book.{BookValue, find_transaction}
 use Rattle.qs_machine.specs.Clauses.{broken_issue}
 use Rattle.qs_machine.specs.Lawful.{broken, broken_node, effect, effect_act}
 use Rattle.qs_machine.specs.Nodes as machine
-use Rattle.qs_machine.specs.Transaction.{TransactionValue, begun, is_open, is_outcome}
-use Rattle.qs_machine.specs.declared.state.Owner.{Owner}
+use Rattle.qs_machine.specs.Transaction.{TransactionValue, is_open, is_outcome}
 use Rattle.qs_machine.specs.declared.transaction.Cell.{Cell}
 use Rattle.qs_machine.specs.declared.transaction.Cell.TheVariants as cells
 use Rattle.qs_ops.specs.declared.operation.Op.{Op}
 use Rattle.qs_servers.specs.Servers.{ServersValue}
 use Rattle.qs_laws.proofs.Steps.{held}
 use Rattle.qs_step.specs.Commands.{outcome_answer}
-use Rattle.qs_step.specs.State.{NodeValue, client_cmp}
-use Rattle.qs_step.specs.declared.state.OpenCommand.{OpenCommand}
-use Rattle.qs_tm.specs.declared.participant.Participant.{Participant}
-use Rattle.qs_lawful.specs.Aside.{AnswersElsewhere, HoldsIssued, HoldsIssuedOf, IsAside, IsOfStep}
-use Rattle.qs_lawful.specs.Face.{at_server, face_of}
-use Rattle.qs_lawful.specs.Holds.{HasBegun, HasEnded, Holds, HoldsAt, HoldsClients, HoldsNode, HoldsTid, IsBehind, IsOwner, MayBeTold, is_next}
-use Rattle.qs_lawful.specs.Lasting.{StandsOnce}
-use Rattle.qs_lawful.specs.Tables.{HoldsServers, is_seen, seen_in}
-use Rattle.qs_lawful.specs.Waits.{HoldsWaits, HoldsWaitsAt, IsWithin, standing_ops, waiting_ops}
-use Rattle.qs_lawful.proofs.ActsHere.{issue_here}
+use Rattle.qs_lawful.specs.Aside.{IsOfStep}
+use Rattle.qs_lawful.specs.Holds.{HasEnded, IsOwner, MayBeTold}
+use Rattle.qs_lawful.specs.Tables.{is_seen, seen_in}
 use Rattle.qs_lawful.proofs.Apart.{Apart, same_or_apart}
-use Rattle.qs_lawful.proofs.AsideActs.{IsAnsweredBy, IsQuiet, IsStill, crossings_same, owners_keep, there_same}
+use Rattle.qs_lawful.proofs.AsideActs.{IsQuiet, IsStill, crossings_same, owners_keep, there_same}
 use Rattle.qs_lawful.proofs.AsideIssue.{NodeOn, issue_leaves, records_itself}
-use Rattle.qs_lawful.proofs.AsideTid.{begun_away, issued_on, tid_on, waits_on}
 use Rattle.qs_lawful.proofs.CrossedTables.{servers_alike}
 use Rattle.qs_lawful.proofs.EntryTurns.{Actor, Begins, Turning, actor, begins, by_entry}
-use Rattle.qs_lawful.proofs.LastsEntry.{lasts_on}
 use Rattle.qs_lawful.proofs.LastsWell.{LastsWell}
 use Rattle.qs_lawful.proofs.SameWaits.{seen_alike}
 use Rattle.qs_lawful.proofs.States.{state_itself}
-use Rattle.qs_lawful.proofs.Turning.{Turns, some_of, stood}
+use Rattle.qs_lawful.proofs.Turning.{Turns, some_of}
 
 module _ (book : BookValue) (entry : Entry) (w : LastsWell book) (h : broken book entry ≡ None) where
   abbrev pub new : BookValue

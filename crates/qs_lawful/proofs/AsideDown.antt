@@ -1,55 +1,39 @@
 -- Each lawful entry that another node makes in a step leaves what the machine has of the log of a node that is down.
-use Rattle.std.proofs.Common.{◌≡◌, ◌≢◌, ◌⊎◌, inl, inr, ℕ, ◌≤◌, ◌==◌, ◌&&◌, ◌||◌, ◌++◌, not, Bool, true, false, List, [], ◌∷◌, flat_map, Option, Some, None, fold, refl, sym, ap, subst, ◌∙◌, arith, is_some, nat_lt, if◌then◌else◌}
+use Rattle.std.proofs.Common.{◌≡◌, ◌⊎◌, inl, inr, ℕ, ◌≤◌, ◌==◌, ◌&&◌, ◌||◌, Bool, true, false, List, Option, Some, None, refl, sym, ap, subst, ◌∙◌, arith, if◌then◌else◌}
 use Rattle.std.proofs.lemmas.Bool.Decides.{nat_tests}
 use Rattle.std.specs.Prelude.{slice_get, slice_set}
-use Rattle.std.specs.List.{list_any}
-use Rattle.std.specs.Map.{lookup}
-use Rattle.std.specs.BTreeMap.{insert_entry, is_at}
-use Rattle.qs_base.specs.Order.{member_cmp}
-use Rattle.qs_base.specs.declared.identifiers.ClientNo.{ClientNo}
 use Rattle.qs_base.specs.declared.identifiers.Member.{Member}
-use Rattle.qs_base.specs.declared.identifiers.NodeNo.{NodeNo}
 use Rattle.qs_base.specs.declared.identifiers.ServerNo.{ServerNo}
 use Rattle.qs_base.specs.declared.identifiers.Tid.{Tid}
 use Rattle.qs_journal.specs.declared.entry.Act.{Act}
 use Rattle.qs_journal.specs.declared.entry.Act.TheVariants as acts
 use Rattle.qs_journal.specs.declared.entry.Entry.{Entry}
 use Rattle.qs_journal.specs.declared.entry.Found.{Found}
-use Rattle.qs_laws.proofs.Maps.{changed_at_either, changed_at_here, lookup_put, lookup_put_apart}
-use Rattle.qs_machine.specs.Book.{BookValue, crosses, find_transaction, inc_at, pending_in, ticks_at, with_crossing, with_transaction, with_waiting}
-use Rattle.qs_machine.specs.Clauses.{has_vote, link_to}
+use Rattle.qs_laws.proofs.Maps.{changed_at_either}
+use Rattle.qs_machine.specs.Book.{BookValue, crosses, find_transaction, inc_at, with_crossing, with_transaction, with_waiting}
+use Rattle.qs_machine.specs.Clauses.{link_to}
 use Rattle.qs_machine.specs.Lawful.{broken, effect_act}
 use Rattle.qs_machine.specs.Nodes as machine
 use Rattle.qs_machine.specs.Nodes.{crossed_node, crossed_server}
-use Rattle.qs_machine.specs.Restart.{add_commit, changes_at, commits_found, could_vote, has_record, is_among, is_committed, is_new_vote, is_on_record, may_be_lost, member_at, new_vote, new_votes, record_at, with_votes}
-use Rattle.qs_machine.specs.Transaction.{TransactionValue, begun, crossed_by, crossed_from, has_learnt, is_abort, is_before, is_commit, is_open, is_start, is_unanimous, issued, part_of, standing_request, was_committed, was_crossed}
+use Rattle.qs_machine.specs.Restart.{could_vote, is_among, is_committed, may_be_lost, member_at}
+use Rattle.qs_machine.specs.Transaction.{TransactionValue, has_learnt, is_abort, is_commit, is_open, is_unanimous, issued, part_of}
 use Rattle.qs_machine.specs.declared.state.OnRecord.{OnRecord}
 use Rattle.qs_machine.specs.declared.state.Voter.{Voter}
 use Rattle.qs_machine.specs.declared.transaction.Cell.{Cell}
 use Rattle.qs_machine.specs.declared.transaction.Cell.TheVariants as cells
-use Rattle.qs_machine.specs.declared.transaction.Part.{Part}
-use Rattle.qs_machine.specs.declared.transaction.Request.{Request}
 use Rattle.qs_machine.specs.declared.transaction.RequestNo.{RequestNo}
-use Rattle.qs_ops.specs.Servers.{audit_no, files_no}
-use Rattle.qs_ops.specs.Table.{applied}
 use Rattle.qs_ops.specs.declared.operation.Op.{Op}
-use Rattle.qs_ops.specs.declared.vote.Vote.TheVariants as votes
 use Rattle.qs_restart.specs.Recovery.{Prepared, Recovery}
 use Rattle.qs_lawful.specs.Aside.{IsOfStep, StaysUnanimous}
-use Rattle.qs_lawful.specs.Logs.{Every, HoldsStopped, IsCommitLogged, IsCutVote, IsRecordKept, IsVoteLogged, found_of, found_votes}
-use Rattle.qs_lawful.specs.Said.{HoldsLeft, IsMadeBy, IsRecorded, IsToBeRecorded, IsUndone, book_found}
+use Rattle.qs_lawful.specs.Logs.{HoldsStopped, IsCommitLogged, IsCutVote, IsRecordKept, IsVoteLogged, found_of}
 use Rattle.qs_lawful.proofs.AsideActs.{IsQuiet, there_same}
-use Rattle.qs_lawful.proofs.AsideBook.{Goes, cell_away, goes_on, new, new_begins}
-use Rattle.qs_lawful.proofs.AsideKept.{home_far, recorded_on, undone_on}
-use Rattle.qs_lawful.proofs.AsideTid.{part_same, starts_same}
+use Rattle.qs_lawful.proofs.AsideBook.{Goes, cell_away, goes_on, new}
+use Rattle.qs_lawful.proofs.AsideKept.{home_far}
+use Rattle.qs_lawful.proofs.AsideTid.{part_same}
 use Rattle.qs_lawful.proofs.Crossing.{waiting_nodes}
-use Rattle.qs_lawful.proofs.EntryTurns.{Begins}
-use Rattle.qs_lawful.proofs.Keys.{KeyApart, member_exact, member_itself, same_key_or}
 use Rattle.qs_lawful.proofs.LastsWell.{LastsWell}
 use Rattle.qs_lawful.proofs.LogFrames.{every_on}
-use Rattle.qs_lawful.proofs.RestoredRecords.{new_votes_are}
 use Rattle.qs_lawful.proofs.AsideThen.{could_then}
-use Rattle.qs_lawful.proofs.Turning.{Issues, Leaves, Serves, Turns}
 
 and_both : (a b : Bool) → (a && b) ≡ true → (a ≡ true) × (b ≡ true)
 and_both true b e = (refl, e)

@@ -1,17 +1,13 @@
 -- From what the machine has beside a node that runs: each note that its files issued is noted or waited for.
-use Rattle.std.proofs.Common.{◌≡◌, ◌⊎◌, inl, inr, ℕ, ◌≤◌, ◌==◌, ◌||◌, ◌&&◌, not, Bool, true, false, List, [], ◌∷◌, Option, Some, None, refl, sym, ap, subst, ◌∙◌, is_some}
+use Rattle.std.proofs.Common.{◌≡◌, ◌⊎◌, inl, inr, ℕ, ◌==◌, ◌||◌, ◌&&◌, not, Bool, true, false, List, [], ◌∷◌, Option, Some, None, refl, sym, ◌∙◌, is_some}
 use Rattle.std.specs.List.{list_any}
-use Rattle.qs_base.specs.declared.identifiers.Tid.{Tid}
-use Rattle.qs_machine.specs.Book.{BookValue, find_transaction}
-use Rattle.qs_machine.specs.Clauses.{note_text}
-use Rattle.qs_machine.specs.Transaction.{TransactionValue, is_commit}
-use Rattle.qs_step.specs.State.{NodeValue}
+use Rattle.qs_machine.specs.Transaction.{is_commit}
 use Rattle.qs_tm.specs.Manager as tm
 use Rattle.qs_tm.specs.Participant.{awaits_note, has_noted, is_by_files}
 use Rattle.qs_tm.specs.declared.participant.Outstanding.{Outstanding}
 use Rattle.qs_tm.specs.declared.participant.Participant.{Participant}
 use Rattle.qs_lawful.specs.AsideLaws.{EachHoldsIssued}
-use Rattle.qs_lawful.specs.Beside.{HoldsBeside, awaits_count, has_issued, is_note_with}
+use Rattle.qs_lawful.specs.Beside.{awaits_count, is_note_with}
 use Rattle.qs_lawful.specs.Face.{part_or_new}
 
 any_less : (count : ℕ) (xs : List Outstanding) → list_any (is_note_with count) xs ≡ true → list_any is_by_files xs ≡ true

@@ -1,8 +1,7 @@
 -- Each lawful entry that another node makes in a step leaves what a log says of contents and changes, and what is kept for clients.
-use Rattle.std.proofs.Common.{◌≡◌, ◌⊎◌, inl, inr, ℕ, ◌==◌, ◌&&◌, ◌||◌, ◌<◌, ◌≤◌, ◌^◌, not, Bool, true, false, List, Option, Some, None, refl, sym, ap, subst, ◌∙◌, arith, is_some, nat_lt}
+use Rattle.std.proofs.Common.{◌≡◌, inl, inr, ℕ, ◌==◌, ◌&&◌, ◌||◌, ◌^◌, not, true, false, List, Option, Some, None, refl, sym, ap, ◌∙◌, arith, is_some, nat_lt}
 use Rattle.std.proofs.lemmas.Bool.Decides.{nat_tests}
 use Rattle.std.specs.Prelude.{slice_get}
-use Rattle.std.specs.List.{find}
 use Rattle.qs_base.specs.declared.identifiers.ClientNo.{ClientNo}
 use Rattle.qs_base.specs.declared.identifiers.Member.{Member}
 use Rattle.qs_base.specs.declared.identifiers.NodeNo.{NodeNo}
@@ -13,7 +12,7 @@ use Rattle.qs_laws.proofs.Steps.{held}
 use Rattle.qs_machine.specs.Book.{BookValue, cell_of_transaction, crossed_in, find_transaction}
 use Rattle.qs_machine.specs.Lawful.{broken, is_in_order}
 use Rattle.qs_machine.specs.Nodes as machine
-use Rattle.qs_machine.specs.Restart.{is_among, member_at}
+use Rattle.qs_machine.specs.Restart.{member_at}
 use Rattle.qs_machine.specs.Transaction.{TransactionValue, is_crossed, is_open}
 use Rattle.qs_machine.specs.declared.state.OnRecord.{OnRecord}
 use Rattle.qs_machine.specs.declared.state.Owner.{Owner}
@@ -21,13 +20,11 @@ use Rattle.qs_ops.specs.Table.{TableValue}
 use Rattle.qs_ops.specs.declared.operation.Op.{Op}
 use Rattle.qs_restart.specs.Recovery.{Prepared, Recovery}
 use Rattle.qs_lawful.specs.Aside.{IsOfStep}
-use Rattle.qs_lawful.specs.Holds.{HasEnded, IsOwner, is_next}
-use Rattle.qs_lawful.specs.Logged.{HasCommitted}
-use Rattle.qs_lawful.specs.Logs.{Every}
+use Rattle.qs_lawful.specs.Holds.{is_next}
 use Rattle.qs_lawful.specs.Said.{HoldsSaid, IsAsRecorded, IsMadeBy, IsRecorded, IsUndone, SameContents}
 use Rattle.qs_lawful.specs.Worlds.{HoldsKept, IsLeftOpen, IsLoanOf, IsOpenStill}
 use Rattle.qs_lawful.proofs.AsideActs.{owners_keep}
-use Rattle.qs_lawful.proofs.AsideBook.{Goes, cell_away, ended_on, goes_on, new, new_begins, owner_on, owner_same, stood_away}
+use Rattle.qs_lawful.proofs.AsideBook.{Goes, cell_away, ended_on, goes_on, new, owner_on, owner_same, stood_away}
 use Rattle.qs_lawful.proofs.AsideIssue.{SameRecords}
 use Rattle.qs_lawful.proofs.LastsWell.{LastsWell}
 use Rattle.qs_lawful.proofs.LogFrames.{every_on}

@@ -1,53 +1,23 @@
 -- What a member could vote as its node stopped it could vote then whatever other nodes entered since.
-use Rattle.std.proofs.Common.{◌≡◌, ◌≢◌, ◌⊎◌, inl, inr, ℕ, ◌≤◌, ◌==◌, ◌&&◌, ◌||◌, ◌++◌, not, Bool, true, false, List, [], ◌∷◌, flat_map, Option, Some, None, fold, refl, sym, ap, subst, ◌∙◌, arith, is_some, nat_lt, if◌then◌else◌}
+use Rattle.std.proofs.Common.{◌≡◌, ◌⊎◌, inl, inr, ℕ, ◌≤◌, ◌==◌, ◌&&◌, ◌||◌, not, Bool, true, false, List, Option, Some, None, refl, sym, ap, subst, ◌∙◌, arith, is_some, nat_lt}
 use Rattle.std.proofs.lemmas.Bool.Decides.{nat_tests}
-use Rattle.std.specs.Prelude.{slice_get, slice_set}
-use Rattle.std.specs.List.{list_any}
 use Rattle.std.specs.Map.{lookup}
 use Rattle.std.specs.BTreeMap.{insert_entry, is_at}
 use Rattle.qs_base.specs.Order.{member_cmp}
-use Rattle.qs_base.specs.declared.identifiers.ClientNo.{ClientNo}
 use Rattle.qs_base.specs.declared.identifiers.Member.{Member}
-use Rattle.qs_base.specs.declared.identifiers.NodeNo.{NodeNo}
-use Rattle.qs_base.specs.declared.identifiers.ServerNo.{ServerNo}
 use Rattle.qs_base.specs.declared.identifiers.Tid.{Tid}
-use Rattle.qs_journal.specs.declared.entry.Act.{Act}
-use Rattle.qs_journal.specs.declared.entry.Act.TheVariants as acts
-use Rattle.qs_journal.specs.declared.entry.Entry.{Entry}
 use Rattle.qs_journal.specs.declared.entry.Found.{Found}
-use Rattle.qs_laws.proofs.Maps.{changed_at_either, changed_at_here, lookup_put, lookup_put_apart}
-use Rattle.qs_machine.specs.Book.{BookValue, crosses, find_transaction, inc_at, pending_in, ticks_at, with_crossing, with_transaction, with_waiting}
-use Rattle.qs_machine.specs.Clauses.{has_vote, link_to}
-use Rattle.qs_machine.specs.Lawful.{broken, effect_act}
+use Rattle.qs_laws.proofs.Maps.{lookup_put, lookup_put_apart}
 use Rattle.qs_machine.specs.Nodes as machine
 use Rattle.qs_machine.specs.Nodes.{crossed_node, crossed_server}
-use Rattle.qs_machine.specs.Restart.{add_commit, changes_at, commits_found, could_vote, has_record, is_among, is_committed, is_new_vote, is_on_record, may_be_lost, member_at, new_vote, new_votes, record_at, with_votes}
-use Rattle.qs_machine.specs.Transaction.{TransactionValue, begun, crossed_by, crossed_from, has_learnt, is_abort, is_before, is_commit, is_open, is_start, is_unanimous, issued, part_of, standing_request, was_committed, was_crossed}
-use Rattle.qs_machine.specs.declared.state.OnRecord.{OnRecord}
-use Rattle.qs_machine.specs.declared.state.Voter.{Voter}
+use Rattle.qs_machine.specs.Restart.{could_vote, member_at}
+use Rattle.qs_machine.specs.Transaction.{TransactionValue, crossed_by, crossed_from, is_before, is_commit, is_open, part_of, standing_request, was_committed, was_crossed}
 use Rattle.qs_machine.specs.declared.transaction.Cell.{Cell}
 use Rattle.qs_machine.specs.declared.transaction.Cell.TheVariants as cells
-use Rattle.qs_machine.specs.declared.transaction.Part.{Part}
 use Rattle.qs_machine.specs.declared.transaction.Request.{Request}
-use Rattle.qs_machine.specs.declared.transaction.RequestNo.{RequestNo}
-use Rattle.qs_ops.specs.Servers.{audit_no, files_no}
-use Rattle.qs_ops.specs.Table.{applied}
-use Rattle.qs_ops.specs.declared.operation.Op.{Op}
-use Rattle.qs_ops.specs.declared.vote.Vote.TheVariants as votes
-use Rattle.qs_restart.specs.Recovery.{Prepared, Recovery}
-use Rattle.qs_lawful.specs.Aside.{IsOfStep, StaysUnanimous}
-use Rattle.qs_lawful.specs.Logs.{Every, HoldsStopped, IsCommitLogged, IsCutVote, IsRecordKept, IsVoteLogged, found_of, found_votes}
-use Rattle.qs_lawful.specs.Said.{HoldsLeft, IsMadeBy, IsRecorded, IsToBeRecorded, IsUndone, book_found}
-use Rattle.qs_lawful.proofs.AsideActs.{IsQuiet, there_same}
-use Rattle.qs_lawful.proofs.AsideBook.{Goes, cell_away, goes_on, new, new_begins}
-use Rattle.qs_lawful.proofs.AsideKept.{home_far, recorded_on, undone_on}
+use Rattle.qs_lawful.proofs.AsideBook.{new}
 use Rattle.qs_lawful.proofs.AsideTid.{part_same, starts_same}
-use Rattle.qs_lawful.proofs.Crossing.{waiting_nodes}
-use Rattle.qs_lawful.proofs.EntryTurns.{Begins}
 use Rattle.qs_lawful.proofs.Keys.{KeyApart, member_exact, member_itself, same_key_or}
-use Rattle.qs_lawful.proofs.LastsWell.{LastsWell}
-use Rattle.qs_lawful.proofs.LogFrames.{every_on}
-use Rattle.qs_lawful.proofs.RestoredRecords.{new_votes_are}
 use Rattle.qs_lawful.proofs.Turning.{Issues, Leaves, Serves, Turns}
 
 no_more : (a b : ℕ) → a ≤ b → nat_lt b a ≡ false
@@ -114,5 +84,10 @@ module _ (acting now place : ℕ) (k i : ℕ) (tid : Tid) (tx later : Transactio
   -- what it could vote as it stopped is the same
   pub could_then : (found : Found) → could_vote k s later found ≡ could_vote k s tx found
   could_then found =
-      rw (asked_then, committed_then, part_same acting now place (record { 0 = k }) i tid tx later t near found.server s.inc,
-      starts_same acting now place (record { 0 = k }) i tid tx later t near found.server s.inc (part_of tx (member_at k found.server.0) s.inc).served found.covers, crossed_then (member_at k found.server.0)) refl
+      rw (
+        asked_then,
+        committed_then,
+        part_same acting now place (record { 0 = k }) i tid tx later t near found.server s.inc,
+        starts_same acting now place (record { 0 = k }) i tid tx later t near found.server s.inc (part_of tx (member_at k found.server.0) s.inc).served found.covers,
+        crossed_then (member_at k found.server.0),
+      ) refl

@@ -1,11 +1,9 @@
 -- What an entry of another node makes of a transaction leaves what is held of it at a node: what its members did, what it sent and what it
 -- learnt; more may wait for it, and a note that counts as served was issued.
-use Rattle.std.proofs.Common.{◌≡◌, ◌≢◌, ◌⊎◌, inl, inr, ℕ, ◌≤◌, ◌==◌, ◌||◌, not, Bool, true, false, List, [], ◌∷◌, ◌++◌, length, map, Option, Some, None, refl, sym, ap, subst, ◌∙◌, arith, is_some, suc}
+use Rattle.std.proofs.Common.{◌≡◌, ◌⊎◌, inl, inr, ℕ, ◌≤◌, ◌==◌, ◌||◌, not, Bool, true, false, List, [], ◌∷◌, ◌++◌, length, map, Some, None, refl, sym, ap, subst, ◌∙◌, arith, is_some, suc}
 use Rattle.std.proofs.lemmas.Bool.Decides.{nat_tests}
 use Rattle.std.specs.List.{filter, list_any}
-use Rattle.qs_base.specs.Order.{same_member}
 use Rattle.qs_base.specs.declared.identifiers.ClientNo.{ClientNo}
-use Rattle.qs_base.specs.declared.identifiers.Member.{Member}
 use Rattle.qs_base.specs.declared.identifiers.NodeNo.{NodeNo}
 use Rattle.qs_base.specs.declared.identifiers.Outcome.{Outcome}
 use Rattle.qs_base.specs.declared.identifiers.Outcome.TheVariants as outcomes
@@ -24,17 +22,16 @@ use Rattle.qs_servers.specs.Servers.{ServersValue}
 use Rattle.qs_tm.specs.Members as rules
 use Rattle.qs_tm.specs.Participant.{awaits_note, begun_participant, has_noted, member_of}
 use Rattle.qs_tm.specs.declared.members.MemberPart.{MemberPart}
-use Rattle.qs_tm.specs.declared.participant.Participant.{Participant}
 use Rattle.qs_lawful.specs.Aside.{HoldsIssuedOf}
 use Rattle.qs_lawful.specs.Beside.{has_issued}
-use Rattle.qs_lawful.specs.Face.{Face, IsEmpty, at_server, is_given_back, is_held, is_loan_here, is_numbered, part_in}
+use Rattle.qs_lawful.specs.Face.{Face, IsEmpty, at_server, is_held, part_in}
 use Rattle.qs_lawful.specs.Holds.{HoldsHome, HoldsMember, HoldsTid}
 use Rattle.qs_lawful.specs.Lasting.{StandsOnce}
 use Rattle.qs_lawful.specs.Waits.{HoldsWaits, IsWithin, op_in, waiting_ops}
 use Rattle.qs_lawful.proofs.Begins.{begun_tid, new_member, new_peer}
 use Rattle.qs_lawful.proofs.Faces.{filter_last, filter_more}
 use Rattle.qs_lawful.proofs.Parts.{member_like}
-use Rattle.qs_lawful.proofs.TurnedRequests.{AtNumber, OneMore, OneServed, at_number}
+use Rattle.qs_lawful.proofs.TurnedRequests.{AtNumber, OneServed, at_number}
 use Rattle.qs_lawful.proofs.Turning.{IsFar, Turns}
 use Rattle.qs_lawful.proofs.Within.{map_last, within_right}
 

@@ -1,21 +1,17 @@
 -- The entries that a node makes in a step leave all that is held of every other node, whether it runs or not.
-use Rattle.std.proofs.Common.{◌≡◌, ℕ, ◌==◌, ◌++◌, Bool, true, false, List, [], ◌∷◌, Option, Some, None, refl, sym, ap, subst, ◌∙◌}
+use Rattle.std.proofs.Common.{◌≡◌, ℕ, ◌==◌, ◌++◌, Bool, true, false, List, [], ◌∷◌, Some, None, refl, sym, ap, subst, ◌∙◌}
 use Rattle.std.specs.Prelude.{slice_get}
-use Rattle.qs_base.specs.declared.identifiers.NodeNo.{NodeNo}
 use Rattle.qs_journal.specs.declared.entry.Entry.{Entry}
-use Rattle.qs_laws.specs.Laws.{IsCoherent}
 use Rattle.qs_laws.proofs.Holding.{same_number}
 use Rattle.qs_laws.proofs.Steps.{after_both, lawful_front, lawful_rest}
 use Rattle.qs_machine.specs.Book.{BookValue}
 use Rattle.qs_machine.specs.Lawful.{IsLawful, book_after, broken, effect}
 use Rattle.qs_machine.specs.Nodes as machine
 use Rattle.qs_machine.specs.Opening.{opening}
-use Rattle.qs_machine.specs.declared.opened.Opened.{Opened}
 use Rattle.qs_restart.specs.Recovery.{recovery}
 use Rattle.qs_world.specs.World.{Host}
-use Rattle.qs_lawful.specs.Aside.{HoldsIssued, IsAside, KeepsUnanimous, StaysUnanimous}
+use Rattle.qs_lawful.specs.Aside.{IsAside, KeepsUnanimous, StaysUnanimous}
 use Rattle.qs_lawful.specs.AsideLaws.{EachKeepsOthers, HoldsAside}
-use Rattle.qs_lawful.specs.LastingLaws.{IsNumbered}
 use Rattle.qs_lawful.specs.Logged.{StandsIn}
 use Rattle.qs_lawful.specs.Logs.{Every}
 use Rattle.qs_lawful.specs.Worlds.{HoldsDown, HoldsNodeOf, HoldsUp}

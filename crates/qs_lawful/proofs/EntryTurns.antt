@@ -1,10 +1,9 @@
 -- Each lawful entry begins one transaction, or turns each of them.
-use Rattle.std.proofs.Common.{◌≡◌, ◌⊎◌, inl, inr, ℕ, ◌+◌, ◌==◌, Bool, true, false, List, [], ◌∷◌, Option, Some, None, refl, sym, ap, subst, ◌∙◌, if◌then◌else◌}
+use Rattle.std.proofs.Common.{◌≡◌, ◌⊎◌, inl, inr, ℕ, ◌+◌, List, Option, Some, None, refl, sym, ap, subst, ◌∙◌, if◌then◌else◌}
 use Rattle.std.specs.Prelude.{slice_get}
 use Rattle.std.specs.BTreeMap.{is_at}
 use Rattle.qs_base.specs.Order.{tid_cmp}
 use Rattle.qs_base.specs.declared.identifiers.ClientNo.{ClientNo}
-use Rattle.qs_base.specs.declared.identifiers.NodeNo.{NodeNo}
 use Rattle.qs_base.specs.declared.identifiers.Tid.{Tid}
 use Rattle.qs_base.proofs.TidOrder.{tid_exact}
 use Rattle.qs_journal.specs.declared.entry.Act.{Act}
@@ -15,13 +14,13 @@ use Rattle.qs_laws.proofs.Alikes.{tid_itself}
 use Rattle.qs_laws.proofs.Maps.{lookup_put, lookup_put_apart}
 use Rattle.qs_laws.proofs.Outcomes.{Inv, next_is}
 use Rattle.qs_laws.proofs.Steps.{begin_may, held, unheld}
-use Rattle.qs_machine.specs.Book.{BookValue, begin, find_transaction, inc_at, ticks_at}
+use Rattle.qs_machine.specs.Book.{BookValue, find_transaction, inc_at, ticks_at}
 use Rattle.qs_machine.specs.Lawful.{broken, broken_act, broken_at, broken_node, effect, effect_act, is_in_order}
 use Rattle.qs_machine.specs.Nodes as machine
 use Rattle.qs_machine.specs.Restart.{broken_restart, restart}
 use Rattle.qs_machine.specs.Transaction.{TransactionValue, begun}
 use Rattle.qs_world.specs.Posting.{entry_of}
-use Rattle.qs_lawful.proofs.Apart.{Apart, same_or_apart}
+use Rattle.qs_lawful.proofs.Apart.{Apart}
 use Rattle.qs_lawful.proofs.AnyRestart.{restart_turns}
 use Rattle.qs_lawful.proofs.LogActs.{fresh}
 use Rattle.qs_lawful.proofs.Turning.{Turned, Turns}

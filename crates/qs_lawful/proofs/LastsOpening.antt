@@ -1,5 +1,5 @@
 -- What stands in the machine at every time stands as a run opens from coherent logs, and so after every lawful history.
-use Rattle.std.proofs.Common.{◌≡◌, ◌⊎◌, inl, inr, ℕ, ◌<◌, ◌≤◌, ◌+◌, ◌==◌, ◌&&◌, Bool, true, false, List, [], ◌∷◌, length, map, fold, Option, Some, None, zero, suc, refl, sym, ap, subst, ◌∙◌, arith, is_some, nat_lt, if◌then◌else◌}
+use Rattle.std.proofs.Common.{◌≡◌, ◌⊎◌, inl, inr, ℕ, ◌<◌, ◌≤◌, ◌+◌, ◌==◌, ◌&&◌, Bool, true, false, List, [], ◌∷◌, length, map, fold, Option, Some, None, zero, suc, refl, sym, ap, subst, ◌∙◌, arith, nat_lt, if◌then◌else◌}
 use Rattle.std.proofs.lemmas.Bool.Decides.{nat_tests}
 use Rattle.std.proofs.lemmas.Option.{slice_get-map}
 use Rattle.std.specs.Prelude.{slice_get}
@@ -14,7 +14,7 @@ use Rattle.qs_base.proofs.TidOrder.{tid_exact}
 use Rattle.qs_journal.specs.declared.entry.Entry.{Entry}
 use Rattle.qs_laws.specs.Laws.{IsCoherent}
 use Rattle.qs_laws.proofs.Alikes.{tid_itself}
-use Rattle.qs_laws.proofs.Always.{IsSo, opening_so}
+use Rattle.qs_laws.proofs.Always.{opening_so}
 use Rattle.qs_laws.proofs.Faces.{face}
 use Rattle.qs_laws.proofs.Holding.{clash, same_number}
 use Rattle.qs_laws.proofs.Maps.{lookup_put, lookup_put_apart}
@@ -35,7 +35,7 @@ use Rattle.qs_machine.specs.declared.transaction.Request.{Request}
 use Rattle.qs_machine.specs.declared.transaction.RequestNo.{RequestNo}
 use Rattle.qs_ops.specs.declared.answer.Cause.TheVariants as causes
 use Rattle.qs_lawful.specs.Beside.{has_issued}
-use Rattle.qs_lawful.specs.Lasting.{IsBefore, Lasts, StandsOnce}
+use Rattle.qs_lawful.specs.Lasting.{Lasts, StandsOnce}
 use Rattle.qs_lawful.specs.Logged.{IsNamed}
 use Rattle.qs_lawful.specs.Waits.{AreFor, op_in}
 use Rattle.qs_lawful.proofs.Apart.{Apart, same_or_apart}
@@ -106,7 +106,7 @@ module _ (logs : List Opened) where
   vote_past n inc opens book p all tid later found =
       let f : TransactionValue → TransactionValue = found_at (member_at n p.server.0) inc p.covers (length p.changes) in
       let s = stood (λ t tx later. Past tx → Past later) (name_transaction book p.tid) (name_pending n inc book p)
-              (turned_by (λ t tx later. Past tx → Past later) (λ t tx past. past) p.tid f (name_transaction book p.tid) (name_pending n inc book p) refl (λ tx at. found_past n p.server.0 inc p.covers (length p.changes) opens tx)) tid later found in
+      (turned_by (λ t tx later. Past tx → Past later) (λ t tx past. past) p.tid f (name_transaction book p.tid) (name_pending n inc book p) refl (λ tx at. found_past n p.server.0 inc p.covers (length p.changes) opens tx)) tid later found in
       s.2 (name_past book p.tid all tid s.0 s.1)
 
   votes_past : (n inc : ℕ) → Opens n inc → (pending : List Pending) (book : BookValue) → AllPast book → AllPast (fold (name_pending n inc) book pending)

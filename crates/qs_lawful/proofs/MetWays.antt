@@ -1,6 +1,6 @@
 -- What is on its way goes on as a node gets to know a first incarnation of another: what waited for it is posted behind all that was, and of what
 -- that node has on its way the incarnations before are not known any more.
-use Rattle.std.proofs.Common.{◌≡◌, ℕ, ◌<◌, ◌≤◌, ◌+◌, ◌-◌, ◌==◌, ◌++◌, ◌&&◌, not, zero, suc, Bool, true, false, List, [], ◌∷◌, drop, length, Option, Some, refl, sym, ap, subst, ◌∙◌, arith, nat_lt, nat_le, if◌then◌else◌}
+use Rattle.std.proofs.Common.{◌≡◌, ℕ, ◌<◌, ◌≤◌, ◌+◌, ◌-◌, ◌==◌, ◌++◌, ◌&&◌, not, zero, suc, Bool, true, false, List, [], ◌∷◌, drop, length, Some, refl, sym, ap, subst, ◌∙◌, arith, nat_lt, nat_le, if◌then◌else◌}
 use Rattle.std.proofs.lemmas.Bool.Decides.{nat_tests}
 use Rattle.std.proofs.lemmas.Grind.{flat_map-append}
 use Rattle.qs_base.specs.declared.identifiers.ServerNo.{ServerNo}
@@ -149,8 +149,8 @@ module _ (book : BookValue) (world : World) (n stamp m inc : ℕ) (channels : Ho
 
         by : (x : Bool) → (a == n) ≡ x → (y : Bool) → (b == m) ≡ y → (u : Bool) → (b == n) ≡ u → (v : Bool) → (a == m) ≡ v
             → IsWithin (waiting_ops (way_between a b number) (waiting_at (if u then record (world.hosts n) { stamp = stamp } else world.hosts b).node tid server)
-              ++ ops (pending_from (λ i. drop (length (c.handed a b i (c.inc b))) ((if x then (if y then with_at2 (c.posted n m) (c.inc n) inc (c.posted n m (c.inc n) inc ++ c.waits n m) else c.posted a b) else c.posted a b) i (c.inc b))) (if u then (if v then inc else c.peer b a) else c.peer b a) ((c.inc a + 1) - (if u then (if v then inc else c.peer b a) else c.peer b a))
-              ++ (if x then (if y then [] else c.waits a b) else c.waits a b))) rs
+            ++ ops (pending_from (λ i. drop (length (c.handed a b i (c.inc b))) ((if x then (if y then with_at2 (c.posted n m) (c.inc n) inc (c.posted n m (c.inc n) inc ++ c.waits n m) else c.posted a b) else c.posted a b) i (c.inc b))) (if u then (if v then inc else c.peer b a) else c.peer b a) ((c.inc a + 1) - (if u then (if v then inc else c.peer b a) else c.peer b a))
+            ++ (if x then (if y then [] else c.waits a b) else c.waits a b))) rs
         by true near y is true too v e = absurd (clash (a == b) apart (both a b n near too))
         by true near true is false too v e = subst (λ (l : ℕ). Met n l) (number_is b m is) (subst (λ (k : ℕ). Met k b) (number_is a n near) met_own)
         by true near false is false too v e = was_so

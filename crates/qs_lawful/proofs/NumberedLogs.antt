@@ -1,6 +1,5 @@
 -- Transactions of an opening are numbered from 1, where each log names those alone; and so do the logs of a run that begins as it may.
-use Rattle.std.proofs.Common.{◌≡◌, ◌⊎◌, inl, inr, ℕ, ◌<◌, ◌+◌, ◌&&◌, ◌++◌, not, Bool, true, false, List, [], ◌∷◌, length, map, fold, flat_map, Option, Some, None, zero, suc, refl, sym, ap, subst, ◌∙◌, is_some, if◌then◌else◌}
-use Rattle.std.specs.Prelude.{slice_get}
+use Rattle.std.proofs.Common.{◌≡◌, ◌⊎◌, inl, inr, ℕ, ◌+◌, ◌&&◌, ◌++◌, not, Bool, true, false, List, [], ◌∷◌, length, map, fold, flat_map, Option, Some, None, zero, suc, refl, sym, ap, subst, ◌∙◌, is_some, if◌then◌else◌}
 use Rattle.std.specs.List.{filter}
 use Rattle.std.specs.BTreeMap.{insert_entry, is_at}
 use Rattle.qs_base.specs.Order.{tid_cmp}
@@ -18,15 +17,12 @@ use Rattle.qs_machine.specs.declared.opened.Pending.{Pending}
 use Rattle.qs_record.specs.declared.record.Record.{Record}
 use Rattle.qs_record.specs.declared.record.Record.TheVariants as records
 use Rattle.qs_restart.specs.Recovery.{Prepared, Recovery, found_record, is_in_doubt, names_transaction, nothing_said, prepare_of, recovery, with_list}
-use Rattle.qs_step.specs.Opening.{recovered_of}
-use Rattle.qs_world.specs.Histories.{opened_from, opened_with, pending_of}
-use Rattle.qs_world.specs.Openings.{IsOpening}
+use Rattle.qs_world.specs.Histories.{opened_from, pending_of}
 use Rattle.qs_world.specs.World.{Opening}
 use Rattle.qs_lawful.specs.LastingLaws.{IsNumbered}
 use Rattle.qs_lawful.specs.Logged.{IsNamed}
 use Rattle.qs_lawful.specs.Logs.{Every}
 use Rattle.qs_lawful.proofs.Apart.{Apart, same_or_apart}
-use Rattle.qs_lawful.proofs.CoherentOpenings.{opened_is}
 use Rattle.qs_lawful.proofs.LogRecords.{every_append}
 use Rattle.qs_lawful.proofs.Turning.{stood, turned_by}
 
@@ -58,7 +54,7 @@ vote_named : (n inc : ℕ) (book : BookValue) (p : Pending) → IsName p.tid →
 vote_named n inc book p name all tid later found =
     let f : TransactionValue → TransactionValue = found_at (member_at n p.server.0) inc p.covers (length p.changes) in
     let s = stood (λ t tx later. IsName t → IsName t) (name_transaction book p.tid) (name_pending n inc book p)
-            (turned_by (λ t tx later. IsName t → IsName t) (λ t tx is. is) p.tid f (name_transaction book p.tid) (name_pending n inc book p) refl (λ tx at is. is)) tid later found in
+    (turned_by (λ t tx later. IsName t → IsName t) (λ t tx is. is) p.tid f (name_transaction book p.tid) (name_pending n inc book p) refl (λ tx at is. is)) tid later found in
     one_named book p.tid name all tid s.0 s.1
 
 votes_named : (n inc : ℕ) (pending : List Pending) → Every (λ (p : Pending). IsName p.tid) pending → (book : BookValue) → AreNamed book → AreNamed (fold (name_pending n inc) book pending)

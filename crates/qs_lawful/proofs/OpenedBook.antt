@@ -1,17 +1,16 @@
 -- What the machine opens with of each transaction that a log names: its outcome, and of each member what stands in doubt in its log.
-use Rattle.std.proofs.Common.{◌≡◌, ◌≢◌, ◌⊎◌, inl, inr, ℕ, ◌+◌, ◌<◌, ◌==◌, ◌&&◌, zero, suc, Bool, true, false, List, [], ◌∷◌, length, map, flat_map, Option, Some, None, fold, refl, sym, ap, subst, ◌∙◌, arith, if◌then◌else◌, is_some, unwrap_or}
+use Rattle.std.proofs.Common.{◌≡◌, ◌≢◌, ◌⊎◌, inl, inr, ℕ, ◌+◌, ◌<◌, ◌==◌, ◌&&◌, zero, suc, Bool, true, false, List, [], ◌∷◌, length, Option, Some, None, fold, refl, sym, ap, subst, ◌∙◌, arith, if◌then◌else◌, is_some, unwrap_or}
 use Rattle.std.proofs.lemmas.Bool.Decides.{nat_tests}
 use Rattle.std.specs.Prelude.{nat_lt, slice_get}
-use Rattle.std.specs.List.{filter, list_any}
+use Rattle.std.specs.List.{list_any}
 use Rattle.std.specs.Map.{lookup}
 use Rattle.std.specs.BTreeMap.{insert_entry, is_at}
 use Rattle.qs_base.specs.Order.{same_tid, tid_cmp}
 use Rattle.qs_base.proofs.Same.{same_tid-self}
-use Rattle.qs_base.specs.declared.identifiers.Member.{Member}
 use Rattle.qs_base.specs.declared.identifiers.Tid.{Tid}
 use Rattle.qs_laws.proofs.Alikes.{at_exact, tid_itself}
-use Rattle.qs_laws.proofs.Maps.{changed_apart, changed_none, lookup_changed, lookup_put, lookup_put_apart}
-use Rattle.qs_machine.specs.Book.{BookValue, find_transaction, with_transaction}
+use Rattle.qs_laws.proofs.Maps.{changed_apart, lookup_changed, lookup_put, lookup_put_apart}
+use Rattle.qs_machine.specs.Book.{BookValue, find_transaction}
 use Rattle.qs_machine.specs.Nodes as machine
 use Rattle.qs_machine.specs.Opening.{has_commit, name_all, name_from, name_pending, name_transaction, opened_transaction}
 use Rattle.qs_machine.specs.Restart.{member_at}
@@ -23,7 +22,6 @@ use Rattle.qs_machine.specs.declared.transaction.Cell.TheVariants as cells
 use Rattle.qs_machine.specs.declared.transaction.Life.{Life}
 use Rattle.qs_machine.specs.declared.transaction.Part.{Part}
 use Rattle.qs_ops.specs.declared.answer.Cause.TheVariants as causes
-use Rattle.qs_lawful.specs.Logs.{Every}
 use Rattle.qs_lawful.proofs.Apart.{Apart, same_or_apart}
 use Rattle.qs_lawful.proofs.Keys.{same_key_or, life_exact, life_itself}
 use Rattle.qs_lawful.proofs.Parts.{LivesApart, put_part_apart}

@@ -1,6 +1,5 @@
 -- Which Commits the machine opens with: those of the log of each node, and of a home in the run none that its own log has not.
-use Rattle.std.proofs.Common.{◌≡◌, ◌⊎◌, inl, inr, ℕ, ◌<◌, ◌+◌, ◌==◌, ◌&&◌, ◌||◌, ◌++◌, not, Bool, true, false, List, [], ◌∷◌, length, map, Option, Some, None, fold, zero, suc, refl, sym, ap, subst, ◌∙◌, arith, nat_lt, if◌then◌else◌, Less, Equal, Greater}
-use Rattle.std.proofs.lemmas.Bool.Decides.{nat_tests}
+use Rattle.std.proofs.Common.{◌≡◌, ◌⊎◌, inl, inr, ℕ, ◌<◌, ◌&&◌, ◌||◌, ◌++◌, not, Bool, true, false, List, [], ◌∷◌, map, Option, Some, None, fold, suc, refl, sym, ap, subst, ◌∙◌, nat_lt, if◌then◌else◌, Less, Equal, Greater}
 use Rattle.std.proofs.lemmas.Option.{slice_get-map}
 use Rattle.std.specs.Prelude.{slice_get}
 use Rattle.std.specs.Option.{option_map}
@@ -8,7 +7,7 @@ use Rattle.std.specs.List.{list_all, list_any}
 use Rattle.std.specs.BTreeSet.{insert_key}
 use Rattle.std.specs.declared.cmp.Ordering.{Ordering}
 use Rattle.qs_base.specs.Order.{same_tid, tid_cmp}
-use Rattle.qs_base.proofs.Same.{same_tid-self, same_tid-true}
+use Rattle.qs_base.proofs.Same.{same_tid-true}
 use Rattle.qs_base.proofs.TidOrder.{tid_exact}
 use Rattle.qs_base.specs.declared.identifiers.NodeNo.{NodeNo}
 use Rattle.qs_base.specs.declared.identifiers.Tid.{Tid}
@@ -19,8 +18,7 @@ use Rattle.qs_machine.specs.declared.opened.Opened.{Opened}
 use Rattle.qs_record.specs.declared.record.Record.{Record}
 use Rattle.qs_record.specs.declared.record.Record.TheVariants as records
 use Rattle.qs_restart.specs.Recovery.{Recovery, found_record, names_transaction, nothing_said, recovery, with_list}
-use Rattle.qs_step.specs.Opening.{recovered_of}
-use Rattle.qs_world.specs.Histories.{opened_from, opened_with}
+use Rattle.qs_world.specs.Histories.{opened_from}
 use Rattle.qs_world.specs.Openings.{IsOpening, is_commit_of, is_committed_at_home, is_earlier, is_list, is_record}
 use Rattle.qs_world.specs.World.{Opening}
 use Rattle.qs_lawful.specs.Logs.{Every}

@@ -1,12 +1,8 @@
 -- The contents of files and audit that a log leaves are those that the machine opens with.
-use Rattle.std.proofs.Common.{◌≡◌, ◌++◌, ℕ, Bool, true, false, List, [], ◌∷◌, map, Option, Some, None, fold, refl, sym, ap, subst, ◌∙◌, if◌then◌else◌, not, Less}
+use Rattle.std.proofs.Common.{◌≡◌, ◌++◌, ℕ, true, List, [], ◌∷◌, map, fold, refl, sym, ap, ◌∙◌, Less}
 use Rattle.std.proofs.lemmas.List.{append-nil}
-use Rattle.std.proofs.lemmas.List.Sums.{fold-append}
 use Rattle.std.specs.Prelude.{⊤}
 use Rattle.qs_base.specs.Order.{bytes_cmp}
-use Rattle.qs_base.specs.declared.identifiers.NodeNo.{NodeNo}
-use Rattle.qs_base.specs.declared.identifiers.ServerNo.{ServerNo}
-use Rattle.qs_base.specs.declared.identifiers.Tid.{Tid}
 use Rattle.qs_ipc.specs.Queue.{is_for}
 use Rattle.qs_machine.specs.Opening.{note_of, put_of}
 use Rattle.qs_ops.specs.Files.{put_file}

@@ -1,12 +1,12 @@
 -- As a world begins the machine has of each transaction at a node what stands in doubt in its log, and nothing else.
-use Rattle.std.proofs.Common.{◌≡◌, ◌⊎◌, inl, inr, ℕ, ◌<◌, ◌+◌, ◌==◌, ◌&&◌, ◌||◌, not, Bool, true, false, List, [], ◌∷◌, length, map, flat_map, Option, Some, None, fold, zero, suc, refl, sym, ap, subst, ◌∙◌, arith, is_some, nat_lt, if◌then◌else◌}
+use Rattle.std.proofs.Common.{◌≡◌, inr, ℕ, ◌<◌, ◌+◌, ◌==◌, ◌&&◌, ◌||◌, not, Bool, true, false, List, [], ◌∷◌, length, map, flat_map, Option, Some, None, fold, zero, suc, refl, sym, ap, subst, ◌∙◌, arith, is_some, nat_lt, if◌then◌else◌}
 use Rattle.std.proofs.lemmas.Bool.Decides.{nat_tests}
 use Rattle.std.proofs.lemmas.Option.{slice_get-map}
 use Rattle.std.specs.Prelude.{slice_get}
 use Rattle.std.specs.Option.{option_map}
 use Rattle.std.specs.List.{filter, list_all, list_any}
 use Rattle.qs_base.specs.Order.{same_tid}
-use Rattle.qs_base.proofs.Same.{same_tid-self, same_tid-true}
+use Rattle.qs_base.proofs.Same.{same_tid-true}
 use Rattle.qs_base.specs.declared.identifiers.NodeNo.{NodeNo}
 use Rattle.qs_base.specs.declared.identifiers.Tid.{Tid}
 use Rattle.qs_laws.specs.Laws.{IsCoherent}
@@ -15,12 +15,11 @@ use Rattle.qs_laws.proofs.Openings.{first_book, opening_names}
 use Rattle.qs_machine.specs.Book.{BookValue, cell_of_transaction, find_transaction}
 use Rattle.qs_machine.specs.Nodes as machine
 use Rattle.qs_machine.specs.Nodes.{is_recoverable}
-use Rattle.qs_machine.specs.Opening.{has_commit, opened_node, opened_transaction, opening}
+use Rattle.qs_machine.specs.Opening.{has_commit, opened_node}
 use Rattle.qs_machine.specs.Restart.{is_among, member_at}
-use Rattle.qs_machine.specs.Transaction.{TransactionValue, found_part, has_note, learnt_abort, no_part, opened_as, part_of, sent_in, sent_on}
+use Rattle.qs_machine.specs.Transaction.{TransactionValue, has_note, no_part, opened_as, part_of, sent_in, sent_on}
 use Rattle.qs_machine.specs.declared.opened.Opened.{Opened}
 use Rattle.qs_machine.specs.declared.opened.Pending.{Pending}
-use Rattle.qs_machine.specs.declared.transaction.Cell.{Cell}
 use Rattle.qs_machine.specs.declared.transaction.Cell.TheVariants as cells
 use Rattle.qs_machine.specs.declared.transaction.Part.{Part}
 use Rattle.qs_ops.specs.Servers.{files_no}
@@ -35,7 +34,7 @@ use Rattle.qs_world.specs.World.{Opening}
 use Rattle.qs_lawful.specs.Doubtful.{doubt_at, last_doubt, member_as, share_as}
 use Rattle.qs_lawful.specs.Holds.{HoldsMember}
 use Rattle.qs_lawful.specs.Lasting.{Lasts}
-use Rattle.qs_lawful.specs.Logged.{HasAborted, HasCommitted, IsMarked, StandsIn}
+use Rattle.qs_lawful.specs.Logged.{HasAborted, HasCommitted, IsMarked}
 use Rattle.qs_lawful.specs.Logs.{Every}
 use Rattle.qs_lawful.specs.Waits.{is_idle}
 use Rattle.qs_lawful.proofs.CoherentOpenings.{each_is, every_of, opens_soundly}

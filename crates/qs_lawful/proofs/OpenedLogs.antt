@@ -1,9 +1,9 @@
 -- What a log says of what it names, where its records are such as a run may begin with: votes are of servers that keep them, with their own changes,
 -- and a vote that is marked as committed has its Commit with a list.
-use Rattle.std.proofs.Common.{◌≡◌, ◌⊎◌, inl, inr, ℕ, ◌==◌, ◌&&◌, ◌||◌, ◌++◌, not, Bool, true, false, List, [], ◌∷◌, map, flat_map, Option, Some, None, fold, refl, sym, ap, subst, ◌∙◌, arith, if◌then◌else◌}
+use Rattle.std.proofs.Common.{◌≡◌, ℕ, ◌==◌, ◌&&◌, ◌||◌, ◌++◌, not, Bool, true, false, List, [], ◌∷◌, flat_map, fold, refl, sym, subst, arith, if◌then◌else◌}
 use Rattle.std.proofs.lemmas.Bool.Decides.{nat_tests}
 use Rattle.std.specs.Prelude.{⊤}
-use Rattle.std.specs.List.{filter, list_all, list_any}
+use Rattle.std.specs.List.{filter, list_any}
 use Rattle.qs_base.specs.Order.{same_tid}
 use Rattle.qs_base.proofs.Same.{same_tid-self, same_tid-true}
 use Rattle.qs_base.specs.declared.identifiers.NodeNo.{NodeNo}
@@ -11,13 +11,11 @@ use Rattle.qs_base.specs.declared.identifiers.ServerNo.{ServerNo}
 use Rattle.qs_base.specs.declared.identifiers.Tid.{Tid}
 use Rattle.qs_ipc.specs.Queue.{is_for}
 use Rattle.qs_machine.specs.Nodes.{is_recoverable}
-use Rattle.qs_machine.specs.Restart.{is_among}
 use Rattle.qs_ops.specs.declared.operation.Op.{Op}
 use Rattle.qs_record.specs.declared.record.Record.{Record}
 use Rattle.qs_record.specs.declared.record.Record.TheVariants as records
-use Rattle.qs_restart.specs.Recovery.{Prepared, Recovery, Untold, changes_at, ended, files_no, audit_no, found_commit, found_prepare, found_record, is_of, is_untold_of, is_vote_of, mark_committed, names_transaction, nothing_said, recovery, with_list}
+use Rattle.qs_restart.specs.Recovery.{Prepared, Recovery, Untold, changes_at, ended, files_no, audit_no, found_commit, found_record, is_of, is_untold_of, is_vote_of, mark_committed, names_transaction, nothing_said, recovery, with_list}
 use Rattle.qs_lawful.specs.Logs.{Every}
-use Rattle.qs_lawful.proofs.LogFrames.{every_on}
 use Rattle.qs_lawful.proofs.LogRecords.{every_append, every_filter, every_map}
 use Rattle.qs_lawful.proofs.OpenedContents.{AreFor}
 

@@ -1,5 +1,5 @@
 -- As a world begins the machine has on record what stands in doubt in each log, and of contents and changes what the log says.
-use Rattle.std.proofs.Common.{◌≡◌, ◌⊎◌, inl, inr, ℕ, ◌<◌, ◌==◌, ◌&&◌, ◌||◌, ◌++◌, not, Bool, true, false, List, [], ◌∷◌, length, map, flat_map, Option, Some, None, fold, refl, sym, ap, subst, ◌∙◌, arith, is_some, nat_le, if◌then◌else◌, Equal}
+use Rattle.std.proofs.Common.{◌≡◌, ◌⊎◌, inl, inr, ℕ, ◌==◌, ◌&&◌, ◌||◌, not, Bool, true, false, List, [], ◌∷◌, length, map, Option, Some, fold, refl, sym, ap, subst, ◌∙◌, arith, if◌then◌else◌}
 use Rattle.std.proofs.lemmas.Bool.Decides.{nat_tests}
 use Rattle.std.specs.Option.{option_map}
 use Rattle.std.specs.List.{filter, list_any}
@@ -7,43 +7,22 @@ use Rattle.std.specs.Map.{lookup}
 use Rattle.std.specs.BTreeMap.{insert_entry, is_at}
 use Rattle.qs_base.specs.Order.{same_tid}
 use Rattle.qs_base.proofs.Same.{same_tid-self, same_tid-true}
-use Rattle.qs_base.specs.declared.identifiers.NodeNo.{NodeNo}
 use Rattle.qs_base.specs.declared.identifiers.Tid.{Tid}
 use Rattle.qs_laws.proofs.Alikes.{voter_equal, voter_exact}
 use Rattle.qs_laws.proofs.Maps.{lookup_put, lookup_put_apart}
-use Rattle.qs_laws.proofs.Reopens.{restarted_is}
 use Rattle.qs_laws.proofs.Rising.{voter_total}
 use Rattle.std.proofs.lemmas.Cmp.{tied_itself}
-use Rattle.qs_machine.specs.Book.{BookValue, cell_of_transaction, find_transaction}
-use Rattle.qs_machine.specs.Nodes as machine
-use Rattle.qs_machine.specs.Nodes.{record_of, voter, voter_cmp}
-use Rattle.qs_machine.specs.Opening.{keep_pending, note_of, put_of, put_record}
-use Rattle.qs_machine.specs.Restart.{is_among, is_found_as, is_on_record, is_same_vote, member_at, votes_once}
-use Rattle.qs_machine.specs.Transaction.{TransactionValue}
+use Rattle.qs_machine.specs.Nodes.{voter, voter_cmp}
+use Rattle.qs_machine.specs.Opening.{put_record}
+use Rattle.qs_machine.specs.Restart.{is_same_vote, votes_once}
 use Rattle.qs_machine.specs.declared.opened.Pending.{Pending}
 use Rattle.qs_machine.specs.declared.state.OnRecord.{OnRecord}
 use Rattle.qs_machine.specs.declared.state.Voter.{Voter}
-use Rattle.qs_machine.specs.declared.transaction.Cell.TheVariants as cells
-use Rattle.qs_ops.specs.Servers.{audit_no, files_no}
-use Rattle.qs_ops.specs.Table.{no_table}
-use Rattle.qs_restart.specs.Recovery.{Prepared, Recovery, is_in_doubt, names_transaction, open_vote, prepare_of, recovery}
-use Rattle.qs_world.specs.Histories.{pending_of}
+use Rattle.qs_restart.specs.Recovery.{Prepared, is_in_doubt, names_transaction, open_vote}
 use Rattle.qs_world.specs.Moves as moves
-use Rattle.qs_world.specs.Openings.{IsOpening, is_doubt}
-use Rattle.qs_world.specs.World.{Opening}
-use Rattle.qs_lawful.specs.Doubtful.{doubt_at, last_doubt}
-use Rattle.qs_lawful.specs.Logged.{HasCommitted, HoldsLogged, IsCommitMade, IsMarked, IsRecordSafe, StandsIn}
-use Rattle.qs_lawful.specs.Logs.{Every, IsVoteLogged, found_of, found_votes}
-use Rattle.qs_lawful.specs.Said.{HoldsSaid, IsApart, IsAsRecorded, IsRecorded, IsUndone}
-use Rattle.qs_lawful.proofs.FoundMembers.{every_two}
-use Rattle.qs_lawful.proofs.FoundOnce.{found_once}
-use Rattle.qs_lawful.proofs.LogFrames.{every_on}
-use Rattle.qs_lawful.proofs.LogRecords.{is_found, is_found_in, of_votes}
+use Rattle.qs_lawful.specs.Doubtful.{last_doubt}
+use Rattle.qs_lawful.specs.Logs.{Every, found_of}
 use Rattle.qs_lawful.proofs.OpenedBook.{is_pending_of, last_pending}
-use Rattle.qs_lawful.proofs.OpenedCommits.{put_among}
-use Rattle.qs_lawful.proofs.OpenedContents.{audit_opened, files_opened}
-use Rattle.qs_lawful.proofs.OpenedFresh.{aborted, as_pending, book, done_committed, doubtful, far_of, here, last_as, log, marked, one, says, stands, state, state_there}
-use Rattle.qs_lawful.proofs.Reopened.{doubt_is}
 
 and_both : (a b : Bool) → (a && b) ≡ true → (a ≡ true) × (b ≡ true)
 and_both true b e = (refl, e)

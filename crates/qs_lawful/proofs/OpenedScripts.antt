@@ -1,5 +1,5 @@
 -- As a run begins the machine has the scripts of all clients, and nothing is on its way.
-use Rattle.std.proofs.Common.{◌≡◌, ℕ, ◌<◌, ◌+◌, ◌-◌, ◌&&◌, ◌++◌, zero, suc, replicate, Bool, true, false, List, [], ◌∷◌, Option, Some, None, fold, refl, sym, ap, subst, ◌∙◌, arith, nat_lt, drop}
+use Rattle.std.proofs.Common.{◌≡◌, ℕ, ◌<◌, ◌+◌, ◌-◌, ◌&&◌, zero, suc, replicate, Bool, true, false, List, [], ◌∷◌, Option, Some, None, fold, refl, sym, ap, subst, ◌∙◌, arith, nat_lt}
 use Rattle.std.proofs.lemmas.Bool.Decides.{nat_tests}
 use Rattle.std.specs.Prelude.{slice_get}
 use Rattle.std.specs.BTreeMap.{insert_entry}
@@ -14,10 +14,10 @@ use Rattle.qs_machine.specs.declared.opened.Pending.{Pending}
 use Rattle.qs_machine.specs.declared.state.Owner.{Owner}
 use Rattle.qs_world.specs.Histories.{book_of, opened_from}
 use Rattle.qs_world.specs.Moves.{client_count}
-use Rattle.qs_world.specs.Openings.{IsOpening, are_rising, is_line, is_script, labels_begun}
+use Rattle.qs_world.specs.Openings.{IsOpening, are_rising, is_script, labels_begun}
 use Rattle.qs_world.specs.World.{Opening, Parcel, start}
 use Rattle.qs_lawful.specs.Logs.{Every}
-use Rattle.qs_lawful.specs.Parcels.{HoldsWay, HoldsWays, on_its_way, pending_from}
+use Rattle.qs_lawful.specs.Parcels.{pending_from}
 use Rattle.qs_lawful.specs.Scripts.{AreBehind, HoldsClient, HoldsScripts, IsFresh}
 use Rattle.qs_lawful.specs.WayLaws.{EachOpensScripts, EachOpensWays}
 use Rattle.qs_lawful.proofs.CoherentOpenings.{each_is}

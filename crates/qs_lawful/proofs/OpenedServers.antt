@@ -1,6 +1,5 @@
 -- As a world begins the machine has at each server of a node what the node has there.
-use Rattle.std.proofs.Common.{◌≡◌, ◌≢◌, inl, inr, ℕ, ◌<◌, ◌==◌, ◌&&◌, not, Bool, true, false, List, [], ◌∷◌, map, flat_map, Option, Some, None, fold, refl, sym, ap, subst, ◌∙◌, if◌then◌else◌, is_some}
-use Rattle.std.specs.Global.{Global}
+use Rattle.std.proofs.Common.{◌≡◌, ℕ, ◌<◌, ◌==◌, ◌&&◌, not, Bool, true, false, List, [], ◌∷◌, map, flat_map, Option, Some, None, fold, refl, sym, ap, subst, ◌∙◌, if◌then◌else◌, is_some}
 use Rattle.std.specs.List.{filter}
 use Rattle.std.specs.Map.{lookup}
 use Rattle.std.specs.BTreeMap.{is_at}
@@ -11,16 +10,13 @@ use Rattle.qs_base.specs.declared.identifiers.Tid.{Tid}
 use Rattle.qs_kept.specs.Keeping.{no_kept}
 use Rattle.qs_laws.proofs.Rising.{IsRising, put_rises}
 use Rattle.qs_machine.specs.Book.{BookValue, find_transaction}
-use Rattle.qs_machine.specs.Nodes as machine
 use Rattle.qs_machine.specs.Opening.{keep_pending, note_of, put_of}
-use Rattle.qs_machine.specs.Restart.{member_at}
 use Rattle.qs_machine.specs.Transaction.{TransactionValue}
 use Rattle.qs_ops.specs.Servers.{audit_no, files_no, names_no}
 use Rattle.qs_ops.specs.Server.{ServerValue}
 use Rattle.qs_ops.specs.Table.{TableValue, applied, kept, no_table}
 use Rattle.qs_ops.specs.declared.file.File.{File}
 use Rattle.qs_ops.specs.declared.operation.Op.{Op}
-use Rattle.qs_ops.specs.declared.share.Kept.{Kept}
 use Rattle.qs_ops.specs.declared.share.Share.{Share}
 use Rattle.qs_restart.specs.Recovery.{Prepared, is_in_doubt, prepare_of}
 use Rattle.qs_step.specs.Opening.{opened_servers, recovered_as}

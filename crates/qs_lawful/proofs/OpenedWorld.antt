@@ -1,14 +1,12 @@
 -- As a world begins the machine has all of it: each node that begins over its log, with what that says, and that nothing is kept for clients.
-use Rattle.std.proofs.Common.{◌≡◌, ◌⊎◌, inl, inr, ℕ, ◌<◌, ◌+◌, ◌==◌, ◌&&◌, ◌||◌, ◌^◌, ◌++◌, not, Bool, true, false, List, [], ◌∷◌, length, map, fold, Option, Some, None, zero, suc, refl, sym, ap, subst, ◌∙◌, arith, is_some, nat_lt, nat_le, if◌then◌else◌}
+use Rattle.std.proofs.Common.{◌≡◌, inl, ℕ, ◌<◌, ◌+◌, ◌==◌, ◌&&◌, ◌||◌, ◌^◌, ◌++◌, not, Bool, true, false, List, [], ◌∷◌, length, map, fold, Option, Some, None, zero, suc, refl, sym, ap, subst, ◌∙◌, arith, is_some, nat_lt, nat_le, if◌then◌else◌}
 use Rattle.std.proofs.lemmas.Bool.Decides.{nat_tests}
 use Rattle.std.proofs.lemmas.List.{append-nil}
 use Rattle.std.specs.Prelude.{slice_get}
 use Rattle.std.specs.BTreeMap.{insert_entry}
 use Rattle.qs_base.specs.Order.{tid_cmp}
-use Rattle.qs_base.specs.declared.identifiers.NodeNo.{NodeNo}
 use Rattle.qs_base.specs.declared.identifiers.Tid.{Tid}
 use Rattle.qs_kept.specs.Keeping.{no_kept}
-use Rattle.qs_laws.proofs.Faces.{face}
 use Rattle.qs_laws.proofs.Openings.{first_book, opening_names}
 use Rattle.qs_machine.specs.Book.{BookValue, find_transaction}
 use Rattle.qs_machine.specs.Nodes as machine
@@ -16,26 +14,25 @@ use Rattle.qs_machine.specs.Opening.{name_all, name_from, name_pending, name_tra
 use Rattle.qs_machine.specs.Transaction.{TransactionValue}
 use Rattle.qs_machine.specs.declared.opened.Opened.{Opened}
 use Rattle.qs_machine.specs.declared.opened.Pending.{Pending}
-use Rattle.qs_record.specs.declared.record.Record.{Record}
 use Rattle.qs_restart.specs.Recovery.{Recovery, in_doubt, recovery, untold}
 use Rattle.qs_step.specs.Opening.{new_manager}
 use Rattle.qs_step.specs.State.{NodeValue}
 use Rattle.qs_step.specs.declared.setting.Setting.{Setting}
 use Rattle.qs_tm.specs.Manager as tm
 use Rattle.qs_tm.specs.declared.participant.Participant.{Participant}
-use Rattle.qs_world.specs.Histories.{book_of, opened_from}
+use Rattle.qs_world.specs.Histories.{opened_from}
 use Rattle.qs_world.specs.Moves.{is_in_order}
 use Rattle.qs_world.specs.Openings.{IsOpening, is_setting}
-use Rattle.qs_world.specs.World.{Host, Opening, World, opened_host, start}
+use Rattle.qs_world.specs.World.{Host, Opening, opened_host, start}
 use Rattle.qs_lawful.specs.Face.{part_or_new}
 use Rattle.qs_lawful.specs.Holds.{Holds, HoldsClients, HoldsNode, is_next}
 use Rattle.qs_lawful.specs.Logged.{HoldsHost, HoldsLogged, KnowsLog}
 use Rattle.qs_lawful.specs.Said.{HoldsSaid}
-use Rattle.qs_lawful.specs.Worlds.{HoldsKept, HoldsNodeAt, HoldsNodeOf, HoldsUp, HoldsWorld}
+use Rattle.qs_lawful.specs.Worlds.{HoldsKept, HoldsNodeOf, HoldsUp, HoldsWorld}
 use Rattle.qs_lawful.proofs.CoherentOpenings.{each_is}
 use Rattle.qs_lawful.proofs.FreshFace.{at_held, known_as, waits_at}
 use Rattle.qs_lawful.proofs.FreshLog.{SameNumbers, all_taken, knows}
-use Rattle.qs_lawful.proofs.OpenedFresh.{book, coherent, here, lasts, log, one, opened, state, state_there}
+use Rattle.qs_lawful.proofs.OpenedFresh.{book, coherent, lasts, log, opened, state, state_there}
 use Rattle.qs_lawful.proofs.OpenedSaid.{log_held, said_held}
 use Rattle.qs_lawful.proofs.OpenedServers.{begins, fresh_own, no_loans, servers_held}
 

@@ -1,13 +1,11 @@
 -- The entries of a step leave the script of a client that none of them answers, where none begins under a label of it.
-use Rattle.std.proofs.Common.{◌≡◌, ◌==◌, ◌-◌, ℕ, Bool, true, false, List, [], ◌∷◌, ◌++◌, fold, Option, Some, None, is_none, refl, sym, ap, subst, ◌∙◌, if◌then◌else◌}
+use Rattle.std.proofs.Common.{◌≡◌, ◌-◌, ℕ, Bool, true, false, List, [], ◌∷◌, ◌++◌, fold, Option, Some, None, is_none, refl, sym, ap, subst, ◌∙◌, if◌then◌else◌}
 use Rattle.std.proofs.lemmas.Map.Lookups.{exact_bytes}
 use Rattle.std.specs.Prelude.{slice_get}
 use Rattle.std.specs.Map.{lookup}
 use Rattle.std.specs.BTreeMap.{is_at}
 use Rattle.qs_base.specs.Order.{bytes_cmp}
 use Rattle.qs_base.specs.declared.identifiers.Member.{Member}
-use Rattle.qs_base.specs.declared.identifiers.NodeNo.{NodeNo}
-use Rattle.qs_base.specs.declared.identifiers.Outcome.{Outcome}
 use Rattle.qs_base.specs.declared.identifiers.Tid.{Tid}
 use Rattle.qs_journal.specs.declared.entry.Act.{Act}
 use Rattle.qs_journal.specs.declared.entry.Act.TheVariants as acts
@@ -17,7 +15,7 @@ use Rattle.qs_laws.proofs.Maps.{lookup_put_apart}
 use Rattle.qs_machine.specs.Book.{BookValue, begin, crosses, find_transaction, give_back_from, hear, inc_at, loan_to, waiting_of, with_crossing, with_owner, with_transaction, with_waiting}
 use Rattle.qs_ops.specs.Servers.{is_client_no}
 use Rattle.qs_machine.specs.Clauses.{borrower_at, link_to}
-use Rattle.qs_machine.specs.Lawful.{book_after, effect, effect_act}
+use Rattle.qs_machine.specs.Lawful.{effect, effect_act}
 use Rattle.qs_machine.specs.Transaction.{issued}
 use Rattle.qs_machine.specs.declared.state.Asking.{Asking}
 use Rattle.qs_machine.specs.declared.state.Owner.{Owner}

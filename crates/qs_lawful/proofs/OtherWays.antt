@@ -1,5 +1,5 @@
 -- The entries of one node leave what two others have on its way between them.
-use Rattle.std.proofs.Common.{◌≡◌, ◌⊎◌, inl, inr, ℕ, ◌==◌, ◌++◌, ◌&&◌, zero, suc, Bool, true, false, List, [], ◌∷◌, drop, length, map, Option, Some, None, refl, sym, ap, subst, ◌∙◌, arith, is_some, if◌then◌else◌}
+use Rattle.std.proofs.Common.{◌≡◌, inl, inr, ℕ, ◌==◌, ◌++◌, ◌&&◌, zero, suc, Bool, true, false, List, [], ◌∷◌, drop, length, map, Option, Some, None, refl, sym, ap, subst, ◌∙◌, arith, is_some, if◌then◌else◌}
 use Rattle.std.proofs.lemmas.Bool.Decides.{nat_tests}
 use Rattle.std.specs.List.{filter}
 use Rattle.qs_base.specs.Order.{same_tid}
@@ -22,8 +22,7 @@ use Rattle.qs_lawful.specs.Face.{at_server}
 use Rattle.qs_lawful.specs.Logs.{Every}
 use Rattle.qs_lawful.specs.Parcels.{HoldsChannels, IsParcel, IsSaid, is_asking_for, on_its_way, ops_of, pending, pending_from, way_between}
 use Rattle.qs_lawful.specs.Waits.{IsWithin, op_in, standing_ops}
-use Rattle.qs_lawful.proofs.AsideBook.{Goes, goes_on, new_begins}
-use Rattle.qs_lawful.proofs.EntryTurns.{Begins}
+use Rattle.qs_lawful.proofs.AsideBook.{Goes, goes_on}
 use Rattle.qs_lawful.proofs.LastsEntry.{lasts_on}
 use Rattle.qs_lawful.proofs.LastsWell.{LastsWell}
 use Rattle.qs_lawful.proofs.Turning.{some_of}

@@ -1,5 +1,5 @@
 -- A node stopped at an earlier place of the history, whatever was entered since.
-use Rattle.std.proofs.Common.{◌≡◌, ◌⊎◌, inl, inr, ℕ, ◌≤◌, ◌+◌, ◌==◌, ◌&&◌, Bool, true, false, List, [], ◌∷◌, Option, Some, None, fold, refl, sym, ap, subst, ◌∙◌, arith, if◌then◌else◌}
+use Rattle.std.proofs.Common.{◌≡◌, ◌⊎◌, inl, inr, ℕ, ◌≤◌, ◌==◌, ◌&&◌, Bool, true, false, List, [], ◌∷◌, Option, Some, None, fold, refl, sym, ap, subst, ◌∙◌, arith, if◌then◌else◌}
 use Rattle.std.specs.Prelude.{slice_get, slice_set}
 use Rattle.qs_base.specs.declared.identifiers.Member.{Member}
 use Rattle.qs_base.specs.declared.identifiers.Outcome.{Outcome}
@@ -16,7 +16,7 @@ use Rattle.qs_machine.specs.Lawful.{effect_act}
 use Rattle.qs_machine.specs.Nodes as machine
 use Rattle.qs_machine.specs.Nodes.{crossed_names, crossed_node, crossed_server, crossed_table, with_table}
 use Rattle.qs_machine.specs.Restart.{new_votes, put_new_votes, reopened, restarted_node, with_vote, with_votes, without_records}
-use Rattle.qs_machine.specs.Transaction.{TransactionValue, is_crossed, issued, requests_at, standing_request}
+use Rattle.qs_machine.specs.Transaction.{TransactionValue, is_crossed, issued, standing_request}
 use Rattle.qs_machine.specs.declared.state.OnRecord.{OnRecord}
 use Rattle.qs_machine.specs.declared.state.Owner.{Owner}
 use Rattle.qs_machine.specs.declared.state.Voter.{Voter}

@@ -1,5 +1,5 @@
 -- The machine has the scripts of all clients after a restart: owners have their lines on, no label is new, and the node has nothing in hand.
-use Rattle.std.proofs.Common.{◌≡◌, ℕ, ◌==◌, ◌&&◌, Bool, true, false, List, [], ◌∷◌, fold, Option, Some, None, is_some, refl, sym, ap, subst, ◌∙◌, nat_lt, if◌then◌else◌}
+use Rattle.std.proofs.Common.{◌≡◌, ℕ, ◌==◌, Bool, true, false, List, [], ◌∷◌, fold, Some, None, is_some, refl, sym, subst, ◌∙◌, if◌then◌else◌}
 use Rattle.std.specs.Prelude.{slice_get}
 use Rattle.std.specs.Map.{lookup}
 use Rattle.std.specs.BTreeMap.{is_at}
@@ -7,7 +7,7 @@ use Rattle.qs_base.specs.declared.identifiers.Outcome.TheVariants as outcomes
 use Rattle.qs_base.specs.declared.identifiers.Tid.{Tid}
 use Rattle.qs_journal.specs.declared.entry.Found.{Found}
 use Rattle.qs_machine.specs.Book.{BookValue, decide, find_transaction, inc_at, with_transaction}
-use Rattle.qs_machine.specs.Lawful.{book_after, effect}
+use Rattle.qs_machine.specs.Lawful.{book_after}
 use Rattle.qs_machine.specs.Restart.{abort_begun, begun_at, begun_tid, commit_found, count_of, is_among, is_open_here, learn_found, member_at, put_new_votes, record_at, restart, up_to, vote_found}
 use Rattle.qs_machine.specs.Transaction.{found_at, with_learnt}
 use Rattle.qs_machine.specs.declared.state.Owner.{Owner}
@@ -16,15 +16,11 @@ use Rattle.qs_ops.specs.declared.answer.Cause.TheVariants as causes
 use Rattle.qs_restart.specs.Recovery.{recovery}
 use Rattle.qs_step.specs.Opening.{recovered_of}
 use Rattle.qs_step.specs.State.{client_cmp}
-use Rattle.qs_step.specs.declared.state.OpenCommand.{OpenCommand}
-use Rattle.qs_world.specs.Moves.{Rise, may_move, moved, risen_host}
-use Rattle.qs_world.specs.World.{Opening, World}
-use Rattle.qs_lawful.specs.Lasting.{Lasts}
+use Rattle.qs_world.specs.Moves.{Rise, moved, risen_host}
 use Rattle.qs_lawful.specs.Logs.{found_votes}
 use Rattle.qs_lawful.specs.Scripts.{IsInHand}
 use Rattle.qs_lawful.specs.WayLaws.{EachRiseKeepsScripts}
 use Rattle.qs_lawful.specs.WorldLaws.{rise_entry}
-use Rattle.qs_lawful.specs.Worlds.{HoldsWorld}
 use Rattle.qs_lawful.proofs.OthersRise.{lines}
 use Rattle.qs_lawful.proofs.RisesWell.{at, log, r, same_book, setting}
 use Rattle.qs_lawful.proofs.ScriptsLike.{HoldsHand, KeepsLines, scripts_like}

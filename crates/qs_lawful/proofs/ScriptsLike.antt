@@ -1,22 +1,19 @@
 -- The machine has the scripts of all clients after a crash, a restart and a first meeting: lines and labels are left, and a node that restarts
 -- has nothing in hand.
-use Rattle.std.proofs.Common.{◌≡◌, ℕ, ◌==◌, ◌++◌, zero, suc, Bool, true, false, List, [], ◌∷◌, Option, Some, None, refl, sym, ap, subst, ◌∙◌, nat_lt, if◌then◌else◌}
+use Rattle.std.proofs.Common.{◌≡◌, ℕ, ◌==◌, zero, suc, Bool, true, false, List, [], ◌∷◌, Some, refl, sym, ap, subst, ◌∙◌, nat_lt, if◌then◌else◌}
 use Rattle.std.specs.Prelude.{slice_get}
 use Rattle.std.specs.Map.{lookup}
 use Rattle.std.specs.BTreeMap.{is_at}
-use Rattle.qs_base.specs.declared.identifiers.Tid.{Tid}
-use Rattle.qs_journal.specs.declared.entry.CrashCause.{CrashCause}
 use Rattle.qs_journal.specs.declared.script_line.ScriptLine.{ScriptLine}
 use Rattle.qs_machine.specs.Book.{BookValue}
 use Rattle.qs_machine.specs.Clauses.{is_fresh}
 use Rattle.qs_machine.specs.Lawful.{book_after}
 use Rattle.qs_machine.specs.declared.state.Owner.{Owner}
-use Rattle.qs_record.specs.declared.record.Record.{Record}
 use Rattle.qs_step.specs.State.{client_cmp}
 use Rattle.qs_step.specs.declared.state.OpenCommand.{OpenCommand}
 use Rattle.qs_world.specs.Moves.{Meet, client_count, moved, stopped, stopped_host}
 use Rattle.qs_world.specs.Openings.{all_below, are_apart, are_rising, labels_begun}
-use Rattle.qs_world.specs.World.{Client, Host, Opening, World}
+use Rattle.qs_world.specs.World.{Client, Opening, World}
 use Rattle.qs_lawful.specs.Logs.{Every}
 use Rattle.qs_lawful.specs.Scripts.{AreBehind, HoldsClient, HoldsScripts, IsFresh, IsInHand, IsRest}
 use Rattle.qs_lawful.specs.WayLaws.{EachCrashKeepsScripts, EachMeetKeepsScripts, crash_entry}

@@ -1,10 +1,9 @@
 -- Channels are sound as a run begins, and after each thing that may happen to them.
-use Rattle.std.proofs.Common.{◌≡◌, ℕ, ◌==◌, ◌<◌, ◌≤◌, ◌+◌, ◌++◌, zero, suc, Bool, true, false, List, [], ◌∷◌, length, refl, sym, ap, subst, ◌∙◌, arith}
-use Rattle.std.specs.Prelude.{if◌then◌else◌}
+use Rattle.std.proofs.Common.{◌≡◌, ℕ, ◌<◌, ◌≤◌, ◌+◌, ◌++◌, suc, List, [], ◌∷◌, length, refl, sym, ap, subst, ◌∙◌, arith}
 use Rattle.qs_channels.specs.Channels as channel
 use Rattle.qs_channels.specs.Channels.{Channels, with_at4}
 use Rattle.qs_channels.specs.Network.{with_at, with_at2}
-use Rattle.qs_world.specs.World.{Opening, Parcel, start}
+use Rattle.qs_world.specs.World.{Parcel}
 use Rattle.qs_lawful.specs.WayLaws.{AreSound, EachMovesSoundly, EachOpensSound}
 use Rattle.qs_lawful.proofs.ParcelsKept.{at_one, at_two}
 

@@ -1,17 +1,16 @@
 -- The channels of a world are sound after each of its moves.
-use Rattle.std.proofs.Common.{◌≡◌, ℕ, ◌==◌, ◌<◌, ◌≤◌, ◌+◌, ◌++◌, ◌&&◌, not, Bool, true, false, List, [], ◌∷◌, fold, length, Option, Some, None, refl, sym, ap, subst, ◌∙◌, arith, is_some, nat_le, nat_lt, if◌then◌else◌}
+use Rattle.std.proofs.Common.{◌≡◌, ℕ, ◌==◌, ◌<◌, ◌≤◌, ◌+◌, ◌++◌, ◌&&◌, not, Bool, true, false, List, [], ◌∷◌, length, Option, Some, None, refl, ap, arith, is_some, nat_le, nat_lt, if◌then◌else◌}
 use Rattle.std.proofs.lemmas.Bool.Decides.{nat_tests}
 use Rattle.std.proofs.lemmas.Option.{slice_get_within}
 use Rattle.std.specs.Prelude.{slice_get}
 use Rattle.qs_channels.specs.Channels as channel
 use Rattle.qs_channels.specs.Channels.{Channels}
 use Rattle.qs_channels.specs.Network.{with_at, with_at2}
-use Rattle.qs_step.specs.Step.{after_step, effects_of}
-use Rattle.qs_step.specs.declared.event.Effects.{Effects}
+use Rattle.qs_step.specs.Step.{effects_of}
 use Rattle.qs_step.specs.declared.event.Event.{Event}
 use Rattle.qs_step.specs.declared.event.Event.TheVariants as events
 use Rattle.qs_step.specs.declared.event.Sending.{Sending}
-use Rattle.qs_world.specs.Moves.{Commanded, Clock, Cut, Handed, Meet, Move, Noticed, Queues, Rise, Source, Step, Stop, cut_with, event_of, hand_next, is_before, is_in_order, is_later, may_move, moved, node_no, step_with, taken_by}
+use Rattle.qs_world.specs.Moves.{Commanded, Clock, Cut, Handed, Meet, Noticed, Queues, Rise, Source, Step, Stop, cut_with, event_of, hand_next, is_before, is_in_order, is_later, node_no, step_with, taken_by}
 use Rattle.qs_world.specs.Posting.{next_parcel, post_all, post_next}
 use Rattle.qs_world.specs.World.{Parcel, World, known_of}
 use Rattle.qs_lawful.specs.WayLaws.{AreSound, EachWorldMovesSoundly}

@@ -1,11 +1,11 @@
 -- In the world a whole step of one node leaves all that is held of each other.
-use Rattle.std.proofs.Common.{◌≡◌, ℕ, ◌==◌, ◌++◌, Bool, false, sym, subst}
+use Rattle.std.proofs.Common.{◌≡◌, ℕ, ◌++◌, Bool, sym, subst}
 use Rattle.qs_machine.specs.Book.{BookValue}
 use Rattle.qs_machine.specs.Lawful.{book_after}
 use Rattle.qs_machine.specs.Opening.{opening}
 use Rattle.qs_world.specs.Moves.{Step, moved}
 use Rattle.qs_world.specs.World.{Host, World, inc_of}
-use Rattle.qs_lawful.specs.AsideLaws.{EachStepKeepsOtherNodes, HoldsAside}
+use Rattle.qs_lawful.specs.AsideLaws.{EachStepKeepsOtherNodes}
 use Rattle.qs_lawful.specs.Worlds.{HoldsNodeAt, HoldsNodeOf}
 use Rattle.qs_lawful.proofs.AsideWhole.{keeps_others}
 use Rattle.qs_lawful.proofs.StepWays.{KeepsWay, step_keeps}

@@ -1,32 +1,28 @@
 -- A whole step of one node leaves what two others have on its way between them.
-use Rattle.std.proofs.Common.{◌≡◌, ℕ, ◌+◌, ◌-◌, ◌==◌, ◌++◌, Bool, true, false, List, [], ◌∷◌, drop, length, fold, Option, Some, None, refl, sym, ap, subst, ◌∙◌, if◌then◌else◌}
+use Rattle.std.proofs.Common.{◌≡◌, ℕ, ◌+◌, ◌-◌, ◌==◌, ◌++◌, Bool, true, false, List, [], ◌∷◌, drop, length, Option, Some, None, refl, sym, ap, subst, ◌∙◌, if◌then◌else◌}
 use Rattle.qs_base.specs.declared.identifiers.ServerNo.{ServerNo}
 use Rattle.qs_base.specs.declared.identifiers.Tid.{Tid}
 use Rattle.qs_channels.specs.Channels as channel
 use Rattle.qs_channels.specs.Channels.{Channels}
-use Rattle.qs_journal.specs.declared.entry.Entry.{Entry}
 use Rattle.qs_laws.proofs.Steps.{after_both, lawful_front, lawful_rest}
 use Rattle.qs_machine.specs.Book.{BookValue, find_transaction}
 use Rattle.qs_machine.specs.Lawful.{book_after}
 use Rattle.qs_machine.specs.Opening.{opening}
 use Rattle.qs_machine.specs.Transaction.{TransactionValue}
-use Rattle.qs_ipc.specs.declared.delivery.Delivery.{Delivery}
-use Rattle.qs_ops.specs.declared.operation.Op.{Op}
 use Rattle.qs_step.specs.State.{NodeValue}
 use Rattle.qs_step.specs.Step.{after_step, effects_of}
 use Rattle.qs_step.specs.declared.event.Effects.{Effects}
 use Rattle.qs_step.specs.declared.event.Event.{Event}
 use Rattle.qs_step.specs.declared.event.Sending.{Sending}
-use Rattle.qs_world.specs.Moves.{Commanded, Clock, Handed, Noticed, Queues, Source, Step, event_of, hand_next, moved, step_with, stepped, stepped_host, taken_by}
+use Rattle.qs_world.specs.Moves.{Commanded, Clock, Handed, Noticed, Queues, Source, Step, event_of, hand_next, moved, step_with, stepped, taken_by}
 use Rattle.qs_world.specs.Posting.{next_parcel, post_all, post_next}
 use Rattle.qs_world.specs.World.{Parcel, World}
 use Rattle.qs_lawful.specs.Face.{face_of, waiting_at}
-use Rattle.qs_lawful.specs.Holds.{Holds, HoldsAt}
-use Rattle.qs_lawful.specs.Parcels.{HoldsChannels, HoldsWay, on_its_way, ops_of, pending_from, way_between}
-use Rattle.qs_lawful.specs.Waits.{IsWithin, standing_ops, waiting_ops}
+use Rattle.qs_lawful.specs.Holds.{HoldsAt}
+use Rattle.qs_lawful.specs.Parcels.{on_its_way, ops_of, pending_from, way_between}
+use Rattle.qs_lawful.specs.Waits.{waiting_ops}
 use Rattle.qs_lawful.specs.WayLaws.{EachStepKeepsOtherWays}
 use Rattle.qs_lawful.proofs.LastsOpening.{lasts_first, lasts_ran}
-use Rattle.qs_lawful.proofs.LastsWell.{LastsWell}
 use Rattle.qs_lawful.proofs.NumberedLogs.{opening_named}
 use Rattle.qs_lawful.proofs.OtherWays.{HoldsOps, entries_leave, none_of, on_way_so}
 

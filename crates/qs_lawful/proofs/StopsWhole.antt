@@ -15,7 +15,7 @@ use Rattle.qs_restart.specs.Recovery.{recovery}
 use Rattle.qs_step.specs.Step.{effects_of}
 use Rattle.qs_step.specs.declared.event.Effects.{Effects}
 use Rattle.qs_step.specs.declared.event.Event.{Event}
-use Rattle.qs_world.specs.Moves.{Cut, Source, Stop, cut_log, cut_with, event_of, is_in_order, is_later, may_move, may_step, moved, stamp_limit, stopped, stopped_host}
+use Rattle.qs_world.specs.Moves.{Cut, Source, cut_log, cut_with, event_of, is_in_order, is_later, may_move, may_step, moved, stamp_limit, stopped, stopped_host}
 use Rattle.qs_world.specs.Posting.{entry_of}
 use Rattle.qs_world.specs.World.{World, inc_of}
 use Rattle.qs_lawful.specs.Holds.{is_next}

@@ -6,7 +6,7 @@ use Rattle.qs_engage.specs.Nodes.{all_nodes}
 use Rattle.qs_tm.specs.Members.{all_servers}
 use Rattle.qs_world.specs.Openings.{IsOpening}
 use Rattle.qs_world.specs.World.{start}
-use Rattle.qs_lawful.specs.TriedOpenings.{TriedOpenings, old}
+use Rattle.qs_lawful.specs.TriedOpenings.{old}
 use Rattle.qs_lawful.specs.TriedWorlds.{all_ok, downs_ok, worlds_ok}
 
 pub opens : (alloc : Global) → IsOpening (old alloc)

@@ -1,20 +1,18 @@
 -- Under each number an entry leaves the requests, puts one more behind them, or has the first that stands at a member of its node served;
 -- so what stands at a member stands once, where it is not crossed there, and is the member's.
-use Rattle.std.proofs.Common.{◌≡◌, ◌⊎◌, inl, inr, ℕ, ◌==◌, ◌&&◌, ◌≤◌, Bool, true, false, not, List, [], ◌∷◌, ◌++◌, length, map, Option, Some, None, refl, sym, ap, subst, ◌∙◌, arith, is_some, if◌then◌else◌}
-use Rattle.std.proofs.lemmas.Bool.Decides.{nat_tests}
+use Rattle.std.proofs.Common.{◌≡◌, ◌⊎◌, inl, inr, ℕ, ◌≤◌, Bool, true, false, List, [], ◌∷◌, ◌++◌, length, map, Option, Some, None, refl, sym, ap, subst, ◌∙◌, arith, is_some}
 use Rattle.std.specs.Prelude.{drop, unwrap_or}
 use Rattle.std.specs.List.{filter, find}
-use Rattle.std.specs.Map.{lookup, set_value}
+use Rattle.std.specs.Map.{lookup}
 use Rattle.std.specs.BTreeMap.{insert_entry, is_at}
 use Rattle.qs_base.specs.Order.{member_cmp, same_member}
 use Rattle.qs_base.proofs.Same.{same_member-self, same_member-true}
 use Rattle.qs_base.specs.declared.identifiers.Member.{Member}
-use Rattle.qs_base.specs.declared.identifiers.NodeNo.{NodeNo}
 use Rattle.qs_base.specs.declared.identifiers.ServerNo.{ServerNo}
 use Rattle.qs_ipc.specs.Queue as queue
 use Rattle.qs_laws.proofs.Maps.{changed_apart, changed_none, lookup_changed, lookup_put, lookup_put_apart, put_known}
 use Rattle.qs_machine.specs.Clauses.{is_for}
-use Rattle.qs_machine.specs.Transaction.{TransactionValue, changed_value, crossed_by, crossed_from, is_commit, is_crossed, is_empty, is_standing, mark_served, request_cmp, requests_at, requests_in, standing_request}
+use Rattle.qs_machine.specs.Transaction.{TransactionValue, changed_value, crossed_by, crossed_from, is_crossed, is_standing, mark_served, request_cmp, requests_at, requests_in, standing_request}
 use Rattle.qs_machine.specs.declared.transaction.Request.{Request}
 use Rattle.qs_machine.specs.declared.transaction.RequestNo.{RequestNo}
 use Rattle.qs_ops.specs.declared.operation.Op.{Op}
@@ -22,7 +20,7 @@ use Rattle.qs_lawful.specs.Lasting.{StandsOnce}
 use Rattle.qs_lawful.specs.Waits.{AreFor, op_in, standing_ops}
 use Rattle.qs_lawful.proofs.Faces.{filter_last, filter_more}
 use Rattle.qs_lawful.proofs.Keys.{KeyApart, member_itself, request_exact, request_itself, same_key_or}
-use Rattle.qs_lawful.proofs.Turning.{Issues, Leaves, Serves, Turns}
+use Rattle.qs_lawful.proofs.Turning.{Issues, Leaves, Serves}
 use Rattle.qs_lawful.proofs.Within.{map_last, mark_apart, mark_fewer, mark_first}
 
 clash : true ≡ false → ⊥

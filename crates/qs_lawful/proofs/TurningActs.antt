@@ -1,5 +1,5 @@
 -- Each act of a node that runs turns each transaction: at most one request is new or served, and what others did is left.
-use Rattle.std.proofs.Common.{◌≡◌, ◌⊎◌, inl, inr, ℕ, ◌==◌, ◌&&◌, Bool, true, false, not, List, [], ◌∷◌, Option, Some, None, refl, sym, ap, subst, ◌∙◌, nat_lt, if◌then◌else◌}
+use Rattle.std.proofs.Common.{◌≡◌, inl, inr, ℕ, ◌==◌, ◌&&◌, Bool, true, false, List, [], Option, Some, None, refl, ◌∙◌, nat_lt, if◌then◌else◌}
 use Rattle.std.specs.Prelude.{⊤, fold, length, slice_get, is_none}
 use Rattle.std.specs.List.{list_any}
 use Rattle.qs_base.specs.declared.identifiers.ClientNo.{ClientNo}
@@ -10,18 +10,17 @@ use Rattle.qs_base.specs.declared.identifiers.Outcome.TheVariants as outcomes
 use Rattle.qs_base.specs.declared.identifiers.Tid.{Tid}
 use Rattle.qs_journal.specs.declared.entry.Act.{Act}
 use Rattle.qs_journal.specs.declared.entry.Act.TheVariants as acts
-use Rattle.qs_laws.proofs.Holding.{clash, crossing_transactions, learn_here, left_of, right_of, same_number, serve_here, vote_here, waiting_transactions}
+use Rattle.qs_laws.proofs.Holding.{clash, crossing_transactions, learn_here, left_of, right_of, serve_here, vote_here, waiting_transactions}
 use Rattle.qs_machine.specs.Book.{BookValue, answer, crosses, decide, find_transaction, give_back_from, hear, inc_at, is_done, issue, loan_to, waiting_of, with_owner, with_transaction, with_waiting}
 use Rattle.qs_machine.specs.Clauses.{borrower_at, broken_ask, broken_decide, broken_issue, link_to, may_ask}
 use Rattle.qs_machine.specs.Lawful.{broken_act, effect_act}
 use Rattle.qs_machine.specs.Nodes as machine
-use Rattle.qs_machine.specs.Transaction.{TransactionValue, asked_at, borrower, counted, decided_at, ended, ended_part, given_back, has_learnt, heard, is_commit, is_open, is_start, issued, learnt, learnt_part, lent, life, made_part, part_of, served_in, serving_part, starts_after, voted, voted_part, yielded_part}
+use Rattle.qs_machine.specs.Transaction.{TransactionValue, asked_at, borrower, counted, decided_at, ended, ended_part, given_back, heard, is_open, is_start, issued, learnt, learnt_part, lent, life, made_part, part_of, served_in, serving_part, starts_after, voted, voted_part, yielded_part}
 use Rattle.qs_machine.specs.declared.state.Asking.{Asking}
 use Rattle.qs_machine.specs.declared.state.Owner.{Owner}
 use Rattle.qs_machine.specs.declared.transaction.Link.{Link}
 use Rattle.qs_machine.specs.declared.transaction.Request.{Request}
 use Rattle.qs_machine.specs.declared.transaction.RequestNo.{RequestNo}
-use Rattle.qs_machine.specs.declared.transaction.Start.{Start}
 use Rattle.qs_ops.specs.Members.{class_of}
 use Rattle.qs_ops.specs.declared.answer.Cause.{Cause}
 use Rattle.qs_ops.specs.declared.operation.Op.{Op}
@@ -31,7 +30,7 @@ use Rattle.qs_lawful.proofs.ActsHere.{MayIssue, ask_here, decide_here, end_here,
 use Rattle.qs_lawful.proofs.LearntOn.{more_learnt}
 use Rattle.qs_lawful.proofs.NotesServed.{served_issued, served_note}
 use Rattle.qs_lawful.proofs.RestartGoes.{Goes, IsElsewhere, goes_self, goes_then}
-use Rattle.qs_lawful.proofs.Turning.{IsFar, Plain, Turned, Turns, turned_as, turned_by, turned_fold, turned_same, turned_then, turns_plain, turns_quiet, turns_self}
+use Rattle.qs_lawful.proofs.Turning.{IsFar, Plain, Turned, Turns, turned_as, turned_by, turned_fold, turned_same, turns_plain, turns_quiet, turns_self}
 use Rattle.qs_lawful.proofs.TurningParts.{count_sent, issue_issued, issue_sent, part_changed, part_put, start_put}
 
 -- ---- acts
@@ -104,7 +103,14 @@ module _ (book : BookValue) (stamp here : ℕ) (state : machine.NodeValue) where
 
   vote_plain : (member : Member) (ballot : Vote) (tx : TransactionValue) → member.node.0 ≡ here → Plain here now tx (voted member now ballot tx)
   vote_plain member ballot tx near = record {
-    requests = refl; crossed = refl; sent = λ link i. refl; noted = refl; asked = refl; owner = refl; cell = refl; decided = refl;
+    requests = refl;
+    crossed = refl;
+    sent = λ link i. refl;
+    noted = refl;
+    asked = refl;
+    owner = refl;
+    cell = refl;
+    decided = refl;
     parts = λ other i far. part_changed here now member near (voted_part ballot) tx other i far;
     starts = λ other i served covers far. by ballot other i served covers far;
     learnt = λ other is. is;
@@ -118,13 +124,27 @@ module _ (book : BookValue) (stamp here : ℕ) (state : machine.NodeValue) where
 
   learn_plain : (member : Member) (outcome : Outcome) (tx : TransactionValue) → member.node.0 ≡ here → Plain here now tx (learnt member now outcome tx)
   learn_plain member outcomes.Commit tx near = record {
-    requests = refl; crossed = refl; sent = λ link i. refl; noted = refl; asked = refl; owner = refl; cell = refl; decided = refl;
+    requests = refl;
+    crossed = refl;
+    sent = λ link i. refl;
+    noted = refl;
+    asked = refl;
+    owner = refl;
+    cell = refl;
+    decided = refl;
     parts = λ other i far. part_changed here now member near (learnt_part outcomes.Commit) tx other i far;
     starts = λ other i served covers far. refl;
     learnt = λ other is. more_learnt member tx other is;
   }
   learn_plain member outcomes.Abort tx near = record {
-    requests = refl; crossed = refl; sent = λ link i. refl; noted = refl; asked = refl; owner = refl; cell = refl; decided = refl;
+    requests = refl;
+    crossed = refl;
+    sent = λ link i. refl;
+    noted = refl;
+    asked = refl;
+    owner = refl;
+    cell = refl;
+    decided = refl;
     parts = λ other i far. part_changed here now member near (learnt_part outcomes.Abort) tx other i far;
     starts = λ other i served covers far. refl;
     learnt = λ other is. is;
@@ -175,8 +195,17 @@ module _ (book : BookValue) (stamp here : ℕ) (state : machine.NodeValue) where
   count_turns : (tid : Tid) (peer : NodeNo) (up_to : ℕ) → Turned R book (with_transaction tid (counted (record { from = record { 0 = here }; to = peer }) now up_to (inc_at book peer)) book)
   count_turns tid peer up_to =
       turned_by R own tid (counted l now up_to (inc_at book peer)) book (with_transaction tid (counted l now up_to (inc_at book peer)) book) refl (λ tx found. by_plain tid tx (counted l now up_to (inc_at book peer) tx) (record {
-        requests = refl; crossed = refl; sent = λ link i. count_sent l now up_to tx link i; noted = refl; asked = refl; owner = refl; cell = refl; decided = refl;
-        parts = λ other i far. refl; starts = λ other i served covers far. refl; learnt = λ other is. is;
+        requests = refl;
+        crossed = refl;
+        sent = λ link i. count_sent l now up_to tx link i;
+        noted = refl;
+        asked = refl;
+        owner = refl;
+        cell = refl;
+        decided = refl;
+        parts = λ other i far. refl;
+        starts = λ other i served covers far. refl;
+        learnt = λ other is. is;
       }))
     where
       l : Link
@@ -191,8 +220,17 @@ module _ (book : BookValue) (stamp here : ℕ) (state : machine.NodeValue) where
       by : (b : Bool) → Turned R book (loan_to now tid (if b then Some m else None) book)
       by false = turned_same R own book book refl
       by true = turned_by R own tid (lent m now) book (with_transaction tid (lent m now) book) refl (λ tx found. by_plain tid tx (lent m now tx) (record {
-        requests = refl; crossed = refl; sent = λ link i. refl; noted = refl; asked = refl; owner = refl; cell = refl; decided = refl;
-        parts = λ other i far. part_changed here now m refl made_part tx other i far; starts = λ other i served covers far. refl; learnt = λ other is. is;
+        requests = refl;
+        crossed = refl;
+        sent = λ link i. refl;
+        noted = refl;
+        asked = refl;
+        owner = refl;
+        cell = refl;
+        decided = refl;
+        parts = λ other i far. part_changed here now m refl made_part tx other i far;
+        starts = λ other i served covers far. refl;
+        learnt = λ other is. is;
       }))
 
   yield_turns : (tid : Tid) (client : ClientNo) → Turned R book (give_back_from now tid (borrower_at client here) book)
@@ -204,8 +242,17 @@ module _ (book : BookValue) (stamp here : ℕ) (state : machine.NodeValue) where
       by : (b : Bool) → Turned R book (give_back_from now tid (if b then Some m else None) book)
       by false = turned_same R own book book refl
       by true = turned_by R own tid (given_back m now) book (with_transaction tid (given_back m now) book) refl (λ tx found. by_plain tid tx (given_back m now tx) (record {
-        requests = refl; crossed = refl; sent = λ link i. refl; noted = refl; asked = refl; owner = refl; cell = refl; decided = refl;
-        parts = λ other i far. part_changed here now m refl yielded_part tx other i far; starts = λ other i served covers far. refl; learnt = λ other is. is;
+        requests = refl;
+        crossed = refl;
+        sent = λ link i. refl;
+        noted = refl;
+        asked = refl;
+        owner = refl;
+        cell = refl;
+        decided = refl;
+        parts = λ other i far. part_changed here now m refl yielded_part tx other i far;
+        starts = λ other i served covers far. refl;
+        learnt = λ other is. is;
       }))
 
   -- requests of a client are answered
@@ -217,8 +264,20 @@ module _ (book : BookValue) (stamp here : ℕ) (state : machine.NodeValue) where
 
       each : (b : BookValue) (ask : Asking) → Turned G b (hear b ask)
       each b ask = turned_by G (goes_self here (IsElsewhere here now) book.place) ask.tid (heard ask.node (inc_at b ask.node)) b (hear b ask) refl (λ tx found. record {
-        requests = refl; sent = refl; noted = refl; crossed = refl; asked = refl; owner = refl; starts = refl; refusals = refl; agree = λ all. all; when = inl (refl, refl);
-        parts = λ member i far. refl; decided = λ shut. refl; away = λ far. refl; learnt = λ member is. is;
+        requests = refl;
+        sent = refl;
+        noted = refl;
+        crossed = refl;
+        asked = refl;
+        owner = refl;
+        starts = refl;
+        refusals = refl;
+        agree = λ all. all;
+        when = inl (refl, refl);
+        parts = λ member i far. refl;
+        decided = λ shut. refl;
+        away = λ far. refl;
+        learnt = λ member is. is;
       })
 
   answer_turns : (client : ClientNo) (line : ℕ) → Turned R book (answer client line book)
@@ -247,8 +306,17 @@ module _ (book : BookValue) (stamp here : ℕ) (state : machine.NodeValue) where
   act_turns (acts.Counted tid peer up_to) is h = count_turns tid peer up_to
   act_turns (acts.Decide tid outcome cause) is h = decide_turns tid outcome cause h
   act_turns (acts.Ending tid member) is h = turned_by R own tid (ended member now) book (effect_act stamp here (acts.Ending tid member) book) refl (λ tx found. by_plain tid tx (ended member now tx) (record {
-    requests = refl; crossed = refl; sent = λ link i. refl; noted = refl; asked = refl; owner = refl; cell = refl; decided = refl;
-    parts = λ other i far. part_changed here now member (end_here here state (find_transaction book tid) member h) ended_part tx other i far; starts = λ other i served covers far. refl; learnt = λ other is. is;
+    requests = refl;
+    crossed = refl;
+    sent = λ link i. refl;
+    noted = refl;
+    asked = refl;
+    owner = refl;
+    cell = refl;
+    decided = refl;
+    parts = λ other i far. part_changed here now member (end_here here state (find_transaction book tid) member h) ended_part tx other i far;
+    starts = λ other i served covers far. refl;
+    learnt = λ other is. is;
   }))
   act_turns (acts.Learn tid member outcome) is h = turned_by R own tid (learnt member now outcome) book (effect_act stamp here (acts.Learn tid member outcome) book) refl
       (λ tx found. by_plain tid tx (learnt member now outcome tx) (learn_plain member outcome tx (learn_here here state (find_transaction book tid) member outcome h)))

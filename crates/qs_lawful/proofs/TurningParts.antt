@@ -13,7 +13,7 @@ use Rattle.qs_base.proofs.Same.{same_member-true}
 use Rattle.qs_base.specs.declared.identifiers.Member.{Member}
 use Rattle.qs_base.specs.declared.identifiers.NodeNo.{NodeNo}
 use Rattle.qs_laws.proofs.Maps.{changed_apart, lookup_changed, lookup_put, lookup_put_apart}
-use Rattle.qs_machine.specs.Transaction.{TransactionValue, changed_value, is_start, issued, life, life_cmp, link_cmp, no_part, part_of, request_cmp, requests_at, requests_in, sent_in, sent_more, sent_on, start_cmp, with_counted}
+use Rattle.qs_machine.specs.Transaction.{TransactionValue, changed_value, is_start, life, life_cmp, link_cmp, no_part, part_of, request_cmp, requests_at, requests_in, sent_in, sent_more, sent_on, start_cmp, with_counted}
 use Rattle.qs_machine.specs.declared.transaction.Life.{Life}
 use Rattle.qs_machine.specs.declared.transaction.Link.{Link}
 use Rattle.qs_machine.specs.declared.transaction.Part.{Part}
@@ -22,7 +22,7 @@ use Rattle.qs_machine.specs.declared.transaction.RequestNo.{RequestNo}
 use Rattle.qs_machine.specs.declared.transaction.Sent.{Sent}
 use Rattle.qs_machine.specs.declared.transaction.Start.{Start}
 use Rattle.qs_lawful.specs.Beside.{has_issued, has_note_in, is_note_by}
-use Rattle.qs_lawful.proofs.Keys.{KeyApart, life_exact, life_itself, link_exact, link_itself, request_exact, request_itself, same_key_or}
+use Rattle.qs_lawful.proofs.Keys.{KeyApart, life_exact, life_itself, link_exact, link_itself, same_key_or}
 use Rattle.qs_lawful.proofs.Parts.{LivesApart, changed_part_apart, put_part_apart}
 use Rattle.qs_lawful.proofs.Turning.{IsFar}
 

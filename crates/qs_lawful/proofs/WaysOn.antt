@@ -1,38 +1,30 @@
 -- What is on its way goes on through a crash, whatever it leaves in the log, and through a restart; and scripts through a restart.
-use Rattle.std.proofs.Common.{◌≡◌, ℕ, ◌<◌, ◌≤◌, ◌+◌, ◌-◌, ◌==◌, ◌++◌, ◌&&◌, not, zero, suc, Bool, true, false, List, [], ◌∷◌, drop, length, map, fold, Option, Some, None, refl, sym, ap, subst, ◌∙◌, arith, nat_lt, if◌then◌else◌}
+use Rattle.std.proofs.Common.{◌≡◌, ℕ, ◌<◌, ◌+◌, ◌-◌, ◌==◌, ◌++◌, ◌&&◌, not, zero, suc, Bool, true, false, List, [], ◌∷◌, drop, length, map, Some, refl, sym, ap, subst, ◌∙◌, arith, nat_lt, if◌then◌else◌}
 use Rattle.std.proofs.lemmas.Bool.Decides.{nat_tests}
 use Rattle.std.proofs.lemmas.Grind.{flat_map-append}
-use Rattle.std.specs.Prelude.{slice_get}
 use Rattle.std.specs.List.{filter}
-use Rattle.std.specs.BTreeMap.{is_at}
-use Rattle.qs_base.specs.declared.identifiers.NodeNo.{NodeNo}
-use Rattle.qs_base.specs.declared.identifiers.Outcome.{Outcome}
 use Rattle.qs_base.specs.declared.identifiers.ServerNo.{ServerNo}
 use Rattle.qs_base.specs.declared.identifiers.Tid.{Tid}
 use Rattle.qs_channels.specs.Channels.{Channels}
-use Rattle.qs_journal.specs.declared.entry.CrashCause.{CrashCause}
-use Rattle.qs_journal.specs.declared.entry.Found.{Found}
 use Rattle.qs_machine.specs.Book.{BookValue, find_transaction}
-use Rattle.qs_machine.specs.Lawful.{book_after, effect}
+use Rattle.qs_machine.specs.Lawful.{book_after}
 use Rattle.qs_machine.specs.Transaction.{TransactionValue, requests_in, is_standing}
-use Rattle.qs_machine.specs.declared.state.Owner.{Owner}
 use Rattle.qs_ops.specs.declared.operation.Op.{Op}
-use Rattle.qs_record.specs.declared.record.Record.{Record}
 use Rattle.qs_step.specs.Opening.{recovered_of}
-use Rattle.qs_world.specs.Moves.{Rise, may_move, moved, risen_host, stopped, stopped_host}
-use Rattle.qs_world.specs.World.{Host, Parcel, World}
+use Rattle.qs_world.specs.Moves.{Rise, may_move, moved, risen_host, stopped_host}
+use Rattle.qs_world.specs.World.{Parcel, World}
 use Rattle.qs_lawful.specs.Face.{at_server, waiting_at}
 use Rattle.qs_lawful.specs.Lasting.{Lasts}
-use Rattle.qs_lawful.specs.Parcels.{HoldsWay, HoldsWays, on_its_way, ops_of, pending, pending_from, way_between}
+use Rattle.qs_lawful.specs.Parcels.{HoldsWays, on_its_way, ops_of, pending, pending_from, way_between}
 use Rattle.qs_lawful.specs.Waits.{IsWithin, op_in, standing_ops, waiting_ops}
-use Rattle.qs_lawful.specs.WayLaws.{AreSound, EachCrashKeepsWays, EachRiseKeepsWays, crash_entry}
+use Rattle.qs_lawful.specs.WayLaws.{AreSound, EachCrashKeepsWays, EachRiseKeepsWays}
 use Rattle.qs_lawful.specs.WorldLaws.{rise_entry}
 use Rattle.qs_lawful.specs.Worlds.{HoldsWorld}
 use Rattle.qs_lawful.proofs.OpenedScripts.{none_from}
 use Rattle.qs_lawful.proofs.RestoredTid.{was}
-use Rattle.qs_lawful.proofs.RisesWell.{at, book_now, log, r, same_book, setting}
+use Rattle.qs_lawful.proofs.RisesWell.{at, log, r, same_book, setting}
 use Rattle.qs_lawful.proofs.Truths.{number_is}
-use Rattle.qs_lawful.proofs.WithinParts.{append_none, pending_none, pending_past, within_around, within_behind, within_first}
+use Rattle.qs_lawful.proofs.WithinParts.{append_none, pending_past, within_behind, within_first}
 
 -- ---- a crash
 
@@ -81,7 +73,7 @@ module _ (book : BookValue) (world : World) (n stamp inc : ℕ) (lasts : Lasts b
   stood : (tid : Tid) (later : TransactionValue) → find_transaction (book_after book (rise_entry world n stamp inc ∷ [])) tid ≡ Some later → (tx : TransactionValue) × (find_transaction book tid ≡ Some tx) × (later.requests ≡ tx.requests)
   stood tid later found =
       let p = was book (setting book world n stamp inc lasts held may).node stamp inc (log book world n stamp inc lasts held may) (at book world n stamp inc lasts held may).state (r book world n stamp inc lasts held may) tid later
-          (subst (λ (b : BookValue). find_transaction b tid ≡ Some later) (same_book book world n stamp inc lasts held may) found) in
+      (subst (λ (b : BookValue). find_transaction b tid ≡ Some later) (same_book book world n stamp inc lasts held may) found) in
       (p.0, p.1, p.2.requests)
 
   module _ (a b : ℕ) (in_a : nat_lt a world.size ≡ true) (in_b : nat_lt b world.size ≡ true) (apart : (a == b) ≡ false) (tid : Tid) (tx : TransactionValue) (server : ServerNo) (number : ℕ) (found : find_transaction book tid ≡ Some tx) where
@@ -119,7 +111,7 @@ module _ (book : BookValue) (world : World) (n stamp inc : ℕ) (lasts : Lasts b
       where
         by : (x : Bool) → (a == n) ≡ x → (y : Bool) → (b == n) ≡ y
             → IsWithin (waiting_ops (way_between a b number) (waiting_at (if y then risen_host stamp inc (recovered_of (world.hosts n).log) (world.hosts n) else world.hosts b).node tid server)
-              ++ ops (pending_from (λ i. pending c a b i (if y then inc else c.inc b)) ((if y then (λ (m : ℕ). 0) else c.peer b) a) (((if x then inc else c.inc a) + 1) - (if y then (λ (m : ℕ). 0) else c.peer b) a) ++ (if x then (λ (m : ℕ). []) else c.waits a) b)) rs
+            ++ ops (pending_from (λ i. pending c a b i (if y then inc else c.inc b)) ((if y then (λ (m : ℕ). 0) else c.peer b) a) (((if x then inc else c.inc a) + 1) - (if y then (λ (m : ℕ). 0) else c.peer b) a) ++ (if x then (λ (m : ℕ). []) else c.waits a) b)) rs
         by true near true too = absurd (clash (a == b) apart (both a b n near too))
           where
             clash : (x : Bool) → x ≡ false → x ≡ true → ⊥

@@ -1,5 +1,5 @@
 -- Parts of lists that stand within another, and what is pending from an incarnation on.
-use Rattle.std.proofs.Common.{◌≡◌, ◌⊎◌, ℕ, ◌<◌, ◌+◌, ◌++◌, zero, suc, List, [], ◌∷◌, inl, inr, refl, sym, ap, subst, ◌∙◌, arith}
+use Rattle.std.proofs.Common.{◌≡◌, ℕ, ◌<◌, ◌+◌, ◌++◌, zero, suc, List, [], ◌∷◌, inl, inr, refl, sym, ap, subst, ◌∙◌, arith}
 use Rattle.qs_ops.specs.declared.operation.Op.{Op}
 use Rattle.qs_world.specs.World.{Parcel}
 use Rattle.qs_lawful.specs.Parcels.{pending_from}

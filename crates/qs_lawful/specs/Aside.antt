@@ -17,7 +17,6 @@ use Rattle.qs_step.specs.State.{NodeValue, client_cmp}
 use Rattle.qs_tm.specs.Participant.{awaits_note, has_noted}
 use Rattle.qs_lawful.specs.Beside.{has_issued}
 use Rattle.qs_lawful.specs.Face.{Face, face_of, is_held, part_in}
-use Rattle.qs_lawful.specs.Logs.{Every}
 
 -- ---- notes
 

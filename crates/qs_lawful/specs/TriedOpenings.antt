@@ -2,8 +2,6 @@
 -- for it; a vote of what its home did not commit; one of a home that is not in the run; and a commit that is ended.
 use Rattle.std.specs.Prelude.{◌≡◌, ℕ, ◌==◌, true, false, List, [], ◌∷◌, codes, if◌then◌else◌}
 use Rattle.std.specs.Global.{Global}
-use Rattle.qs_base.specs.declared.identifiers.NodeNo.{NodeNo}
-use Rattle.qs_base.specs.declared.identifiers.ServerNo.{ServerNo}
 use Rattle.qs_base.specs.declared.identifiers.Tid.{Tid}
 use Rattle.qs_ops.specs.declared.operation.Op.TheVariants.{Note, Put}
 use Rattle.qs_record.specs.declared.record.Record.{Record}
@@ -28,15 +26,15 @@ abbrev old_log : ℕ → List Record
 old_log n =
     if n == 0
     then put (tid_of 0 1) (codes "f") (codes "x")
-        ∷ note (tid_of 0 2) (codes "ended") ∷ put (tid_of 0 2) (codes "e") (codes "1") ∷ records.Commit (tid_of 0 2) []
-        ∷ records.Commit (tid_of 0 1) (record { 0 = 1 } ∷ [])
-        ∷ put (tid_of 0 3) (codes "h") (codes "z")
-        ∷ put (tid_of 1 1) (codes "k") (codes "w") ∷ []
+    ∷ note (tid_of 0 2) (codes "ended") ∷ put (tid_of 0 2) (codes "e") (codes "1") ∷ records.Commit (tid_of 0 2) []
+    ∷ records.Commit (tid_of 0 1) (record { 0 = 1 } ∷ [])
+    ∷ put (tid_of 0 3) (codes "h") (codes "z")
+    ∷ put (tid_of 1 1) (codes "k") (codes "w") ∷ []
     else put (tid_of 0 1) (codes "g") (codes "y")
-        ∷ note (tid_of 0 1) (codes "said")
-        ∷ put (tid_of 0 3) (codes "d") (codes "v")
-        ∷ put (tid_of 5 1) (codes "o") (codes "p")
-        ∷ put (tid_of 1 2) (codes "c") (codes "q") ∷ records.Commit (tid_of 1 2) [] ∷ []
+    ∷ note (tid_of 0 1) (codes "said")
+    ∷ put (tid_of 0 3) (codes "d") (codes "v")
+    ∷ put (tid_of 5 1) (codes "o") (codes "p")
+    ∷ put (tid_of 1 2) (codes "c") (codes "q") ∷ records.Commit (tid_of 1 2) [] ∷ []
 
 abbrev second : ℕ → Setting
 second n = record (setting_of 2 n) { inc = 2 }
