@@ -140,5 +140,5 @@ module _ (stamp : ℕ) (before : BookValue) (run : InRun before) (work : Work) (
 
   pub goes_begin : Goes stamp before run work (begin_as line tid work)
   goes_begin = goes_then stamp before run work begun_work (begin_as line tid work)
-      (goes_entry stamp before run work begun_work act refl refl refl (λ fine inv causes h. begun_beside fine inv causes h))
+      (goes_entry stamp before run work begun_work act refl refl refl refl (λ fine inv causes h. begun_beside fine inv causes h))
       (goes_answer stamp before run line.client answers.Done begun_work)

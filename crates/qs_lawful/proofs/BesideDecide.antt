@@ -290,7 +290,7 @@ module _ (stamp : ℕ) (before : BookValue) (run : InRun before) where
             (λ home back. ended_now outcome refl))
 
     pub goes_entered : On work decided_work
-    goes_entered = goes_entry stamp before run work decided_work act setting_is (ap (λ (es : List Act). es ++ act ∷ []) (left (λ w. w.out.entries) work.out.entries refl (λ r is. refl))) (left (λ w. w.out.messages) work.out.messages refl (λ r is. refl))
+    goes_entered = goes_entry stamp before run work decided_work act setting_is committed_are (ap (λ (es : List Act). es ++ act ∷ []) (left (λ w. w.out.entries) work.out.entries refl (λ r is. refl))) (left (λ w. w.out.messages) work.out.messages refl (λ r is. refl))
         (λ fine inv causes h. let s : (tx : TransactionValue) × (find_transaction book tid ≡ Some tx) × (is_open tx.cell ≡ true) = stands fine causes h in decided_beside fine causes h s.0 s.1 s.2)
 
     pub ended_then : (p : Participant) → tm.part_of tid node.manager ≡ Some p → Ended stamp before run tid outcome decided_work

@@ -93,13 +93,14 @@ module _ (stamp : ℕ) (before : BookValue) (run : InRun before) where
   -- ---- how rules are put together
 
   pub goes_self : (work : Work) → Goes work work
-  goes_self work = record { more = []; entries = sym (append-nil work.out.entries); setting = refl; keeps = λ lawful h. h; sends = λ lawful h all. all }
+  goes_self work = record { more = []; entries = sym (append-nil work.out.entries); setting = refl; logged = refl; keeps = λ lawful h. h; sends = λ lawful h all. all }
 
   pub goes_then : (work mid new : Work) → Goes work mid → Goes mid new → Goes work new
   goes_then work mid new a b = record {
     more = a.more ++ b.more;
     entries = b.entries ∙ (ap (λ (acted : List Act). acted ++ b.more) a.entries ∙ append_assoc work.out.entries a.more b.more);
     setting = b.setting ∙ a.setting;
+    logged = b.logged ∙ a.logged;
     keeps = λ lawful h. b.keeps lawful (a.keeps (lawful_then mid new b.more b.entries b.setting lawful) h);
     sends = λ lawful h all. b.sends lawful (a.keeps (lawful_then mid new b.more b.entries b.setting lawful) h) (a.sends (lawful_then mid new b.more b.entries b.setting lawful) h all);
   }
@@ -126,12 +127,13 @@ module _ (stamp : ℕ) (before : BookValue) (run : InRun before) where
 
   -- ---- what enters nothing
 
-  pub goes_still : (work new : Work) → new.out.entries ≡ work.out.entries → new.out.messages ≡ work.out.messages → new.node.setting ≡ work.node.setting
+  pub goes_still : (work new : Work) → new.out.entries ≡ work.out.entries → new.out.messages ≡ work.out.messages → new.node.setting ≡ work.node.setting → new.node.committed ≡ work.node.committed
       → (HoldsBeside (book_at stamp before work) work.node → HoldsBeside (book_at stamp before work) new.node) → Goes work new
-  goes_still work new entries sendings setting keeps = record {
+  goes_still work new entries sendings setting logged keeps = record {
     more = [];
     entries = grows;
     setting = setting;
+    logged = logged;
     keeps = λ lawful h. subst (λ (b : BookValue). HoldsBeside b new.node) (sym (book_is stamp before i [] [] work new [] grows setting)) (keeps h);
     sends = λ lawful h all. subst (Every (IsSent (book_at stamp before new) new.node.setting)) (sym sendings) (sent_on work new [] grows setting lawful work.out.messages all);
   }
@@ -152,6 +154,7 @@ module _ (stamp : ℕ) (before : BookValue) (run : InRun before) where
         more = [];
         entries = sym (append-nil work.out.entries);
         setting = refl;
+        logged = refl;
         keeps = λ lawful h. h;
         sends = λ lawful h all. every_append (IsSent (book_at stamp before work) work.node.setting) work.out.messages (record { to = to; message = message } ∷ []) all (record { other = other; goes = goes; says = says h }, tt);
       }
@@ -175,14 +178,15 @@ module _ (stamp : ℕ) (before : BookValue) (run : InRun before) where
 
   -- ---- one entry
 
-  pub goes_entry : (work new : Work) (act : Act) → new.node.setting ≡ work.node.setting → new.out.entries ≡ work.out.entries ++ act ∷ [] → new.out.messages ≡ work.out.messages
+  pub goes_entry : (work new : Work) (act : Act) → new.node.setting ≡ work.node.setting → new.node.committed ≡ work.node.committed → new.out.entries ≡ work.out.entries ++ act ∷ [] → new.out.messages ≡ work.out.messages
       → (broken (book_at stamp before work) (entry_of (here work).0 stamp act) ≡ None → Inv (book_at stamp before work)
       → ((tid : Tid) (cause : Cause) → IsTrueCause (book_at stamp before work) tid cause → IsTrueCause (effect (book_at stamp before work) (entry_of (here work).0 stamp act)) tid cause)
       → HoldsBeside (book_at stamp before work) work.node → HoldsBeside (effect (book_at stamp before work) (entry_of (here work).0 stamp act)) new.node) → Goes work new
-  goes_entry work new act setting grows sendings keeps = record {
+  goes_entry work new act setting logged grows sendings keeps = record {
     more = act ∷ [];
     entries = grows;
     setting = setting;
+    logged = logged;
     keeps = λ lawful h.
         let fine : broken (book_at stamp before work) (entry_of (here work).0 stamp act) ≡ None = (lawful_since stamp before i [] [] work new (act ∷ []) grows setting lawful).0 in
         let was_lawful : IsLawful before (entries_so_far stamp work) = lawful_then work new (act ∷ []) grows setting lawful in
@@ -212,7 +216,7 @@ module _ (stamp : ℕ) (before : BookValue) (run : InRun before) where
 
   pub goes_alike : (work new : Work) → new.out ≡ work.out → new.node.setting ≡ work.node.setting → new.node.manager ≡ work.node.manager → new.node.kept.now.outcomes ≡ work.node.kept.now.outcomes → new.node.committed ≡ work.node.committed
       → new.node.servers.timers.timers.ticks ≡ work.node.servers.timers.timers.ticks → Goes work new
-  goes_alike work new out setting manager outcomes committed ticks = goes_still work new (ap (λ o. o.entries) out) (ap (λ o. o.messages) out) setting
+  goes_alike work new out setting manager outcomes committed ticks = goes_still work new (ap (λ o. o.entries) out) (ap (λ o. o.messages) out) setting committed
       (beside_alike (book_at stamp before work) work.node new.node setting manager outcomes committed ticks)
 
   -- what changes what is kept of one transaction
@@ -238,5 +242,5 @@ module _ (stamp : ℕ) (before : BookValue) (run : InRun before) where
       of t (inr far) = part_same node fresh t (part_apart tid t f node.manager far)
 
   pub goes_part : (tid : Tid) (f : Participant → Participant) (work : Work) → ((p : Participant) → part_of tid work ≡ Some p → PartOn p (f p)) → Goes work (with_manager (tm.with_part tid f) work)
-  goes_part tid f work on = goes_still work (with_manager (tm.with_part tid f) work) refl refl refl (beside_part (book_at stamp before work) work.node tid f on)
+  goes_part tid f work on = goes_still work (with_manager (tm.with_part tid f) work) refl refl refl refl (beside_part (book_at stamp before work) work.node tid f on)
 

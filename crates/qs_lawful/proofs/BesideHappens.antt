@@ -130,9 +130,9 @@ module _ (stamp : ℕ) (before : BookValue) (run : InRun before) where
 
       -- ---- what comes
 
-      pub goes_happens : (event : Event) (work : Work) → Stands stamp before size nodes n work → ComesTo (book_at stamp before work) event work → AgreesEvent size nodes n work event → HappensSo stamp before event work → On work (happen event work)
-      goes_happens (events.Command client line label command) work s c a so = goes_command stamp before run (record { client = client; line = line; label = label; command = command }) work (ap is_some c.behind.there) (clock work s)
-      goes_happens (events.Received peer message) work s c a so = goes_message work s peer message c a so
-      goes_happens events.ServeAll work s c a so = goes_serves (ipc.turns work.node.queues) work s c
-      goes_happens (events.PeerRestarted peer old new) work s c a so = goes_restarted stamp before run peer old new work so
-      goes_happens events.Tick work s c a so = goes_tick stamp before run work so
+      pub goes_happens : (event : Event) (work : Work) → Stands stamp before size nodes n work → ComesTo (book_at stamp before work) event work → AgreesEvent size nodes n work event → HappensSo stamp before event work → AreCommitted (book_at stamp before work) work.node → On work (happen event work)
+      goes_happens (events.Command client line label command) work s c a so logged = goes_command stamp before run (record { client = client; line = line; label = label; command = command }) work (ap is_some c.behind.there) (clock work s)
+      goes_happens (events.Received peer message) work s c a so logged = goes_message work s peer message c a logged
+      goes_happens events.ServeAll work s c a so logged = goes_serves (ipc.turns work.node.queues) work s c
+      goes_happens (events.PeerRestarted peer old new) work s c a so logged = goes_restarted stamp before run peer old new work so
+      goes_happens events.Tick work s c a so logged = goes_tick stamp before run work so

@@ -349,4 +349,4 @@ module _ (stamp : ℕ) (before : BookValue) (run : InRun before) (tid : Tid) (re
               (part_same node fresh t (part_apart tid t (participant.issued request) node.manager far))
 
   pub goes_issue : Goes stamp before run work (enter_issue tid request op work)
-  goes_issue = goes_entry stamp before run work (enter_issue tid request op work) act refl refl refl (λ fine inv causes h. let w : (tx : TransactionValue) × (find_transaction book tid ≡ Some tx) = stands fine causes h in issued_beside fine causes h w.0 w.1)
+  goes_issue = goes_entry stamp before run work (enter_issue tid request op work) act refl refl refl refl (λ fine inv causes h. let w : (tx : TransactionValue) × (find_transaction book tid ≡ Some tx) = stands fine causes h in issued_beside fine causes h w.0 w.1)

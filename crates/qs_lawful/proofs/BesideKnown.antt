@@ -159,7 +159,7 @@ module _ (stamp : ℕ) (before : BookValue) (run : InRun before) where
   pub goes_custom : (work : Work) (tid : Tid) (manager : Manager) → manager.ticks ≡ work.node.manager.ticks → ((t : Tid) → Apart tid t → tm.part_of t manager ≡ tm.part_of t work.node.manager) → (tm.part_of tid work.node.manager ≡ None → tm.part_of tid manager ≡ None)
       → ((h : HoldsBeside (book_at stamp before work) work.node) (tx : TransactionValue) → find_transaction (book_at stamp before work) tid ≡ Some tx → (p : Participant) → tm.part_of tid work.node.manager ≡ Some p → HoldsPart (book_at stamp before work) h.state work.node tid tx p
       → (q : Participant) × (tm.part_of tid manager ≡ Some q) × HoldsPart (book_at stamp before work) h.state (record work.node { manager = manager }) tid tx q) → On work (record work { node = record work.node { manager = manager } })
-  goes_custom work tid manager ticks others none known = goes_still stamp before run work (record work { node = record work.node { manager = manager } }) refl refl refl
+  goes_custom work tid manager ticks others none known = goes_still stamp before run work (record work { node = record work.node { manager = manager } }) refl refl refl refl
       (λ h. beside_custom (book_at stamp before work) work.node manager ticks tid others h none (known h))
 
   -- a request makes it known
@@ -186,8 +186,8 @@ module _ (stamp : ℕ) (before : BookValue) (run : InRun before) where
           }
 
       by : (o : Option Participant) → tm.part_of tid work.node.manager ≡ o → On work (record work { node = record work.node { manager = if is_some o then work.node.manager else met } })
-      by (Some p) known = goes_still stamp before run work work refl refl refl (λ h. h)
-      by None none = goes_still stamp before run work (record work { node = record work.node { manager = met } }) refl refl refl
+      by (Some p) known = goes_still stamp before run work work refl refl refl refl (λ h. h)
+      by None none = goes_still stamp before run work (record work { node = record work.node { manager = met } }) refl refl refl refl
           (λ h. let t : (tx : TransactionValue) × (find_transaction (book_at stamp before work) tid ≡ Some tx) × (is_commit tx.cell ≡ false) × HoldsTid work.node.setting.node work.node.setting.inc tid tx (face_of work.node tid) = there none in
           beside_met (book_at stamp before work) work.node met refl tid (λ u far. put_apart tid u _ work.node.manager far) h t.0 t.1 _ (lookup_put tid_cmp tid _ (tid_itself tid) work.node.manager.known) (new_part h none t.0 t.1 t.2 t.3))
 
@@ -206,8 +206,8 @@ module _ (stamp : ℕ) (before : BookValue) (run : InRun before) where
       as_outcome cells.Commit e = absurd (cc e)
 
       by : (o : Option Participant) → tm.part_of tid work.node.manager ≡ o → On work (record work { node = record work.node { manager = if is_some o then work.node.manager else kept } })
-      by (Some p) known = goes_still stamp before run work work refl refl refl (λ h. h)
-      by None none = goes_still stamp before run work (record work { node = record work.node { manager = kept } }) refl refl refl
+      by (Some p) known = goes_still stamp before run work work refl refl refl refl (λ h. h)
+      by None none = goes_still stamp before run work (record work { node = record work.node { manager = kept } }) refl refl refl refl
           (λ h. let t : (tx : TransactionValue) × (find_transaction (book_at stamp before work) tid ≡ Some tx) × (is_abort tx.cell ≡ true) × HoldsTid work.node.setting.node work.node.setting.inc tid tx (face_of work.node tid) = there none in
           beside_met (book_at stamp before work) work.node kept refl tid (λ u far. put_apart tid u _ work.node.manager far) h t.0 t.1 _ (lookup_put tid_cmp tid _ (tid_itself tid) work.node.manager.known)
           (part_ended (book_at stamp before work) h.state (record work.node { manager = kept }) tid t.0 (outcome_rules.aborted_participant (tm.is_home tid work.node.manager)) outcomes.Abort refl (as_outcome t.0.cell t.2)
@@ -219,6 +219,6 @@ module _ (stamp : ℕ) (before : BookValue) (run : InRun before) where
       → ((h : HoldsBeside (book_at stamp before work) work.node) (tx : TransactionValue) → find_transaction (book_at stamp before work) tid ≡ Some tx
       → (is_commit tx.cell ≡ false → HoldsStranger work.node.setting.node work.node.setting.inc tid tx) × (tid.home ≡ work.node.setting.node → HoldsEnded (record work.node { manager = tm.forget tid work.node.manager }) tid tx))
       → On work (forget tid work)
-  goes_forget work tid rising left = goes_still stamp before run work (forget tid work) refl refl refl
+  goes_forget work tid rising left = goes_still stamp before run work (forget tid work) refl refl refl refl
       (λ h. beside_alike stamp before run (book_at stamp before work) (record work.node { manager = tm.forget tid work.node.manager }) (forget tid work).node refl refl refl refl refl
       (beside_left (book_at stamp before work) work.node (tm.forget tid work.node.manager) refl tid (λ t far. removed_apart (is_at (tid_cmp tid)) (is_at (tid_cmp t)) far.keys work.node.manager.known) h (removed tid_cmp at_exact tid work.node.manager.known rising) (left h)))

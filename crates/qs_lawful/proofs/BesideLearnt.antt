@@ -157,7 +157,7 @@ module _ (stamp : ℕ) (before : BookValue) (run : InRun before) where
             (λ home committed. ((h.at tid).ended tx home found).committed (ap is_commit (sym (same_cell outcome tx)) ∙ committed)))
 
     pub goes_learnt : On work (learn_member tid outcome work server)
-    goes_learnt = goes_entry stamp before run work (learn_member tid outcome work server) learning refl refl refl (λ fine inv causes h. of h inv (find_transaction book tid) refl ((h.at tid).stands p known) causes)
+    goes_learnt = goes_entry stamp before run work (learn_member tid outcome work server) learning refl refl refl refl (λ fine inv causes h. of h inv (find_transaction book tid) refl ((h.at tid).stands p known) causes)
       where
         of : (h : HoldsBeside book node) → Inv book → (x : Option TransactionValue) → find_transaction book tid ≡ x → is_some (find_transaction book tid) ≡ true → ((t : Tid) (cause : Cause) → IsTrueCause book t cause → IsTrueCause new t cause) → HoldsBeside new fresh
         of h inv None is there causes = absurd (no (sym (ap is_some is) ∙ there))

@@ -212,4 +212,4 @@ module _ (stamp : ℕ) (before : BookValue) (run : InRun before) (work : Work) (
           record { committed = λ is. e.committed (ap is_commit (sym now.2.cell) ∙ is); unknown = λ none kept. ap is_abort now.2.cell ∙ e.unknown (back none) kept }))
 
   pub goes_ended : Goes stamp before run work (end_member tid work server)
-  goes_ended = goes_entry stamp before run work (end_member tid work server) ending refl refl refl (λ fine inv causes h. let e : (tx : TransactionValue) × (find_transaction book tid ≡ Some tx) × (rules.is_immediate (class_of server.0) ≡ true) = ends fine causes h in ended_beside fine causes h e.0 e.1 e.2)
+  goes_ended = goes_entry stamp before run work (end_member tid work server) ending refl refl refl refl (λ fine inv causes h. let e : (tx : TransactionValue) × (find_transaction book tid ≡ Some tx) × (rules.is_immediate (class_of server.0) ≡ true) = ends fine causes h in ended_beside fine causes h e.0 e.1 e.2)

@@ -100,7 +100,7 @@ module _ (stamp : ℕ) (before : BookValue) (run : InRun before) where
 
   -- the entry alone
   goes_told : (work : Work) (act : Act) → is_plain act ≡ true → ((book : BookValue) → Alike book (effect_act stamp (here work).0 act book)) → ((h : NodeNo) (inc : ℕ) (book : BookValue) → Steps h inc book (effect_act stamp (here work).0 act book)) → On work (enter act work)
-  goes_told work act plain alike steps = goes_entry stamp before run work (enter act work) act refl refl refl
+  goes_told work act plain alike steps = goes_entry stamp before run work (enter act work) act refl refl refl refl
       (λ fine inv causes h. beside_plain stamp (book_at stamp before work) act plain work.node work.node refl causes h
       (let a = alike (book_at stamp before work) in record { faces = a.faces; ages = a.ages; tolds = a.tolds })
       (steps_as (here work) work.node.setting.inc (book_at stamp before work) (effect_act stamp (here work).0 act (book_at stamp before work)) _ refl (steps (here work) work.node.setting.inc (book_at stamp before work)))
@@ -121,7 +121,7 @@ module _ (stamp : ℕ) (before : BookValue) (run : InRun before) where
   -- an answer, which ends a command
   pub goes_answer : (client : ClientNo) (said : Answer) (work : Work) → On work (answer client said work)
   goes_answer client said work = goes_elim stamp before run (lookup (is_at (client_cmp client)) work.node.commands) work work answered (λ none. goes_self stamp before run work)
-      (λ command is. goes_entry stamp before run work (answered command) (acts.Answer client command.line.line said) refl refl refl
+      (λ command is. goes_entry stamp before run work (answered command) (acts.Answer client command.line.line said) refl refl refl refl
       (λ fine inv causes h. beside_plain stamp (book_at stamp before work) (acts.Answer client command.line.line said) refl work.node (answered command).node refl causes h
       (let a = of.by_answer client command.line.line (book_at stamp before work) in record { faces = a.faces; ages = a.ages; tolds = a.tolds })
       (steps_as (here work) work.node.setting.inc (book_at stamp before work) (effect_act stamp (here work).0 (acts.Answer client command.line.line said) (book_at stamp before work)) _ refl

@@ -128,7 +128,7 @@ module _ (stamp : ℕ) (before : BookValue) (run : InRun before) where
   -- ---- time goes on
 
   pub goes_ticked : (work : Work) → work.node.manager.ticks + 1 < 2 ^ 62 → On work (tick_work work)
-  goes_ticked work room = goes_entry stamp before run work (tick_work work) acts.Tick refl refl refl
+  goes_ticked work room = goes_entry stamp before run work (tick_work work) acts.Tick refl refl refl refl
       (λ fine inv causes h. beside_plain stamp (book_at stamp before work) acts.Tick refl work.node (tick_work work).node refl causes h
       (let a = of.by_tick (here work).0 stamp (book_at stamp before work) in record { faces = a.faces; ages = a.ages; tolds = a.tolds })
       (steps_as (here work) work.node.setting.inc (book_at stamp before work) (effect_act stamp (here work).0 acts.Tick (book_at stamp before work)) _ refl

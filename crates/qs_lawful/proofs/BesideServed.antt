@@ -172,7 +172,7 @@ module _ (stamp : ℕ) (before : BookValue) (run : InRun before) (work : Work) (
           (λ home committed. committed_on delivery.tid (((h.at delivery.tid).ended tx (home ∙ ap (λ (s : Setting). s.node) setting_is) found).committed committed)))
 
   pub goes_served : Goes stamp before run work (enter_serve server delivery reply work)
-  goes_served = goes_entry stamp before run work (enter_serve server delivery reply work) act setting_is (ap (λ (es : List Act). es ++ act ∷ []) (left (λ w. w.out.entries) refl)) (left (λ w. w.out.messages) refl)
+  goes_served = goes_entry stamp before run work (enter_serve server delivery reply work) act setting_is (left (λ w. w.node.committed) refl) (ap (λ (es : List Act). es ++ act ∷ []) (left (λ w. w.out.entries) refl)) (left (λ w. w.out.messages) refl)
       (λ fine inv causes h. of h (find_transaction book delivery.tid) refl ((h.at delivery.tid).stands p known) causes)
     where
       of : (h : HoldsBeside book node) (o : Option TransactionValue) → find_transaction book delivery.tid ≡ o → is_some (find_transaction book delivery.tid) ≡ true → ((t : Tid) (cause : Cause) → IsTrueCause book t cause → IsTrueCause new t cause) → HoldsBeside new fresh

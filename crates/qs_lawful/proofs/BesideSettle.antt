@@ -76,8 +76,8 @@ module _ (stamp : ℕ) (before : BookValue) (run : InRun before) where
   On work new = Goes stamp before run work new
 
   -- where nothing is entered, what stands before may be used all along
-  pub goes_given : (work new : Work) → new.out.entries ≡ work.out.entries → new.node.setting ≡ work.node.setting → (HoldsBeside (book_at stamp before work) work.node → On work new) → On work new
-  goes_given work new entries setting body = record { more = []; entries = entries ∙ sym (append-nil work.out.entries); setting = setting; keeps = λ lawful h. (body h).keeps lawful h; sends = λ lawful h all. (body h).sends lawful h all }
+  pub goes_given : (work new : Work) → new.out.entries ≡ work.out.entries → new.node.setting ≡ work.node.setting → new.node.committed ≡ work.node.committed → (HoldsBeside (book_at stamp before work) work.node → On work new) → On work new
+  goes_given work new entries setting logged body = record { more = []; entries = entries ∙ sym (append-nil work.out.entries); setting = setting; logged = logged; keeps = λ lawful h. (body h).keeps lawful h; sends = λ lawful h all. (body h).sends lawful h all }
 
   -- ---- readiness
 
@@ -126,6 +126,14 @@ module _ (stamp : ℕ) (before : BookValue) (run : InRun before) where
         by true = refl
         by false = refl
 
+    logged_sent : (cs : List Cause) (w : Work) → (fold (send_refusal tid to) w cs).node.committed ≡ w.node.committed
+    logged_sent [] w = refl
+    logged_sent (c ∷ cs) w = logged_sent cs (send_refusal tid to w c) ∙ by (is_other w.node.setting to)
+      where
+        by : (b : Bool) → (if b then record w { out = record w.out { messages = w.out.messages ++ record { to = to; message = messages.VotedAbort tid c } ∷ [] } } else w).node.committed ≡ w.node.committed
+        by true = refl
+        by false = refl
+
     refuses : (cs : List Cause) (w : Work) → Every (IsTrueCause (book_at stamp before w) tid) cs → On w (fold (send_refusal tid to) w cs)
     refuses [] w all = goes_self stamp before run w
     refuses (c ∷ cs) w all = goes_then stamp before run w (send_refusal tid to w c) (fold (send_refusal tid to) (send_refusal tid to w c) cs) (goes_send stamp before run to (messages.VotedAbort tid c) w tt (λ h. all.0))
@@ -136,7 +144,7 @@ module _ (stamp : ℕ) (before : BookValue) (run : InRun before) where
         by false = all.1
 
   goes_elsewhere : (tid : Tid) (part : Participant) (work : Work) → part_of tid work ≡ Some part → part.outcome ≡ None → On work (refuse_elsewhere tid part work)
-  goes_elsewhere tid part work known none = goes_given work (refuse_elsewhere tid part work) (entries_sent tid (refusal_goes_to tid part) part.causes taken) (setting_sent tid (refusal_goes_to tid part) part.causes taken)
+  goes_elsewhere tid part work known none = goes_given work (refuse_elsewhere tid part work) (entries_sent tid (refusal_goes_to tid part) part.causes taken) (setting_sent tid (refusal_goes_to tid part) part.causes taken) (logged_sent tid (refusal_goes_to tid part) part.causes taken)
       (λ h. goes_then stamp before run work taken (refuse_elsewhere tid part work)
       (goes_part stamp before run tid participant.take_causes work (λ p at. record { notes = record { keeps = λ c is. is }; asked = refl; outcome = refl; causes = inr refl; members = refl; involved = λ is. is; home = refl; begun_at = refl; unended = λ is. is }))
       (refuses tid (refusal_goes_to tid part) part.causes taken (so h (find_transaction (book_at stamp before work) tid) refl ((h.at tid).stands part known))))

@@ -91,6 +91,7 @@ module _ (stamp : ℕ) (before : BookValue) (run : InRun before) where
         more = g.more;
         entries = g.entries;
         setting = g.setting;
+        logged = g.logged;
         keeps = g.keeps;
         sends = λ lawful h all. every_append (IsSent (book_at stamp before mid) mid.node.setting) mid.out.messages (record { to = to; message = message } ∷ []) (g.sends lawful h all)
             (record { other = is; goes = goes; says = says_on stamp before run work mid g.more g.entries g.setting lawful message (says h) }, tt);
@@ -99,7 +100,7 @@ module _ (stamp : ℕ) (before : BookValue) (run : InRun before) where
   -- ---- a record of what is decided
 
   pub goes_logged : (work : Work) (tid : Tid) (o : Outcome) (rec : Record) → tid_of rec ≡ tid → Ended stamp before run tid o work → On work (log rec work)
-  goes_logged work tid o rec at e = goes_still stamp before run work (log rec work) refl refl refl
+  goes_logged work tid o rec at e = goes_still stamp before run work (log rec work) refl refl refl refl
       (λ h. subst (λ (t : Tid). HoldsBeside (book_at stamp before work) (record work.node { manager = tm.logged t rec work.node.manager })) (sym at)
       (beside_custom (book_at stamp before work) work.node (tm.logged tid rec work.node.manager) refl tid (λ t far. part_apart tid t (outcome_rules.logged rec) work.node.manager far) h (λ none. part_unknown tid (outcome_rules.logged rec) work.node.manager none)
       (λ tx found p known w. (outcome_rules.logged rec p, part_changed tid (outcome_rules.logged rec) work.node.manager p known,

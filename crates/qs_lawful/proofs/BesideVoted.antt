@@ -206,7 +206,7 @@ module _ (stamp : ℕ) (before : BookValue) (run : InRun before) (work new_work 
           (λ home committed. committed_on tid (((h.at tid).ended tx (home ∙ ap (λ s. s.node) setting_is) found).committed committed)))
 
   pub goes_voted : Goes stamp before run work new_work
-  goes_voted = goes_entry stamp before run work new_work act setting_is grows sendings (λ fine inv causes_on h. of h (find_transaction book tid) refl ((h.at tid).stands p known) causes_on)
+  goes_voted = goes_entry stamp before run work new_work act setting_is committed_are grows sendings (λ fine inv causes_on h. of h (find_transaction book tid) refl ((h.at tid).stands p known) causes_on)
     where
       of : (h : HoldsBeside book node) (o : Option TransactionValue) → find_transaction book tid ≡ o → is_some (find_transaction book tid) ≡ true → ((t : Tid) (cause : Cause) → IsTrueCause book t cause → IsTrueCause new t cause) → HoldsBeside new fresh
       of h None is there causes_on = absurd (no (sym (ap is_some is) ∙ there))

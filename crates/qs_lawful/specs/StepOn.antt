@@ -12,11 +12,12 @@ use Rattle.qs_step.specs.declared.event.Event.{Event}
 use Rattle.qs_lawful.specs.Agreed.{StepAgrees}
 use Rattle.qs_lawful.specs.Amid.{InRun}
 use Rattle.qs_lawful.specs.Beside.{HoldsBeside}
-use Rattle.qs_lawful.specs.BesideStep.{HappensSo, HasCountRoom}
+use Rattle.qs_lawful.specs.BesideStep.{AreCommitted, HappensSo, HasCountRoom}
 use Rattle.qs_lawful.specs.Coming.{ComesTo}
 use Rattle.qs_lawful.specs.Entering.{HoldsWork, book_at}
 use Rattle.qs_lawful.specs.Given.{AtEach}
 use Rattle.qs_lawful.specs.GivenStep.{done_work, first_work}
+use Rattle.qs_lawful.specs.Holds.{Holds}
 use Rattle.qs_lawful.specs.NodeFacts.{FitsEvent, HasNodeFacts, HasSoundFacts}
 use Rattle.qs_lawful.specs.Standing.{HoldsHomes, Stands}
 
@@ -40,7 +41,8 @@ pub record StepOn (stamp : ℕ) (before : BookValue) (size : ℕ) (nodes : ℕ �
   pub homes : HoldsHomes before size nodes n
   pub in_run : InRun before
   pub beside : HoldsBeside before node
-  pub held : HoldsWork stamp before (first_work node free)
+  pub holds : Holds stamp before node
+  pub logged : AreCommitted before node
   pub sound : HasSoundFacts (first_work node free).node
   pub sounds : KeepsSound stamp before size nodes n
   pub happens_sound : SoundOn stamp before size nodes n (first_work node free) (happen event (first_work node free))
