@@ -79,7 +79,7 @@ module _ (stamp : ℕ) (before : BookValue) (tid : Tid) where
   else_fold f each [] work = else_self work
   else_fold f each (x ∷ xs) work = else_then work (f work x) (fold f (f work x) xs) (each work x) (else_fold f each xs (f work x))
 
-  same_book : (work new : Work) → new.node.setting ≡ work.node.setting → new.out.entries ≡ work.out.entries → book_at stamp before new ≡ book_at stamp before work
+  pub same_book : (work new : Work) → new.node.setting ≡ work.node.setting → new.out.entries ≡ work.out.entries → book_at stamp before new ≡ book_at stamp before work
   same_book work new setting entries = ap (book_after before) (ap (λ (s : Setting). entries_of s.node.0 stamp new.out.entries) setting ∙ ap (λ (es : List Act). entries_of (here work).0 stamp es) entries)
 
   -- what enters nothing

@@ -226,3 +226,4 @@ pub mod BesideSent
 pub mod LeftElse
 pub mod AgedTids
 pub mod OldEnough
+pub mod FirstComes
