@@ -227,3 +227,4 @@ pub mod LeftElse
 pub mod AgedTids
 pub mod OldEnough
 pub mod FirstComes
+pub mod ComesFirst
