@@ -34,6 +34,7 @@ use Rattle.qs_lawful.proofs.BesideRequests.{goes_next}
 use Rattle.qs_lawful.proofs.BesideRestarts.{goes_incarnation}
 use Rattle.qs_lawful.proofs.BesideSettle.{goes_forgets, goes_ready, goes_refuse, unkept}
 use Rattle.qs_lawful.proofs.CommandCame.{by_answer_waiting}
+use Rattle.qs_lawful.proofs.ComesFirst.{comes_first, fits_so}
 use Rattle.qs_lawful.proofs.FactsTold.{begin_incarnation_keeps}
 use Rattle.qs_lawful.proofs.GivenSettling.{may_pass}
 use Rattle.qs_lawful.proofs.GivenStages.{s_passed, s_refused, s_settled}
@@ -95,6 +96,10 @@ module _ (stamp : ℕ) (before : BookValue) (size : ℕ) (nodes : ℕ → NodeVa
   held_first : HoldsWork stamp before (first_work node free)
   held_first = first_held stamp before node free s.holds
 
+  -- what comes
+  comes_here : ComesTo (book_at stamp before (first_work node free)) event (first_work node free)
+  comes_here = comes_first stamp before s.in_run node free held_first event s.comes s.room
+
   goes_first : Goes stamp before s.in_run (work_on node free) (first_work node free)
   goes_first = goes_incarnation stamp before s.in_run (work_on node free)
 
@@ -108,20 +113,20 @@ module _ (stamp : ℕ) (before : BookValue) (size : ℕ) (nodes : ℕ → NodeVa
   -- what is old enough the machine finds that old
   ages_so : event ≡ events.Tick → MayAge stamp before (first_work node free).node.setting.age (tick_work (first_work node free))
   ages_so is = may_age stamp before s.in_run (first_work node free) held_first first_beside.beside (begin_incarnation_keeps (work_on node free) s.facts)
-      (subst (λ (e : Event). ComesTo (book_at stamp before (first_work node free)) e (first_work node free)) is s.comes) (subst (λ (e : Event). HappensSo stamp before e (first_work node free)) is s.so)
+      (subst (λ (e : Event). ComesTo (book_at stamp before (first_work node free)) e (first_work node free)) is comes_here) (subst (λ (e : Event). HappensSo stamp before e (first_work node free)) is s.so)
 
   pub step_beside : StepBeside stamp before size nodes n node event free
   step_beside = record {
     at = s.at;
     run = s.run;
     facts = s.facts;
-    fits = s.fits;
+    fits = fits_so before node free event s.comes;
     homes = s.homes;
     held = held_first;
     first = first_beside;
     rules = keeps_beside stamp before s.in_run size nodes n s.sounds;
     happens = λ comes here held. on_by stamp before s.in_run size nodes n (first_work node free) (happen event (first_work node free)) (goes_happens stamp before s.in_run size nodes n s.homes s.sounds event (first_work node free) here comes s.agreed.comes s.so logged_first) s.happens_sound here held;
-    comes = s.comes;
+    comes = comes_here;
     ages = ages_so;
     agreed = s.agreed;
     rooms = s.rooms;
@@ -140,7 +145,7 @@ module _ (stamp : ℕ) (before : BookValue) (size : ℕ) (nodes : ℕ → NodeVa
       let done_at : Work = done_work node event free in
       let settled_at : Work = settle done_at in
       goes_then stamp before s.in_run (work_on node free) started (step_work node event free) goes_first
-      (goes_then stamp before s.in_run started done_at (step_work node event free) (goes_happens stamp before s.in_run size nodes n s.homes s.sounds event started stands.first s.comes s.agreed.comes s.so logged_first)
+      (goes_then stamp before s.in_run started done_at (step_work node event free) (goes_happens stamp before s.in_run size nodes n s.homes s.sounds event started stands.first comes_here s.agreed.comes s.so logged_first)
       (goes_then stamp before s.in_run done_at settled_at (step_work node event free)
       (goes_settles stamp before s.in_run size nodes n s.homes s.sounds (due_tids done_at) done_at (done stamp before size nodes n node event free stands) (given_so stamp before size nodes n node event free stands))
       (goes_fold stamp before s.in_run wait_on (goes_wait stamp before s.in_run) (waiting_clients settled_at) settled_at)))
