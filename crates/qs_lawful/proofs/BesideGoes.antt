@@ -50,7 +50,7 @@ use Rattle.qs_lawful.proofs.SaidStays.{said_stays}
 
 -- ---- a machine of a run
 
-joined : (es more : List Entry) (book : BookValue) → IsLawful book es → IsLawful (book_after book es) more → IsLawful book (es ++ more)
+pub joined : (es more : List Entry) (book : BookValue) → IsLawful book es → IsLawful (book_after book es) more → IsLawful book (es ++ more)
 joined [] more book a b = b
 joined (e ∷ es) more book a b = (a.0, joined es more (effect book e) a.1 b)
 

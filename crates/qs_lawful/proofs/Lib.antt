@@ -228,3 +228,4 @@ pub mod AgedTids
 pub mod OldEnough
 pub mod FirstComes
 pub mod ComesFirst
+pub mod StepKept

@@ -38,3 +38,4 @@ pub mod WorldGives
 pub mod Amid
 pub mod BesideStep
 pub mod StepOn
+pub mod StepKeeps
