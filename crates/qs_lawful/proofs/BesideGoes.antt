@@ -1,30 +1,24 @@
 -- What stands in the middle of a rule stands on through all that rules are made of, as long as their entries are lawful.
 use Rattle.std.proofs.Common.{◌≡◌, ◌⊎◌, inl, inr, ◌<◌, ◌^◌, ℕ, Bool, true, false, List, [], ◌∷◌, ◌++◌, Option, Some, None, refl, sym, ap, subst, ◌∙◌, fold, append_assoc, if◌then◌else◌}
 use Rattle.std.proofs.lemmas.List.{append-nil}
-use Rattle.std.specs.Prelude.{◌||◌, is_none, slice_get}
-use Rattle.std.specs.List.{find, list_any}
-use Rattle.qs_base.specs.Order.{same_tid}
+use Rattle.std.specs.Prelude.{is_none, slice_get}
 use Rattle.qs_base.specs.declared.identifiers.NodeNo.{NodeNo}
 use Rattle.qs_base.specs.declared.identifiers.Outcome.{Outcome}
 use Rattle.qs_base.specs.declared.identifiers.Tid.{Tid}
 use Rattle.qs_journal.specs.declared.entry.Act.{Act}
 use Rattle.qs_journal.specs.declared.entry.Entry.{Entry}
-use Rattle.qs_kept.specs.Keeping.{is_outcome_of}
-use Rattle.qs_kept.specs.declared.kept.Decided.{Decided}
 use Rattle.qs_laws.proofs.Openings.{opening_holds}
 use Rattle.qs_laws.proofs.Outcomes.{Inv}
-use Rattle.qs_laws.proofs.Steps.{after_both, lawful_front, lawful_rest, ran}
-use Rattle.qs_machine.specs.Book.{BookValue, find_transaction}
+use Rattle.qs_laws.proofs.Steps.{after_both, ran}
+use Rattle.qs_machine.specs.Book.{BookValue}
 use Rattle.qs_machine.specs.Lawful.{IsLawful, book_after, broken, effect}
-use Rattle.qs_machine.specs.Nodes as machine
 use Rattle.qs_machine.specs.Opening.{opening}
-use Rattle.qs_machine.specs.Transaction.{TransactionValue}
 use Rattle.qs_ops.specs.declared.answer.Cause.{Cause}
 use Rattle.qs_packet.specs.declared.message.Message.{Message}
 use Rattle.qs_packet.specs.declared.message.Message.TheVariants as messages
-use Rattle.qs_step.specs.Answering.{is_kept_commit, was_committed}
+use Rattle.qs_step.specs.Answering.{was_committed}
 use Rattle.qs_step.specs.Asking.{where_undecided}
-use Rattle.qs_step.specs.Bringing.{enter, is_other, send, send_each, send_next}
+use Rattle.qs_step.specs.Bringing.{is_other, send, send_each, send_next}
 use Rattle.qs_step.specs.State.{NodeValue, Work, here, part_of, with_manager}
 use Rattle.qs_step.specs.declared.event.Sending.{Sending}
 use Rattle.qs_step.specs.declared.setting.Setting.{Setting}
@@ -34,7 +28,7 @@ use Rattle.qs_tm.specs.declared.manager.Manager.{Manager}
 use Rattle.qs_tm.specs.declared.participant.Participant.{Participant}
 use Rattle.qs_world.specs.Posting.{entries_of, entry_of}
 use Rattle.qs_lawful.specs.Amid.{GoesOn, InRun, IsSent}
-use Rattle.qs_lawful.specs.Beside.{HasOwner, HoldsBeside, HoldsClock, HoldsTidBeside, IsTrueCause}
+use Rattle.qs_lawful.specs.Beside.{HoldsBeside, IsTrueCause}
 use Rattle.qs_lawful.specs.Entering.{book_at, entries_so_far}
 use Rattle.qs_lawful.specs.Logs.{Every}
 use Rattle.qs_lawful.specs.Parcels.{GoesTo, IsSaid}
@@ -243,4 +237,3 @@ module _ (stamp : ℕ) (before : BookValue) (run : InRun before) where
 
   pub goes_part : (tid : Tid) (f : Participant → Participant) (work : Work) → ((p : Participant) → part_of tid work ≡ Some p → PartOn p (f p)) → Goes work (with_manager (tm.with_part tid f) work)
   goes_part tid f work on = goes_still work (with_manager (tm.with_part tid f) work) refl refl refl refl (beside_part (book_at stamp before work) work.node tid f on)
-

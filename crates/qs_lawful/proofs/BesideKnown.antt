@@ -1,26 +1,21 @@
 -- What a node keeps of one transaction changes, begins or ends, and nothing is entered: what the machine has beside the node stands on.
-use Rattle.std.proofs.Common.{◌≡◌, ◌⊎◌, inl, inr, ℕ, ◌<◌, ◌≤◌, ◌^◌, Bool, true, false, List, [], ◌∷◌, ◌++◌, Option, Some, None, refl, sym, ap, subst, ◌∙◌, if◌then◌else◌}
+use Rattle.std.proofs.Common.{◌≡◌, ◌⊎◌, inl, inr, ℕ, ◌<◌, ◌^◌, Bool, true, false, Option, Some, None, refl, sym, ap, subst, ◌∙◌, if◌then◌else◌}
 use Rattle.std.specs.BTreeMap.{is_at}
-use Rattle.std.specs.Map.{lookup, remove_entry}
-use Rattle.std.specs.Prelude.{◌&&◌, ◌||◌, not, is_some, unwrap_or}
+use Rattle.std.specs.Prelude.{◌&&◌, not, is_some, unwrap_or}
 use Rattle.qs_base.specs.Order.{tid_cmp}
 use Rattle.qs_base.specs.declared.identifiers.NodeNo.{NodeNo}
-use Rattle.qs_base.specs.declared.identifiers.Outcome.{Outcome}
 use Rattle.qs_base.specs.declared.identifiers.Outcome.TheVariants as outcomes
-use Rattle.qs_base.specs.declared.identifiers.ServerNo.{ServerNo}
 use Rattle.qs_base.specs.declared.identifiers.Tid.{Tid}
 use Rattle.qs_laws.proofs.Alikes.{at_exact}
 use Rattle.qs_laws.proofs.Maps.{lookup_put}
 use Rattle.qs_laws.proofs.Rising.{IsRising, removed}
 use Rattle.qs_laws.proofs.Alikes.{tid_itself}
 use Rattle.qs_machine.specs.Book.{BookValue, find_transaction}
-use Rattle.qs_machine.specs.Clauses.{note_text}
-use Rattle.qs_machine.specs.Nodes as machine
 use Rattle.qs_machine.specs.Transaction.{TransactionValue, is_abort, is_commit, is_covering, is_outcome}
 use Rattle.qs_machine.specs.declared.transaction.Cell.{Cell}
 use Rattle.qs_machine.specs.declared.transaction.Cell.TheVariants as cells
 use Rattle.qs_step.specs.State.{NodeValue, Work, with_manager}
-use Rattle.qs_step.specs.Telling.{drop_counts, forget}
+use Rattle.qs_step.specs.Telling.{forget}
 use Rattle.qs_tm.specs.Manager as tm
 use Rattle.qs_tm.specs.Members as rules
 use Rattle.qs_tm.specs.Outcomes as outcome_rules
@@ -32,13 +27,13 @@ use Rattle.qs_lawful.specs.Amid.{InRun}
 use Rattle.qs_lawful.specs.Beside.{HoldsBeside, HoldsEnded, HoldsNotes, HoldsPart, HoldsReads, HoldsStranger, HoldsTidBeside}
 use Rattle.qs_lawful.specs.Entering.{book_at}
 use Rattle.qs_lawful.specs.Face.{Face, at_server, face_of, is_held, part_in}
-use Rattle.qs_lawful.specs.Holds.{HoldsTid, is_kept}
+use Rattle.qs_lawful.specs.Holds.{HoldsTid}
 use Rattle.qs_lawful.proofs.Apart.{Apart, same_or_apart}
 use Rattle.qs_lawful.proofs.Begins.{new_member}
 use Rattle.qs_lawful.proofs.BesideActs.{steps_self}
 use Rattle.qs_lawful.proofs.BesideGoes.{Goes, beside_alike, goes_still}
-use Rattle.qs_lawful.proofs.BesideOwn.{KnownOn, own_by}
-use Rattle.qs_lawful.proofs.BesideParts.{PartStep, part_ended, part_same, tid_on}
+use Rattle.qs_lawful.proofs.BesideOwn.{own_by}
+use Rattle.qs_lawful.proofs.BesideParts.{part_ended, part_same, tid_on}
 use Rattle.qs_lawful.proofs.Faces.{put_apart}
 use Rattle.qs_lawful.proofs.OtherShares.{removed_apart}
 use Rattle.qs_lawful.proofs.Truths.{clash, of_some}

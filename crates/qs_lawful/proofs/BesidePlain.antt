@@ -1,43 +1,36 @@
 -- What an entry does that leaves each transaction as it is looked at: what the machine has beside the node stands on.
-use Rattle.std.proofs.Common.{◌≡◌, ◌≢◌, ◌⊎◌, inl, inr, ◌<◌, ◌+◌, ◌^◌, ℕ, ◌==◌, Bool, true, false, List, [], ◌∷◌, ◌++◌, Option, Some, None, refl, sym, ap, subst, ◌∙◌, arith}
-use Rattle.std.proofs.lemmas.Bool.Decides.{nat_tests}
+use Rattle.std.proofs.Common.{◌≡◌, ℕ, true, [], ◌∷◌, ◌++◌, Option, Some, None, refl, sym, ap, subst, ◌∙◌}
 use Rattle.std.specs.BTreeMap.{is_at}
 use Rattle.std.specs.Map.{lookup, remove_entry}
 use Rattle.std.specs.Option.{option_map}
 use Rattle.std.specs.Prelude.{slice_get}
 use Rattle.qs_base.specs.declared.identifiers.ClientNo.{ClientNo}
 use Rattle.qs_base.specs.declared.identifiers.NodeNo.{NodeNo}
-use Rattle.qs_base.specs.declared.identifiers.ServerNo.{ServerNo}
 use Rattle.qs_base.specs.declared.identifiers.Tid.{Tid}
 use Rattle.qs_journal.specs.declared.entry.Act.{Act}
 use Rattle.qs_journal.specs.declared.entry.Act.TheVariants as acts
-use Rattle.qs_kept.specs.declared.kept.Kept.{Kept}
 use Rattle.qs_laws.proofs.Acts as of
 use Rattle.qs_laws.proofs.Faces.{Alike, age}
-use Rattle.qs_laws.proofs.Outcomes.{Inv}
 use Rattle.qs_laws.proofs.Stills.{Facet, facet}
-use Rattle.qs_machine.specs.Book.{BookValue, find_transaction, inc_at}
+use Rattle.qs_machine.specs.Book.{BookValue, find_transaction}
 use Rattle.qs_machine.specs.Clauses.{borrower_at, has_no_record}
-use Rattle.qs_machine.specs.Lawful.{broken, effect, effect_act}
+use Rattle.qs_machine.specs.Lawful.{effect, effect_act}
 use Rattle.qs_machine.specs.Nodes as machine
 use Rattle.qs_machine.specs.Transaction.{TransactionValue}
 use Rattle.qs_ops.specs.declared.answer.Answer.{Answer}
 use Rattle.qs_ops.specs.declared.answer.Cause.{Cause}
 use Rattle.qs_step.specs.Bringing.{answer, enter}
-use Rattle.qs_step.specs.State.{NodeValue, Work, client_cmp, here, part_of, with_doings, with_kept, with_manager}
+use Rattle.qs_step.specs.State.{NodeValue, Work, client_cmp, here}
 use Rattle.qs_step.specs.declared.setting.Setting.{Setting}
 use Rattle.qs_step.specs.declared.state.OpenCommand.{OpenCommand}
-use Rattle.qs_tm.specs.Manager as tm
-use Rattle.qs_tm.specs.Participant as participant
-use Rattle.qs_tm.specs.declared.participant.Participant.{Participant}
 use Rattle.qs_world.specs.Posting.{entry_of}
 use Rattle.qs_lawful.specs.Amid.{InRun}
 use Rattle.qs_lawful.specs.Beside.{HasOwner, HoldsBeside, HoldsClock, HoldsTidBeside, IsTrueCause}
 use Rattle.qs_lawful.specs.Entering.{book_at}
 use Rattle.qs_lawful.specs.Logged.{is_plain}
-use Rattle.qs_lawful.proofs.BesideActs.{Steps, answered_steps, asked_steps, counted_steps, given_steps, inc_on, lent_steps, owners_alike, records_same, steps_as, steps_self}
-use Rattle.qs_lawful.proofs.BesideGoes.{Goes, goes_alike, goes_elim, goes_entry, goes_part, goes_self, goes_then}
-use Rattle.qs_lawful.proofs.BesideParts.{CommittedOn, PartOn, PartStep, TxStep, part_same, tid_on}
+use Rattle.qs_lawful.proofs.BesideActs.{Steps, answered_steps, asked_steps, counted_steps, given_steps, inc_on, lent_steps, owners_alike, records_same, steps_as}
+use Rattle.qs_lawful.proofs.BesideGoes.{Goes, goes_elim, goes_entry, goes_self}
+use Rattle.qs_lawful.proofs.BesideParts.{CommittedOn, PartStep, part_same, tid_on}
 use Rattle.qs_lawful.proofs.LogActs.{plain_facets}
 use Rattle.qs_lawful.proofs.Truths.{of_some}
 

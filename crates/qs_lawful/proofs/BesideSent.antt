@@ -1,23 +1,22 @@
 -- What a whole step sends is so and goes between two nodes of the run, so that channels hold what is so with it.
-use Rattle.std.proofs.Common.{◌≡◌, ◌<◌, ◌==◌, ℕ, Bool, true, false, List, Some, refl, ap, sym, subst, ◌∙◌, arith, nat_lt}
+use Rattle.std.proofs.Common.{◌≡◌, ◌<◌, ◌==◌, ℕ, true, false, List, ap, sym, subst, ◌∙◌, arith, nat_lt}
 use Rattle.std.proofs.lemmas.Bool.Decides.{nat_tests}
 use Rattle.std.proofs.lemmas.Option.{slice_get_within}
-use Rattle.std.specs.Prelude.{not, length, slice_get}
+use Rattle.std.specs.Prelude.{not, length}
 use Rattle.qs_channels.specs.Channels.{Channels}
 use Rattle.qs_engage.specs.Nodes.{same_node}
 use Rattle.qs_journal.specs.declared.entry.Entry.{Entry}
 use Rattle.qs_machine.specs.Book.{BookValue}
 use Rattle.qs_machine.specs.Lawful.{IsLawful, book_after}
-use Rattle.qs_machine.specs.Opening.{opening}
-use Rattle.qs_step.specs.State.{NodeValue, Work}
+use Rattle.qs_step.specs.State.{NodeValue}
 use Rattle.qs_step.specs.Step.{effects_of, step_work}
 use Rattle.qs_step.specs.declared.event.Event.{Event}
 use Rattle.qs_step.specs.declared.event.Sending.{Sending}
 use Rattle.qs_step.specs.declared.setting.Setting.{Setting}
 use Rattle.qs_world.specs.Posting.{entries_of, post_all}
 use Rattle.qs_world.specs.World.{Parcel}
-use Rattle.qs_lawful.specs.Amid.{AreSent, InRun, IsSent}
-use Rattle.qs_lawful.specs.Entering.{book_at, entries_so_far}
+use Rattle.qs_lawful.specs.Amid.{InRun, IsSent}
+use Rattle.qs_lawful.specs.Entering.{entries_so_far}
 use Rattle.qs_lawful.specs.Logs.{Every}
 use Rattle.qs_lawful.specs.Parcels.{HoldsChannels, IsParcel}
 use Rattle.qs_lawful.specs.StepOn.{StepOn}

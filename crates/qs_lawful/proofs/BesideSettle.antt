@@ -1,5 +1,5 @@
 -- Readiness, refusal and forgetting: what stands before each of these rules stands after it.
-use Rattle.std.proofs.Common.{◌≡◌, ◌⊎◌, inl, inr, ℕ, ◌==◌, ◌≤◌, Bool, true, false, List, [], ◌∷◌, Option, Some, None, refl, sym, ap, subst, ◌∙◌, arith, fold, if◌then◌else◌}
+use Rattle.std.proofs.Common.{◌≡◌, inr, ℕ, ◌==◌, ◌≤◌, Bool, true, false, List, [], ◌∷◌, Option, Some, None, refl, sym, ap, subst, ◌∙◌, arith, fold, if◌then◌else◌}
 use Rattle.std.proofs.lemmas.Bool.Decides.{nat_tests}
 use Rattle.std.proofs.lemmas.List.{append-nil}
 use Rattle.std.specs.Prelude.{◌&&◌, ◌++◌, not, is_none, is_some}
@@ -12,17 +12,17 @@ use Rattle.qs_engage.specs.Nodes.{is_no_node, listed, same_node}
 use Rattle.qs_kept.specs.declared.kept.Decided.{Decided}
 use Rattle.qs_machine.specs.Book.{BookValue, find_transaction}
 use Rattle.qs_machine.specs.Clauses.{note_text}
-use Rattle.qs_machine.specs.Transaction.{TransactionValue, is_commit, is_open, is_outcome, part_of as machine_part}
+use Rattle.qs_machine.specs.Transaction.{TransactionValue, is_open, is_outcome, part_of as machine_part}
 use Rattle.qs_machine.specs.declared.transaction.Cell.{Cell}
 use Rattle.qs_machine.specs.declared.transaction.Cell.TheVariants as cells
 use Rattle.qs_ops.specs.declared.answer.Cause.{Cause}
 use Rattle.qs_ops.specs.declared.answer.Cause.TheVariants as causes
 use Rattle.qs_packet.specs.declared.message.Message.TheVariants as messages
 use Rattle.qs_step.specs.Answering.{kept_outcome}
-use Rattle.qs_step.specs.Bringing.{is_other, send}
+use Rattle.qs_step.specs.Bringing.{is_other}
 use Rattle.qs_step.specs.Deciding.{decide, decide_commit}
 use Rattle.qs_step.specs.Settling.{answer_superior, forget_rule, is_quiet, may_answer, ready, ready_rule, refusal_goes_to, refuse_elsewhere, refuse_home, refuse_rule, say_yes, send_refusal}
-use Rattle.qs_step.specs.State.{NodeValue, Work, doings_of, here, part_of, with_manager}
+use Rattle.qs_step.specs.State.{Work, doings_of, here, part_of, with_manager}
 use Rattle.qs_step.specs.Telling.{forget}
 use Rattle.qs_tm.specs.Manager as tm
 use Rattle.qs_tm.specs.Members as rules
@@ -31,8 +31,8 @@ use Rattle.qs_tm.specs.Participant as participant
 use Rattle.qs_tm.specs.Participant.{is_forgotten, is_undecided, member_of, only_read}
 use Rattle.qs_tm.specs.declared.participant.Participant.{Participant}
 use Rattle.qs_lawful.specs.Amid.{InRun}
-use Rattle.qs_lawful.specs.Beside.{HoldsBeside, HoldsPart, HoldsReads, HoldsStranger, IsTrueCause, has_issued}
-use Rattle.qs_lawful.specs.Entering.{HoldsWork, book_at, entries_so_far}
+use Rattle.qs_lawful.specs.Beside.{HoldsBeside, HoldsReads, HoldsStranger, IsTrueCause, has_issued}
+use Rattle.qs_lawful.specs.Entering.{HoldsWork, book_at}
 use Rattle.qs_lawful.specs.Face.{at_server, face_of}
 use Rattle.qs_lawful.specs.Holds.{HasEnded, HoldsTid}
 use Rattle.qs_lawful.specs.Logs.{Every}
@@ -40,12 +40,10 @@ use Rattle.qs_lawful.specs.NodeFacts.{HasNodeFacts}
 use Rattle.qs_lawful.proofs.BesideDecide.{goes_decide}
 use Rattle.qs_lawful.proofs.BesideGoes.{Goes, goes_elim, goes_if, goes_part, goes_self, goes_send, goes_then}
 use Rattle.qs_lawful.proofs.BesideKnown.{goes_forget}
-use Rattle.qs_lawful.proofs.BesideParts.{PartOn}
 use Rattle.qs_lawful.proofs.BesideRequests.{engaged_on}
 use Rattle.qs_lawful.proofs.Clauses.{of_tid}
-use Rattle.qs_lawful.proofs.LearningAll.{stands}
 use Rattle.qs_lawful.proofs.ReadAlone.{all_read}
-use Rattle.qs_lawful.proofs.Truths.{clash, left_true, node_is, not_true, number_is, of_some, right_true}
+use Rattle.qs_lawful.proofs.Truths.{clash, left_true, node_is, not_true, number_is, right_true}
 
 -- what is decided is not open
 shut : (o : Outcome) (c : Cell) → is_outcome o c ≡ true → is_open c ≡ true → ⊥

@@ -1,29 +1,23 @@
 -- The first step of an incarnation leaves what comes: a client's line, and a message, come as they came before it; and what was young is.
-use Rattle.std.proofs.Common.{◌≡◌, ◌⊎◌, inl, inr, ◌<◌, ◌≤◌, ◌-◌, ℕ, Bool, true, false, List, [], ◌∷◌, ◌++◌, Option, Some, None, refl, ap, sym, subst, ◌∙◌, fold, if◌then◌else◌}
-use Rattle.std.specs.Prelude.{slice_get}
+use Rattle.std.proofs.Common.{◌≡◌, ◌⊎◌, inl, inr, ◌<◌, ◌≤◌, ◌-◌, ℕ, Bool, true, false, List, [], ◌∷◌, Option, Some, None, refl, ap, sym, subst, ◌∙◌, fold, if◌then◌else◌}
 use Rattle.std.specs.BTreeMap.{is_at}
 use Rattle.std.specs.Map.{lookup}
 use Rattle.qs_base.specs.Order.{tid_cmp}
-use Rattle.qs_base.specs.declared.identifiers.ClientNo.{ClientNo}
 use Rattle.qs_base.specs.declared.identifiers.NodeNo.{NodeNo}
 use Rattle.qs_base.specs.declared.identifiers.Outcome.{Outcome}
 use Rattle.qs_base.specs.declared.identifiers.Outcome.TheVariants as outcomes
 use Rattle.qs_base.specs.declared.identifiers.ServerNo.{ServerNo}
 use Rattle.qs_base.specs.declared.identifiers.Tid.{Tid}
 use Rattle.qs_engage.specs.Nodes.{listed}
-use Rattle.qs_journal.specs.declared.entry.Act.{Act}
 use Rattle.qs_journal.specs.declared.entry.Act.TheVariants as acts
 use Rattle.qs_laws.proofs.Maps.{changed_none, lookup_changed}
 use Rattle.qs_machine.specs.Book.{BookValue, find_transaction, inc_at, with_transaction}
-use Rattle.qs_machine.specs.Lawful.{effect_act}
 use Rattle.qs_machine.specs.Transaction.{TransactionValue, ended, learnt}
 use Rattle.qs_machine.specs.declared.transaction.RequestNo.{RequestNo}
-use Rattle.qs_ops.specs.declared.operation.Op.{Op}
-use Rattle.qs_packet.specs.declared.message.Message.{Message}
 use Rattle.qs_packet.specs.declared.message.Message.TheVariants as messages
 use Rattle.qs_record.specs.declared.record.Record.{Record}
-use Rattle.qs_step.specs.Bringing.{log, log_if, member_here, send, send_each, tid_of}
-use Rattle.qs_step.specs.Deciding.{due_endings, end_member, end_members, give_notices, learn_member, learn_members, learners_at}
+use Rattle.qs_step.specs.Bringing.{log, log_if, member_here, send, tid_of}
+use Rattle.qs_step.specs.Deciding.{due_endings, end_member, end_members, give_notices, learn_member, learners_at}
 use Rattle.qs_step.specs.Restarts.{begin_incarnation, known_tids, resume_home, resume_part, resume_tid}
 use Rattle.qs_step.specs.State.{NodeValue, Work, here, part_of, with_node}
 use Rattle.qs_step.specs.Telling.{record_learnt}

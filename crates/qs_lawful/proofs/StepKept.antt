@@ -1,5 +1,5 @@
 -- A whole step of a node of a run, all of it: its entries are lawful, what is held of the node is held after it, and channels hold what is so.
-use Rattle.std.proofs.Common.{◌≡◌, ◌++◌, ℕ, List, refl, ap, sym, subst, ◌∙◌}
+use Rattle.std.proofs.Common.{◌≡◌, ◌++◌, ℕ, List, ap, sym, subst, ◌∙◌}
 use Rattle.std.specs.Prelude.{length}
 use Rattle.qs_journal.specs.declared.entry.Entry.{Entry}
 use Rattle.qs_laws.proofs.Steps.{after_both}
