@@ -1,5 +1,5 @@
 -- The transactions of a manager for which a test holds are known, and each is listed once.
-use Rattle.std.proofs.Common.{◌≡◌, Bool, true, false, List, [], ◌∷◌, ◌++◌, Option, Some, refl, ap, sym, subst, ◌∙◌, fold, append_assoc, if◌then◌else◌}
+use Rattle.std.proofs.Common.{◌≡◌, Bool, true, false, List, [], ◌∷◌, ◌++◌, Some, refl, ap, sym, subst, ◌∙◌, fold, append_assoc, if◌then◌else◌}
 use Rattle.std.proofs.lemmas.List.{append-nil}
 use Rattle.std.specs.Prelude.{⊤, cond}
 use Rattle.std.specs.Map.{lookup}

@@ -27,7 +27,7 @@ use Rattle.qs_tm.specs.Members as rules
 use Rattle.qs_lawful.specs.Beside.{HasOwner}
 use Rattle.qs_lawful.specs.Face.{at_server}
 use Rattle.qs_lawful.proofs.Apart.{Apart}
-use Rattle.qs_lawful.proofs.BesideParts.{SameWhole, TxStep, step_same, whole_self, whole_then}
+use Rattle.qs_lawful.proofs.BesideParts.{SameWhole, TxStep, step_same, whole_then}
 use Rattle.qs_lawful.proofs.MemberRule.{parts_alike}
 use Rattle.qs_lawful.proofs.MemberTid.{lives_apart}
 use Rattle.qs_lawful.proofs.Parts.{changed_part_apart}

@@ -1,14 +1,11 @@
 -- A transaction begins: what the machine has beside the node stands on.
-use Rattle.std.proofs.Common.{◌≡◌, ◌⊎◌, inl, inr, ℕ, ◌≤◌, ◌<◌, ◌+◌, ◌^◌, ◌==◌, Bool, true, false, List, [], ◌∷◌, ◌++◌, Option, Some, None, refl, sym, ap, subst, ◌∙◌}
+use Rattle.std.proofs.Common.{◌≡◌, ◌⊎◌, inl, inr, ℕ, ◌+◌, true, Some, None, refl, sym, ap, subst, ◌∙◌}
 use Rattle.std.specs.BTreeMap.{is_at}
-use Rattle.std.specs.Map.{lookup}
-use Rattle.std.specs.Option.{option_map}
 use Rattle.std.specs.Prelude.{◌&&◌, not, is_some, slice_get}
 use Rattle.qs_base.proofs.TidOrder.{tid_exact}
 use Rattle.qs_base.specs.Order.{tid_cmp}
 use Rattle.qs_base.specs.declared.identifiers.ClientNo.{ClientNo}
 use Rattle.qs_base.specs.declared.identifiers.NodeNo.{NodeNo}
-use Rattle.qs_base.specs.declared.identifiers.ServerNo.{ServerNo}
 use Rattle.qs_base.specs.declared.identifiers.Tid.{Tid}
 use Rattle.qs_journal.specs.declared.entry.Act.{Act}
 use Rattle.qs_journal.specs.declared.entry.Act.TheVariants as acts
@@ -17,19 +14,18 @@ use Rattle.qs_laws.proofs.Alikes.{tid_itself}
 use Rattle.qs_laws.proofs.Maps.{changed_at_here, lookup_put, lookup_put_apart}
 use Rattle.qs_laws.proofs.Outcomes.{Inv}
 use Rattle.qs_machine.specs.Book.{BookValue, find_transaction, ticks_at}
-use Rattle.qs_machine.specs.Clauses.{has_no_record, note_text}
 use Rattle.qs_machine.specs.Lawful.{broken, effect}
 use Rattle.qs_machine.specs.Nodes as machine
 use Rattle.qs_machine.specs.Transaction.{TransactionValue, begun, is_commit}
 use Rattle.qs_ops.specs.declared.answer.Answer.TheVariants as answers
 use Rattle.qs_ops.specs.declared.answer.Cause.{Cause}
-use Rattle.qs_step.specs.Bringing.{answer, enter}
+use Rattle.qs_step.specs.Bringing.{enter}
 use Rattle.qs_step.specs.Commands.{begin_as}
 use Rattle.qs_step.specs.Serving.{put_label}
 use Rattle.qs_step.specs.State.{NodeValue, Work, with_manager}
 use Rattle.qs_tm.specs.Manager as tm
 use Rattle.qs_tm.specs.Members as rules
-use Rattle.qs_tm.specs.Participant.{begun_participant, member_of}
+use Rattle.qs_tm.specs.Participant.{begun_participant}
 use Rattle.qs_tm.specs.declared.members.MemberPart.{MemberPart}
 use Rattle.qs_tm.specs.declared.participant.Participant.{Participant}
 use Rattle.qs_world.specs.Posting.{entry_of}
@@ -140,5 +136,5 @@ module _ (stamp : ℕ) (before : BookValue) (run : InRun before) (work : Work) (
 
   pub goes_begin : Goes stamp before run work (begin_as line tid work)
   goes_begin = goes_then stamp before run work begun_work (begin_as line tid work)
-      (goes_entry stamp before run work begun_work act refl refl refl (λ fine inv causes h. begun_beside fine inv causes h))
+      (goes_entry stamp before run work begun_work act refl refl refl refl (λ fine inv causes h. begun_beside fine inv causes h))
       (goes_answer stamp before run line.client answers.Done begun_work)

@@ -1,5 +1,5 @@
 -- What clients command, as it comes and while it waits: what stands before stands after.
-use Rattle.std.proofs.Common.{◌≡◌, ◌⊎◌, inl, inr, ℕ, ◌==◌, ◌+◌, Bool, true, false, List, [], ◌∷◌, Option, Some, None, refl, sym, ap, subst, ◌∙◌, arith, if◌then◌else◌}
+use Rattle.std.proofs.Common.{◌≡◌, ℕ, ◌==◌, ◌+◌, true, Option, Some, None, refl, sym, ap, ◌∙◌, arith, if◌then◌else◌}
 use Rattle.std.proofs.lemmas.Bool.Decides.{nat_tests}
 use Rattle.std.specs.BTreeMap.{is_at}
 use Rattle.std.specs.Map.{lookup}
@@ -16,7 +16,6 @@ use Rattle.qs_journal.specs.declared.script_line.Command.TheVariants as commands
 use Rattle.qs_journal.specs.declared.script_line.ScriptLine.{ScriptLine}
 use Rattle.qs_kept.specs.Loans.{first_untaken, give_back, last_taken, take_first}
 use Rattle.qs_kept.specs.declared.kept.Begun.{Begun}
-use Rattle.qs_kept.specs.declared.kept.Decided.{Decided}
 use Rattle.qs_kept.specs.declared.kept.Lent.{Lent}
 use Rattle.qs_machine.specs.Book.{BookValue, find_transaction, with_transaction}
 use Rattle.qs_machine.specs.Nodes as machine
@@ -31,12 +30,12 @@ use Rattle.qs_servers.specs.Servers.{client_server}
 use Rattle.qs_step.specs.Answering.{kept_outcome}
 use Rattle.qs_step.specs.Asking.{become_asked}
 use Rattle.qs_step.specs.Borrowing.{borrower_command, is_aborted, is_void, lent_command, loan_command, take, take_command, yield}
-use Rattle.qs_step.specs.Bringing.{answer, enter, send_each}
+use Rattle.qs_step.specs.Bringing.{answer, enter}
 use Rattle.qs_step.specs.Commands.{ask, begin_or_refuse, decided_answer, enter_ask, open_command, owner_command, refuse_begin, request_as, request_command, with_issued}
 use Rattle.qs_step.specs.Deciding.{decide}
 use Rattle.qs_step.specs.Requests.{next_number}
 use Rattle.qs_step.specs.Serving.{label_at, put_label}
-use Rattle.qs_step.specs.State.{NodeValue, Work, client_cmp, here, part_of, with_doings, with_kept, with_manager}
+use Rattle.qs_step.specs.State.{NodeValue, Work, client_cmp, part_of, with_doings, with_kept, with_manager}
 use Rattle.qs_step.specs.Step.{borrower_waits, command_came, is_owner, labelled, obey, owner_waits, request_waits, wait_command, wait_on, waits_at, with_command}
 use Rattle.qs_step.specs.declared.state.Issued.{Issued}
 use Rattle.qs_step.specs.declared.state.OpenCommand.{OpenCommand}
@@ -46,7 +45,6 @@ use Rattle.qs_tm.specs.declared.manager.BeginFault.{BeginFault}
 use Rattle.qs_tm.specs.declared.manager.BeginFault.TheVariants as faults
 use Rattle.qs_tm.specs.declared.participant.Participant.{Participant}
 use Rattle.qs_lawful.specs.Amid.{InRun}
-use Rattle.qs_lawful.specs.Beside.{HoldsBeside}
 use Rattle.qs_lawful.specs.Entering.{book_at}
 use Rattle.qs_lawful.proofs.BesideBegin.{goes_begin}
 use Rattle.qs_lawful.proofs.BesideGoes.{Goes, goes_alike, goes_elim, goes_if, goes_self, goes_sends, goes_then, goes_where}
@@ -56,7 +54,7 @@ use Rattle.qs_lawful.proofs.BesideRequests.{goes_number, known_asked}
 use Rattle.qs_lawful.proofs.BesideSettle.{goes_abort}
 use Rattle.qs_lawful.proofs.Faces.{part_changed}
 use Rattle.qs_lawful.proofs.Growing.{book_now}
-use Rattle.qs_lawful.proofs.Truths.{clash, of_some}
+use Rattle.qs_lawful.proofs.Truths.{of_some}
 
 module _ (stamp : ℕ) (before : BookValue) (run : InRun before) where
   abbrev On : Work → Work → Type 0

@@ -1,9 +1,8 @@
 -- A home decides: what the machine has beside the node stands on, and what it commits is kept so for its owner.
 use Rattle.std.proofs.Common.{◌≡◌, ◌⊎◌, inl, inr, ℕ, Bool, true, false, List, [], ◌∷◌, ◌++◌, Option, Some, None, refl, sym, ap, subst, ◌∙◌, ◌<◌, ◌^◌, ◌==◌, if◌then◌else◌}
-use Rattle.std.specs.BTreeMap.{is_at}
 use Rattle.std.specs.List.{find, list_any}
 use Rattle.std.specs.Option.{option_map}
-use Rattle.std.specs.Prelude.{◌&&◌, ◌||◌, is_none, is_some, slice_get}
+use Rattle.std.specs.Prelude.{◌||◌, is_some, slice_get}
 use Rattle.qs_base.specs.Order.{same_tid}
 use Rattle.qs_base.proofs.Same.{same_tid-self}
 use Rattle.qs_base.specs.declared.identifiers.ClientNo.{ClientNo}
@@ -21,7 +20,6 @@ use Rattle.qs_laws.proofs.Steps.{held}
 use Rattle.qs_machine.specs.Book.{BookValue, cell_of_transaction, find_transaction, owner_of, told, told_owner}
 use Rattle.qs_machine.specs.Clauses.{broken_decide, may_decide}
 use Rattle.qs_machine.specs.Lawful.{broken, effect}
-use Rattle.qs_machine.specs.Nodes as machine
 use Rattle.qs_machine.specs.Transaction.{TransactionValue, cell_of, decided_at, is_abort, is_commit, is_open, is_outcome}
 use Rattle.qs_machine.specs.declared.state.Owner.{Owner}
 use Rattle.qs_machine.specs.declared.transaction.Cell.{Cell}
@@ -32,7 +30,7 @@ use Rattle.qs_record.specs.declared.record.Record.{Record}
 use Rattle.qs_record.specs.declared.record.Record.TheVariants as records
 use Rattle.qs_step.specs.Answering.{is_kept_commit, kept_outcome, was_committed}
 use Rattle.qs_step.specs.Bringing.{enter, log_if, send_each, tid_of}
-use Rattle.qs_step.specs.Deciding.{decide, decide_as, give_notices, keep_outcome}
+use Rattle.qs_step.specs.Deciding.{decide, give_notices, keep_outcome}
 use Rattle.qs_step.specs.State.{NodeValue, Work, with_manager}
 use Rattle.qs_tm.specs.Manager as tm
 use Rattle.qs_tm.specs.Outcomes as outcome_rules
@@ -56,7 +54,7 @@ use Rattle.qs_lawful.proofs.BesidePlain.{MachineOn}
 use Rattle.qs_lawful.proofs.Faces.{part_apart, part_changed, part_unknown}
 use Rattle.qs_lawful.proofs.LogActs.{acting}
 use Rattle.qs_lawful.proofs.Steps.{tx_apart}
-use Rattle.qs_lawful.proofs.Truths.{clash, left_true, of_some, right_true}
+use Rattle.qs_lawful.proofs.Truths.{clash, of_some, right_true}
 
 -- ---- what is kept for owners, and one more
 
@@ -203,8 +201,11 @@ module _ (stamp : ℕ) (before : BookValue) (run : InRun before) where
 
         by : (o : Option Record) → rec ≡ o → (q : Participant) × (tm.part_of tid (log_if o (with_manager (tm.decide tid outcome) work)).node.manager ≡ Some q) × KeptThen p q
         by None is = (outcome_rules.decided outcome p, once, record { outcome_is = refl; noted = refl; waiting = refl; asked = refl })
-        by (Some r) is = (outcome_rules.logged r (outcome_rules.decided outcome p), ap (λ (t : Tid). tm.part_of tid (tm.logged t r (tm.decide tid outcome node.manager))) (its r is) ∙ part_changed tid (outcome_rules.logged r) (tm.decide tid outcome node.manager) (outcome_rules.decided outcome p) once,
-            record { outcome_is = refl; noted = refl; waiting = refl; asked = refl })
+        by (Some r) is = (
+          outcome_rules.logged r (outcome_rules.decided outcome p),
+          ap (λ (t : Tid). tm.part_of tid (tm.logged t r (tm.decide tid outcome node.manager))) (its r is) ∙ part_changed tid (outcome_rules.logged r) (tm.decide tid outcome node.manager) (outcome_rules.decided outcome p) once,
+          record { outcome_is = refl; noted = refl; waiting = refl; asked = refl },
+        )
 
     unknown_then : tm.part_of tid node.manager ≡ None → tm.part_of tid fresh.manager ≡ None
     unknown_then none = left (λ w. tm.part_of tid w.node.manager) None once (λ r is. ap (λ (t : Tid). tm.part_of tid (tm.logged t r (tm.decide tid outcome node.manager))) (its r is) ∙ part_unknown tid (outcome_rules.logged r) (tm.decide tid outcome node.manager) once)
@@ -261,11 +262,14 @@ module _ (stamp : ℕ) (before : BookValue) (run : InRun before) where
         known_now : (p : Participant) → tm.part_of tid node.manager ≡ Some p → (q : Participant) × (tm.part_of tid fresh.manager ≡ Some q) × HoldsPart new h.state fresh tid (f tx) q
         known_now p known =
             let k : (q : Participant) × (tm.part_of tid fresh.manager ≡ Some q) × KeptThen p q = known_then p known in
-            let w : HoldsPart book h.state node tid tx p = (h.at tid).parts tx p found known in
-            (k.0, k.1, part_ended new h.state fresh tid (f tx) k.0 outcome k.2.outcome_is (outcome_is outcome)
-            (with_setting (λ n i. HoldsNotes n i tid (f tx) k.0) node fresh setting_is (notes_on own_node inc tid tx (f tx) p k.0 refl refl
-            (record { keeps = λ count is. moved count k.2 is }) w.notes))
-            (λ is. w.asked (sym k.2.asked ∙ is)))
+            let w : HoldsPart book h.state node tid tx p = (h.at tid).parts tx p found known in (
+              k.0,
+              k.1,
+              part_ended new h.state fresh tid (f tx) k.0 outcome k.2.outcome_is (outcome_is outcome)
+                  (with_setting (λ n i. HoldsNotes n i tid (f tx) k.0) node fresh setting_is (notes_on own_node inc tid tx (f tx) p k.0 refl refl
+                  (record { keeps = λ count is. moved count k.2 is }) w.notes))
+                  (λ is. w.asked (sym k.2.asked ∙ is)),
+            )
           where
             moved : {q : Participant} (count : ℕ) → KeptThen p q → (has_noted count p ≡ true) ⊎ (awaits_count count p ≡ true) → (has_noted count q ≡ true) ⊎ (awaits_count count q ≡ true)
             moved count k (inl noted) = inl (ap (λ (ns : List ℕ). list_any (is_count count) ns) k.noted ∙ noted)
@@ -290,7 +294,7 @@ module _ (stamp : ℕ) (before : BookValue) (run : InRun before) where
             (λ home back. ended_now outcome refl))
 
     pub goes_entered : On work decided_work
-    goes_entered = goes_entry stamp before run work decided_work act setting_is (ap (λ (es : List Act). es ++ act ∷ []) (left (λ w. w.out.entries) work.out.entries refl (λ r is. refl))) (left (λ w. w.out.messages) work.out.messages refl (λ r is. refl))
+    goes_entered = goes_entry stamp before run work decided_work act setting_is committed_are (ap (λ (es : List Act). es ++ act ∷ []) (left (λ w. w.out.entries) work.out.entries refl (λ r is. refl))) (left (λ w. w.out.messages) work.out.messages refl (λ r is. refl))
         (λ fine inv causes h. let s : (tx : TransactionValue) × (find_transaction book tid ≡ Some tx) × (is_open tx.cell ≡ true) = stands fine causes h in decided_beside fine causes h s.0 s.1 s.2)
 
     pub ended_then : (p : Participant) → tm.part_of tid node.manager ≡ Some p → Ended stamp before run tid outcome decided_work

@@ -1,30 +1,24 @@
 -- What stands in the middle of a rule stands on through all that rules are made of, as long as their entries are lawful.
 use Rattle.std.proofs.Common.{◌≡◌, ◌⊎◌, inl, inr, ◌<◌, ◌^◌, ℕ, Bool, true, false, List, [], ◌∷◌, ◌++◌, Option, Some, None, refl, sym, ap, subst, ◌∙◌, fold, append_assoc, if◌then◌else◌}
 use Rattle.std.proofs.lemmas.List.{append-nil}
-use Rattle.std.specs.Prelude.{◌||◌, is_none, slice_get}
-use Rattle.std.specs.List.{find, list_any}
-use Rattle.qs_base.specs.Order.{same_tid}
+use Rattle.std.specs.Prelude.{is_none, slice_get}
 use Rattle.qs_base.specs.declared.identifiers.NodeNo.{NodeNo}
 use Rattle.qs_base.specs.declared.identifiers.Outcome.{Outcome}
 use Rattle.qs_base.specs.declared.identifiers.Tid.{Tid}
 use Rattle.qs_journal.specs.declared.entry.Act.{Act}
 use Rattle.qs_journal.specs.declared.entry.Entry.{Entry}
-use Rattle.qs_kept.specs.Keeping.{is_outcome_of}
-use Rattle.qs_kept.specs.declared.kept.Decided.{Decided}
 use Rattle.qs_laws.proofs.Openings.{opening_holds}
 use Rattle.qs_laws.proofs.Outcomes.{Inv}
-use Rattle.qs_laws.proofs.Steps.{after_both, lawful_front, lawful_rest, ran}
-use Rattle.qs_machine.specs.Book.{BookValue, find_transaction}
+use Rattle.qs_laws.proofs.Steps.{after_both, ran}
+use Rattle.qs_machine.specs.Book.{BookValue}
 use Rattle.qs_machine.specs.Lawful.{IsLawful, book_after, broken, effect}
-use Rattle.qs_machine.specs.Nodes as machine
 use Rattle.qs_machine.specs.Opening.{opening}
-use Rattle.qs_machine.specs.Transaction.{TransactionValue}
 use Rattle.qs_ops.specs.declared.answer.Cause.{Cause}
 use Rattle.qs_packet.specs.declared.message.Message.{Message}
 use Rattle.qs_packet.specs.declared.message.Message.TheVariants as messages
-use Rattle.qs_step.specs.Answering.{is_kept_commit, was_committed}
+use Rattle.qs_step.specs.Answering.{was_committed}
 use Rattle.qs_step.specs.Asking.{where_undecided}
-use Rattle.qs_step.specs.Bringing.{enter, is_other, send, send_each, send_next}
+use Rattle.qs_step.specs.Bringing.{is_other, send, send_each, send_next}
 use Rattle.qs_step.specs.State.{NodeValue, Work, here, part_of, with_manager}
 use Rattle.qs_step.specs.declared.event.Sending.{Sending}
 use Rattle.qs_step.specs.declared.setting.Setting.{Setting}
@@ -34,7 +28,7 @@ use Rattle.qs_tm.specs.declared.manager.Manager.{Manager}
 use Rattle.qs_tm.specs.declared.participant.Participant.{Participant}
 use Rattle.qs_world.specs.Posting.{entries_of, entry_of}
 use Rattle.qs_lawful.specs.Amid.{GoesOn, InRun, IsSent}
-use Rattle.qs_lawful.specs.Beside.{HasOwner, HoldsBeside, HoldsClock, HoldsTidBeside, IsTrueCause}
+use Rattle.qs_lawful.specs.Beside.{HoldsBeside, IsTrueCause}
 use Rattle.qs_lawful.specs.Entering.{book_at, entries_so_far}
 use Rattle.qs_lawful.specs.Logs.{Every}
 use Rattle.qs_lawful.specs.Parcels.{GoesTo, IsSaid}
@@ -50,7 +44,7 @@ use Rattle.qs_lawful.proofs.SaidStays.{said_stays}
 
 -- ---- a machine of a run
 
-joined : (es more : List Entry) (book : BookValue) → IsLawful book es → IsLawful (book_after book es) more → IsLawful book (es ++ more)
+pub joined : (es more : List Entry) (book : BookValue) → IsLawful book es → IsLawful (book_after book es) more → IsLawful book (es ++ more)
 joined [] more book a b = b
 joined (e ∷ es) more book a b = (a.0, joined es more (effect book e) a.1 b)
 
@@ -93,13 +87,14 @@ module _ (stamp : ℕ) (before : BookValue) (run : InRun before) where
   -- ---- how rules are put together
 
   pub goes_self : (work : Work) → Goes work work
-  goes_self work = record { more = []; entries = sym (append-nil work.out.entries); setting = refl; keeps = λ lawful h. h; sends = λ lawful h all. all }
+  goes_self work = record { more = []; entries = sym (append-nil work.out.entries); setting = refl; logged = refl; keeps = λ lawful h. h; sends = λ lawful h all. all }
 
   pub goes_then : (work mid new : Work) → Goes work mid → Goes mid new → Goes work new
   goes_then work mid new a b = record {
     more = a.more ++ b.more;
     entries = b.entries ∙ (ap (λ (acted : List Act). acted ++ b.more) a.entries ∙ append_assoc work.out.entries a.more b.more);
     setting = b.setting ∙ a.setting;
+    logged = b.logged ∙ a.logged;
     keeps = λ lawful h. b.keeps lawful (a.keeps (lawful_then mid new b.more b.entries b.setting lawful) h);
     sends = λ lawful h all. b.sends lawful (a.keeps (lawful_then mid new b.more b.entries b.setting lawful) h) (a.sends (lawful_then mid new b.more b.entries b.setting lawful) h all);
   }
@@ -126,12 +121,13 @@ module _ (stamp : ℕ) (before : BookValue) (run : InRun before) where
 
   -- ---- what enters nothing
 
-  pub goes_still : (work new : Work) → new.out.entries ≡ work.out.entries → new.out.messages ≡ work.out.messages → new.node.setting ≡ work.node.setting
+  pub goes_still : (work new : Work) → new.out.entries ≡ work.out.entries → new.out.messages ≡ work.out.messages → new.node.setting ≡ work.node.setting → new.node.committed ≡ work.node.committed
       → (HoldsBeside (book_at stamp before work) work.node → HoldsBeside (book_at stamp before work) new.node) → Goes work new
-  goes_still work new entries sendings setting keeps = record {
+  goes_still work new entries sendings setting logged keeps = record {
     more = [];
     entries = grows;
     setting = setting;
+    logged = logged;
     keeps = λ lawful h. subst (λ (b : BookValue). HoldsBeside b new.node) (sym (book_is stamp before i [] [] work new [] grows setting)) (keeps h);
     sends = λ lawful h all. subst (Every (IsSent (book_at stamp before new) new.node.setting)) (sym sendings) (sent_on work new [] grows setting lawful work.out.messages all);
   }
@@ -152,6 +148,7 @@ module _ (stamp : ℕ) (before : BookValue) (run : InRun before) where
         more = [];
         entries = sym (append-nil work.out.entries);
         setting = refl;
+        logged = refl;
         keeps = λ lawful h. h;
         sends = λ lawful h all. every_append (IsSent (book_at stamp before work) work.node.setting) work.out.messages (record { to = to; message = message } ∷ []) all (record { other = other; goes = goes; says = says h }, tt);
       }
@@ -175,14 +172,15 @@ module _ (stamp : ℕ) (before : BookValue) (run : InRun before) where
 
   -- ---- one entry
 
-  pub goes_entry : (work new : Work) (act : Act) → new.node.setting ≡ work.node.setting → new.out.entries ≡ work.out.entries ++ act ∷ [] → new.out.messages ≡ work.out.messages
+  pub goes_entry : (work new : Work) (act : Act) → new.node.setting ≡ work.node.setting → new.node.committed ≡ work.node.committed → new.out.entries ≡ work.out.entries ++ act ∷ [] → new.out.messages ≡ work.out.messages
       → (broken (book_at stamp before work) (entry_of (here work).0 stamp act) ≡ None → Inv (book_at stamp before work)
       → ((tid : Tid) (cause : Cause) → IsTrueCause (book_at stamp before work) tid cause → IsTrueCause (effect (book_at stamp before work) (entry_of (here work).0 stamp act)) tid cause)
       → HoldsBeside (book_at stamp before work) work.node → HoldsBeside (effect (book_at stamp before work) (entry_of (here work).0 stamp act)) new.node) → Goes work new
-  goes_entry work new act setting grows sendings keeps = record {
+  goes_entry work new act setting logged grows sendings keeps = record {
     more = act ∷ [];
     entries = grows;
     setting = setting;
+    logged = logged;
     keeps = λ lawful h.
         let fine : broken (book_at stamp before work) (entry_of (here work).0 stamp act) ≡ None = (lawful_since stamp before i [] [] work new (act ∷ []) grows setting lawful).0 in
         let was_lawful : IsLawful before (entries_so_far stamp work) = lawful_then work new (act ∷ []) grows setting lawful in
@@ -212,7 +210,7 @@ module _ (stamp : ℕ) (before : BookValue) (run : InRun before) where
 
   pub goes_alike : (work new : Work) → new.out ≡ work.out → new.node.setting ≡ work.node.setting → new.node.manager ≡ work.node.manager → new.node.kept.now.outcomes ≡ work.node.kept.now.outcomes → new.node.committed ≡ work.node.committed
       → new.node.servers.timers.timers.ticks ≡ work.node.servers.timers.timers.ticks → Goes work new
-  goes_alike work new out setting manager outcomes committed ticks = goes_still work new (ap (λ o. o.entries) out) (ap (λ o. o.messages) out) setting
+  goes_alike work new out setting manager outcomes committed ticks = goes_still work new (ap (λ o. o.entries) out) (ap (λ o. o.messages) out) setting committed
       (beside_alike (book_at stamp before work) work.node new.node setting manager outcomes committed ticks)
 
   -- what changes what is kept of one transaction
@@ -238,5 +236,4 @@ module _ (stamp : ℕ) (before : BookValue) (run : InRun before) where
       of t (inr far) = part_same node fresh t (part_apart tid t f node.manager far)
 
   pub goes_part : (tid : Tid) (f : Participant → Participant) (work : Work) → ((p : Participant) → part_of tid work ≡ Some p → PartOn p (f p)) → Goes work (with_manager (tm.with_part tid f) work)
-  goes_part tid f work on = goes_still work (with_manager (tm.with_part tid f) work) refl refl refl (beside_part (book_at stamp before work) work.node tid f on)
-
+  goes_part tid f work on = goes_still work (with_manager (tm.with_part tid f) work) refl refl refl refl (beside_part (book_at stamp before work) work.node tid f on)

@@ -1,5 +1,5 @@
 -- What comes in a step, and all that waits being served: what stands before stands after.
-use Rattle.std.proofs.Common.{◌≡◌, ◌⊎◌, inl, inr, ℕ, ◌==◌, ◌≤◌, Bool, true, false, List, [], ◌∷◌, Option, Some, None, refl, sym, ap, subst, ◌∙◌, arith, fold, if◌then◌else◌}
+use Rattle.std.proofs.Common.{◌≡◌, inl, ℕ, true, false, List, [], ◌∷◌, Option, Some, None, refl, sym, ap, ◌∙◌, fold, if◌then◌else◌}
 use Rattle.std.specs.Prelude.{◌&&◌, not, is_some, slice_get}
 use Rattle.qs_base.specs.declared.identifiers.NodeNo.{NodeNo}
 use Rattle.qs_base.specs.declared.identifiers.ServerNo.{ServerNo}
@@ -26,7 +26,7 @@ use Rattle.qs_tm.specs.Participant.{is_undecided}
 use Rattle.qs_tm.specs.declared.participant.Participant.{Participant}
 use Rattle.qs_lawful.specs.Agreed.{AgreesEvent, AgreesMessage}
 use Rattle.qs_lawful.specs.Amid.{InRun}
-use Rattle.qs_lawful.specs.Beside.{HoldsBeside, IsTrueCause}
+use Rattle.qs_lawful.specs.Beside.{IsTrueCause}
 use Rattle.qs_lawful.specs.BesideStep.{AreCommitted, HappensSo}
 use Rattle.qs_lawful.specs.Coming.{ComesMessage, ComesTo}
 use Rattle.qs_lawful.specs.Entering.{HoldsWork, book_at}
@@ -51,7 +51,7 @@ use Rattle.qs_lawful.proofs.GivenSettling.{uncommitted}
 use Rattle.qs_lawful.proofs.Replied.{by_served}
 use Rattle.qs_lawful.proofs.SameSetting.{serve_next_same}
 use Rattle.qs_lawful.proofs.StandsOn.{stands_on}
-use Rattle.qs_lawful.proofs.Truths.{clash, of_some}
+use Rattle.qs_lawful.proofs.Truths.{of_some}
 
 module _ (stamp : ℕ) (before : BookValue) (run : InRun before) where
   abbrev On : Work → Work → Type 0
@@ -118,9 +118,14 @@ module _ (stamp : ℕ) (before : BookValue) (run : InRun before) where
       pub served_stands : (work : Work) → Stands stamp before size nodes n work → (server : ServerNo) → CanCount work server → On work (serve_next work server) × Stands stamp before size nodes n (serve_next work server)
       served_stands work s server room =
           let g : On work (serve_next work server) = goes_next stamp before run work s.held server room (λ tid p known. s.by.sound.apart tid p known) in
-          let held : HoldsWork stamp before (serve_next work server) = by_served stamp before work s.held server (may_serve stamp before size nodes n work s server room) in
-          (g, record { held = held; by = stands_on stamp before size nodes n homes work (serve_next work server) (serve_next_same work server) (serve_next_keeps work server) s held
-            (record { sound = sounds.serves work server s held; beside = g.keeps held.lawful s.by.beside }) })
+          let held : HoldsWork stamp before (serve_next work server) = by_served stamp before work s.held server (may_serve stamp before size nodes n work s server room) in (
+            g,
+            record {
+              held = held;
+              by = stands_on stamp before size nodes n homes work (serve_next work server) (serve_next_same work server) (serve_next_keeps work server) s held
+                  (record { sound = sounds.serves work server s held; beside = g.keeps held.lawful s.by.beside });
+            },
+          )
 
       pub goes_serves : (servers : List ServerNo) (work : Work) → Stands stamp before size nodes n work → AtEach CanCount serve_next work servers → On work (fold serve_next work servers)
       goes_serves [] work s room = goes_self stamp before run work
@@ -130,9 +135,9 @@ module _ (stamp : ℕ) (before : BookValue) (run : InRun before) where
 
       -- ---- what comes
 
-      pub goes_happens : (event : Event) (work : Work) → Stands stamp before size nodes n work → ComesTo (book_at stamp before work) event work → AgreesEvent size nodes n work event → HappensSo stamp before event work → On work (happen event work)
-      goes_happens (events.Command client line label command) work s c a so = goes_command stamp before run (record { client = client; line = line; label = label; command = command }) work (ap is_some c.behind.there) (clock work s)
-      goes_happens (events.Received peer message) work s c a so = goes_message work s peer message c a so
-      goes_happens events.ServeAll work s c a so = goes_serves (ipc.turns work.node.queues) work s c
-      goes_happens (events.PeerRestarted peer old new) work s c a so = goes_restarted stamp before run peer old new work so
-      goes_happens events.Tick work s c a so = goes_tick stamp before run work so
+      pub goes_happens : (event : Event) (work : Work) → Stands stamp before size nodes n work → ComesTo (book_at stamp before work) event work → AgreesEvent size nodes n work event → HappensSo stamp before event work → AreCommitted (book_at stamp before work) work.node → On work (happen event work)
+      goes_happens (events.Command client line label command) work s c a so logged = goes_command stamp before run (record { client = client; line = line; label = label; command = command }) work (ap is_some c.behind.there) (clock work s)
+      goes_happens (events.Received peer message) work s c a so logged = goes_message work s peer message c a logged
+      goes_happens events.ServeAll work s c a so logged = goes_serves (ipc.turns work.node.queues) work s c
+      goes_happens (events.PeerRestarted peer old new) work s c a so logged = goes_restarted stamp before run peer old new work so
+      goes_happens events.Tick work s c a so logged = goes_tick stamp before run work so

@@ -5,11 +5,10 @@ use Rattle.std.proofs.lemmas.List.Folds.{list_any-append}
 use Rattle.std.specs.BTreeMap.{insert_entry, is_at}
 use Rattle.std.specs.List.{list_any}
 use Rattle.std.specs.Map.{lookup}
-use Rattle.std.specs.Prelude.{◌&&◌, ◌||◌, is_some, slice_get, unwrap_or}
+use Rattle.std.specs.Prelude.{◌&&◌, ◌||◌, is_some, unwrap_or}
 use Rattle.std.specs.declared.cmp.Ordering.{Ordering}
 use Rattle.qs_base.proofs.Same.{same_bytes-true}
 use Rattle.qs_base.specs.Order.{tid_cmp}
-use Rattle.qs_base.specs.declared.identifiers.Member.{Member}
 use Rattle.qs_base.specs.declared.identifiers.NodeNo.{NodeNo}
 use Rattle.qs_base.specs.declared.identifiers.Tid.{Tid}
 use Rattle.qs_journal.specs.declared.entry.Act.{Act}
@@ -19,8 +18,7 @@ use Rattle.qs_laws.proofs.Steps.{held}
 use Rattle.qs_machine.specs.Book.{BookValue, crosses, find_transaction, inc_at, with_transaction, with_waiting}
 use Rattle.qs_machine.specs.Clauses.{broken_issue, has_no_record, is_note, link_to, note_text}
 use Rattle.qs_machine.specs.Lawful.{broken, effect}
-use Rattle.qs_machine.specs.Nodes as machine
-use Rattle.qs_machine.specs.Transaction.{TransactionValue, is_by_files, is_commit, issued, part_of, request_cmp, requests_at}
+use Rattle.qs_machine.specs.Transaction.{TransactionValue, is_commit, issued, part_of, request_cmp, requests_at}
 use Rattle.qs_machine.specs.declared.transaction.Request.{Request}
 use Rattle.qs_machine.specs.declared.transaction.RequestNo.{RequestNo}
 use Rattle.qs_ops.specs.declared.answer.Cause.{Cause}
@@ -28,7 +26,7 @@ use Rattle.qs_ops.specs.declared.operation.Op.{Op}
 use Rattle.qs_ops.specs.declared.operation.Op.TheVariants.{Note}
 use Rattle.qs_step.specs.Bringing.{member_here}
 use Rattle.qs_step.specs.Requests.{enter_issue}
-use Rattle.qs_step.specs.State.{NodeValue, Work, here, part_of as node_part}
+use Rattle.qs_step.specs.State.{NodeValue, Work, here}
 use Rattle.qs_tm.specs.Manager as tm
 use Rattle.qs_tm.specs.Members as rules
 use Rattle.qs_tm.specs.Participant as participant
@@ -36,10 +34,9 @@ use Rattle.qs_tm.specs.declared.participant.Outstanding.{Outstanding}
 use Rattle.qs_tm.specs.declared.participant.Participant.{Participant}
 use Rattle.qs_world.specs.Posting.{entry_of}
 use Rattle.qs_lawful.specs.Amid.{InRun}
-use Rattle.qs_lawful.specs.Beside.{HoldsBeside, HoldsEnded, HoldsNotes, HoldsPart, HoldsReads, HoldsStranger, HoldsTidBeside, IsTrueCause, awaits_count, has_issued, has_note_in, is_note_by, is_note_with}
+use Rattle.qs_lawful.specs.Beside.{HoldsBeside, HoldsEnded, HoldsNotes, HoldsPart, HoldsReads, HoldsStranger, HoldsTidBeside, IsTrueCause, awaits_count, has_issued, is_note_by, is_note_with}
 use Rattle.qs_lawful.specs.Entering.{book_at}
 use Rattle.qs_lawful.specs.Face.{at_server}
-use Rattle.qs_lawful.specs.Logs.{Every}
 use Rattle.qs_lawful.proofs.Apart.{Apart, same_or_apart}
 use Rattle.qs_lawful.proofs.BesideActs.{others_changed}
 use Rattle.qs_lawful.proofs.BesideGoes.{Goes, goes_entry}
@@ -349,4 +346,4 @@ module _ (stamp : ℕ) (before : BookValue) (run : InRun before) (tid : Tid) (re
               (part_same node fresh t (part_apart tid t (participant.issued request) node.manager far))
 
   pub goes_issue : Goes stamp before run work (enter_issue tid request op work)
-  goes_issue = goes_entry stamp before run work (enter_issue tid request op work) act refl refl refl (λ fine inv causes h. let w : (tx : TransactionValue) × (find_transaction book tid ≡ Some tx) = stands fine causes h in issued_beside fine causes h w.0 w.1)
+  goes_issue = goes_entry stamp before run work (enter_issue tid request op work) act refl refl refl refl (λ fine inv causes h. let w : (tx : TransactionValue) × (find_transaction book tid ≡ Some tx) = stands fine causes h in issued_beside fine causes h w.0 w.1)

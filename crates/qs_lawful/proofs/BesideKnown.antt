@@ -1,26 +1,21 @@
 -- What a node keeps of one transaction changes, begins or ends, and nothing is entered: what the machine has beside the node stands on.
-use Rattle.std.proofs.Common.{◌≡◌, ◌⊎◌, inl, inr, ℕ, ◌<◌, ◌≤◌, ◌^◌, Bool, true, false, List, [], ◌∷◌, ◌++◌, Option, Some, None, refl, sym, ap, subst, ◌∙◌, if◌then◌else◌}
+use Rattle.std.proofs.Common.{◌≡◌, ◌⊎◌, inl, inr, ℕ, ◌<◌, ◌^◌, Bool, true, false, Option, Some, None, refl, sym, ap, subst, ◌∙◌, if◌then◌else◌}
 use Rattle.std.specs.BTreeMap.{is_at}
-use Rattle.std.specs.Map.{lookup, remove_entry}
-use Rattle.std.specs.Prelude.{◌&&◌, ◌||◌, not, is_some, unwrap_or}
+use Rattle.std.specs.Prelude.{◌&&◌, not, is_some, unwrap_or}
 use Rattle.qs_base.specs.Order.{tid_cmp}
 use Rattle.qs_base.specs.declared.identifiers.NodeNo.{NodeNo}
-use Rattle.qs_base.specs.declared.identifiers.Outcome.{Outcome}
 use Rattle.qs_base.specs.declared.identifiers.Outcome.TheVariants as outcomes
-use Rattle.qs_base.specs.declared.identifiers.ServerNo.{ServerNo}
 use Rattle.qs_base.specs.declared.identifiers.Tid.{Tid}
 use Rattle.qs_laws.proofs.Alikes.{at_exact}
 use Rattle.qs_laws.proofs.Maps.{lookup_put}
 use Rattle.qs_laws.proofs.Rising.{IsRising, removed}
 use Rattle.qs_laws.proofs.Alikes.{tid_itself}
 use Rattle.qs_machine.specs.Book.{BookValue, find_transaction}
-use Rattle.qs_machine.specs.Clauses.{note_text}
-use Rattle.qs_machine.specs.Nodes as machine
 use Rattle.qs_machine.specs.Transaction.{TransactionValue, is_abort, is_commit, is_covering, is_outcome}
 use Rattle.qs_machine.specs.declared.transaction.Cell.{Cell}
 use Rattle.qs_machine.specs.declared.transaction.Cell.TheVariants as cells
 use Rattle.qs_step.specs.State.{NodeValue, Work, with_manager}
-use Rattle.qs_step.specs.Telling.{drop_counts, forget}
+use Rattle.qs_step.specs.Telling.{forget}
 use Rattle.qs_tm.specs.Manager as tm
 use Rattle.qs_tm.specs.Members as rules
 use Rattle.qs_tm.specs.Outcomes as outcome_rules
@@ -32,13 +27,13 @@ use Rattle.qs_lawful.specs.Amid.{InRun}
 use Rattle.qs_lawful.specs.Beside.{HoldsBeside, HoldsEnded, HoldsNotes, HoldsPart, HoldsReads, HoldsStranger, HoldsTidBeside}
 use Rattle.qs_lawful.specs.Entering.{book_at}
 use Rattle.qs_lawful.specs.Face.{Face, at_server, face_of, is_held, part_in}
-use Rattle.qs_lawful.specs.Holds.{HoldsTid, is_kept}
+use Rattle.qs_lawful.specs.Holds.{HoldsTid}
 use Rattle.qs_lawful.proofs.Apart.{Apart, same_or_apart}
 use Rattle.qs_lawful.proofs.Begins.{new_member}
 use Rattle.qs_lawful.proofs.BesideActs.{steps_self}
 use Rattle.qs_lawful.proofs.BesideGoes.{Goes, beside_alike, goes_still}
-use Rattle.qs_lawful.proofs.BesideOwn.{KnownOn, own_by}
-use Rattle.qs_lawful.proofs.BesideParts.{PartStep, part_ended, part_same, tid_on}
+use Rattle.qs_lawful.proofs.BesideOwn.{own_by}
+use Rattle.qs_lawful.proofs.BesideParts.{part_ended, part_same, tid_on}
 use Rattle.qs_lawful.proofs.Faces.{put_apart}
 use Rattle.qs_lawful.proofs.OtherShares.{removed_apart}
 use Rattle.qs_lawful.proofs.Truths.{clash, of_some}
@@ -159,7 +154,7 @@ module _ (stamp : ℕ) (before : BookValue) (run : InRun before) where
   pub goes_custom : (work : Work) (tid : Tid) (manager : Manager) → manager.ticks ≡ work.node.manager.ticks → ((t : Tid) → Apart tid t → tm.part_of t manager ≡ tm.part_of t work.node.manager) → (tm.part_of tid work.node.manager ≡ None → tm.part_of tid manager ≡ None)
       → ((h : HoldsBeside (book_at stamp before work) work.node) (tx : TransactionValue) → find_transaction (book_at stamp before work) tid ≡ Some tx → (p : Participant) → tm.part_of tid work.node.manager ≡ Some p → HoldsPart (book_at stamp before work) h.state work.node tid tx p
       → (q : Participant) × (tm.part_of tid manager ≡ Some q) × HoldsPart (book_at stamp before work) h.state (record work.node { manager = manager }) tid tx q) → On work (record work { node = record work.node { manager = manager } })
-  goes_custom work tid manager ticks others none known = goes_still stamp before run work (record work { node = record work.node { manager = manager } }) refl refl refl
+  goes_custom work tid manager ticks others none known = goes_still stamp before run work (record work { node = record work.node { manager = manager } }) refl refl refl refl
       (λ h. beside_custom (book_at stamp before work) work.node manager ticks tid others h none (known h))
 
   -- a request makes it known
@@ -186,8 +181,8 @@ module _ (stamp : ℕ) (before : BookValue) (run : InRun before) where
           }
 
       by : (o : Option Participant) → tm.part_of tid work.node.manager ≡ o → On work (record work { node = record work.node { manager = if is_some o then work.node.manager else met } })
-      by (Some p) known = goes_still stamp before run work work refl refl refl (λ h. h)
-      by None none = goes_still stamp before run work (record work { node = record work.node { manager = met } }) refl refl refl
+      by (Some p) known = goes_still stamp before run work work refl refl refl refl (λ h. h)
+      by None none = goes_still stamp before run work (record work { node = record work.node { manager = met } }) refl refl refl refl
           (λ h. let t : (tx : TransactionValue) × (find_transaction (book_at stamp before work) tid ≡ Some tx) × (is_commit tx.cell ≡ false) × HoldsTid work.node.setting.node work.node.setting.inc tid tx (face_of work.node tid) = there none in
           beside_met (book_at stamp before work) work.node met refl tid (λ u far. put_apart tid u _ work.node.manager far) h t.0 t.1 _ (lookup_put tid_cmp tid _ (tid_itself tid) work.node.manager.known) (new_part h none t.0 t.1 t.2 t.3))
 
@@ -206,8 +201,8 @@ module _ (stamp : ℕ) (before : BookValue) (run : InRun before) where
       as_outcome cells.Commit e = absurd (cc e)
 
       by : (o : Option Participant) → tm.part_of tid work.node.manager ≡ o → On work (record work { node = record work.node { manager = if is_some o then work.node.manager else kept } })
-      by (Some p) known = goes_still stamp before run work work refl refl refl (λ h. h)
-      by None none = goes_still stamp before run work (record work { node = record work.node { manager = kept } }) refl refl refl
+      by (Some p) known = goes_still stamp before run work work refl refl refl refl (λ h. h)
+      by None none = goes_still stamp before run work (record work { node = record work.node { manager = kept } }) refl refl refl refl
           (λ h. let t : (tx : TransactionValue) × (find_transaction (book_at stamp before work) tid ≡ Some tx) × (is_abort tx.cell ≡ true) × HoldsTid work.node.setting.node work.node.setting.inc tid tx (face_of work.node tid) = there none in
           beside_met (book_at stamp before work) work.node kept refl tid (λ u far. put_apart tid u _ work.node.manager far) h t.0 t.1 _ (lookup_put tid_cmp tid _ (tid_itself tid) work.node.manager.known)
           (part_ended (book_at stamp before work) h.state (record work.node { manager = kept }) tid t.0 (outcome_rules.aborted_participant (tm.is_home tid work.node.manager)) outcomes.Abort refl (as_outcome t.0.cell t.2)
@@ -219,6 +214,6 @@ module _ (stamp : ℕ) (before : BookValue) (run : InRun before) where
       → ((h : HoldsBeside (book_at stamp before work) work.node) (tx : TransactionValue) → find_transaction (book_at stamp before work) tid ≡ Some tx
       → (is_commit tx.cell ≡ false → HoldsStranger work.node.setting.node work.node.setting.inc tid tx) × (tid.home ≡ work.node.setting.node → HoldsEnded (record work.node { manager = tm.forget tid work.node.manager }) tid tx))
       → On work (forget tid work)
-  goes_forget work tid rising left = goes_still stamp before run work (forget tid work) refl refl refl
+  goes_forget work tid rising left = goes_still stamp before run work (forget tid work) refl refl refl refl
       (λ h. beside_alike stamp before run (book_at stamp before work) (record work.node { manager = tm.forget tid work.node.manager }) (forget tid work).node refl refl refl refl refl
       (beside_left (book_at stamp before work) work.node (tm.forget tid work.node.manager) refl tid (λ t far. removed_apart (is_at (tid_cmp tid)) (is_at (tid_cmp t)) far.keys work.node.manager.known) h (removed tid_cmp at_exact tid work.node.manager.known rising) (left h)))

@@ -1,11 +1,8 @@
 -- A server learns how a transaction ends, and all servers do in their order: what the machine has beside the node stands on.
-use Rattle.std.proofs.Common.{◌≡◌, ◌≢◌, ◌⊎◌, inl, inr, ℕ, ◌<◌, ◌^◌, ◌==◌, ◌≤◌, Bool, true, false, List, [], ◌∷◌, Option, Some, None, refl, sym, ap, subst, ◌∙◌, arith, fold, if◌then◌else◌}
-use Rattle.std.proofs.lemmas.Bool.Decides.{nat_tests}
+use Rattle.std.proofs.Common.{◌≡◌, ℕ, Bool, true, false, List, [], ◌∷◌, Option, Some, None, refl, sym, ap, subst, ◌∙◌, fold}
 use Rattle.std.specs.BTreeMap.{is_at}
-use Rattle.std.specs.Map.{lookup, remove_entry}
-use Rattle.std.specs.Prelude.{◌&&◌, not, is_none, is_some, slice_get}
-use Rattle.qs_base.specs.declared.identifiers.Class.{Class}
-use Rattle.qs_base.specs.declared.identifiers.Class.TheVariants as classes
+use Rattle.std.specs.Map.{lookup}
+use Rattle.std.specs.Prelude.{is_some, slice_get}
 use Rattle.qs_base.specs.declared.identifiers.NodeNo.{NodeNo}
 use Rattle.qs_base.specs.declared.identifiers.Outcome.{Outcome}
 use Rattle.qs_base.specs.declared.identifiers.Outcome.TheVariants as outcomes
@@ -17,50 +14,40 @@ use Rattle.qs_laws.proofs.Acts as of
 use Rattle.qs_laws.proofs.Alikes.{voter_exact}
 use Rattle.qs_laws.proofs.Outcomes.{Inv}
 use Rattle.qs_laws.proofs.Shares.{removed_apart}
-use Rattle.qs_laws.proofs.Steps.{held}
 use Rattle.qs_machine.specs.Book.{BookValue, find_transaction, inc_at}
-use Rattle.qs_machine.specs.Clauses.{broken_ending, has_no_record, is_immediate, may_end}
-use Rattle.qs_machine.specs.Lawful.{broken, effect, effect_act}
+use Rattle.qs_machine.specs.Clauses.{has_no_record}
+use Rattle.qs_machine.specs.Lawful.{effect}
 use Rattle.qs_machine.specs.Nodes as machine
-use Rattle.qs_machine.specs.Transaction.{TransactionValue, is_abort, is_commit, is_outcome, learnt, part_of}
+use Rattle.qs_machine.specs.Transaction.{TransactionValue, is_commit, is_outcome, learnt}
 use Rattle.qs_machine.specs.declared.state.OnRecord.{OnRecord}
 use Rattle.qs_machine.specs.declared.state.Voter.{Voter}
-use Rattle.qs_ops.specs.Members.{class_of, is_two_phase}
 use Rattle.qs_ops.specs.Server.{after_notice}
 use Rattle.qs_ops.specs.Servers.{audit_no, extra_no, files_no}
 use Rattle.qs_ops.specs.declared.answer.Cause.{Cause}
-use Rattle.qs_ops.specs.declared.vote.Notice.{Notice}
-use Rattle.qs_ops.specs.declared.vote.Notice.TheVariants as notices
 use Rattle.qs_servers.specs.Servers.{with_server}
 use Rattle.qs_step.specs.Bringing.{member_here}
 use Rattle.qs_step.specs.Deciding.{due_endings, end_member, end_members, give_notices, learn_member, learn_members, learners_at, notice_of}
-use Rattle.qs_step.specs.State.{NodeValue, Work, here}
+use Rattle.qs_step.specs.State.{NodeValue, Work}
 use Rattle.qs_tm.specs.Manager as tm
-use Rattle.qs_tm.specs.Members as rules
 use Rattle.qs_tm.specs.Outcomes as outcome_rules
 use Rattle.qs_tm.specs.Participant.{learners, servers_due}
 use Rattle.qs_tm.specs.declared.participant.Due.TheVariants as dues
-use Rattle.qs_tm.specs.declared.members.MemberPart.{MemberPart}
 use Rattle.qs_tm.specs.declared.participant.Participant.{Participant}
 use Rattle.qs_world.specs.Posting.{entry_of}
 use Rattle.qs_lawful.specs.Amid.{InRun}
-use Rattle.qs_lawful.specs.Beside.{HoldsBeside, HoldsPart, HoldsReader, HoldsReads, HoldsStranger, IsTrueCause}
+use Rattle.qs_lawful.specs.Beside.{HoldsBeside, HoldsPart, IsTrueCause}
 use Rattle.qs_lawful.specs.Entering.{book_at}
-use Rattle.qs_lawful.specs.Face.{at_server}
 use Rattle.qs_lawful.specs.Logged.{is_plain}
-use Rattle.qs_lawful.specs.Logs.{Every}
 use Rattle.qs_lawful.proofs.Apart.{Apart}
-use Rattle.qs_lawful.proofs.BesideActs.{Steps, ended_steps, others_changed, records_same, steps_as}
+use Rattle.qs_lawful.proofs.BesideActs.{others_changed}
 use Rattle.qs_lawful.proofs.BesideClocks.{notice_ticks, ticks_still}
 use Rattle.qs_lawful.proofs.BesideGoes.{Goes, goes_entry, goes_fold, goes_self, goes_then}
-use Rattle.qs_lawful.proofs.BesideOwn.{beside_one, found_changed, own_by, own_known}
-use Rattle.qs_lawful.proofs.BesideParts.{SameWhole, notes_on, part_ended, reader_on, same_issued}
+use Rattle.qs_lawful.proofs.BesideOwn.{beside_one, found_changed, own_known}
+use Rattle.qs_lawful.proofs.BesideParts.{notes_on, part_ended}
 use Rattle.qs_lawful.proofs.BesidePlain.{MachineOn, machine_alike, plain_records}
-use Rattle.qs_lawful.proofs.Faces.{part_apart, part_changed, part_unknown}
+use Rattle.qs_lawful.proofs.Faces.{part_apart, part_changed}
 use Rattle.qs_lawful.proofs.LogActs as logs
-use Rattle.qs_lawful.proofs.LogFrames.{every_on}
-use Rattle.qs_lawful.proofs.Parts.{with_other}
-use Rattle.qs_lawful.proofs.Truths.{left_true, number_is, of_some}
+use Rattle.qs_lawful.proofs.Truths.{of_some}
 use Rattle.qs_lawful.proofs.BesideNotice.{goes_ended}
 
 module _ (stamp : ℕ) (before : BookValue) (run : InRun before) where
@@ -157,7 +144,7 @@ module _ (stamp : ℕ) (before : BookValue) (run : InRun before) where
             (λ home committed. ((h.at tid).ended tx home found).committed (ap is_commit (sym (same_cell outcome tx)) ∙ committed)))
 
     pub goes_learnt : On work (learn_member tid outcome work server)
-    goes_learnt = goes_entry stamp before run work (learn_member tid outcome work server) learning refl refl refl (λ fine inv causes h. of h inv (find_transaction book tid) refl ((h.at tid).stands p known) causes)
+    goes_learnt = goes_entry stamp before run work (learn_member tid outcome work server) learning refl refl refl refl (λ fine inv causes h. of h inv (find_transaction book tid) refl ((h.at tid).stands p known) causes)
       where
         of : (h : HoldsBeside book node) → Inv book → (x : Option TransactionValue) → find_transaction book tid ≡ x → is_some (find_transaction book tid) ≡ true → ((t : Tid) (cause : Cause) → IsTrueCause book t cause → IsTrueCause new t cause) → HoldsBeside new fresh
         of h inv None is there causes = absurd (no (sym (ap is_some is) ∙ there))

@@ -1,65 +1,51 @@
 -- A server is told that a transaction ends, or learns how: what the machine has beside the node stands on.
-use Rattle.std.proofs.Common.{◌≡◌, ◌≢◌, ◌⊎◌, inl, inr, ℕ, ◌<◌, ◌^◌, ◌==◌, ◌≤◌, Bool, true, false, List, [], ◌∷◌, Option, Some, None, refl, sym, ap, subst, ◌∙◌, arith, fold, if◌then◌else◌}
+use Rattle.std.proofs.Common.{◌≡◌, ◌≢◌, ℕ, ◌==◌, ◌≤◌, Bool, true, false, Option, Some, None, refl, sym, ap, subst, ◌∙◌, arith, if◌then◌else◌}
 use Rattle.std.proofs.lemmas.Bool.Decides.{nat_tests}
-use Rattle.std.specs.BTreeMap.{is_at}
-use Rattle.std.specs.Map.{lookup, remove_entry}
-use Rattle.std.specs.Prelude.{◌&&◌, not, is_none, is_some, slice_get}
+use Rattle.std.specs.Prelude.{◌&&◌}
 use Rattle.qs_base.specs.declared.identifiers.Class.{Class}
 use Rattle.qs_base.specs.declared.identifiers.Class.TheVariants as classes
 use Rattle.qs_base.specs.declared.identifiers.NodeNo.{NodeNo}
-use Rattle.qs_base.specs.declared.identifiers.Outcome.{Outcome}
-use Rattle.qs_base.specs.declared.identifiers.Outcome.TheVariants as outcomes
 use Rattle.qs_base.specs.declared.identifiers.ServerNo.{ServerNo}
 use Rattle.qs_base.specs.declared.identifiers.Tid.{Tid}
 use Rattle.qs_journal.specs.declared.entry.Act.{Act}
 use Rattle.qs_journal.specs.declared.entry.Act.TheVariants as acts
 use Rattle.qs_laws.proofs.Acts as of
-use Rattle.qs_laws.proofs.Alikes.{voter_exact}
-use Rattle.qs_laws.proofs.Outcomes.{Inv}
-use Rattle.qs_laws.proofs.Shares.{removed_apart}
 use Rattle.qs_laws.proofs.Steps.{held}
 use Rattle.qs_machine.specs.Book.{BookValue, find_transaction, inc_at}
 use Rattle.qs_machine.specs.Clauses.{broken_ending, has_no_record, is_immediate, may_end}
 use Rattle.qs_machine.specs.Lawful.{broken, effect, effect_act}
 use Rattle.qs_machine.specs.Nodes as machine
-use Rattle.qs_machine.specs.Transaction.{TransactionValue, is_abort, is_commit, is_outcome, learnt, part_of}
-use Rattle.qs_machine.specs.declared.state.OnRecord.{OnRecord}
-use Rattle.qs_machine.specs.declared.state.Voter.{Voter}
+use Rattle.qs_machine.specs.Transaction.{TransactionValue, is_abort, is_commit, is_outcome}
 use Rattle.qs_ops.specs.Members.{class_of, is_two_phase}
 use Rattle.qs_ops.specs.Server.{after_notice}
-use Rattle.qs_ops.specs.Servers.{audit_no, extra_no, files_no}
 use Rattle.qs_ops.specs.declared.answer.Cause.{Cause}
 use Rattle.qs_ops.specs.declared.vote.Notice.{Notice}
 use Rattle.qs_ops.specs.declared.vote.Notice.TheVariants as notices
 use Rattle.qs_servers.specs.Servers.{with_server}
 use Rattle.qs_step.specs.Bringing.{member_here}
-use Rattle.qs_step.specs.Deciding.{due_endings, end_member, end_members, give_notices, learn_member, learn_members, learners_at, notice_of}
+use Rattle.qs_step.specs.Deciding.{end_member}
 use Rattle.qs_step.specs.State.{NodeValue, Work, here}
 use Rattle.qs_tm.specs.Manager as tm
 use Rattle.qs_tm.specs.Members as rules
 use Rattle.qs_tm.specs.Outcomes as outcome_rules
 use Rattle.qs_tm.specs.Participant.{member_of}
-use Rattle.qs_tm.specs.declared.members.MemberPart.{MemberPart}
 use Rattle.qs_tm.specs.declared.participant.Participant.{Participant}
 use Rattle.qs_world.specs.Posting.{entry_of}
 use Rattle.qs_lawful.specs.Amid.{InRun}
 use Rattle.qs_lawful.specs.Beside.{HoldsBeside, HoldsPart, HoldsReader, HoldsReads, HoldsStranger, IsTrueCause}
 use Rattle.qs_lawful.specs.Entering.{book_at}
-use Rattle.qs_lawful.specs.Face.{at_server}
-use Rattle.qs_lawful.specs.Logged.{is_plain}
-use Rattle.qs_lawful.specs.Logs.{Every}
 use Rattle.qs_lawful.proofs.Apart.{Apart}
-use Rattle.qs_lawful.proofs.BesideActs.{Steps, ended_steps, others_changed, records_same, steps_as}
+use Rattle.qs_lawful.proofs.BesideActs.{Steps, ended_steps, steps_as}
 use Rattle.qs_lawful.proofs.BesideClocks.{notice_ticks, ticks_still}
-use Rattle.qs_lawful.proofs.BesideGoes.{Goes, goes_entry, goes_fold, goes_self, goes_then}
-use Rattle.qs_lawful.proofs.BesideOwn.{beside_one, found_changed, own_by, own_known}
-use Rattle.qs_lawful.proofs.BesideParts.{SameWhole, notes_on, part_ended, reader_on, same_issued}
+use Rattle.qs_lawful.proofs.BesideGoes.{Goes, goes_entry}
+use Rattle.qs_lawful.proofs.BesideOwn.{beside_one, own_by}
+use Rattle.qs_lawful.proofs.BesideParts.{SameWhole, notes_on, reader_on, same_issued}
 use Rattle.qs_lawful.proofs.BesidePlain.{MachineOn, machine_alike, plain_records}
 use Rattle.qs_lawful.proofs.Faces.{part_apart, part_changed, part_unknown}
 use Rattle.qs_lawful.proofs.LogActs as logs
 use Rattle.qs_lawful.proofs.LogFrames.{every_on}
 use Rattle.qs_lawful.proofs.Parts.{with_other}
-use Rattle.qs_lawful.proofs.Truths.{left_true, number_is, of_some}
+use Rattle.qs_lawful.proofs.Truths.{left_true, number_is}
 
 -- ---- classes
 
@@ -212,4 +198,4 @@ module _ (stamp : ℕ) (before : BookValue) (run : InRun before) (work : Work) (
           record { committed = λ is. e.committed (ap is_commit (sym now.2.cell) ∙ is); unknown = λ none kept. ap is_abort now.2.cell ∙ e.unknown (back none) kept }))
 
   pub goes_ended : Goes stamp before run work (end_member tid work server)
-  goes_ended = goes_entry stamp before run work (end_member tid work server) ending refl refl refl (λ fine inv causes h. let e : (tx : TransactionValue) × (find_transaction book tid ≡ Some tx) × (rules.is_immediate (class_of server.0) ≡ true) = ends fine causes h in ended_beside fine causes h e.0 e.1 e.2)
+  goes_ended = goes_entry stamp before run work (end_member tid work server) ending refl refl refl refl (λ fine inv causes h. let e : (tx : TransactionValue) × (find_transaction book tid ≡ Some tx) × (rules.is_immediate (class_of server.0) ≡ true) = ends fine causes h in ended_beside fine causes h e.0 e.1 e.2)

@@ -10,12 +10,10 @@ use Rattle.qs_base.specs.declared.identifiers.Tid.{Tid}
 use Rattle.qs_machine.specs.Book.{BookValue, find_transaction}
 use Rattle.qs_machine.specs.Clauses.{has_no_record, note_text}
 use Rattle.qs_machine.specs.Nodes as machine
-use Rattle.qs_machine.specs.Transaction.{TransactionValue, is_abort, is_commit, is_covering, is_outcome, is_start, noted_cmp, part_of}
+use Rattle.qs_machine.specs.Transaction.{TransactionValue, is_abort, is_commit, is_covering, is_outcome, noted_cmp, part_of}
 use Rattle.qs_machine.specs.declared.transaction.Noted.{Noted}
-use Rattle.qs_machine.specs.declared.transaction.Part.{Part}
 use Rattle.qs_machine.specs.declared.transaction.Request.{Request}
 use Rattle.qs_machine.specs.declared.transaction.RequestNo.{RequestNo}
-use Rattle.qs_machine.specs.declared.transaction.Start.{Start}
 use Rattle.qs_ops.specs.declared.answer.Cause.{Cause}
 use Rattle.qs_step.specs.Answering.{was_committed}
 use Rattle.qs_step.specs.State.{NodeValue}
@@ -27,7 +25,6 @@ use Rattle.qs_tm.specs.declared.members.MemberPart.{MemberPart}
 use Rattle.qs_tm.specs.declared.participant.Participant.{Participant}
 use Rattle.qs_lawful.specs.Beside.{HoldsEnded, HoldsNotes, HoldsPart, HoldsReader, HoldsReads, HoldsStranger, HoldsTidBeside, IsTrueCause, awaits_count, has_issued, has_note_in}
 use Rattle.qs_lawful.specs.Face.{at_server}
-use Rattle.qs_lawful.specs.Holds.{is_kept}
 use Rattle.qs_lawful.specs.Logs.{Every}
 use Rattle.qs_lawful.proofs.LogFrames.{every_on}
 use Rattle.qs_lawful.proofs.Truths.{clash, of_some}

@@ -1,5 +1,5 @@
 -- A vote pass: what stands in the middle of it stands after it, where the counts that notes tell have room.
-use Rattle.std.proofs.Common.{◌≡◌, ◌≢◌, ◌⊎◌, inl, inr, ℕ, ◌==◌, ◌<◌, ◌≤◌, ◌^◌, Bool, true, false, List, [], ◌∷◌, Option, Some, None, refl, sym, ap, subst, ◌∙◌, arith, length, fold, nat_lt, if◌then◌else◌}
+use Rattle.std.proofs.Common.{◌≡◌, ℕ, ◌==◌, ◌<◌, ◌≤◌, ◌^◌, Bool, true, false, List, [], ◌∷◌, Option, Some, None, refl, sym, ap, subst, ◌∙◌, arith, length, fold, nat_lt, if◌then◌else◌}
 use Rattle.std.proofs.lemmas.Bool.Decides.{nat_tests}
 use Rattle.std.specs.List.{filter}
 use Rattle.std.specs.Prelude.{◌&&◌, ◌||◌, not, is_some}
@@ -24,7 +24,7 @@ use Rattle.qs_record.specs.declared.record.Record.TheVariants as records
 use Rattle.qs_servers.specs.Servers.{audit_no, server_at}
 use Rattle.qs_step.specs.Deciding.{end_member}
 use Rattle.qs_step.specs.Settling.{is_lent, is_pass_due, is_put_off, pass_rule}
-use Rattle.qs_step.specs.State.{NodeValue, Work, doings_of, here}
+use Rattle.qs_step.specs.State.{Work, doings_of, here}
 use Rattle.qs_step.specs.Voting.{change_count, due_votes, enter_vote, issue_note, log_vote, note_text, owes_note, served_count, vote_frame, vote_next, vote_pass, vote_with}
 use Rattle.qs_tm.specs.Manager as tm
 use Rattle.qs_tm.specs.Members as rules
@@ -33,7 +33,6 @@ use Rattle.qs_tm.specs.Outcomes as outcome_rules
 use Rattle.qs_tm.specs.Participant as participant
 use Rattle.qs_tm.specs.Participant.{awaits_note, is_due_at, member_of, needs_pass, servers_due}
 use Rattle.qs_tm.specs.declared.participant.Due.TheVariants as dues
-use Rattle.qs_tm.specs.declared.participant.InLog.{InLog}
 use Rattle.qs_tm.specs.declared.participant.Participant.{Participant}
 use Rattle.qs_lawful.specs.Amid.{InRun}
 use Rattle.qs_lawful.specs.Entering.{HoldsWork, book_at}
@@ -43,7 +42,6 @@ use Rattle.qs_lawful.specs.Holds.{HoldsTid, is_kept}
 use Rattle.qs_lawful.proofs.Apart.{Apart}
 use Rattle.qs_lawful.proofs.BesideClocks.{ticks_still, voting_ticks}
 use Rattle.qs_lawful.proofs.BesideGoes.{Goes, goes_if, goes_self, goes_then}
-use Rattle.qs_lawful.proofs.BesideIssue.{TellsCount}
 use Rattle.qs_lawful.proofs.BesideNotice.{goes_ended}
 use Rattle.qs_lawful.proofs.BesideRequests.{goes_issued}
 use Rattle.qs_lawful.proofs.BesideVoted.{goes_voted}
@@ -53,7 +51,7 @@ use Rattle.qs_lawful.proofs.Faces.{part_apart, part_changed}
 use Rattle.qs_lawful.proofs.LearningAll.{stands}
 use Rattle.qs_lawful.proofs.Passing.{Passing, files_next, others_next}
 use Rattle.qs_lawful.proofs.PassingAll.{AreDue, AreOthers, IsApartFrom, due_on, ended_due, ended_passing, others, plain_due, plain_passing, they_are}
-use Rattle.qs_lawful.proofs.Truths.{clash, number_is}
+use Rattle.qs_lawful.proofs.Truths.{clash}
 
 -- ---- who reads only has nothing pending
 

@@ -1,43 +1,36 @@
 -- What an entry does that leaves each transaction as it is looked at: what the machine has beside the node stands on.
-use Rattle.std.proofs.Common.{◌≡◌, ◌≢◌, ◌⊎◌, inl, inr, ◌<◌, ◌+◌, ◌^◌, ℕ, ◌==◌, Bool, true, false, List, [], ◌∷◌, ◌++◌, Option, Some, None, refl, sym, ap, subst, ◌∙◌, arith}
-use Rattle.std.proofs.lemmas.Bool.Decides.{nat_tests}
+use Rattle.std.proofs.Common.{◌≡◌, ℕ, true, [], ◌∷◌, ◌++◌, Option, Some, None, refl, sym, ap, subst, ◌∙◌}
 use Rattle.std.specs.BTreeMap.{is_at}
 use Rattle.std.specs.Map.{lookup, remove_entry}
 use Rattle.std.specs.Option.{option_map}
 use Rattle.std.specs.Prelude.{slice_get}
 use Rattle.qs_base.specs.declared.identifiers.ClientNo.{ClientNo}
 use Rattle.qs_base.specs.declared.identifiers.NodeNo.{NodeNo}
-use Rattle.qs_base.specs.declared.identifiers.ServerNo.{ServerNo}
 use Rattle.qs_base.specs.declared.identifiers.Tid.{Tid}
 use Rattle.qs_journal.specs.declared.entry.Act.{Act}
 use Rattle.qs_journal.specs.declared.entry.Act.TheVariants as acts
-use Rattle.qs_kept.specs.declared.kept.Kept.{Kept}
 use Rattle.qs_laws.proofs.Acts as of
 use Rattle.qs_laws.proofs.Faces.{Alike, age}
-use Rattle.qs_laws.proofs.Outcomes.{Inv}
 use Rattle.qs_laws.proofs.Stills.{Facet, facet}
-use Rattle.qs_machine.specs.Book.{BookValue, find_transaction, inc_at}
+use Rattle.qs_machine.specs.Book.{BookValue, find_transaction}
 use Rattle.qs_machine.specs.Clauses.{borrower_at, has_no_record}
-use Rattle.qs_machine.specs.Lawful.{broken, effect, effect_act}
+use Rattle.qs_machine.specs.Lawful.{effect, effect_act}
 use Rattle.qs_machine.specs.Nodes as machine
 use Rattle.qs_machine.specs.Transaction.{TransactionValue}
 use Rattle.qs_ops.specs.declared.answer.Answer.{Answer}
 use Rattle.qs_ops.specs.declared.answer.Cause.{Cause}
 use Rattle.qs_step.specs.Bringing.{answer, enter}
-use Rattle.qs_step.specs.State.{NodeValue, Work, client_cmp, here, part_of, with_doings, with_kept, with_manager}
+use Rattle.qs_step.specs.State.{NodeValue, Work, client_cmp, here}
 use Rattle.qs_step.specs.declared.setting.Setting.{Setting}
 use Rattle.qs_step.specs.declared.state.OpenCommand.{OpenCommand}
-use Rattle.qs_tm.specs.Manager as tm
-use Rattle.qs_tm.specs.Participant as participant
-use Rattle.qs_tm.specs.declared.participant.Participant.{Participant}
 use Rattle.qs_world.specs.Posting.{entry_of}
 use Rattle.qs_lawful.specs.Amid.{InRun}
 use Rattle.qs_lawful.specs.Beside.{HasOwner, HoldsBeside, HoldsClock, HoldsTidBeside, IsTrueCause}
 use Rattle.qs_lawful.specs.Entering.{book_at}
 use Rattle.qs_lawful.specs.Logged.{is_plain}
-use Rattle.qs_lawful.proofs.BesideActs.{Steps, answered_steps, asked_steps, counted_steps, given_steps, inc_on, lent_steps, owners_alike, records_same, steps_as, steps_self}
-use Rattle.qs_lawful.proofs.BesideGoes.{Goes, goes_alike, goes_elim, goes_entry, goes_part, goes_self, goes_then}
-use Rattle.qs_lawful.proofs.BesideParts.{CommittedOn, PartOn, PartStep, TxStep, part_same, tid_on}
+use Rattle.qs_lawful.proofs.BesideActs.{Steps, answered_steps, asked_steps, counted_steps, given_steps, inc_on, lent_steps, owners_alike, records_same, steps_as}
+use Rattle.qs_lawful.proofs.BesideGoes.{Goes, goes_elim, goes_entry, goes_self}
+use Rattle.qs_lawful.proofs.BesideParts.{CommittedOn, PartStep, part_same, tid_on}
 use Rattle.qs_lawful.proofs.LogActs.{plain_facets}
 use Rattle.qs_lawful.proofs.Truths.{of_some}
 
@@ -100,7 +93,7 @@ module _ (stamp : ℕ) (before : BookValue) (run : InRun before) where
 
   -- the entry alone
   goes_told : (work : Work) (act : Act) → is_plain act ≡ true → ((book : BookValue) → Alike book (effect_act stamp (here work).0 act book)) → ((h : NodeNo) (inc : ℕ) (book : BookValue) → Steps h inc book (effect_act stamp (here work).0 act book)) → On work (enter act work)
-  goes_told work act plain alike steps = goes_entry stamp before run work (enter act work) act refl refl refl
+  goes_told work act plain alike steps = goes_entry stamp before run work (enter act work) act refl refl refl refl
       (λ fine inv causes h. beside_plain stamp (book_at stamp before work) act plain work.node work.node refl causes h
       (let a = alike (book_at stamp before work) in record { faces = a.faces; ages = a.ages; tolds = a.tolds })
       (steps_as (here work) work.node.setting.inc (book_at stamp before work) (effect_act stamp (here work).0 act (book_at stamp before work)) _ refl (steps (here work) work.node.setting.inc (book_at stamp before work)))
@@ -121,7 +114,7 @@ module _ (stamp : ℕ) (before : BookValue) (run : InRun before) where
   -- an answer, which ends a command
   pub goes_answer : (client : ClientNo) (said : Answer) (work : Work) → On work (answer client said work)
   goes_answer client said work = goes_elim stamp before run (lookup (is_at (client_cmp client)) work.node.commands) work work answered (λ none. goes_self stamp before run work)
-      (λ command is. goes_entry stamp before run work (answered command) (acts.Answer client command.line.line said) refl refl refl
+      (λ command is. goes_entry stamp before run work (answered command) (acts.Answer client command.line.line said) refl refl refl refl
       (λ fine inv causes h. beside_plain stamp (book_at stamp before work) (acts.Answer client command.line.line said) refl work.node (answered command).node refl causes h
       (let a = of.by_answer client command.line.line (book_at stamp before work) in record { faces = a.faces; ages = a.ages; tolds = a.tolds })
       (steps_as (here work) work.node.setting.inc (book_at stamp before work) (effect_act stamp (here work).0 (acts.Answer client command.line.line said) (book_at stamp before work)) _ refl

@@ -1,8 +1,8 @@
 -- A reply comes, commit is asked for, a cause is kept: what the machine has beside the node stands on.
-use Rattle.std.proofs.Common.{◌≡◌, ◌⊎◌, inl, inr, ℕ, ◌==◌, Bool, true, false, List, [], ◌∷◌, ◌++◌, Option, Some, None, refl, sym, ap, subst, ◌∙◌, if◌then◌else◌}
+use Rattle.std.proofs.Common.{◌≡◌, ◌⊎◌, inl, inr, ℕ, ◌==◌, Bool, true, false, List, [], ◌∷◌, Option, Some, None, refl, sym, ap, subst, ◌∙◌, if◌then◌else◌}
 use Rattle.std.proofs.lemmas.List.Folds.{list_any-append}
 use Rattle.std.specs.List.{filter, find, list_any}
-use Rattle.std.specs.Prelude.{◌&&◌, ◌||◌, not, is_some}
+use Rattle.std.specs.Prelude.{◌||◌, not, is_some}
 use Rattle.qs_base.specs.declared.identifiers.Member.{Member}
 use Rattle.qs_base.specs.declared.identifiers.Tid.{Tid}
 use Rattle.qs_machine.specs.Book.{BookValue, find_transaction}
@@ -12,7 +12,7 @@ use Rattle.qs_ops.specs.declared.reply.Reply.{Reply}
 use Rattle.qs_step.specs.Asking.{block}
 use Rattle.qs_step.specs.Requests as requests
 use Rattle.qs_step.specs.Requests.{answer_issuer, reply_came, take_reply, waits_as}
-use Rattle.qs_step.specs.State.{NodeValue, Work, client_cmp, with_manager}
+use Rattle.qs_step.specs.State.{Work, client_cmp, with_manager}
 use Rattle.std.specs.BTreeMap.{is_at}
 use Rattle.std.specs.Map.{lookup}
 use Rattle.qs_servers.specs.Servers.{client_of}
@@ -20,18 +20,15 @@ use Rattle.qs_ops.specs.Operations.{answer_of}
 use Rattle.qs_tm.specs.Manager as tm
 use Rattle.qs_tm.specs.Participant as participant
 use Rattle.qs_tm.specs.Participant.{drop_waiting, has_noted, is_answered_by, is_by_files, is_count, note_served, waiting_for}
-use Rattle.qs_tm.specs.declared.manager.Manager.{Manager}
 use Rattle.qs_tm.specs.declared.participant.Outstanding.{Outstanding}
 use Rattle.qs_tm.specs.declared.participant.Participant.{Participant}
 use Rattle.qs_lawful.specs.Amid.{InRun}
-use Rattle.qs_lawful.specs.Beside.{HoldsBeside, HoldsPart, IsTrueCause, awaits_count, is_note_with}
+use Rattle.qs_lawful.specs.Beside.{HoldsBeside, IsTrueCause, awaits_count, is_note_with}
 use Rattle.qs_lawful.specs.Entering.{book_at}
-use Rattle.qs_lawful.specs.Logs.{Every}
 use Rattle.qs_lawful.specs.NodeFacts.{AreApart}
-use Rattle.qs_lawful.proofs.Apart.{Apart}
 use Rattle.qs_lawful.proofs.BesideGoes.{Goes, goes_elim, goes_if, goes_part, goes_self, goes_then}
 use Rattle.qs_lawful.proofs.BesideKnown.{goes_custom}
-use Rattle.qs_lawful.proofs.BesideParts.{NotesOn, PartOn, part_on, whole_self}
+use Rattle.qs_lawful.proofs.BesideParts.{PartOn, part_on, whole_self}
 use Rattle.qs_lawful.proofs.BesidePlain.{goes_answer}
 use Rattle.qs_lawful.proofs.Faces.{part_apart, part_changed, part_unknown}
 use Rattle.qs_lawful.proofs.GivenReplies.{for_one, none_dropped}
@@ -104,9 +101,12 @@ module _ (stamp : ℕ) (before : BookValue) (run : InRun before) where
   goes_twice work tid f g on = goes_custom stamp before run work tid (tm.with_part tid g (tm.with_part tid f work.node.manager)) refl
       (λ t far. part_apart tid t g (tm.with_part tid f work.node.manager) far ∙ part_apart tid t f work.node.manager far)
       (λ none. part_unknown tid g (tm.with_part tid f work.node.manager) (part_unknown tid f work.node.manager none))
-      (λ h tx found p known w. (g (f p), part_changed tid g (tm.with_part tid f work.node.manager) (f p) (part_changed tid f work.node.manager p known),
-          part_on (book_at stamp before work) (book_at stamp before work) h.state h.state work.node (record work.node { manager = tm.with_part tid g (tm.with_part tid f work.node.manager) }) tid tx tx p (g (f p)) refl (whole_self work.node.setting.node work.node.setting.inc tx)
-          (λ c is. is) (λ is. is) (on p known) w))
+      (λ h tx found p known w. (
+        g (f p),
+        part_changed tid g (tm.with_part tid f work.node.manager) (f p) (part_changed tid f work.node.manager p known),
+        part_on (book_at stamp before work) (book_at stamp before work) h.state h.state work.node (record work.node { manager = tm.with_part tid g (tm.with_part tid f work.node.manager) }) tid tx tx p (g (f p)) refl (whole_self work.node.setting.node work.node.setting.inc tx)
+            (λ c is. is) (λ is. is) (on p known) w,
+      ))
 
   pub goes_reply : (tid : Tid) (member : Member) (number : ℕ) (reply : Reply) (work : Work) → ((p : Participant) → tm.part_of tid work.node.manager ≡ Some p → AreApart p.waiting) → On work (reply_came tid member number reply work)
   goes_reply tid member number reply work apart = goes_elim stamp before run (requests.waiting_at tid member number work) work work (λ request. take_reply tid reply request (with_manager (tm.drop_waiting tid member number) work)) (λ none. goes_self stamp before run work)
@@ -129,10 +129,19 @@ module _ (stamp : ℕ) (before : BookValue) (run : InRun before) where
 
   pub goes_ask : (tid : Tid) (work : Work) → ((tx : TransactionValue) → find_transaction (book_at stamp before work) tid ≡ Some tx → is_some tx.asked ≡ true) → On work (with_manager (tm.ask tid) work)
   goes_ask tid work asked = goes_custom stamp before run work tid (tm.ask tid work.node.manager) refl (λ t far. part_apart tid t participant.ask work.node.manager far) (λ none. part_unknown tid participant.ask work.node.manager none)
-      (λ h tx found p known w. (participant.ask p, part_changed tid participant.ask work.node.manager p known,
-          record { notes = record { issued = w.notes.issued; served = w.notes.served }; asked = λ is. asked tx found; outcome = w.outcome; causes = w.causes;
-            reads = λ none. let r = w.reads none in record { readers = λ s k. let g = r.readers s k in record { anew = g.anew; unfresh = g.unfresh; told = g.told }; unchanged = r.unchanged; counted = r.counted };
-            begun_at = w.begun_at; records = w.records }))
+      (λ h tx found p known w. (
+        participant.ask p,
+        part_changed tid participant.ask work.node.manager p known,
+        record {
+          notes = record { issued = w.notes.issued; served = w.notes.served };
+          asked = λ is. asked tx found;
+          outcome = w.outcome;
+          causes = w.causes;
+          reads = λ none. let r = w.reads none in record { readers = λ s k. let g = r.readers s k in record { anew = g.anew; unfresh = g.unfresh; told = g.told }; unchanged = r.unchanged; counted = r.counted };
+          begun_at = w.begun_at;
+          records = w.records;
+        },
+      ))
 
   -- ---- a cause that stands is kept
 
@@ -140,8 +149,16 @@ module _ (stamp : ℕ) (before : BookValue) (run : InRun before) where
   goes_block tid cause work so = goes_custom stamp before run work tid (tm.add_cause tid cause (tm.refused tid work.node.manager)) refl
       (λ t far. part_apart tid t (participant.add_cause cause) (tm.refused tid work.node.manager) far ∙ part_apart tid t participant.refused work.node.manager far)
       (λ none. part_unknown tid (participant.add_cause cause) (tm.refused tid work.node.manager) (part_unknown tid participant.refused work.node.manager none))
-      (λ h tx found p known w. (participant.add_cause cause (participant.refused p), part_changed tid (participant.add_cause cause) (tm.refused tid work.node.manager) (participant.refused p) (part_changed tid participant.refused work.node.manager p known),
-          record { notes = record { issued = w.notes.issued; served = w.notes.served }; asked = w.asked; outcome = w.outcome;
-            causes = λ none. every_append (IsTrueCause (book_at stamp before work) tid) p.causes (cause ∷ []) (w.causes none) (so h, tt);
-            reads = λ none. let r = w.reads none in record { readers = λ s k. let g = r.readers s k in record { anew = g.anew; unfresh = g.unfresh; told = g.told }; unchanged = r.unchanged; counted = r.counted };
-            begun_at = w.begun_at; records = w.records }))
+      (λ h tx found p known w. (
+        participant.add_cause cause (participant.refused p),
+        part_changed tid (participant.add_cause cause) (tm.refused tid work.node.manager) (participant.refused p) (part_changed tid participant.refused work.node.manager p known),
+        record {
+          notes = record { issued = w.notes.issued; served = w.notes.served };
+          asked = w.asked;
+          outcome = w.outcome;
+          causes = λ none. every_append (IsTrueCause (book_at stamp before work) tid) p.causes (cause ∷ []) (w.causes none) (so h, tt);
+          reads = λ none. let r = w.reads none in record { readers = λ s k. let g = r.readers s k in record { anew = g.anew; unfresh = g.unfresh; told = g.told }; unchanged = r.unchanged; counted = r.counted };
+          begun_at = w.begun_at;
+          records = w.records;
+        },
+      ))

@@ -1,10 +1,9 @@
 -- Requests are issued, come and are served: what stands in the middle of these rules stands after them.
-use Rattle.std.proofs.Common.{◌≡◌, ◌⊎◌, inl, inr, ℕ, ◌==◌, Bool, true, false, List, [], ◌∷◌, ◌++◌, Option, Some, None, refl, sym, ap, subst, ◌∙◌, ◌+◌, ◌||◌, if◌then◌else◌}
+use Rattle.std.proofs.Common.{◌≡◌, inl, ℕ, ◌==◌, Bool, true, false, List, [], ◌∷◌, ◌++◌, Option, Some, None, refl, sym, ap, subst, ◌∙◌, ◌+◌, ◌||◌, if◌then◌else◌}
 use Rattle.std.specs.Prelude.{is_none, is_some}
 use Rattle.qs_base.specs.declared.identifiers.ClientNo.{ClientNo}
 use Rattle.qs_base.specs.declared.identifiers.Member.{Member}
 use Rattle.qs_base.specs.declared.identifiers.NodeNo.{NodeNo}
-use Rattle.qs_base.specs.declared.identifiers.Outcome.{Outcome}
 use Rattle.qs_base.specs.declared.identifiers.ServerNo.{ServerNo}
 use Rattle.qs_base.specs.declared.identifiers.Tid.{Tid}
 use Rattle.qs_engage.specs.Engage.{last_number, next_sent}
@@ -14,16 +13,14 @@ use Rattle.qs_engage.specs.declared.engage.Engaged.TheVariants as engagements
 use Rattle.qs_ipc.specs.Ipc as ipc
 use Rattle.qs_ipc.specs.Queue.{is_for}
 use Rattle.qs_ipc.specs.declared.delivery.Delivery.{Delivery}
-use Rattle.qs_journal.specs.declared.entry.Act.TheVariants as acts
 use Rattle.qs_machine.specs.Book.{BookValue, find_transaction}
 use Rattle.qs_machine.specs.Transaction.{TransactionValue, is_commit}
-use Rattle.qs_ops.specs.Members.{class_of, is_two_phase}
 use Rattle.qs_ops.specs.declared.operation.Op.{Op}
 use Rattle.qs_ops.specs.declared.reply.Reply.{Reply}
 use Rattle.qs_packet.specs.declared.message.Message.TheVariants as messages
-use Rattle.qs_step.specs.Bringing.{enter, member_here, send}
+use Rattle.qs_step.specs.Bringing.{member_here, send}
 use Rattle.qs_step.specs.Requests.{ask_on, enqueue, enter_issue, is_asked, issue, issue_as, issue_away, issue_here, label_of, next_local, next_number, with_local}
-use Rattle.qs_step.specs.Serving.{change_served, cover_from, engage, enter_serve, give_reply, is_dropped, label_at, learn_label, lent_to, make_loan, met, put_label, reply_here, request_came, serve, serve_next, serve_or_drop, take_in}
+use Rattle.qs_step.specs.Serving.{cover_from, engage, enter_serve, is_dropped, label_at, learn_label, lent_to, make_loan, met, put_label, reply_here, request_came, serve, serve_next, serve_or_drop, take_in}
 use Rattle.qs_step.specs.State.{NodeValue, Work, here, part_of, with_kept, with_manager, with_queues}
 use Rattle.qs_servers.specs.Servers.{is_client}
 use Rattle.qs_ops.specs.Server.{after_serving}
@@ -37,10 +34,10 @@ use Rattle.qs_tm.specs.declared.participant.Participant.{Participant}
 use Rattle.qs_lawful.specs.Amid.{InRun}
 use Rattle.qs_lawful.specs.Beside.{HoldsBeside}
 use Rattle.qs_lawful.specs.Entering.{HoldsWork, book_at}
-use Rattle.qs_lawful.specs.Face.{at_server, face_of}
-use Rattle.qs_lawful.specs.Holds.{HoldsTid, covers_at_most, is_kept}
+use Rattle.qs_lawful.specs.Face.{face_of}
+use Rattle.qs_lawful.specs.Holds.{HoldsTid}
 use Rattle.qs_lawful.specs.NodeFacts.{AreApart}
-use Rattle.qs_lawful.specs.Standing.{CanCount, Stands}
+use Rattle.qs_lawful.specs.Standing.{CanCount}
 use Rattle.qs_lawful.proofs.BesideGoes.{Goes, goes_alike, goes_elim, goes_if, goes_part, goes_self, goes_send, goes_then}
 use Rattle.qs_lawful.proofs.BesideIssue.{TellsCount, goes_issue}
 use Rattle.qs_lawful.proofs.BesideKnown.{goes_meet}
@@ -140,6 +137,7 @@ module _ (stamp : ℕ) (before : BookValue) (run : InRun before) where
       → On work (issue tid issuer member op count work)
   goes_issued tid issuer member op count work tells = goes_elim stamp before run (next_number tid member.node work) work work _ (λ none. goes_self stamp before run work)
       (λ number is. goes_number tid (record { issuer = issuer; member = member; number = number; count = count }) op work (tells number) is)
+
   -- ---- a request comes
 
   goes_cover : (e : Engaged) (tid : Tid) (peer : NodeNo) (number : ℕ) (work : Work) → On work (cover_from e tid peer number work)

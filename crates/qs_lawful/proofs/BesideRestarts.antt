@@ -1,7 +1,6 @@
 -- Another node restarts, or this one begins, and time goes on: what stands before stands after.
-use Rattle.std.proofs.Common.{◌≡◌, ◌⊎◌, inl, inr, ℕ, ◌+◌, ◌<◌, ◌-◌, ◌^◌, Bool, true, false, List, [], ◌∷◌, Option, Some, None, refl, sym, ap, subst, ◌∙◌, arith, fold, min, if◌then◌else◌}
-use Rattle.std.specs.List.{list_any}
-use Rattle.std.specs.Prelude.{◌&&◌, not, is_some}
+use Rattle.std.proofs.Common.{◌≡◌, ℕ, ◌+◌, ◌<◌, ◌-◌, ◌^◌, Bool, true, false, List, [], ◌∷◌, Option, Some, None, refl, sym, ap, subst, ◌∙◌, arith, fold, min, if◌then◌else◌}
+use Rattle.std.specs.Prelude.{◌&&◌, not}
 use Rattle.qs_base.specs.declared.identifiers.NodeNo.{NodeNo}
 use Rattle.qs_base.specs.declared.identifiers.Outcome.{Outcome}
 use Rattle.qs_base.specs.declared.identifiers.Outcome.TheVariants as outcomes
@@ -12,15 +11,13 @@ use Rattle.qs_journal.specs.declared.entry.Act.TheVariants as acts
 use Rattle.qs_laws.proofs.Acts as of
 use Rattle.qs_machine.specs.Book.{BookValue}
 use Rattle.qs_machine.specs.Lawful.{effect_act}
-use Rattle.qs_ops.specs.Timers.{ticked}
 use Rattle.qs_ops.specs.declared.answer.Cause.TheVariants as causes
 use Rattle.qs_packet.specs.declared.message.Message.TheVariants as messages
-use Rattle.qs_servers.specs.Servers.{timers_no}
 use Rattle.qs_step.specs.Asking.{block}
-use Rattle.qs_step.specs.Bringing.{enter, send}
+use Rattle.qs_step.specs.Bringing.{send}
 use Rattle.qs_step.specs.Deciding.{give_notices}
 use Rattle.qs_step.specs.Restarts.{begin_incarnation, find_gone, inquire, is_orphaned_by, known_tids, name_again, notice_decided, notice_part, notice_tid, peer_restarted, resume_home, resume_part, resume_tid, tell_again}
-use Rattle.qs_step.specs.State.{NodeValue, Work, change_server, here, part_of, with_manager, with_node, with_queues}
+use Rattle.qs_step.specs.State.{NodeValue, Work, here, part_of, with_manager, with_node, with_queues}
 use Rattle.qs_step.specs.Step.{abort_old, age_rule, tick}
 use Rattle.qs_tm.specs.Manager as tm
 use Rattle.qs_tm.specs.Outcomes.{is_abort, is_told_again, named_by}
@@ -28,7 +25,6 @@ use Rattle.qs_tm.specs.Participant as participant
 use Rattle.qs_tm.specs.Participant.{is_owed_by}
 use Rattle.qs_tm.specs.declared.participant.Participant.{Participant}
 use Rattle.qs_lawful.specs.Amid.{InRun}
-use Rattle.qs_lawful.specs.Beside.{HoldsBeside, IsTrueCause}
 use Rattle.qs_lawful.specs.BesideStep.{IsGone}
 use Rattle.qs_lawful.specs.Entering.{book_at}
 use Rattle.qs_lawful.specs.Given.{AtEach}
@@ -128,7 +124,7 @@ module _ (stamp : ℕ) (before : BookValue) (run : InRun before) where
   -- ---- time goes on
 
   pub goes_ticked : (work : Work) → work.node.manager.ticks + 1 < 2 ^ 62 → On work (tick_work work)
-  goes_ticked work room = goes_entry stamp before run work (tick_work work) acts.Tick refl refl refl
+  goes_ticked work room = goes_entry stamp before run work (tick_work work) acts.Tick refl refl refl refl
       (λ fine inv causes h. beside_plain stamp (book_at stamp before work) acts.Tick refl work.node (tick_work work).node refl causes h
       (let a = of.by_tick (here work).0 stamp (book_at stamp before work) in record { faces = a.faces; ages = a.ages; tolds = a.tolds })
       (steps_as (here work) work.node.setting.inc (book_at stamp before work) (effect_act stamp (here work).0 acts.Tick (book_at stamp before work)) _ refl

@@ -1,28 +1,26 @@
 -- What a whole step sends is so and goes between two nodes of the run, so that channels hold what is so with it.
-use Rattle.std.proofs.Common.{◌≡◌, ◌<◌, ◌==◌, ℕ, Bool, true, false, List, Some, refl, ap, sym, subst, ◌∙◌, arith, nat_lt}
+use Rattle.std.proofs.Common.{◌≡◌, ◌<◌, ◌==◌, ℕ, true, false, List, ap, sym, subst, ◌∙◌, arith, nat_lt}
 use Rattle.std.proofs.lemmas.Bool.Decides.{nat_tests}
 use Rattle.std.proofs.lemmas.Option.{slice_get_within}
-use Rattle.std.specs.Prelude.{not, length, slice_get}
+use Rattle.std.specs.Prelude.{not, length}
 use Rattle.qs_channels.specs.Channels.{Channels}
 use Rattle.qs_engage.specs.Nodes.{same_node}
 use Rattle.qs_journal.specs.declared.entry.Entry.{Entry}
 use Rattle.qs_machine.specs.Book.{BookValue}
 use Rattle.qs_machine.specs.Lawful.{IsLawful, book_after}
-use Rattle.qs_machine.specs.Opening.{opening}
-use Rattle.qs_step.specs.State.{NodeValue, Work}
-use Rattle.qs_step.specs.Step.{after_step, effects_of, step_work}
+use Rattle.qs_step.specs.State.{NodeValue}
+use Rattle.qs_step.specs.Step.{effects_of, step_work}
 use Rattle.qs_step.specs.declared.event.Event.{Event}
 use Rattle.qs_step.specs.declared.event.Sending.{Sending}
 use Rattle.qs_step.specs.declared.setting.Setting.{Setting}
 use Rattle.qs_world.specs.Posting.{entries_of, post_all}
 use Rattle.qs_world.specs.World.{Parcel}
-use Rattle.qs_lawful.specs.Amid.{AreSent, InRun, IsSent}
-use Rattle.qs_lawful.specs.Beside.{HoldsBeside}
-use Rattle.qs_lawful.specs.Entering.{book_at, entries_so_far}
+use Rattle.qs_lawful.specs.Amid.{InRun, IsSent}
+use Rattle.qs_lawful.specs.Entering.{entries_so_far}
 use Rattle.qs_lawful.specs.Logs.{Every}
 use Rattle.qs_lawful.specs.Parcels.{HoldsChannels, IsParcel}
 use Rattle.qs_lawful.specs.StepOn.{StepOn}
-use Rattle.qs_lawful.proofs.BesideWhole.{beside_after, held_after, sent_so}
+use Rattle.qs_lawful.proofs.BesideWhole.{held_after, sent_so}
 use Rattle.qs_lawful.proofs.LogFrames.{every_on}
 use Rattle.qs_lawful.proofs.ParcelsKept.{channels_posted}
 use Rattle.qs_lawful.proofs.SaidStays.{channels_stay}
@@ -55,9 +53,6 @@ module _ (stamp : ℕ) (before : BookValue) (size : ℕ) (nodes : ℕ → NodeVa
 
   pub lawful_on : IsLawful before entered
   lawful_on = subst (IsLawful before) same (held_after stamp before size nodes n node event free s).lawful
-
-  pub beside_on : HoldsBeside (book_after before entered) (after_step node event free)
-  beside_on = subst (λ (es : List Entry). HoldsBeside (book_after before es) (after_step node event free)) same (beside_after stamp before size nodes n node event free s)
 
   pub channels_after : length before.nodes ≡ size → (c : Channels Parcel) → HoldsChannels before size c → HoldsChannels (book_after before entered) size (post_all n stamp (effects_of node event free).messages c)
   channels_after whole c h = channels_posted (book_after before entered) size n stamp (effects_of node event free).messages c

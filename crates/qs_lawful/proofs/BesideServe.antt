@@ -1,58 +1,28 @@
 -- A request is served: what the machine has beside the node stands on.
-use Rattle.std.proofs.Common.{◌≡◌, ◌≢◌, ◌⊎◌, inl, inr, ℕ, ◌≤◌, ◌+◌, ◌==◌, Bool, true, false, List, [], ◌∷◌, ◌++◌, Option, Some, None, refl, sym, ap, subst, ◌∙◌, arith, length, if◌then◌else◌, ◌<◌, ◌^◌}
+use Rattle.std.proofs.Common.{◌≡◌, ◌≢◌, ℕ, ◌≤◌, ◌+◌, ◌==◌, Bool, true, false, refl, sym, ap, subst, ◌∙◌, arith, length, if◌then◌else◌}
 use Rattle.std.proofs.lemmas.Bool.Decides.{nat_tests}
 use Rattle.std.specs.List.{list_any}
-use Rattle.std.specs.Prelude.{◌&&◌, ◌||◌, not, is_none, is_some}
+use Rattle.std.specs.Prelude.{◌&&◌, ◌||◌, not, is_none}
 use Rattle.qs_base.specs.declared.identifiers.NodeNo.{NodeNo}
 use Rattle.qs_base.specs.declared.identifiers.Class.{Class}
 use Rattle.qs_base.specs.declared.identifiers.Class.TheVariants as classes
 use Rattle.qs_base.specs.declared.identifiers.ServerNo.{ServerNo}
 use Rattle.qs_base.specs.declared.identifiers.Tid.{Tid}
 use Rattle.qs_engage.specs.Engage.{last_number}
-use Rattle.qs_ipc.specs.declared.delivery.Delivery.{Delivery}
-use Rattle.qs_journal.specs.declared.entry.Act.{Act}
-use Rattle.qs_journal.specs.declared.entry.Act.TheVariants as acts
-use Rattle.qs_laws.proofs.Acts as of
-use Rattle.qs_machine.specs.Book.{BookValue, find_transaction, inc_at, is_done}
-use Rattle.qs_machine.specs.Clauses.{has_no_record, note_text}
-use Rattle.qs_machine.specs.Lawful.{effect}
-use Rattle.qs_machine.specs.Nodes as machine
+use Rattle.qs_machine.specs.Clauses.{note_text}
 use Rattle.qs_machine.specs.Transaction.{TransactionValue, is_start, life, part_of, served_in, serving_part}
 use Rattle.qs_machine.specs.declared.transaction.Part.{Part}
 use Rattle.qs_machine.specs.declared.transaction.RequestNo.{RequestNo}
 use Rattle.qs_ops.specs.Members.{class_of, is_two_phase}
-use Rattle.qs_ops.specs.Server.{after_serving}
-use Rattle.qs_ops.specs.declared.answer.Cause.{Cause}
-use Rattle.qs_ops.specs.declared.reply.Reply.{Reply}
-use Rattle.qs_servers.specs.Servers.{is_client}
-use Rattle.qs_step.specs.Bringing.{member_here}
-use Rattle.qs_step.specs.Serving.{change_served, enter_serve}
-use Rattle.qs_step.specs.State.{NodeValue, Work, change_server}
-use Rattle.qs_step.specs.declared.setting.Setting.{Setting}
-use Rattle.qs_tm.specs.Manager as tm
 use Rattle.qs_tm.specs.Members as rules
 use Rattle.qs_tm.specs.Members.{class_here, is_told_class}
 use Rattle.qs_tm.specs.Participant as participant
 use Rattle.qs_tm.specs.Participant.{member_of, with_member}
 use Rattle.qs_tm.specs.declared.members.MemberPart.{MemberPart}
-use Rattle.qs_tm.specs.declared.manager.Manager.{Manager}
 use Rattle.qs_tm.specs.declared.participant.Participant.{Participant}
-use Rattle.qs_world.specs.Posting.{entry_of}
-use Rattle.qs_lawful.specs.Amid.{InRun}
-use Rattle.qs_lawful.specs.Beside.{HoldsBeside, HoldsNotes, HoldsPart, HoldsReader, HoldsReads, IsTrueCause}
-use Rattle.qs_lawful.specs.Entering.{book_at}
+use Rattle.qs_lawful.specs.Beside.{HoldsReader, HoldsReads}
 use Rattle.qs_lawful.specs.Face.{at_server}
 use Rattle.qs_lawful.specs.Holds.{covers_at_most, is_kept}
-use Rattle.qs_lawful.specs.Logs.{Every}
-use Rattle.qs_lawful.proofs.BesideActs.{others_changed}
-use Rattle.qs_lawful.proofs.BesideClocks.{serving_ticks, ticks_still}
-use Rattle.qs_lawful.proofs.BesideGoes.{Goes, alike_committed, goes_entry}
-use Rattle.qs_lawful.proofs.BesideOwn.{beside_one, found_changed, own_known}
-use Rattle.qs_lawful.proofs.BesideParts.{CommittedOn, with_setting}
-use Rattle.qs_lawful.proofs.BesidePlain.{MachineOn, machine_alike, plain_records}
-use Rattle.qs_lawful.proofs.Faces.{part_apart, part_changed}
-use Rattle.qs_lawful.proofs.GivenServing.{notes_alike, notes_served, served_noted}
-use Rattle.qs_lawful.proofs.LogFrames.{every_on}
 use Rattle.qs_lawful.proofs.MemberTid.{lives_apart}
 use Rattle.qs_lawful.proofs.NotesServed.{served_issued}
 use Rattle.qs_lawful.proofs.Parts.{put_part_apart, with_other, with_own}

@@ -1,11 +1,7 @@
 -- A request is served, as an entry: what the machine has beside the node stands on.
-use Rattle.std.proofs.Common.{◌≡◌, ◌≢◌, ◌⊎◌, inl, inr, ℕ, ◌≤◌, ◌+◌, ◌==◌, Bool, true, false, List, [], ◌∷◌, ◌++◌, Option, Some, None, refl, sym, ap, subst, ◌∙◌, arith, length, if◌then◌else◌, ◌<◌, ◌^◌}
-use Rattle.std.proofs.lemmas.Bool.Decides.{nat_tests}
-use Rattle.std.specs.List.{list_any}
-use Rattle.std.specs.Prelude.{◌&&◌, ◌||◌, not, is_none, is_some}
+use Rattle.std.proofs.Common.{◌≡◌, ℕ, ◌+◌, ◌==◌, Bool, true, false, List, [], ◌∷◌, ◌++◌, Option, Some, None, refl, sym, ap, subst, ◌∙◌, length, if◌then◌else◌, ◌<◌, ◌^◌}
+use Rattle.std.specs.Prelude.{◌||◌, is_some}
 use Rattle.qs_base.specs.declared.identifiers.NodeNo.{NodeNo}
-use Rattle.qs_base.specs.declared.identifiers.Class.{Class}
-use Rattle.qs_base.specs.declared.identifiers.Class.TheVariants as classes
 use Rattle.qs_base.specs.declared.identifiers.ServerNo.{ServerNo}
 use Rattle.qs_base.specs.declared.identifiers.Tid.{Tid}
 use Rattle.qs_engage.specs.Engage.{last_number}
@@ -14,11 +10,10 @@ use Rattle.qs_journal.specs.declared.entry.Act.{Act}
 use Rattle.qs_journal.specs.declared.entry.Act.TheVariants as acts
 use Rattle.qs_laws.proofs.Acts as of
 use Rattle.qs_machine.specs.Book.{BookValue, find_transaction, inc_at, is_done}
-use Rattle.qs_machine.specs.Clauses.{has_no_record, note_text}
+use Rattle.qs_machine.specs.Clauses.{has_no_record}
 use Rattle.qs_machine.specs.Lawful.{effect}
 use Rattle.qs_machine.specs.Nodes as machine
-use Rattle.qs_machine.specs.Transaction.{TransactionValue, is_start, life, part_of, served_in, serving_part}
-use Rattle.qs_machine.specs.declared.transaction.Part.{Part}
+use Rattle.qs_machine.specs.Transaction.{TransactionValue, served_in}
 use Rattle.qs_machine.specs.declared.transaction.RequestNo.{RequestNo}
 use Rattle.qs_ops.specs.Members.{class_of, is_two_phase}
 use Rattle.qs_ops.specs.Server.{after_serving}
@@ -30,7 +25,6 @@ use Rattle.qs_step.specs.Serving.{change_served, enter_serve}
 use Rattle.qs_step.specs.State.{NodeValue, Work, change_server}
 use Rattle.qs_step.specs.declared.setting.Setting.{Setting}
 use Rattle.qs_tm.specs.Manager as tm
-use Rattle.qs_tm.specs.Members as rules
 use Rattle.qs_tm.specs.Members.{class_here, is_told_class}
 use Rattle.qs_tm.specs.Participant as participant
 use Rattle.qs_tm.specs.Participant.{member_of, with_member}
@@ -39,9 +33,8 @@ use Rattle.qs_tm.specs.declared.manager.Manager.{Manager}
 use Rattle.qs_tm.specs.declared.participant.Participant.{Participant}
 use Rattle.qs_world.specs.Posting.{entry_of}
 use Rattle.qs_lawful.specs.Amid.{InRun}
-use Rattle.qs_lawful.specs.Beside.{HoldsBeside, HoldsNotes, HoldsPart, HoldsReader, HoldsReads, IsTrueCause}
+use Rattle.qs_lawful.specs.Beside.{HoldsBeside, HoldsNotes, HoldsPart, HoldsReads, IsTrueCause}
 use Rattle.qs_lawful.specs.Entering.{book_at}
-use Rattle.qs_lawful.specs.Face.{at_server}
 use Rattle.qs_lawful.specs.Holds.{covers_at_most, is_kept}
 use Rattle.qs_lawful.specs.Logs.{Every}
 use Rattle.qs_lawful.proofs.BesideActs.{others_changed}
@@ -53,11 +46,6 @@ use Rattle.qs_lawful.proofs.BesidePlain.{MachineOn, machine_alike, plain_records
 use Rattle.qs_lawful.proofs.Faces.{part_apart, part_changed}
 use Rattle.qs_lawful.proofs.GivenServing.{notes_alike, notes_served, served_noted}
 use Rattle.qs_lawful.proofs.LogFrames.{every_on}
-use Rattle.qs_lawful.proofs.MemberTid.{lives_apart}
-use Rattle.qs_lawful.proofs.NotesServed.{served_issued}
-use Rattle.qs_lawful.proofs.Parts.{put_part_apart, with_other, with_own}
-use Rattle.qs_lawful.proofs.Served.{newly_served, one_more, part_served}
-use Rattle.qs_lawful.proofs.Truths.{clash, number_is}
 use Rattle.qs_lawful.proofs.BesideServe.{reads_now}
 
 module _ (stamp : ℕ) (before : BookValue) (run : InRun before) (work : Work) (server : ServerNo) (delivery : Delivery) (reply : Reply) (p : Participant) (known : tm.part_of delivery.tid work.node.manager ≡ Some p) (size : length p.members ≡ 7)
@@ -172,7 +160,7 @@ module _ (stamp : ℕ) (before : BookValue) (run : InRun before) (work : Work) (
           (λ home committed. committed_on delivery.tid (((h.at delivery.tid).ended tx (home ∙ ap (λ (s : Setting). s.node) setting_is) found).committed committed)))
 
   pub goes_served : Goes stamp before run work (enter_serve server delivery reply work)
-  goes_served = goes_entry stamp before run work (enter_serve server delivery reply work) act setting_is (ap (λ (es : List Act). es ++ act ∷ []) (left (λ w. w.out.entries) refl)) (left (λ w. w.out.messages) refl)
+  goes_served = goes_entry stamp before run work (enter_serve server delivery reply work) act setting_is (left (λ w. w.node.committed) refl) (ap (λ (es : List Act). es ++ act ∷ []) (left (λ w. w.out.entries) refl)) (left (λ w. w.out.messages) refl)
       (λ fine inv causes h. of h (find_transaction book delivery.tid) refl ((h.at delivery.tid).stands p known) causes)
     where
       of : (h : HoldsBeside book node) (o : Option TransactionValue) → find_transaction book delivery.tid ≡ o → is_some (find_transaction book delivery.tid) ≡ true → ((t : Tid) (cause : Cause) → IsTrueCause book t cause → IsTrueCause new t cause) → HoldsBeside new fresh

@@ -1,5 +1,5 @@
 -- Readiness, refusal and forgetting: what stands before each of these rules stands after it.
-use Rattle.std.proofs.Common.{◌≡◌, ◌⊎◌, inl, inr, ℕ, ◌==◌, ◌≤◌, Bool, true, false, List, [], ◌∷◌, Option, Some, None, refl, sym, ap, subst, ◌∙◌, arith, fold, if◌then◌else◌}
+use Rattle.std.proofs.Common.{◌≡◌, inr, ℕ, ◌==◌, ◌≤◌, Bool, true, false, List, [], ◌∷◌, Option, Some, None, refl, sym, ap, subst, ◌∙◌, arith, fold, if◌then◌else◌}
 use Rattle.std.proofs.lemmas.Bool.Decides.{nat_tests}
 use Rattle.std.proofs.lemmas.List.{append-nil}
 use Rattle.std.specs.Prelude.{◌&&◌, ◌++◌, not, is_none, is_some}
@@ -12,17 +12,17 @@ use Rattle.qs_engage.specs.Nodes.{is_no_node, listed, same_node}
 use Rattle.qs_kept.specs.declared.kept.Decided.{Decided}
 use Rattle.qs_machine.specs.Book.{BookValue, find_transaction}
 use Rattle.qs_machine.specs.Clauses.{note_text}
-use Rattle.qs_machine.specs.Transaction.{TransactionValue, is_commit, is_open, is_outcome, part_of as machine_part}
+use Rattle.qs_machine.specs.Transaction.{TransactionValue, is_open, is_outcome, part_of as machine_part}
 use Rattle.qs_machine.specs.declared.transaction.Cell.{Cell}
 use Rattle.qs_machine.specs.declared.transaction.Cell.TheVariants as cells
 use Rattle.qs_ops.specs.declared.answer.Cause.{Cause}
 use Rattle.qs_ops.specs.declared.answer.Cause.TheVariants as causes
 use Rattle.qs_packet.specs.declared.message.Message.TheVariants as messages
 use Rattle.qs_step.specs.Answering.{kept_outcome}
-use Rattle.qs_step.specs.Bringing.{is_other, send}
+use Rattle.qs_step.specs.Bringing.{is_other}
 use Rattle.qs_step.specs.Deciding.{decide, decide_commit}
 use Rattle.qs_step.specs.Settling.{answer_superior, forget_rule, is_quiet, may_answer, ready, ready_rule, refusal_goes_to, refuse_elsewhere, refuse_home, refuse_rule, say_yes, send_refusal}
-use Rattle.qs_step.specs.State.{NodeValue, Work, doings_of, here, part_of, with_manager}
+use Rattle.qs_step.specs.State.{Work, doings_of, here, part_of, with_manager}
 use Rattle.qs_step.specs.Telling.{forget}
 use Rattle.qs_tm.specs.Manager as tm
 use Rattle.qs_tm.specs.Members as rules
@@ -31,8 +31,8 @@ use Rattle.qs_tm.specs.Participant as participant
 use Rattle.qs_tm.specs.Participant.{is_forgotten, is_undecided, member_of, only_read}
 use Rattle.qs_tm.specs.declared.participant.Participant.{Participant}
 use Rattle.qs_lawful.specs.Amid.{InRun}
-use Rattle.qs_lawful.specs.Beside.{HoldsBeside, HoldsPart, HoldsReads, HoldsStranger, IsTrueCause, has_issued}
-use Rattle.qs_lawful.specs.Entering.{HoldsWork, book_at, entries_so_far}
+use Rattle.qs_lawful.specs.Beside.{HoldsBeside, HoldsReads, HoldsStranger, IsTrueCause, has_issued}
+use Rattle.qs_lawful.specs.Entering.{HoldsWork, book_at}
 use Rattle.qs_lawful.specs.Face.{at_server, face_of}
 use Rattle.qs_lawful.specs.Holds.{HasEnded, HoldsTid}
 use Rattle.qs_lawful.specs.Logs.{Every}
@@ -40,12 +40,10 @@ use Rattle.qs_lawful.specs.NodeFacts.{HasNodeFacts}
 use Rattle.qs_lawful.proofs.BesideDecide.{goes_decide}
 use Rattle.qs_lawful.proofs.BesideGoes.{Goes, goes_elim, goes_if, goes_part, goes_self, goes_send, goes_then}
 use Rattle.qs_lawful.proofs.BesideKnown.{goes_forget}
-use Rattle.qs_lawful.proofs.BesideParts.{PartOn}
 use Rattle.qs_lawful.proofs.BesideRequests.{engaged_on}
 use Rattle.qs_lawful.proofs.Clauses.{of_tid}
-use Rattle.qs_lawful.proofs.LearningAll.{stands}
 use Rattle.qs_lawful.proofs.ReadAlone.{all_read}
-use Rattle.qs_lawful.proofs.Truths.{clash, left_true, node_is, not_true, number_is, of_some, right_true}
+use Rattle.qs_lawful.proofs.Truths.{clash, left_true, node_is, not_true, number_is, right_true}
 
 -- what is decided is not open
 shut : (o : Outcome) (c : Cell) → is_outcome o c ≡ true → is_open c ≡ true → ⊥
@@ -76,8 +74,8 @@ module _ (stamp : ℕ) (before : BookValue) (run : InRun before) where
   On work new = Goes stamp before run work new
 
   -- where nothing is entered, what stands before may be used all along
-  pub goes_given : (work new : Work) → new.out.entries ≡ work.out.entries → new.node.setting ≡ work.node.setting → (HoldsBeside (book_at stamp before work) work.node → On work new) → On work new
-  goes_given work new entries setting body = record { more = []; entries = entries ∙ sym (append-nil work.out.entries); setting = setting; keeps = λ lawful h. (body h).keeps lawful h; sends = λ lawful h all. (body h).sends lawful h all }
+  pub goes_given : (work new : Work) → new.out.entries ≡ work.out.entries → new.node.setting ≡ work.node.setting → new.node.committed ≡ work.node.committed → (HoldsBeside (book_at stamp before work) work.node → On work new) → On work new
+  goes_given work new entries setting logged body = record { more = []; entries = entries ∙ sym (append-nil work.out.entries); setting = setting; logged = logged; keeps = λ lawful h. (body h).keeps lawful h; sends = λ lawful h all. (body h).sends lawful h all }
 
   -- ---- readiness
 
@@ -126,6 +124,14 @@ module _ (stamp : ℕ) (before : BookValue) (run : InRun before) where
         by true = refl
         by false = refl
 
+    logged_sent : (cs : List Cause) (w : Work) → (fold (send_refusal tid to) w cs).node.committed ≡ w.node.committed
+    logged_sent [] w = refl
+    logged_sent (c ∷ cs) w = logged_sent cs (send_refusal tid to w c) ∙ by (is_other w.node.setting to)
+      where
+        by : (b : Bool) → (if b then record w { out = record w.out { messages = w.out.messages ++ record { to = to; message = messages.VotedAbort tid c } ∷ [] } } else w).node.committed ≡ w.node.committed
+        by true = refl
+        by false = refl
+
     refuses : (cs : List Cause) (w : Work) → Every (IsTrueCause (book_at stamp before w) tid) cs → On w (fold (send_refusal tid to) w cs)
     refuses [] w all = goes_self stamp before run w
     refuses (c ∷ cs) w all = goes_then stamp before run w (send_refusal tid to w c) (fold (send_refusal tid to) (send_refusal tid to w c) cs) (goes_send stamp before run to (messages.VotedAbort tid c) w tt (λ h. all.0))
@@ -136,7 +142,7 @@ module _ (stamp : ℕ) (before : BookValue) (run : InRun before) where
         by false = all.1
 
   goes_elsewhere : (tid : Tid) (part : Participant) (work : Work) → part_of tid work ≡ Some part → part.outcome ≡ None → On work (refuse_elsewhere tid part work)
-  goes_elsewhere tid part work known none = goes_given work (refuse_elsewhere tid part work) (entries_sent tid (refusal_goes_to tid part) part.causes taken) (setting_sent tid (refusal_goes_to tid part) part.causes taken)
+  goes_elsewhere tid part work known none = goes_given work (refuse_elsewhere tid part work) (entries_sent tid (refusal_goes_to tid part) part.causes taken) (setting_sent tid (refusal_goes_to tid part) part.causes taken) (logged_sent tid (refusal_goes_to tid part) part.causes taken)
       (λ h. goes_then stamp before run work taken (refuse_elsewhere tid part work)
       (goes_part stamp before run tid participant.take_causes work (λ p at. record { notes = record { keeps = λ c is. is }; asked = refl; outcome = refl; causes = inr refl; members = refl; involved = λ is. is; home = refl; begun_at = refl; unended = λ is. is }))
       (refuses tid (refusal_goes_to tid part) part.causes taken (so h (find_transaction (book_at stamp before work) tid) refl ((h.at tid).stands part known))))

@@ -1,8 +1,7 @@
 -- An outcome that is told is taken in, told on and forgotten: what stands before these rules stands after them.
-use Rattle.std.proofs.Common.{◌≡◌, ◌⊎◌, inl, inr, ℕ, Bool, true, false, List, [], ◌∷◌, ◌++◌, Option, Some, None, refl, sym, ap, subst, ◌∙◌, if◌then◌else◌}
-use Rattle.std.proofs.lemmas.List.{append-nil}
+use Rattle.std.proofs.Common.{◌≡◌, inl, ℕ, Bool, true, false, List, [], ◌∷◌, ◌++◌, Option, Some, None, refl, sym, ap, subst, ◌∙◌, if◌then◌else◌}
 use Rattle.std.specs.List.{list_any}
-use Rattle.std.specs.Prelude.{◌&&◌, ◌||◌, not, is_none, is_some}
+use Rattle.std.specs.Prelude.{◌||◌, is_some}
 use Rattle.qs_base.specs.Order.{same_tid}
 use Rattle.qs_base.specs.declared.identifiers.NodeNo.{NodeNo}
 use Rattle.qs_base.specs.declared.identifiers.Outcome.{Outcome}
@@ -16,14 +15,12 @@ use Rattle.qs_machine.specs.Lawful.{book_after}
 use Rattle.qs_machine.specs.Transaction.{TransactionValue, cell_of, is_abort, is_commit, is_outcome}
 use Rattle.qs_machine.specs.declared.transaction.Cell.{Cell}
 use Rattle.qs_machine.specs.declared.transaction.Cell.TheVariants as cells
-use Rattle.qs_laws.proofs.Alikes.{tid_itself}
-use Rattle.qs_laws.proofs.Maps.{lookup_put}
 use Rattle.qs_packet.specs.declared.message.Message.{Message}
 use Rattle.qs_packet.specs.declared.message.Message.TheVariants as messages
 use Rattle.qs_record.specs.declared.record.Record.{Record}
 use Rattle.qs_record.specs.declared.record.Record.TheVariants as records
 use Rattle.qs_step.specs.Answering.{answer_known, answer_unknown, inquiry_at_home, inquiry_came, is_kept_commit, kept_outcome, was_committed}
-use Rattle.qs_step.specs.Bringing.{is_other, log, log_if, send, send_each, tid_of}
+use Rattle.qs_step.specs.Bringing.{is_other, log, log_if, send, tid_of}
 use Rattle.qs_step.specs.Deciding.{give_notices}
 use Rattle.qs_step.specs.State.{NodeValue, Work, here, part_of, with_manager}
 use Rattle.qs_step.specs.Telling.{end_record, end_told, forget, is_other_node, keep_abort_told, learn, learn_unknown, names_at, names_of, record_learnt, take_names, take_outcome, take_told, tell_came, told_at_home, told_came, told_known, told_unknown}
@@ -31,23 +28,21 @@ use Rattle.qs_tm.specs.Manager as tm
 use Rattle.qs_tm.specs.Outcomes as outcome_rules
 use Rattle.qs_tm.specs.Participant as participant
 use Rattle.qs_tm.specs.Participant.{is_undecided}
-use Rattle.qs_tm.specs.declared.manager.Manager.{Manager}
 use Rattle.qs_tm.specs.declared.participant.Participant.{Participant}
 use Rattle.qs_world.specs.Posting.{entries_of}
 use Rattle.qs_lawful.specs.Amid.{InRun, IsSent}
-use Rattle.qs_lawful.specs.Beside.{HoldsBeside, HoldsEnded, HoldsPart}
-use Rattle.qs_lawful.specs.Entering.{HoldsWork, book_at, entries_so_far}
+use Rattle.qs_lawful.specs.Beside.{HoldsBeside, HoldsEnded}
+use Rattle.qs_lawful.specs.Entering.{HoldsWork, book_at}
 use Rattle.qs_lawful.specs.Face.{face_of}
 use Rattle.qs_lawful.specs.Holds.{HasEnded, HoldsTid}
 use Rattle.qs_lawful.specs.Logged.{HasAborted, HasCommitted, HasOutcome}
-use Rattle.qs_lawful.specs.Logs.{Every}
 use Rattle.qs_lawful.specs.NodeFacts.{HasNodeFacts}
 use Rattle.qs_lawful.specs.Parcels.{GoesTo, IsSaid}
 use Rattle.qs_lawful.proofs.BesideDecide.{cell_is, outcome_said}
-use Rattle.qs_lawful.proofs.BesideGoes.{Goes, beside_alike, goes_elim, goes_if, goes_part, goes_self, goes_send, goes_sends, goes_still, goes_then, says_on}
+use Rattle.qs_lawful.proofs.BesideGoes.{Goes, goes_elim, goes_if, goes_part, goes_self, goes_send, goes_sends, goes_still, goes_then, says_on}
 use Rattle.qs_lawful.proofs.BesideKnown.{beside_custom, goes_custom, goes_forget, goes_keep}
 use Rattle.qs_lawful.proofs.BesideLearnt.{Ended, goes_notices, notices_still}
-use Rattle.qs_lawful.proofs.BesideParts.{PartOn, notes_on, part_ended}
+use Rattle.qs_lawful.proofs.BesideParts.{PartOn, part_ended}
 use Rattle.qs_lawful.proofs.Clauses.{of_tid}
 use Rattle.qs_lawful.proofs.FactsQuiet.{acknowledged_quiet}
 use Rattle.qs_lawful.proofs.FactsRules.{log_if_keeps, part_keeps}
@@ -91,6 +86,7 @@ module _ (stamp : ℕ) (before : BookValue) (run : InRun before) where
         more = g.more;
         entries = g.entries;
         setting = g.setting;
+        logged = g.logged;
         keeps = g.keeps;
         sends = λ lawful h all. every_append (IsSent (book_at stamp before mid) mid.node.setting) mid.out.messages (record { to = to; message = message } ∷ []) (g.sends lawful h all)
             (record { other = is; goes = goes; says = says_on stamp before run work mid g.more g.entries g.setting lawful message (says h) }, tt);
@@ -99,12 +95,15 @@ module _ (stamp : ℕ) (before : BookValue) (run : InRun before) where
   -- ---- a record of what is decided
 
   pub goes_logged : (work : Work) (tid : Tid) (o : Outcome) (rec : Record) → tid_of rec ≡ tid → Ended stamp before run tid o work → On work (log rec work)
-  goes_logged work tid o rec at e = goes_still stamp before run work (log rec work) refl refl refl
+  goes_logged work tid o rec at e = goes_still stamp before run work (log rec work) refl refl refl refl
       (λ h. subst (λ (t : Tid). HoldsBeside (book_at stamp before work) (record work.node { manager = tm.logged t rec work.node.manager })) (sym at)
       (beside_custom (book_at stamp before work) work.node (tm.logged tid rec work.node.manager) refl tid (λ t far. part_apart tid t (outcome_rules.logged rec) work.node.manager far) h (λ none. part_unknown tid (outcome_rules.logged rec) work.node.manager none)
-      (λ tx found p known w. (outcome_rules.logged rec p, part_changed tid (outcome_rules.logged rec) work.node.manager p known,
-          part_ended (book_at stamp before work) h.state (record work.node { manager = tm.logged tid rec work.node.manager }) tid tx (outcome_rules.logged rec p) o (decided p known) (w.outcome o (decided p known))
-          (record { issued = w.notes.issued; served = w.notes.served }) w.asked))))
+      (λ tx found p known w. (
+        outcome_rules.logged rec p,
+        part_changed tid (outcome_rules.logged rec) work.node.manager p known,
+        part_ended (book_at stamp before work) h.state (record work.node { manager = tm.logged tid rec work.node.manager }) tid tx (outcome_rules.logged rec p) o (decided p known) (w.outcome o (decided p known))
+            (record { issued = w.notes.issued; served = w.notes.served }) w.asked,
+      ))))
     where
       decided : (p : Participant) → tm.part_of tid work.node.manager ≡ Some p → p.outcome ≡ Some o
       decided p known = ap (λ (x : Participant). x.outcome) (of_some (sym known ∙ e.known)) ∙ e.decided
@@ -114,9 +113,12 @@ module _ (stamp : ℕ) (before : BookValue) (run : InRun before) where
   goes_took : (work : Work) (tid : Tid) (outcome : Outcome) → HasOutcome (book_at stamp before work) tid outcome → On work (with_manager (tm.took_outcome tid outcome) work)
   goes_took work tid outcome has = goes_custom stamp before run work tid (tm.took_outcome tid outcome work.node.manager) refl (λ t far. part_apart tid t (outcome_rules.took_outcome outcome) work.node.manager far)
       (λ none. part_unknown tid (outcome_rules.took_outcome outcome) work.node.manager none)
-      (λ h tx found p known w. (outcome_rules.took_outcome outcome p, part_changed tid (outcome_rules.took_outcome outcome) work.node.manager p known,
-          part_ended (book_at stamp before work) h.state (record work.node { manager = tm.took_outcome tid outcome work.node.manager }) tid tx (outcome_rules.took_outcome outcome p) outcome refl (has_cell (book_at stamp before work) tid outcome tx has found)
-          (record { issued = w.notes.issued; served = w.notes.served }) w.asked))
+      (λ h tx found p known w. (
+        outcome_rules.took_outcome outcome p,
+        part_changed tid (outcome_rules.took_outcome outcome) work.node.manager p known,
+        part_ended (book_at stamp before work) h.state (record work.node { manager = tm.took_outcome tid outcome work.node.manager }) tid tx (outcome_rules.took_outcome outcome p) outcome refl (has_cell (book_at stamp before work) tid outcome tx has found)
+            (record { issued = w.notes.issued; served = w.notes.served }) w.asked,
+      ))
 
   pub goes_ends_record : (work : Work) (tid : Tid) (outcome : Outcome) (part : Participant) → Ended stamp before run tid outcome work → On work (log_if (record_learnt tid outcome part) work)
   goes_ends_record work tid outcome part e = by part.log.prepared
@@ -214,9 +216,11 @@ module _ (stamp : ℕ) (before : BookValue) (run : InRun before) where
         by true = goes_then stamp before run acked ended (forget tid ended)
             (goes_logged acked tid outcomes.Commit (records.End tid) refl (record { part = outcome_rules.acknowledged peer part; known = known_acked; decided = decided }))
             (goes_forget stamp before run ended tid facts_ended.rising
-            (λ h tx found. ((λ open_still. absurd (clash (sym open_still ∙ committed h tx found))),
-                (λ home. let e : HoldsEnded ended.node tid tx = (h.at tid).ended tx home found in
-                record { committed = e.committed; unknown = λ none un. absurd (clash (sym un ∙ e.committed (committed h tx found))) }))))
+            (λ h tx found. (
+              (λ open_still. absurd (clash (sym open_still ∙ committed h tx found))),
+              (λ home. let e : HoldsEnded ended.node tid tx = (h.at tid).ended tx home found in
+                  record { committed = e.committed; unknown = λ none un. absurd (clash (sym un ∙ e.committed (committed h tx found))) }),
+            )))
 
     pub goes_told : (peer : NodeNo) (tid : Tid) (further : List NodeNo) → HasNodeFacts work.node → (list_any (is_other_node tid) further ≡ true → HasAborted (book_at stamp before work) tid) → HoldsBeside (book_at stamp before work) work.node → On work (told_came peer tid further work)
     goes_told peer tid further facts says h = goes_if stamp before run (same_node tid.home (here work)) work (told_at_home peer tid further work) work

@@ -1,20 +1,18 @@
 -- A server votes: what is read of its transaction stands on.
-use Rattle.std.proofs.Common.{◌≡◌, ◌≢◌, ◌⊎◌, inl, inr, ℕ, ◌≤◌, ◌+◌, ◌==◌, ◌<◌, ◌^◌, Bool, true, false, List, [], ◌∷◌, ◌++◌, Option, Some, None, Less, Equal, Greater, refl, sym, ap, subst, ◌∙◌, arith, length, nat_cmp}
+use Rattle.std.proofs.Common.{◌≡◌, ◌≢◌, ℕ, ◌≤◌, ◌+◌, ◌==◌, Bool, true, false, List, [], ◌∷◌, Option, Some, None, Less, Equal, Greater, refl, sym, ap, subst, ◌∙◌, arith, length, nat_cmp}
 use Rattle.std.proofs.lemmas.Bool.Decides.{nat_tests}
 use Rattle.std.proofs.lemmas.Map.Lookups.{exact_pairs, exact_unsigned}
 use Rattle.std.specs.BTreeMap.{is_at}
 use Rattle.std.specs.BTreeSet.{insert_key}
 use Rattle.std.specs.List.{list_any}
 use Rattle.std.specs.Map.{lookup}
-use Rattle.std.specs.Prelude.{◌&&◌, ◌||◌, not, is_none, unwrap_or}
+use Rattle.std.specs.Prelude.{◌&&◌, ◌||◌, not, unwrap_or}
 use Rattle.std.specs.declared.cmp.Ordering.{Ordering}
 use Rattle.qs_base.proofs.Same.{same_member-self}
-use Rattle.qs_base.specs.Order.{same_member}
 use Rattle.qs_base.specs.declared.identifiers.NodeNo.{NodeNo}
 use Rattle.qs_base.specs.declared.identifiers.ServerNo.{ServerNo}
 use Rattle.qs_base.specs.declared.identifiers.Tid.{Tid}
 use Rattle.qs_laws.proofs.Maps.{changed_none, lookup_changed}
-use Rattle.qs_machine.specs.Clauses.{note_text}
 use Rattle.qs_machine.specs.Transaction.{TransactionValue, changed_value, is_covering, is_start, life, life_cmp, no_part, part_of, start_cmp, starts_after, voted, voted_part}
 use Rattle.qs_machine.specs.declared.transaction.Life.{Life}
 use Rattle.qs_machine.specs.declared.transaction.Part.{Part}
@@ -35,7 +33,7 @@ use Rattle.qs_lawful.proofs.Keys.{life_exact}
 use Rattle.qs_lawful.proofs.MemberRule.{parts_alike}
 use Rattle.qs_lawful.proofs.MemberTid.{lives_apart}
 use Rattle.qs_lawful.proofs.Parts.{changed_part_apart, with_other, with_own}
-use Rattle.qs_lawful.proofs.Truths.{clash, number_is}
+use Rattle.qs_lawful.proofs.Truths.{number_is}
 
 -- ---- a start that was put
 

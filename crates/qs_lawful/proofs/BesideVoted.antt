@@ -1,12 +1,10 @@
 -- A server votes, as an entry: what the machine has beside the node stands on; a Prepare goes with its vote.
-use Rattle.std.proofs.Common.{◌≡◌, ◌⊎◌, inl, inr, ℕ, ◌<◌, ◌^◌, ◌==◌, Bool, true, false, List, [], ◌∷◌, ◌++◌, Option, Some, None, refl, sym, ap, subst, ◌∙◌, length}
+use Rattle.std.proofs.Common.{◌≡◌, ◌⊎◌, inl, inr, ℕ, ◌<◌, ◌^◌, Bool, true, false, [], ◌∷◌, ◌++◌, Option, Some, None, refl, sym, ap, subst, ◌∙◌, length}
 use Rattle.std.proofs.lemmas.List.Folds.{list_any-append}
 use Rattle.std.specs.BTreeMap.{is_at}
 use Rattle.std.specs.List.{list_any}
-use Rattle.std.specs.Map.{lookup}
-use Rattle.std.specs.Prelude.{◌&&◌, ◌||◌, is_none, is_some, slice_get}
+use Rattle.std.specs.Prelude.{◌&&◌, ◌||◌, is_some}
 use Rattle.qs_base.proofs.Same.{same_member-self}
-use Rattle.qs_base.specs.declared.identifiers.Member.{Member}
 use Rattle.qs_base.specs.declared.identifiers.NodeNo.{NodeNo}
 use Rattle.qs_base.specs.declared.identifiers.ServerNo.{ServerNo}
 use Rattle.qs_base.specs.declared.identifiers.Tid.{Tid}
@@ -22,11 +20,9 @@ use Rattle.qs_machine.specs.Nodes as machine
 use Rattle.qs_machine.specs.Transaction.{TransactionValue, has_refusal, is_refusal, part_of, voted}
 use Rattle.qs_machine.specs.declared.state.OnRecord.{OnRecord}
 use Rattle.qs_machine.specs.declared.state.Voter.{Voter}
-use Rattle.qs_machine.specs.declared.transaction.Refusal.{Refusal}
 use Rattle.qs_ops.specs.Members.{class_of, is_two_phase}
 use Rattle.qs_ops.specs.Servers.{audit_no, extra_no, files_no}
 use Rattle.qs_ops.specs.declared.answer.Cause.{Cause}
-use Rattle.qs_ops.specs.declared.answer.Cause.TheVariants as causes
 use Rattle.qs_ops.specs.declared.vote.Vote.{Vote}
 use Rattle.qs_ops.specs.declared.vote.Vote.TheVariants as votes
 use Rattle.qs_step.specs.Bringing.{member_here}
@@ -35,7 +31,6 @@ use Rattle.qs_tm.specs.Manager as tm
 use Rattle.qs_tm.specs.Members as rules
 use Rattle.qs_tm.specs.Participant as participant
 use Rattle.qs_tm.specs.Participant.{causes_of, member_of}
-use Rattle.qs_tm.specs.declared.manager.Manager.{Manager}
 use Rattle.qs_tm.specs.declared.participant.InLog.{InLog}
 use Rattle.qs_tm.specs.declared.participant.Participant.{Participant}
 use Rattle.qs_world.specs.Posting.{entry_of}
@@ -47,10 +42,10 @@ use Rattle.qs_lawful.specs.Holds.{is_kept}
 use Rattle.qs_lawful.specs.Logged.{is_plain}
 use Rattle.qs_lawful.specs.Logs.{Every}
 use Rattle.qs_lawful.proofs.Apart.{Apart}
-use Rattle.qs_lawful.proofs.BesideActs.{others_changed, records_same}
+use Rattle.qs_lawful.proofs.BesideActs.{others_changed}
 use Rattle.qs_lawful.proofs.BesideGoes.{Goes, alike_committed, goes_entry}
 use Rattle.qs_lawful.proofs.BesideOwn.{beside_one, found_changed, own_known}
-use Rattle.qs_lawful.proofs.BesideParts.{CommittedOn, notes_on, notes_self, with_setting}
+use Rattle.qs_lawful.proofs.BesideParts.{CommittedOn, notes_on, with_setting}
 use Rattle.qs_lawful.proofs.BesidePlain.{MachineOn, machine_alike, plain_records}
 use Rattle.qs_lawful.proofs.BesideVote.{reads_voted}
 use Rattle.qs_lawful.proofs.LogFrames.{every_on}
@@ -206,7 +201,7 @@ module _ (stamp : ℕ) (before : BookValue) (run : InRun before) (work new_work 
           (λ home committed. committed_on tid (((h.at tid).ended tx (home ∙ ap (λ s. s.node) setting_is) found).committed committed)))
 
   pub goes_voted : Goes stamp before run work new_work
-  goes_voted = goes_entry stamp before run work new_work act setting_is grows sendings (λ fine inv causes_on h. of h (find_transaction book tid) refl ((h.at tid).stands p known) causes_on)
+  goes_voted = goes_entry stamp before run work new_work act setting_is committed_are grows sendings (λ fine inv causes_on h. of h (find_transaction book tid) refl ((h.at tid).stands p known) causes_on)
     where
       of : (h : HoldsBeside book node) (o : Option TransactionValue) → find_transaction book tid ≡ o → is_some (find_transaction book tid) ≡ true → ((t : Tid) (cause : Cause) → IsTrueCause book t cause → IsTrueCause new t cause) → HoldsBeside new fresh
       of h None is there causes_on = absurd (no (sym (ap is_some is) ∙ there))

@@ -1,7 +1,13 @@
 -- What the machine has beside the node goes on through each rule, so that a whole step is given what it needs of it, and keeps it.
-use Rattle.std.proofs.Common.{◌≡◌, ℕ, List, [], ◌∷◌, refl, subst, fold}
+use Rattle.std.proofs.Common.{◌≡◌, ℕ, List, [], ◌∷◌, refl, ap, sym, subst, ◌∙◌, fold}
+use Rattle.std.specs.List.{list_any}
+use Rattle.qs_base.specs.Order.{same_tid}
+use Rattle.qs_base.specs.declared.identifiers.Outcome.TheVariants as outcomes
 use Rattle.qs_base.specs.declared.identifiers.Tid.{Tid}
+use Rattle.qs_journal.specs.declared.entry.Entry.{Entry}
 use Rattle.qs_machine.specs.Book.{BookValue}
+use Rattle.qs_machine.specs.Lawful.{IsLawful, book_after}
+use Rattle.qs_packet.specs.declared.message.Message.TheVariants as messages
 use Rattle.qs_step.specs.Serving.{serve_next}
 use Rattle.qs_step.specs.Settling.{due_tids, forget_rule, pass_rule, ready_rule, refuse_rule, settle, settle_tid, try}
 use Rattle.qs_step.specs.State.{NodeValue, Work, work_on}
@@ -11,9 +17,9 @@ use Rattle.qs_step.specs.declared.event.Event.TheVariants as events
 use Rattle.qs_lawful.specs.Agreed.{AgreementGives}
 use Rattle.qs_lawful.specs.Amid.{AreSent, InRun}
 use Rattle.qs_lawful.specs.Beside.{HoldsBeside}
-use Rattle.qs_lawful.specs.BesideStep.{HappensSo, HasCountRoom}
+use Rattle.qs_lawful.specs.BesideStep.{AreCommitted, HappensSo, HasCountRoom}
 use Rattle.qs_lawful.specs.Coming.{ComesTo}
-use Rattle.qs_lawful.specs.Entering.{HoldsWork, book_at}
+use Rattle.qs_lawful.specs.Entering.{HoldsWork, book_at, entries_so_far}
 use Rattle.qs_lawful.specs.Given.{AtEach}
 use Rattle.qs_lawful.specs.GivenStep.{MayAge, MayStep, done_work, first_work, tick_work}
 use Rattle.qs_lawful.specs.Standing.{HoldsHomes, KeepsStanding, Stands}
@@ -21,19 +27,25 @@ use Rattle.qs_lawful.specs.StandingOn.{BesideOn, KeepsBeside, StandsBeside, Step
 use Rattle.qs_lawful.specs.StepOn.{KeepsSound, SoundOn, StepOn}
 use Rattle.qs_lawful.specs.StepStands.{StepStands}
 use Rattle.qs_lawful.proofs.BesideCommands.{goes_wait}
-use Rattle.qs_lawful.proofs.BesideGoes.{Goes, beside_alike, goes_fold, goes_self, goes_then, goes_where}
+use Rattle.qs_lawful.proofs.BesideGoes.{Goes, beside_alike, goes_fold, goes_self, goes_then, goes_where, said_on}
 use Rattle.qs_lawful.proofs.BesideHappens.{goes_happens}
 use Rattle.qs_lawful.proofs.BesidePass.{goes_pass_rule}
 use Rattle.qs_lawful.proofs.BesideRequests.{goes_next}
 use Rattle.qs_lawful.proofs.BesideRestarts.{goes_incarnation}
 use Rattle.qs_lawful.proofs.BesideSettle.{goes_forgets, goes_ready, goes_refuse, unkept}
 use Rattle.qs_lawful.proofs.CommandCame.{by_answer_waiting}
+use Rattle.qs_lawful.proofs.ComesFirst.{comes_first, fits_so}
 use Rattle.qs_lawful.proofs.FactsTold.{begin_incarnation_keeps}
 use Rattle.qs_lawful.proofs.GivenSettling.{may_pass}
 use Rattle.qs_lawful.proofs.GivenStages.{s_passed, s_refused, s_settled}
 use Rattle.qs_lawful.proofs.GivenWhole.{done, given_so, settled}
 use Rattle.qs_lawful.proofs.OldEnough.{may_age}
 use Rattle.qs_lawful.proofs.StandsOn.{beside_gives, keeps_standing, step_stands}
+use Rattle.qs_lawful.proofs.WholeStep.{first_held}
+
+-- what a log said of commits is so for good
+pub logged_still : (before : BookValue) → InRun before → (more : List Entry) → IsLawful before more → (node fresh : NodeValue) → fresh.committed ≡ node.committed → AreCommitted before node → AreCommitted (book_after before more) fresh
+logged_still before run more lawful node fresh same logged tid is = said_on before run [] more tt lawful (messages.Tell tid outcomes.Commit) (logged tid (ap (λ (ts : List Tid). list_any (same_tid tid) ts) (sym same) ∙ is))
 
 module _ (stamp : ℕ) (before : BookValue) (run : InRun before) (size : ℕ) (nodes : ℕ → NodeValue) (n : ℕ) where
   abbrev On : Work → Work → Type 0
@@ -81,29 +93,40 @@ module _ (stamp : ℕ) (before : BookValue) (run : InRun before) (size : ℕ) (n
 
 -- the whole step
 module _ (stamp : ℕ) (before : BookValue) (size : ℕ) (nodes : ℕ → NodeValue) (n : ℕ) (node : NodeValue) (event : Event) (free : ℕ) (s : StepOn stamp before size nodes n node event free) where
+  held_first : HoldsWork stamp before (first_work node free)
+  held_first = first_held stamp before node free s.holds
+
+  -- what comes
+  comes_here : ComesTo (book_at stamp before (first_work node free)) event (first_work node free)
+  comes_here = comes_first stamp before s.in_run node free held_first event s.comes s.room
+
   goes_first : Goes stamp before s.in_run (work_on node free) (first_work node free)
   goes_first = goes_incarnation stamp before s.in_run (work_on node free)
 
   first_beside : StandsBeside stamp before (first_work node free)
-  first_beside = record { sound = s.sound; beside = goes_first.keeps s.held.lawful s.beside }
+  first_beside = record { sound = s.sound; beside = goes_first.keeps held_first.lawful s.beside }
+
+  -- the Commits that the log had are the machine's for good
+  logged_first : AreCommitted (book_at stamp before (first_work node free)) (first_work node free).node
+  logged_first = logged_still before s.in_run (entries_so_far stamp (first_work node free)) held_first.lawful node (first_work node free).node goes_first.logged s.logged
 
   -- what is old enough the machine finds that old
   ages_so : event ≡ events.Tick → MayAge stamp before (first_work node free).node.setting.age (tick_work (first_work node free))
-  ages_so is = may_age stamp before s.in_run (first_work node free) s.held first_beside.beside (begin_incarnation_keeps (work_on node free) s.facts)
-      (subst (λ (e : Event). ComesTo (book_at stamp before (first_work node free)) e (first_work node free)) is s.comes) (subst (λ (e : Event). HappensSo stamp before e (first_work node free)) is s.so)
+  ages_so is = may_age stamp before s.in_run (first_work node free) held_first first_beside.beside (begin_incarnation_keeps (work_on node free) s.facts)
+      (subst (λ (e : Event). ComesTo (book_at stamp before (first_work node free)) e (first_work node free)) is comes_here) (subst (λ (e : Event). HappensSo stamp before e (first_work node free)) is s.so)
 
   pub step_beside : StepBeside stamp before size nodes n node event free
   step_beside = record {
     at = s.at;
     run = s.run;
     facts = s.facts;
-    fits = s.fits;
+    fits = fits_so before node free event s.comes;
     homes = s.homes;
-    held = s.held;
+    held = held_first;
     first = first_beside;
     rules = keeps_beside stamp before s.in_run size nodes n s.sounds;
-    happens = λ comes here held. on_by stamp before s.in_run size nodes n (first_work node free) (happen event (first_work node free)) (goes_happens stamp before s.in_run size nodes n s.homes s.sounds event (first_work node free) here comes s.agreed.comes s.so) s.happens_sound here held;
-    comes = s.comes;
+    happens = λ comes here held. on_by stamp before s.in_run size nodes n (first_work node free) (happen event (first_work node free)) (goes_happens stamp before s.in_run size nodes n s.homes s.sounds event (first_work node free) here comes s.agreed.comes s.so logged_first) s.happens_sound here held;
+    comes = comes_here;
     ages = ages_so;
     agreed = s.agreed;
     rooms = s.rooms;
@@ -122,7 +145,7 @@ module _ (stamp : ℕ) (before : BookValue) (size : ℕ) (nodes : ℕ → NodeVa
       let done_at : Work = done_work node event free in
       let settled_at : Work = settle done_at in
       goes_then stamp before s.in_run (work_on node free) started (step_work node event free) goes_first
-      (goes_then stamp before s.in_run started done_at (step_work node event free) (goes_happens stamp before s.in_run size nodes n s.homes s.sounds event started stands.first s.comes s.agreed.comes s.so)
+      (goes_then stamp before s.in_run started done_at (step_work node event free) (goes_happens stamp before s.in_run size nodes n s.homes s.sounds event started stands.first comes_here s.agreed.comes s.so logged_first)
       (goes_then stamp before s.in_run done_at settled_at (step_work node event free)
       (goes_settles stamp before s.in_run size nodes n s.homes s.sounds (due_tids done_at) done_at (done stamp before size nodes n node event free stands) (given_so stamp before size nodes n node event free stands))
       (goes_fold stamp before s.in_run wait_on (goes_wait stamp before s.in_run) (waiting_clients settled_at) settled_at)))
@@ -136,3 +159,6 @@ module _ (stamp : ℕ) (before : BookValue) (size : ℕ) (nodes : ℕ → NodeVa
 
   pub sent_so : AreSent stamp before (step_work node event free)
   sent_so = goes_step.sends held_after.lawful s.beside tt
+
+  pub logged_after : AreCommitted (book_at stamp before (step_work node event free)) (after_step node event free)
+  logged_after = logged_still before s.in_run (entries_so_far stamp (step_work node event free)) held_after.lawful node (after_step node event free) goes_step.logged s.logged

@@ -1,9 +1,8 @@
 -- A home that aborts leaves all other transactions, its clock, and the machine's ticks.
-use Rattle.std.proofs.Common.{◌≡◌, ℕ, ◌==◌, Bool, true, false, List, [], ◌∷◌, ◌++◌, Option, Some, None, refl, ap, sym, ◌∙◌, fold}
+use Rattle.std.proofs.Common.{◌≡◌, ℕ, ◌==◌, List, [], ◌∷◌, ◌++◌, Option, Some, None, refl, ap, ◌∙◌, fold}
 use Rattle.std.specs.Option.{option_map}
 use Rattle.std.specs.Prelude.{slice_get}
 use Rattle.qs_base.specs.declared.identifiers.NodeNo.{NodeNo}
-use Rattle.qs_base.specs.declared.identifiers.Outcome.{Outcome}
 use Rattle.qs_base.specs.declared.identifiers.Outcome.TheVariants as outcomes
 use Rattle.qs_base.specs.declared.identifiers.ServerNo.{ServerNo}
 use Rattle.qs_base.specs.declared.identifiers.Tid.{Tid}
@@ -16,11 +15,10 @@ use Rattle.qs_machine.specs.Lawful.{book_after, effect_act}
 use Rattle.qs_machine.specs.Nodes as machine
 use Rattle.qs_ops.specs.Table.{TableValue, released}
 use Rattle.qs_ops.specs.declared.answer.Cause.{Cause}
-use Rattle.qs_packet.specs.declared.message.Message.{Message}
 use Rattle.qs_packet.specs.declared.message.Message.TheVariants as messages
 use Rattle.qs_record.specs.declared.record.Record.{Record}
-use Rattle.qs_step.specs.Bringing.{enter, log_if, member_here, send_each}
-use Rattle.qs_step.specs.Deciding.{decide, due_endings, end_member, end_members, give_notices, keep_outcome, learn_member, learn_members, learners_at}
+use Rattle.qs_step.specs.Bringing.{enter, log_if, member_here}
+use Rattle.qs_step.specs.Deciding.{decide, due_endings, end_member, end_members, give_notices, keep_outcome, learn_member, learners_at}
 use Rattle.qs_step.specs.State.{Work, here, with_manager}
 use Rattle.qs_step.specs.declared.setting.Setting.{Setting}
 use Rattle.qs_tm.specs.Manager as tm
@@ -79,7 +77,7 @@ module _ (stamp : ℕ) (before : BookValue) (tid : Tid) where
   else_fold f each [] work = else_self work
   else_fold f each (x ∷ xs) work = else_then work (f work x) (fold f (f work x) xs) (each work x) (else_fold f each xs (f work x))
 
-  same_book : (work new : Work) → new.node.setting ≡ work.node.setting → new.out.entries ≡ work.out.entries → book_at stamp before new ≡ book_at stamp before work
+  pub same_book : (work new : Work) → new.node.setting ≡ work.node.setting → new.out.entries ≡ work.out.entries → book_at stamp before new ≡ book_at stamp before work
   same_book work new setting entries = ap (book_after before) (ap (λ (s : Setting). entries_of s.node.0 stamp new.out.entries) setting ∙ ap (λ (es : List Act). entries_of (here work).0 stamp es) entries)
 
   -- what enters nothing

@@ -276,3 +276,6 @@ pub mod BesideSent
 pub mod LeftElse
 pub mod AgedTids
 pub mod OldEnough
+pub mod FirstComes
+pub mod ComesFirst
+pub mod StepKept

@@ -34,7 +34,6 @@ full zero n acc h = none (length acc)
     none m = grind arith
 full (suc k) n acc h = by (n / 10 == 0) refl (full k (n / 10) (digit_glyph false (n % 10) ∷ acc) (rest k n h))
   where
-
     no : (a b : ℕ) → 1 ≤ a → a ≤ b → (b == 0) ≡ true → ⊥
     no a b p q e = grind (arith, nat_tests, p, q, e)
 

@@ -1,17 +1,16 @@
 -- What is old enough as a tick comes, the machine finds that old, at each stage of the fold: where all was young before it.
-use Rattle.std.proofs.Common.{◌≡◌, ◌≤◌, ◌<◌, ◌^◌, ◌+◌, ◌-◌, ◌==◌, ℕ, Bool, true, false, List, [], ◌∷◌, Option, Some, None, refl, ap, sym, subst, ◌∙◌, arith, min, nat_lt, nat_le}
+use Rattle.std.proofs.Common.{◌≡◌, ◌≤◌, ◌<◌, ◌^◌, ◌+◌, ◌-◌, ◌==◌, ℕ, true, List, [], ◌∷◌, Option, Some, None, refl, ap, sym, subst, ◌∙◌, arith, min, nat_lt, nat_le}
 use Rattle.std.proofs.lemmas.Bool.Decides.{nat_tests}
 use Rattle.std.specs.Option.{option_map}
-use Rattle.std.specs.Prelude.{◌&&◌, is_none, slice_get}
+use Rattle.std.specs.Prelude.{◌&&◌, is_none}
 use Rattle.qs_base.specs.declared.identifiers.Outcome.{Outcome}
 use Rattle.qs_base.specs.declared.identifiers.Tid.{Tid}
 use Rattle.qs_journal.specs.declared.entry.Act.TheVariants as acts
 use Rattle.qs_laws.proofs.Maps.{changed_at_here}
-use Rattle.qs_machine.specs.Book.{BookValue, find_transaction, tick_node}
+use Rattle.qs_machine.specs.Book.{BookValue, tick_node}
 use Rattle.qs_machine.specs.Nodes as machine
-use Rattle.qs_machine.specs.Transaction.{TransactionValue}
 use Rattle.qs_ops.specs.declared.answer.Cause.TheVariants as causes
-use Rattle.qs_step.specs.State.{NodeValue, Work}
+use Rattle.qs_step.specs.State.{Work}
 use Rattle.qs_step.specs.Step.{abort_old}
 use Rattle.qs_step.specs.declared.setting.Setting.{Setting}
 use Rattle.qs_tm.specs.Manager as tm
@@ -100,8 +99,10 @@ module _ (stamp : ℕ) (before : BookValue) (run : InRun before) (age time : ℕ
 
   may_all : (tids : List Tid) (work : Work) → StandsAged work → Every (IsAged age time work.node.manager) tids → AllApart tids → AtEach (MayAbortOld age stamp before) (abort_old age) work tids
   may_all [] work s olds far = tt
-  may_all (tid ∷ tids) work s olds far = (may_one work tid s olds.0,
-    may_all tids (abort_old age work tid) (next work tid s olds.0) (every_moved work.node.manager (abort_old age work tid).node.manager (Apart tid) (left work tid s olds.0).others tids far.0 olds.1) far.1)
+  may_all (tid ∷ tids) work s olds far = (
+    may_one work tid s olds.0,
+    may_all tids (abort_old age work tid) (next work tid s olds.0) (every_moved work.node.manager (abort_old age work tid).node.manager (Apart tid) (left work tid s olds.0).others tids far.0 olds.1) far.1,
+  )
 
 -- ---- as time goes on
 

@@ -1,5 +1,5 @@
 -- Of what a node forgets the machine has nothing due: it only read, sent nothing, and issued no note.
-use Rattle.std.proofs.Common.{◌≡◌, ◌≢◌, ℕ, ◌==◌, ◌≤◌, Bool, true, false, Option, Some, None, refl, sym, ap, subst, ◌∙◌, arith, nat_lt}
+use Rattle.std.proofs.Common.{◌≡◌, ℕ, ◌==◌, ◌≤◌, Bool, true, false, Option, Some, None, refl, sym, ap, subst, ◌∙◌, arith, nat_lt}
 use Rattle.std.proofs.lemmas.Bool.Decides.{nat_tests}
 use Rattle.std.specs.Prelude.{not, ◌&&◌, ◌||◌, is_none, if◌then◌else◌}
 use Rattle.qs_base.specs.declared.identifiers.Class.{Class}
@@ -13,7 +13,7 @@ use Rattle.qs_machine.specs.Book.{BookValue, find_transaction}
 use Rattle.qs_machine.specs.Clauses.{note_text}
 use Rattle.qs_machine.specs.Transaction.{TransactionValue, has_note, is_let_go, may_learn_still, part_of}
 use Rattle.qs_machine.specs.declared.transaction.Part.{Part}
-use Rattle.qs_ops.specs.Members.{class_of, is_two_phase}
+use Rattle.qs_ops.specs.Members.{class_of}
 use Rattle.qs_step.specs.State.{NodeValue, Work}
 use Rattle.qs_tm.specs.Manager as tm
 use Rattle.qs_tm.specs.Members as rules

@@ -39,5 +39,6 @@ pub record GoesOn (stamp : ℕ) (before : BookValue) (work new : Work) : Type 0 
   pub more : List Act
   pub entries : new.out.entries ≡ work.out.entries ++ more
   pub setting : new.node.setting ≡ work.node.setting
+  pub logged : new.node.committed ≡ work.node.committed
   pub keeps : IsLawful before (entries_so_far stamp new) → HoldsBeside (book_at stamp before work) work.node → HoldsBeside (book_at stamp before new) new.node
   pub sends : IsLawful before (entries_so_far stamp new) → HoldsBeside (book_at stamp before work) work.node → AreSent stamp before work → AreSent stamp before new

@@ -43,4 +43,4 @@ pub record PassesSo (stamp : ℕ) (before : BookValue) (work : Work) (tid : Tid)
 abbrev pub HappensSo : ℕ → BookValue → Event → Work → Type 0
 HappensSo stamp before (events.PeerRestarted peer old new) work = AtEach (IsGone stamp before peer old) (notice_tid peer old new) (with_queues (ipc.mark_queues peer) work) (tm.concerned peer work.node.manager)
 HappensSo stamp before events.Tick work = work.node.manager.ticks + 1 < 2 ^ 62
-HappensSo stamp before event work = AreCommitted (book_at stamp before work) work.node
+HappensSo stamp before event work = ⊤

@@ -45,3 +45,4 @@ pub mod WorldGives
 pub mod Amid
 pub mod BesideStep
 pub mod StepOn
+pub mod StepKeeps

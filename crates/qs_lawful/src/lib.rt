@@ -18,8 +18,8 @@ mod tried;
 mod tried_worlds;
 
 pub use lawful_beside::rules_keep_what_is_beside;
-pub use lawful_beside::step_keeps_what_is_beside;
-pub use lawful_beside::what_is_sent_is_so;
+pub use lawful_beside::whole_step_is_given;
+pub use lawful_beside::whole_step_is_kept;
 pub use lawful_commands::borrowers_request_is_lawful;
 pub use lawful_commands::coming_abort_is_lawful;
 pub use lawful_commands::coming_begin_is_lawful;
