@@ -35,6 +35,7 @@ use Rattle.qs_lawful.specs.Logged.{IsNamed}
 use Rattle.qs_lawful.proofs.AnyRestart.{restart_shuts}
 use Rattle.qs_lawful.proofs.Apart.{Apart, same_or_apart}
 use Rattle.qs_lawful.proofs.EntryTurns.{Actor, Begins, Turning, actor, by_entry}
+use Rattle.qs_lawful.proofs.LastsNodes.{Was, inv, node_was, to_come}
 use Rattle.qs_lawful.proofs.LastsWell.{IssuedBefore, LastsWell, lasts_of}
 use Rattle.qs_lawful.proofs.PastStops.{act_stopped}
 use Rattle.qs_lawful.proofs.TurnedRequests.{fits_on, once_on}
@@ -44,83 +45,12 @@ use Rattle.qs_lawful.proofs.Turning.{IsFar, Issues, Leaves, Serves, Turns, some_
 uncrossed : (tx : TransactionValue) → is_unanimous tx ≡ true → is_empty tx.crossed ≡ true
 uncrossed tx is = right_of (is_empty tx.refusals) (is_empty tx.crossed) (right_of (list_all agrees tx.parts) (is_empty tx.refusals && is_empty tx.crossed) (right_of (is_some tx.asked && all_served tx) (list_all agrees tx.parts && (is_empty tx.refusals && is_empty tx.crossed)) is))
 
--- ---- a node before the entry
-
-some_at : {A : Type 0} (xs ys : List A) → length xs ≡ length ys → (n : ℕ) (x : A) → slice_get xs n ≡ Some x → (y : A) × (slice_get ys n ≡ Some y)
-some_at [] ys same n x is = absurd (cc is)
-some_at (x ∷ xs) [] same n z is = absurd (cc same)
-some_at (x ∷ xs) (y ∷ ys) same zero z is = (y, refl)
-some_at (x ∷ xs) (y ∷ ys) same (suc n) z is = some_at xs ys (cc same) n z is
-
 module _ (book : BookValue) (entry : Entry) (w : LastsWell book) (h : broken book entry ≡ None) where
   abbrev new : BookValue
   new = effect book entry
 
   abbrev here : ℕ
   here = entry.node.0
-
-  inv : Inv new
-  inv = (stepped book entry w.inv h).inv
-
-  record Was (n : NodeNo) (state : machine.NodeValue) : Type 0 where
-    old : machine.NodeValue
-    there : slice_get book.nodes n.0 ≡ Some old
-    rises : old.inc ≤ state.inc
-
-  node_was : (n : NodeNo) (state : machine.NodeValue) → slice_get new.nodes n.0 ≡ Some state → Was n state
-  node_was n state is =
-      let p = some_at new.nodes book.nodes (ran_run (entry ∷ []) book) n.0 state is in
-      record {
-        old = p.0;
-        there = p.1;
-        rises = lower p.0.inc (inc_at book n) (inc_at new n) state.inc (sym (inc_there book n.0 p.0 p.1)) (inc_rises n 0 (entry ∷ []) book (h, tt)) (inc_there new n.0 state is);
-      }
-    where
-      lower : (a b c d : ℕ) → a ≡ b → b ≤ c → c ≡ d → a ≤ d
-      lower a b c d p q r = omega arith
-
-  -- the incarnation in which the entry's node acts is not to come
-  now_low : (t : Turning book entry) (state : machine.NodeValue) → slice_get new.nodes here ≡ Some state → t.now ≤ state.inc
-  now_low t state is = by entry.act refl
-    where
-      lower : (a b c d : ℕ) → a ≡ b → b ≤ c → c ≡ d → a ≤ d
-      lower a b c d p q r = omega arith
-
-      equal : (a b c : ℕ) → a ≡ b → b ≡ c → a ≤ c
-      equal a b c p q = omega arith
-
-      acting : ((inc : ℕ) (pend : List Found) (done : List Tid) → entry.act ≡ acts.Restart inc pend done → ⊥) → t.now ≤ state.inc
-      acting none = lower t.now (inc_at book entry.node) (inc_at new entry.node) state.inc (t.acts_now none) (inc_rises entry.node 0 (entry ∷ []) book (h, tt)) (inc_there new here state is)
-
-      by : (act : Act) → entry.act ≡ act → t.now ≤ state.inc
-      by (acts.Restart inc pend done) e =
-          let r : Reborn book new here inc = reborn book entry here inc pend done h e refl in
-          equal t.now inc state.inc (t.stays inc pend done e) (some_of (sym r.now ∙ inc_of_node new here state is))
-      by (acts.Begin tid label client) e = acting (λ n p d q. absurd (cc (sym e ∙ q)))
-      by (acts.Issue tid issuer member number op) e = acting (λ n p d q. absurd (cc (sym e ∙ q)))
-      by (acts.Serve tid member from number reply) e = acting (λ n p d q. absurd (cc (sym e ∙ q)))
-      by (acts.Vote tid member ballot covers) e = acting (λ n p d q. absurd (cc (sym e ∙ q)))
-      by (acts.Ask tid) e = acting (λ n p d q. absurd (cc (sym e ∙ q)))
-      by (acts.Counted tid peer up_to) e = acting (λ n p d q. absurd (cc (sym e ∙ q)))
-      by (acts.Decide tid outcome cause) e = acting (λ n p d q. absurd (cc (sym e ∙ q)))
-      by (acts.Ending tid member) e = acting (λ n p d q. absurd (cc (sym e ∙ q)))
-      by (acts.Learn tid member outcome) e = acting (λ n p d q. absurd (cc (sym e ∙ q)))
-      by (acts.Answer client line said) e = acting (λ n p d q. absurd (cc (sym e ∙ q)))
-      by (acts.Loan tid client) e = acting (λ n p d q. absurd (cc (sym e ∙ q)))
-      by (acts.Yield tid client) e = acting (λ n p d q. absurd (cc (sym e ∙ q)))
-      by acts.Tick e = acting (λ n p d q. absurd (cc (sym e ∙ q)))
-      by (acts.Crash cause) e = acting (λ n p d q. absurd (cc (sym e ∙ q)))
-
-  -- what is to come of a node is nothing that the entry did
-  to_come : (t : Turning book entry) (n : NodeNo) (state : machine.NodeValue) → slice_get new.nodes n.0 ≡ Some state → (inc : ℕ) → state.inc < inc → IsFar here t.now n inc
-  to_come t n state is inc later = by (n.0 == here) refl
-    where
-      apart : (a b c : ℕ) → a ≤ b → b < c → (c == a) ≡ false
-      apart a b c p q = grind (arith, nat_tests, p, q)
-
-      by : (b : Bool) → (n.0 == here) ≡ b → (b && (inc == t.now)) ≡ false
-      by false far = refl
-      by true near = apart t.now state.inc inc (now_low t state (ap (slice_get new.nodes) (sym (same_number n.0 here near)) ∙ is)) later
 
   -- ---- a transaction that begins
 
@@ -222,8 +152,8 @@ module _ (book : BookValue) (entry : Entry) (w : LastsWell book) (h : broken boo
   before_on : (n : NodeNo) (state : machine.NodeValue) (tid : Tid) (later : TransactionValue) (inc : ℕ) → slice_get new.nodes n.0 ≡ Some state → find_transaction new tid ≡ Some later → state.inc < inc → IsBefore later n inc
   before_on n state tid later inc is found low = of (stood_as tid later found)
     where
-      v : Was n state
-      v = node_was n state is
+      v : Was book entry w h n state
+      v = node_was book entry w h n state is
 
       lower : (a b c : ℕ) → a ≤ b → b < c → a < c
       lower a b c p q = omega arith
@@ -243,7 +173,7 @@ module _ (book : BookValue) (entry : Entry) (w : LastsWell book) (h : broken boo
           b = w.before n v.old tid tx inc v.there was old_low
 
           far : IsFar here t.now n inc
-          far = to_come t n state is inc low
+          far = to_come book entry w h t n state is inc low
 
           sent : (peer : NodeNo) → sent_in inc (sent_on later (record { from = n; to = peer })) ≡ 0
           sent peer = by (r.sent (record { from = n; to = peer }) inc far)
@@ -266,8 +196,8 @@ module _ (book : BookValue) (entry : Entry) (w : LastsWell book) (h : broken boo
   issued_on : IssuedBefore new
   issued_on n state tid later inc text is found low = of (stood_as tid later found)
     where
-      v : Was n state
-      v = node_was n state is
+      v : Was book entry w h n state
+      v = node_was book entry w h n state is
 
       lower : (a b c : ℕ) → a ≤ b → b < c → a < c
       lower a b c p q = omega arith
@@ -278,15 +208,15 @@ module _ (book : BookValue) (entry : Entry) (w : LastsWell book) (h : broken boo
       of : Stood tid later → has_issued later n inc text ≡ false
       of (inl (b, fresh, same)) = ap (λ (x : TransactionValue). has_issued x n inc text) fresh
       of (inr (tx, was, inl same)) = ap (λ (x : TransactionValue). has_issued x n inc text) same ∙ w.issued n v.old tid tx inc text v.there was old_low
-      of (inr (tx, was, inr (t, r))) = r.issued n inc text (to_come t n state is inc low) ∙ w.issued n v.old tid tx inc text v.there was old_low
+      of (inr (tx, was, inr (t, r))) = r.issued n inc text (to_come book entry w h t n state is inc low) ∙ w.issued n v.old tid tx inc text v.there was old_low
 
   -- ---- what is open at its home
 
   now_on : (n : NodeNo) (state : machine.NodeValue) (tid : Tid) (later : TransactionValue) → slice_get new.nodes n.0 ≡ Some state → find_transaction new tid ≡ Some later → tid.home ≡ n → is_open later.cell ≡ true → tid.inc ≡ state.inc
   now_on n state tid later is found home undecided = by (restarts n entry) refl
     where
-      v : Was n state
-      v = node_was n state is
+      v : Was book entry w h n state
+      v = node_was book entry w h n state is
 
       -- it was open before, where it stood
       was_open : (tx : TransactionValue) → (is_open tx.cell ≡ false → later.cell ≡ tx.cell) → is_open tx.cell ≡ true
@@ -345,7 +275,7 @@ module _ (book : BookValue) (entry : Entry) (w : LastsWell book) (h : broken boo
 
   pub lasts_on : LastsWell new
   lasts_on = record {
-    inv = inv;
+    inv = inv book entry w h;
     shut = ran_shut (entry ∷ []) book w.inv w.shut (h, tt);
     tidy = step_tidy book entry w.tidy;
     stopped = λ n node is. more node.stopped book.place (act_stopped book entry.stamp here entry.act w.stopped n node is);

@@ -2,12 +2,14 @@ pub mod Served
 pub mod Turning
 pub mod TurningParts
 pub mod ActsHere
+pub mod TurningOwners
 pub mod TurningActs
 pub mod AnyRestart
 pub mod PastStops
 pub mod EntryTurns
 pub mod TurnedRequests
 pub mod LastsWell
+pub mod LastsNodes
 pub mod LastsEntry
 pub mod LastsOpening
 pub mod NumberedLogs
@@ -30,6 +32,7 @@ pub mod OpenedContents
 pub mod OpenedBook
 pub mod OpenedLogs
 pub mod OpenedCommits
+pub mod OpenedVotes
 pub mod OpenedFresh
 pub mod OpenedRecords
 pub mod OpenedSaid

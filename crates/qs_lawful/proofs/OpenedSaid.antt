@@ -29,7 +29,8 @@ use Rattle.qs_lawful.proofs.LogFrames.{every_on}
 use Rattle.qs_lawful.proofs.LogRecords.{is_found, is_found_in, of_votes}
 use Rattle.qs_lawful.proofs.OpenedCommits.{put_among}
 use Rattle.qs_lawful.proofs.OpenedContents.{audit_opened, files_opened}
-use Rattle.qs_lawful.proofs.OpenedFresh.{aborted, as_pending, book, done_committed, doubtful, far_of, last_as, log, marked, one, says, stands, state}
+use Rattle.qs_lawful.proofs.OpenedVotes.{as_pending, last_as}
+use Rattle.qs_lawful.proofs.OpenedFresh.{aborted, book, done_committed, doubtful, far_of, log, marked, one, says, stands, state}
 use Rattle.qs_lawful.proofs.OpenedRecords.{all_put, doubt_found, doubts_once, record_for}
 use Rattle.qs_lawful.proofs.Reopened.{doubt_is}
 

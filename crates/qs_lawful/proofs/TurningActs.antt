@@ -31,6 +31,7 @@ use Rattle.qs_lawful.proofs.LearntOn.{more_learnt}
 use Rattle.qs_lawful.proofs.NotesServed.{served_issued, served_note}
 use Rattle.qs_lawful.proofs.RestartGoes.{Goes, IsElsewhere, goes_self, goes_then}
 use Rattle.qs_lawful.proofs.Turning.{IsFar, Plain, Turned, Turns, turned_as, turned_by, turned_fold, turned_same, turns_plain, turns_quiet, turns_self}
+use Rattle.qs_lawful.proofs.TurningOwners.{answer_turns, loan_turns, yield_turns}
 use Rattle.qs_lawful.proofs.TurningParts.{count_sent, issue_issued, issue_sent, part_changed, part_put, start_put}
 
 -- ---- acts
@@ -211,84 +212,6 @@ module _ (book : BookValue) (stamp here : ℕ) (state : machine.NodeValue) where
       l : Link
       l = record { from = record { 0 = here }; to = peer }
 
-  loan_turns : (tid : Tid) (client : ClientNo) → Turned R book (loan_to now tid (borrower_at client here) book)
-  loan_turns tid client = by (nat_lt client.0 224)
-    where
-      m : Member
-      m = borrower client (record { 0 = here })
-
-      by : (b : Bool) → Turned R book (loan_to now tid (if b then Some m else None) book)
-      by false = turned_same R own book book refl
-      by true = turned_by R own tid (lent m now) book (with_transaction tid (lent m now) book) refl (λ tx found. by_plain tid tx (lent m now tx) (record {
-        requests = refl;
-        crossed = refl;
-        sent = λ link i. refl;
-        noted = refl;
-        asked = refl;
-        owner = refl;
-        cell = refl;
-        decided = refl;
-        parts = λ other i far. part_changed here now m refl made_part tx other i far;
-        starts = λ other i served covers far. refl;
-        learnt = λ other is. is;
-      }))
-
-  yield_turns : (tid : Tid) (client : ClientNo) → Turned R book (give_back_from now tid (borrower_at client here) book)
-  yield_turns tid client = by (nat_lt client.0 224)
-    where
-      m : Member
-      m = borrower client (record { 0 = here })
-
-      by : (b : Bool) → Turned R book (give_back_from now tid (if b then Some m else None) book)
-      by false = turned_same R own book book refl
-      by true = turned_by R own tid (given_back m now) book (with_transaction tid (given_back m now) book) refl (λ tx found. by_plain tid tx (given_back m now tx) (record {
-        requests = refl;
-        crossed = refl;
-        sent = λ link i. refl;
-        noted = refl;
-        asked = refl;
-        owner = refl;
-        cell = refl;
-        decided = refl;
-        parts = λ other i far. part_changed here now m refl yielded_part tx other i far;
-        starts = λ other i served covers far. refl;
-        learnt = λ other is. is;
-      }))
-
-  -- requests of a client are answered
-  hear_turns : (asks : List Asking) (b : BookValue) → Turned R b (fold hear b asks)
-  hear_turns asks b = turned_as G R (λ tid tx later g. turns_quiet here now book.place tid tx later g) b (fold hear b asks) (turned_fold G (goes_self here (IsElsewhere here now) book.place) (goes_then here (IsElsewhere here now) book.place) hear each asks b)
-    where
-      G : Tid → TransactionValue → TransactionValue → Type 0
-      G tid tx later = Goes here (IsElsewhere here now) book.place tid tx later
-
-      each : (b : BookValue) (ask : Asking) → Turned G b (hear b ask)
-      each b ask = turned_by G (goes_self here (IsElsewhere here now) book.place) ask.tid (heard ask.node (inc_at b ask.node)) b (hear b ask) refl (λ tx found. record {
-        requests = refl;
-        sent = refl;
-        noted = refl;
-        crossed = refl;
-        asked = refl;
-        owner = refl;
-        starts = refl;
-        refusals = refl;
-        agree = λ all. all;
-        when = inl (refl, refl);
-        parts = λ member i far. refl;
-        decided = λ shut. refl;
-        away = λ far. refl;
-        learnt = λ member is. is;
-      })
-
-  answer_turns : (client : ClientNo) (line : ℕ) → Turned R book (answer client line book)
-  answer_turns client line = record { none = t.none; goes = t.goes }
-    where
-      first : BookValue
-      first = with_owner client.0 (λ (owner : Owner). record owner { line = line; waiting = [] }) book
-
-      t : Turned R first (fold hear first (waiting_of (slice_get book.owners client.0)))
-      t = hear_turns (waiting_of (slice_get book.owners client.0)) first
-
   -- all acts but a begin and a restart
   abbrev pub IsActing : Act → Type 0
   IsActing (acts.Begin tid label client) = ⊥
@@ -320,8 +243,8 @@ module _ (book : BookValue) (stamp here : ℕ) (state : machine.NodeValue) where
   }))
   act_turns (acts.Learn tid member outcome) is h = turned_by R own tid (learnt member now outcome) book (effect_act stamp here (acts.Learn tid member outcome) book) refl
       (λ tx found. by_plain tid tx (learnt member now outcome tx) (learn_plain member outcome tx (learn_here here state (find_transaction book tid) member outcome h)))
-  act_turns (acts.Answer client line said) is h = answer_turns client line
-  act_turns (acts.Loan tid client) is h = loan_turns tid client
-  act_turns (acts.Yield tid client) is h = yield_turns tid client
+  act_turns (acts.Answer client line said) is h = answer_turns book stamp here state client line
+  act_turns (acts.Loan tid client) is h = loan_turns book stamp here state tid client
+  act_turns (acts.Yield tid client) is h = yield_turns book stamp here state tid client
   act_turns acts.Tick is h = turned_same R own book (effect_act stamp here acts.Tick book) refl
   act_turns (acts.Crash cause) is h = turned_same R own book (effect_act stamp here (acts.Crash cause) book) refl
