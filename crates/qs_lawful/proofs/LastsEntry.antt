@@ -1,5 +1,5 @@
 -- What stands in the machine at every time stands on after each lawful entry.
-use Rattle.std.proofs.Common.{◌≡◌, ◌⊎◌, inl, inr, ℕ, ◌<◌, ◌≤◌, ◌+◌, ◌==◌, ◌&&◌, Bool, true, false, List, [], ◌∷◌, length, Option, Some, None, zero, suc, refl, sym, ap, subst, ◌∙◌, arith, is_some, nat_lt}
+use Rattle.std.proofs.Common.{◌≡◌, ◌⊎◌, inl, inr, ℕ, ◌<◌, ◌≤◌, ◌+◌, ◌==◌, ◌&&◌, Bool, true, false, List, [], ◌∷◌, Option, Some, None, refl, sym, ap, subst, ◌∙◌, arith, is_some, nat_lt}
 use Rattle.std.proofs.lemmas.Bool.Decides.{nat_tests}
 use Rattle.std.specs.Prelude.{slice_get}
 use Rattle.std.specs.List.{list_all}
@@ -7,18 +7,13 @@ use Rattle.qs_base.specs.declared.identifiers.ClientNo.{ClientNo}
 use Rattle.qs_base.specs.declared.identifiers.NodeNo.{NodeNo}
 use Rattle.qs_base.specs.declared.identifiers.Tid.{Tid}
 use Rattle.qs_journal.specs.declared.entry.Act.{Act}
-use Rattle.qs_journal.specs.declared.entry.Act.TheVariants as acts
 use Rattle.qs_journal.specs.declared.entry.Entry.{Entry}
-use Rattle.qs_journal.specs.declared.entry.Found.{Found}
 use Rattle.qs_laws.specs.Lives.{restarts}
 use Rattle.qs_laws.proofs.Committed.{ran_shut}
-use Rattle.qs_laws.proofs.Holding.{clash, right_of, same_number}
-use Rattle.qs_laws.proofs.InRun.{ran_run}
-use Rattle.qs_laws.proofs.Lives.{Reborn, Restarting, inc_of_node, reborn, restarting, same_life}
-use Rattle.qs_laws.proofs.Outcomes.{Inv}
-use Rattle.qs_laws.proofs.Pasts.{inc_rises}
+use Rattle.qs_laws.proofs.Holding.{clash, right_of}
+use Rattle.qs_laws.proofs.Lives.{Restarting, inc_of_node, restarting, same_life}
 use Rattle.qs_laws.proofs.Serves.{inc_there}
-use Rattle.qs_laws.proofs.Steps.{stepped, unheld}
+use Rattle.qs_laws.proofs.Steps.{unheld}
 use Rattle.qs_laws.proofs.Tidy.{step_tidy}
 use Rattle.qs_laws.proofs.Unanimous.{Commits, step_commits}
 use Rattle.qs_machine.specs.Book.{BookValue, cell_of_transaction, find_transaction, inc_at, ticks_at}

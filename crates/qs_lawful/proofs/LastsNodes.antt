@@ -1,44 +1,26 @@
 -- A node before an entry and after it: its incarnations rise, and what is to come of it is nothing that the entry did.
-use Rattle.std.proofs.Common.{◌≡◌, ◌⊎◌, inl, inr, ℕ, ◌<◌, ◌≤◌, ◌+◌, ◌==◌, ◌&&◌, Bool, true, false, List, [], ◌∷◌, length, Option, Some, None, zero, suc, refl, sym, ap, subst, ◌∙◌, arith, is_some, nat_lt}
+use Rattle.std.proofs.Common.{◌≡◌, ℕ, ◌<◌, ◌≤◌, ◌==◌, ◌&&◌, Bool, true, false, List, [], ◌∷◌, length, Some, None, zero, suc, refl, sym, ap, ◌∙◌, arith}
 use Rattle.std.proofs.lemmas.Bool.Decides.{nat_tests}
 use Rattle.std.specs.Prelude.{slice_get}
-use Rattle.std.specs.List.{list_all}
-use Rattle.qs_base.specs.declared.identifiers.ClientNo.{ClientNo}
 use Rattle.qs_base.specs.declared.identifiers.NodeNo.{NodeNo}
 use Rattle.qs_base.specs.declared.identifiers.Tid.{Tid}
 use Rattle.qs_journal.specs.declared.entry.Act.{Act}
 use Rattle.qs_journal.specs.declared.entry.Act.TheVariants as acts
 use Rattle.qs_journal.specs.declared.entry.Entry.{Entry}
 use Rattle.qs_journal.specs.declared.entry.Found.{Found}
-use Rattle.qs_laws.specs.Lives.{restarts}
-use Rattle.qs_laws.proofs.Committed.{ran_shut}
-use Rattle.qs_laws.proofs.Holding.{clash, right_of, same_number}
+use Rattle.qs_laws.proofs.Holding.{same_number}
 use Rattle.qs_laws.proofs.InRun.{ran_run}
-use Rattle.qs_laws.proofs.Lives.{Reborn, Restarting, inc_of_node, reborn, restarting, same_life}
+use Rattle.qs_laws.proofs.Lives.{Reborn, inc_of_node, reborn}
 use Rattle.qs_laws.proofs.Outcomes.{Inv}
 use Rattle.qs_laws.proofs.Pasts.{inc_rises}
 use Rattle.qs_laws.proofs.Serves.{inc_there}
-use Rattle.qs_laws.proofs.Steps.{stepped, unheld}
-use Rattle.qs_laws.proofs.Tidy.{step_tidy}
-use Rattle.qs_laws.proofs.Unanimous.{Commits, step_commits}
-use Rattle.qs_machine.specs.Book.{BookValue, cell_of_transaction, find_transaction, inc_at, ticks_at}
-use Rattle.qs_machine.specs.Lawful.{broken, broken_node, effect, effect_act}
+use Rattle.qs_laws.proofs.Steps.{stepped}
+use Rattle.qs_machine.specs.Book.{BookValue, inc_at}
+use Rattle.qs_machine.specs.Lawful.{broken, effect}
 use Rattle.qs_machine.specs.Nodes as machine
-use Rattle.qs_machine.specs.Restart.{is_open_here, restart}
-use Rattle.qs_machine.specs.Transaction.{TransactionValue, agrees, all_served, begun, has_note, is_commit, is_empty, is_open, is_unanimous, sent_in, sent_on}
-use Rattle.qs_machine.specs.declared.transaction.Cell.{Cell}
-use Rattle.qs_machine.specs.declared.transaction.Cell.TheVariants as cells
-use Rattle.qs_restart.specs.Recovery.{names_transaction}
-use Rattle.qs_lawful.specs.Beside.{has_issued}
-use Rattle.qs_lawful.specs.Lasting.{IsBefore, IsOfNow, StandsOnce}
-use Rattle.qs_lawful.specs.Logged.{IsNamed}
-use Rattle.qs_lawful.proofs.AnyRestart.{restart_shuts}
-use Rattle.qs_lawful.proofs.Apart.{Apart, same_or_apart}
-use Rattle.qs_lawful.proofs.EntryTurns.{Actor, Begins, Turning, actor, by_entry}
-use Rattle.qs_lawful.proofs.LastsWell.{IssuedBefore, LastsWell, lasts_of}
-use Rattle.qs_lawful.proofs.PastStops.{act_stopped}
-use Rattle.qs_lawful.proofs.TurnedRequests.{fits_on, once_on}
-use Rattle.qs_lawful.proofs.Turning.{IsFar, Issues, Leaves, Serves, Turns, some_of, stood}
+use Rattle.qs_lawful.proofs.EntryTurns.{Turning}
+use Rattle.qs_lawful.proofs.LastsWell.{LastsWell}
+use Rattle.qs_lawful.proofs.Turning.{IsFar, some_of}
 
 some_at : {A : Type 0} (xs ys : List A) → length xs ≡ length ys → (n : ℕ) (x : A) → slice_get xs n ≡ Some x → (y : A) × (slice_get ys n ≡ Some y)
 some_at [] ys same n x is = absurd (cc is)

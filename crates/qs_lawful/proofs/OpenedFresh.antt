@@ -1,10 +1,10 @@
 -- As a world begins the machine has of each transaction at a node what stands in doubt in its log, and nothing else.
-use Rattle.std.proofs.Common.{◌≡◌, inr, ℕ, ◌<◌, ◌+◌, ◌==◌, ◌&&◌, ◌||◌, not, Bool, true, false, List, [], ◌∷◌, length, map, flat_map, Option, Some, None, fold, zero, suc, refl, sym, ap, subst, ◌∙◌, arith, is_some, nat_lt, if◌then◌else◌}
+use Rattle.std.proofs.Common.{◌≡◌, inr, ℕ, ◌<◌, ◌+◌, ◌==◌, ◌&&◌, ◌||◌, not, Bool, true, false, List, [], ◌∷◌, length, map, Option, Some, None, zero, suc, refl, sym, ap, subst, ◌∙◌, arith, is_some, nat_lt, if◌then◌else◌}
 use Rattle.std.proofs.lemmas.Bool.Decides.{nat_tests}
 use Rattle.std.proofs.lemmas.Option.{slice_get-map}
 use Rattle.std.specs.Prelude.{slice_get}
 use Rattle.std.specs.Option.{option_map}
-use Rattle.std.specs.List.{filter, list_all, list_any}
+use Rattle.std.specs.List.{list_all, list_any}
 use Rattle.qs_base.specs.Order.{same_tid}
 use Rattle.qs_base.proofs.Same.{same_tid-true}
 use Rattle.qs_base.specs.declared.identifiers.NodeNo.{NodeNo}
@@ -26,12 +26,12 @@ use Rattle.qs_ops.specs.Servers.{files_no}
 use Rattle.qs_ops.specs.declared.answer.Cause.TheVariants as causes
 use Rattle.qs_record.specs.declared.record.Record.{Record}
 use Rattle.qs_record.specs.declared.record.Record.TheVariants as records
-use Rattle.qs_restart.specs.Recovery.{Prepared, Recovery, Untold, is_in_doubt, is_untold_of, names_transaction, prepare_of, recovery}
+use Rattle.qs_restart.specs.Recovery.{Prepared, Recovery, Untold, is_in_doubt, is_untold_of, names_transaction, recovery}
 use Rattle.qs_step.specs.Opening.{recovered_of}
-use Rattle.qs_world.specs.Histories.{book_of, opened_from, opened_with, pending_of}
+use Rattle.qs_world.specs.Histories.{book_of, opened_from, opened_with}
 use Rattle.qs_world.specs.Openings.{IsOpening, are_unended, is_doubt, is_earlier, is_record, is_untold}
 use Rattle.qs_world.specs.World.{Opening}
-use Rattle.qs_lawful.specs.Doubtful.{doubt_at, last_doubt, member_as, share_as}
+use Rattle.qs_lawful.specs.Doubtful.{doubt_at, member_as, share_as}
 use Rattle.qs_lawful.specs.Holds.{HoldsMember}
 use Rattle.qs_lawful.specs.Lasting.{Lasts}
 use Rattle.qs_lawful.specs.Logged.{HasAborted, HasCommitted, IsMarked}
@@ -45,7 +45,7 @@ use Rattle.qs_lawful.proofs.LastsOpening.{empty_once, lasts_first, opening_empty
 use Rattle.qs_lawful.proofs.LastsWell.{LastsWell, lasts_of}
 use Rattle.qs_lawful.proofs.LogFrames.{every_on}
 use Rattle.qs_lawful.proofs.NumberedLogs.{opened_numbered, opening_named}
-use Rattle.qs_lawful.proofs.OpenedBook.{IsNamedAs, Reads, Stands, last_pending, logs_read, part_opened}
+use Rattle.qs_lawful.proofs.OpenedBook.{IsNamedAs, Reads, Stands, logs_read, part_opened}
 use Rattle.qs_lawful.proofs.OpenedCommits.{none_commits, put_among}
 use Rattle.qs_lawful.proofs.OpenedLogs.{IsSoundVote, SaysSoundly, log_sound}
 use Rattle.qs_lawful.proofs.Reopened.{doubt_is}

@@ -1,37 +1,18 @@
 -- A loan, its return, and an answer to a client, which hears of what waits for it, turn each transaction.
-use Rattle.std.proofs.Common.{◌≡◌, inl, inr, ℕ, ◌==◌, ◌&&◌, Bool, true, false, List, [], Option, Some, None, refl, ◌∙◌, nat_lt, if◌then◌else◌}
-use Rattle.std.specs.Prelude.{⊤, fold, length, slice_get, is_none}
-use Rattle.std.specs.List.{list_any}
+use Rattle.std.proofs.Common.{inl, ℕ, Bool, true, false, List, [], Some, None, refl, nat_lt, if◌then◌else◌}
+use Rattle.std.specs.Prelude.{fold, slice_get}
 use Rattle.qs_base.specs.declared.identifiers.ClientNo.{ClientNo}
 use Rattle.qs_base.specs.declared.identifiers.Member.{Member}
-use Rattle.qs_base.specs.declared.identifiers.NodeNo.{NodeNo}
-use Rattle.qs_base.specs.declared.identifiers.Outcome.{Outcome}
-use Rattle.qs_base.specs.declared.identifiers.Outcome.TheVariants as outcomes
 use Rattle.qs_base.specs.declared.identifiers.Tid.{Tid}
-use Rattle.qs_journal.specs.declared.entry.Act.{Act}
-use Rattle.qs_journal.specs.declared.entry.Act.TheVariants as acts
-use Rattle.qs_laws.proofs.Holding.{clash, crossing_transactions, learn_here, left_of, right_of, serve_here, vote_here, waiting_transactions}
-use Rattle.qs_machine.specs.Book.{BookValue, answer, crosses, decide, find_transaction, give_back_from, hear, inc_at, is_done, issue, loan_to, waiting_of, with_owner, with_transaction, with_waiting}
-use Rattle.qs_machine.specs.Clauses.{borrower_at, broken_ask, broken_decide, broken_issue, link_to, may_ask}
-use Rattle.qs_machine.specs.Lawful.{broken_act, effect_act}
+use Rattle.qs_machine.specs.Book.{BookValue, answer, give_back_from, hear, inc_at, loan_to, waiting_of, with_owner, with_transaction}
+use Rattle.qs_machine.specs.Clauses.{borrower_at}
 use Rattle.qs_machine.specs.Nodes as machine
-use Rattle.qs_machine.specs.Transaction.{TransactionValue, asked_at, borrower, counted, decided_at, ended, ended_part, given_back, heard, is_open, is_start, issued, learnt, learnt_part, lent, life, made_part, part_of, served_in, serving_part, starts_after, voted, voted_part, yielded_part}
+use Rattle.qs_machine.specs.Transaction.{TransactionValue, borrower, given_back, heard, lent, made_part, yielded_part}
 use Rattle.qs_machine.specs.declared.state.Asking.{Asking}
 use Rattle.qs_machine.specs.declared.state.Owner.{Owner}
-use Rattle.qs_machine.specs.declared.transaction.Link.{Link}
-use Rattle.qs_machine.specs.declared.transaction.Request.{Request}
-use Rattle.qs_machine.specs.declared.transaction.RequestNo.{RequestNo}
-use Rattle.qs_ops.specs.Members.{class_of}
-use Rattle.qs_ops.specs.declared.answer.Cause.{Cause}
-use Rattle.qs_ops.specs.declared.operation.Op.{Op}
-use Rattle.qs_ops.specs.declared.vote.Vote.{Vote}
-use Rattle.qs_ops.specs.declared.vote.Vote.TheVariants as votes
-use Rattle.qs_lawful.proofs.ActsHere.{MayIssue, ask_here, decide_here, end_here, issue_here}
-use Rattle.qs_lawful.proofs.LearntOn.{more_learnt}
-use Rattle.qs_lawful.proofs.NotesServed.{served_issued, served_note}
 use Rattle.qs_lawful.proofs.RestartGoes.{Goes, IsElsewhere, goes_self, goes_then}
-use Rattle.qs_lawful.proofs.Turning.{IsFar, Plain, Turned, Turns, turned_as, turned_by, turned_fold, turned_same, turns_plain, turns_quiet, turns_self}
-use Rattle.qs_lawful.proofs.TurningParts.{count_sent, issue_issued, issue_sent, part_changed, part_put, start_put}
+use Rattle.qs_lawful.proofs.Turning.{Plain, Turned, Turns, turned_as, turned_by, turned_fold, turned_same, turns_plain, turns_quiet, turns_self}
+use Rattle.qs_lawful.proofs.TurningParts.{part_changed}
 
 module _ (book : BookValue) (stamp here : ℕ) (state : machine.NodeValue) where
   abbrev now : ℕ
@@ -123,4 +104,3 @@ module _ (book : BookValue) (stamp here : ℕ) (state : machine.NodeValue) where
 
       t : Turned R first (fold hear first (waiting_of (slice_get book.owners client.0)))
       t = hear_turns (waiting_of (slice_get book.owners client.0)) first
-
