@@ -1,6 +1,6 @@
 -- What is on its way goes on as a node gets to know a first incarnation of another: what waited for it is posted behind all that was, and of what
 -- that node has on its way the incarnations before are not known any more.
-use Rattle.std.proofs.Common.{◌≡◌, ℕ, ◌<◌, ◌≤◌, ◌+◌, ◌-◌, ◌==◌, ◌++◌, ◌&&◌, not, zero, suc, Bool, true, false, List, [], ◌∷◌, drop, length, Some, refl, sym, ap, subst, ◌∙◌, arith, nat_lt, nat_le, if◌then◌else◌}
+use Rattle.std.proofs.Common.{◌≡◌, ℕ, ◌<◌, ◌≤◌, ◌+◌, ◌-◌, ◌==◌, ◌++◌, ◌&&◌, not, zero, suc, Bool, true, false, List, [], ◌∷◌, drop, length, Some, refl, sym, ap, subst, ◌∙◌, arith, nat_lt, nat_le, if◌then◌else◌, append-nil, append_assoc}
 use Rattle.std.proofs.lemmas.Bool.Decides.{nat_tests}
 use Rattle.std.proofs.lemmas.Grind.{flat_map-append}
 use Rattle.qs_base.specs.declared.identifiers.ServerNo.{ServerNo}
@@ -17,7 +17,7 @@ use Rattle.qs_lawful.specs.Parcels.{HoldsChannels, HoldsWays, on_its_way, ops_of
 use Rattle.qs_lawful.specs.Waits.{IsWithin, standing_ops, waiting_ops}
 use Rattle.qs_lawful.specs.WayLaws.{AreSound, EachMeetKeepsWays}
 use Rattle.qs_lawful.proofs.Truths.{number_is}
-use Rattle.qs_lawful.proofs.WithinParts.{append_assoc, append_none, pending_last, pending_parts, pending_same, within_around, within_first}
+use Rattle.qs_lawful.proofs.WithinParts.{pending_last, pending_parts, pending_same, within_around, within_first}
 
 clash : (x : Bool) → x ≡ false → x ≡ true → ⊥
 clash x e f = cc (sym e ∙ f)
@@ -117,10 +117,10 @@ module _ (book : BookValue) (world : World) (n stamp m inc : ℕ) (channels : Ho
             of false = refl
 
         by : (x : Bool) → (c.inc b == inc) ≡ x → Met a b
-        by true same = subst (λ (ps : List Parcel). IsWithin (W b ++ ops ps) rs) (sym (append_none _ ∙ (ap (pending_from (met a b) (c.peer b a)) (numbers (c.peer b a) (c.inc a) (channels.known b a))
+        by true same = subst (λ (ps : List Parcel). IsWithin (W b ++ ops ps) rs) (sym (append-nil _ ∙ (ap (pending_from (met a b) (c.peer b a)) (numbers (c.peer b a) (c.inc a) (channels.known b a))
             ∙ (pending_last at (met a b) (c.waits a b) (c.inc a) (at_last (number_is (c.inc b) inc same)) less (c.peer b a) (c.inc a - c.peer b a) (whole (c.peer b a) (c.inc a) (channels.known b a))
             ∙ ap (λ (k : ℕ). pending_from at (c.peer b a) k ++ c.waits a b) (sym (numbers (c.peer b a) (c.inc a) (channels.known b a))))))) was_so
-        by false far = subst (λ (ps : List Parcel). IsWithin (W b ++ ops ps) rs) (sym (append_none _ ∙ pending_same (met a b) at (apart_at far) (c.peer b a) ((c.inc a + 1) - c.peer b a)))
+        by false far = subst (λ (ps : List Parcel). IsWithin (W b ++ ops ps) rs) (sym (append-nil _ ∙ pending_same (met a b) at (apart_at far) (c.peer b a) ((c.inc a + 1) - c.peer b a)))
             (within_first (W b) (ops P) (ops (c.waits a b)) rs (subst (λ (xs : List Op). IsWithin (W b ++ xs) rs) (flat_map-append _ P (c.waits a b)) was_so))
 
     -- what the other has on its way to it

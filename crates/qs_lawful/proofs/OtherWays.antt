@@ -1,5 +1,5 @@
 -- The entries of one node leave what two others have on its way between them.
-use Rattle.std.proofs.Common.{◌≡◌, inl, inr, ℕ, ◌==◌, ◌++◌, ◌&&◌, zero, suc, Bool, true, false, List, [], ◌∷◌, drop, length, map, Option, Some, None, refl, sym, ap, subst, ◌∙◌, arith, is_some, if◌then◌else◌}
+use Rattle.std.proofs.Common.{◌≡◌, inl, inr, ℕ, ◌==◌, ◌&&◌, zero, suc, Bool, true, false, List, [], ◌∷◌, drop, length, map, Option, Some, None, refl, sym, ap, subst, ◌∙◌, arith, is_some, if◌then◌else◌}
 use Rattle.std.proofs.lemmas.Bool.Decides.{nat_tests}
 use Rattle.std.specs.List.{filter}
 use Rattle.qs_base.specs.Order.{same_tid}
@@ -25,6 +25,7 @@ use Rattle.qs_lawful.specs.Waits.{IsWithin, op_in, standing_ops}
 use Rattle.qs_lawful.proofs.AsideBook.{Goes, goes_on}
 use Rattle.qs_lawful.proofs.LastsEntry.{lasts_on}
 use Rattle.qs_lawful.proofs.LastsWell.{LastsWell}
+use Rattle.qs_lawful.proofs.ParcelsKept.{every_more}
 use Rattle.qs_lawful.proofs.Turning.{some_of}
 use Rattle.qs_lawful.proofs.TurnedRequests.{AtNumber, at_number}
 
@@ -101,14 +102,10 @@ every_drop P zero xs all = all
 every_drop P (suc k) [] all = tt
 every_drop P (suc k) (x ∷ xs) all = every_drop P k xs all.1
 
-every_both : {A : Type 0} (P : A → Type 0) (xs ys : List A) → Every P xs → Every P ys → Every P (xs ++ ys)
-every_both P [] ys a b = b
-every_both P (x ∷ xs) ys a b = (a.0, every_both P xs ys a.1 b)
-
 every_pending : (P : Parcel → Type 0) (at : ℕ → List Parcel) → ((i : ℕ) → Every P (at i)) → (i more : ℕ) → Every P (pending_from at i more)
 every_pending P at all i zero = tt
-every_pending P at all i (suc more) = every_both P (at i) (pending_from at (suc i) more) (all i) (every_pending P at all (suc i) more)
+every_pending P at all i (suc more) = every_more P (at i) (pending_from at (suc i) more) (all i) (every_pending P at all (suc i) more)
 
 pub on_way_so : (book : BookValue) (size a b : ℕ) (c : Channels Parcel) → HoldsChannels book size c → Every (IsParcel book size a b) (on_its_way c a b)
-on_way_so book size a b c h = every_both (IsParcel book size a b) _ (c.waits a b)
+on_way_so book size a b c h = every_more (IsParcel book size a b) _ (c.waits a b)
     (every_pending (IsParcel book size a b) (λ i. pending c a b i (c.inc b)) (λ i. every_drop (IsParcel book size a b) (length (c.handed a b i (c.inc b))) (c.posted a b i (c.inc b)) (h.posted a b i (c.inc b))) _ _) (h.waits a b)

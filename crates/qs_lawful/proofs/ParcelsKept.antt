@@ -12,7 +12,7 @@ use Rattle.qs_lawful.specs.Logs.{Every}
 use Rattle.qs_lawful.specs.Parcels.{FitsChannels, HoldsChannels, IsParcel}
 use Rattle.qs_lawful.proofs.Truths.{number_is}
 
-every_more : {A : Type 0} (P : A → Type 0) (xs ys : List A) → Every P xs → Every P ys → Every P (xs ++ ys)
+pub every_more : {A : Type 0} (P : A → Type 0) (xs ys : List A) → Every P xs → Every P ys → Every P (xs ++ ys)
 every_more P [] ys a b = b
 every_more P (x ∷ xs) ys a b = (a.0, every_more P xs ys a.1 b)
 

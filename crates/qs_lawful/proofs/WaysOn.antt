@@ -1,5 +1,5 @@
 -- What is on its way goes on through a crash, whatever it leaves in the log, and through a restart; and scripts through a restart.
-use Rattle.std.proofs.Common.{◌≡◌, ℕ, ◌<◌, ◌+◌, ◌-◌, ◌==◌, ◌++◌, ◌&&◌, not, zero, suc, Bool, true, false, List, [], ◌∷◌, drop, length, map, Some, refl, sym, ap, subst, ◌∙◌, arith, nat_lt, if◌then◌else◌}
+use Rattle.std.proofs.Common.{◌≡◌, ℕ, ◌<◌, ◌+◌, ◌-◌, ◌==◌, ◌++◌, ◌&&◌, not, zero, suc, Bool, true, false, List, [], ◌∷◌, drop, length, map, Some, refl, sym, ap, subst, ◌∙◌, arith, nat_lt, if◌then◌else◌, append-nil}
 use Rattle.std.proofs.lemmas.Bool.Decides.{nat_tests}
 use Rattle.std.proofs.lemmas.Grind.{flat_map-append}
 use Rattle.std.specs.List.{filter}
@@ -24,7 +24,7 @@ use Rattle.qs_lawful.proofs.OpenedScripts.{none_from}
 use Rattle.qs_lawful.proofs.RestoredTid.{was}
 use Rattle.qs_lawful.proofs.RisesWell.{at, log, r, same_book, setting}
 use Rattle.qs_lawful.proofs.Truths.{number_is}
-use Rattle.qs_lawful.proofs.WithinParts.{append_none, pending_past, within_behind, within_first}
+use Rattle.qs_lawful.proofs.WithinParts.{pending_past, within_behind, within_first}
 
 -- ---- a crash
 
@@ -100,7 +100,7 @@ module _ (book : BookValue) (world : World) (n stamp inc : ℕ) (lasts : Lasts b
         (within_behind (ops P) (ops (c.waits a b)) rs (within_behind W (ops P ++ ops (c.waits a b)) rs was_so))
 
     from_it : (a ≡ n) → IsWithin (W ++ ops (pending_from (λ i. pending c a b i (c.inc b)) (c.peer b a) ((inc + 1) - c.peer b a) ++ [])) rs
-    from_it same = subst (λ (ps : List Parcel). IsWithin (W ++ ops ps) rs) (sym (append_none _ ∙ same_pending)) (within_first W (ops P) (ops (c.waits a b)) rs was_so)
+    from_it same = subst (λ (ps : List Parcel). IsWithin (W ++ ops ps) rs) (sym (append-nil _ ∙ same_pending)) (within_first W (ops P) (ops (c.waits a b)) rs was_so)
       where
         same_pending : pending_from (λ i. pending c a b i (c.inc b)) (c.peer b a) ((inc + 1) - c.peer b a) ≡ P
         same_pending = ap (pending_from (λ i. pending c a b i (c.inc b)) (c.peer b a)) (more_by (c.peer b a) (c.inc a) inc (subst (λ (k : ℕ). c.inc k < inc) (sym same) later_inc))

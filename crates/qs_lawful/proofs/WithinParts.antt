@@ -1,5 +1,5 @@
 -- Parts of lists that stand within another, and what is pending from an incarnation on.
-use Rattle.std.proofs.Common.{◌≡◌, ℕ, ◌<◌, ◌+◌, ◌++◌, zero, suc, List, [], ◌∷◌, inl, inr, refl, sym, ap, subst, ◌∙◌, arith}
+use Rattle.std.proofs.Common.{◌≡◌, ℕ, ◌<◌, ◌+◌, ◌++◌, zero, suc, List, [], ◌∷◌, inl, inr, refl, sym, ap, subst, ◌∙◌, arith, append_assoc, append-nil}
 use Rattle.qs_ops.specs.declared.operation.Op.{Op}
 use Rattle.qs_world.specs.World.{Parcel}
 use Rattle.qs_lawful.specs.Parcels.{pending_from}
@@ -33,14 +33,6 @@ within_first (w ∷ ws) xs ys (r ∷ rs) (inl both) = inl (both.0, within_first 
 within_first (w ∷ ws) xs ys (r ∷ rs) (inr h) = inr (within_first (w ∷ ws) xs ys rs h)
 
 -- ---- what is pending
-
-pub append_assoc : {A : Type 0} (xs ys zs : List A) → (xs ++ ys) ++ zs ≡ xs ++ (ys ++ zs)
-append_assoc [] ys zs = refl
-append_assoc (x ∷ xs) ys zs = ap (λ (t : List _). x ∷ t) (append_assoc xs ys zs)
-
-pub append_none : {A : Type 0} (xs : List A) → xs ++ [] ≡ xs
-append_none [] = refl
-append_none (x ∷ xs) = ap (λ (t : List _). x ∷ t) (append_none xs)
 
 zero_plus : (y : ℕ) → 0 + y ≡ y
 zero_plus y = grind (arith)
@@ -86,7 +78,7 @@ pending_parts at i (suc x) y =
 
 -- what stands behind the last goes to the end
 pub pending_last : (f g : ℕ → List Parcel) (w : List Parcel) (last : ℕ) → g last ≡ f last ++ w → ((i : ℕ) → i < last → g i ≡ f i) → (i x : ℕ) → i + x ≡ last → pending_from g i (suc x) ≡ pending_from f i (suc x) ++ w
-pending_last f g w last own less i zero is = append_none (g i) ∙ (at_last ∙ ap (λ (t : List Parcel). t ++ w) (sym (append_none (f i))))
+pending_last f g w last own less i zero is = append-nil (g i) ∙ (at_last ∙ ap (λ (t : List Parcel). t ++ w) (sym (append-nil (f i))))
   where
     here : (i : ℕ) → i + 0 ≡ last → i ≡ last
     here i e = grind (arith, e)
