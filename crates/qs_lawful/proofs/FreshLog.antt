@@ -97,7 +97,7 @@ some_stays tid s (x ∷ votes) v = by (is_doubt_at tid s x) (λ y. some_stays ti
     by true more = more x
     by false more = more v
 
-doubts_found : (votes : List Prepared) (o : Tid → ℕ → Option Prepared) → Every (λ (v : Prepared). is_in_doubt v ≡ true → is_some (fold (last_doubt v.tid v.server.0) (o v.tid v.server.0) votes) ≡ true) votes
+pub doubts_found : (votes : List Prepared) (o : Tid → ℕ → Option Prepared) → Every (λ (v : Prepared). is_in_doubt v ≡ true → is_some (fold (last_doubt v.tid v.server.0) (o v.tid v.server.0) votes) ≡ true) votes
 doubts_found [] o = tt
 doubts_found (x ∷ votes) o = ((λ doubt. own doubt), doubts_found votes (λ tid s. last_doubt tid s (o tid s) x))
   where

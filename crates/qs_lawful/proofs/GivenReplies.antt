@@ -27,7 +27,7 @@ awaits_some count (w ∷ ws) is = by (is_by_files w) (w.count == count) is (awai
     by false b is rest = rest is
 
 -- those that no answer is for stay
-none_dropped : (test : Outstanding → Bool) (ws : List Outstanding) → list_any test ws ≡ false → filter (λ w. not (test w)) ws ≡ ws
+pub none_dropped : (test : Outstanding → Bool) (ws : List Outstanding) → list_any test ws ≡ false → filter (λ w. not (test w)) ws ≡ ws
 none_dropped test [] is = refl
 none_dropped test (w ∷ ws) is = by (test w) is (none_dropped test ws)
   where
@@ -37,7 +37,7 @@ none_dropped test (w ∷ ws) is = by (test w) is (none_dropped test ws)
 
 module _ (member : Member) (number : ℕ) where
   -- an answer to one request is for no other
-  for_one : (w : Outstanding) → is_answered_by member number w ≡ true → (rest : List Outstanding) → list_any (is_answered_by w.member w.number) rest ≡ false → list_any (is_answered_by member number) rest ≡ false
+  pub for_one : (w : Outstanding) → is_answered_by member number w ≡ true → (rest : List Outstanding) → list_any (is_answered_by w.member w.number) rest ≡ false → list_any (is_answered_by member number) rest ≡ false
   for_one w is rest none = subst (λ (m : Member). list_any (is_answered_by m number) rest ≡ false) (same_member-true w.member member (left_true (same_member w.member member) _ is))
       (subst (λ (k : ℕ). list_any (is_answered_by w.member k) rest ≡ false) (number_is w.number number (right_true (same_member w.member member) _ is)) none)
 

@@ -13,6 +13,7 @@ use Rattle.qs_tm.specs.Participant.{all_agree, is_forgotten, is_undecided, needs
 use Rattle.qs_tm.specs.declared.participant.Participant.{Participant}
 use Rattle.qs_lawful.specs.Agreed.{AgreementGives}
 use Rattle.qs_lawful.specs.Beside.{IsTrueCause}
+use Rattle.qs_lawful.specs.BesideStep.{HasCountRoom}
 use Rattle.qs_lawful.specs.Entering.{HoldsWork, book_at}
 use Rattle.qs_lawful.specs.Given.{AtEach, HasCause, MayCommit, MayDecide, MaySettle}
 use Rattle.qs_lawful.specs.Logs.{Every}
@@ -41,19 +42,19 @@ module _ (stamp : ℕ) (before : BookValue) (size : ℕ) (nodes : ℕ → NodeVa
   Here : Work → Type 0
   Here work = Stands stamp before size nodes n work
 
-  module _ (work : Work) (tid : Tid) (s : Stands stamp before size nodes n work) (agreed : AgreementGives stamp before size nodes n work tid) where
-    abbrev passed : Work
+  module _ (work : Work) (tid : Tid) (s : Stands stamp before size nodes n work) (agreed : AgreementGives stamp before size nodes n work tid) (room : HasCountRoom work tid) where
+    abbrev pub passed : Work
     passed = try tid pass_rule work
 
-    abbrev answered : Work
+    abbrev pub answered : Work
     answered = try tid ready_rule passed
 
-    abbrev refused : Work
+    abbrev pub refused : Work
     refused = try tid refuse_rule answered
 
-    s_passed : Stands stamp before size nodes n passed
+    pub s_passed : Stands stamp before size nodes n passed
     s_passed = let held : HoldsWork stamp before passed = by_undecided stamp before work s.held tid (pass_rule tid) (λ part known unknown. by_pass_rule stamp before tid work s.held part known (λ due. may_pass stamp before size nodes n work s.by tid part known (agreed.passes part known due))) in
-        record { held = held; by = keeps.passes work tid s held }
+        record { held = held; by = keeps.passes work tid (record { may = λ part known due. may_pass stamp before size nodes n work s.by tid part known (agreed.passes part known due); room = room }) s held }
 
     asked_of : (a b c d e f g : Bool) → (((a && b) && ((c && d) && e)) && (f && g)) ≡ true → a ≡ true
     asked_of true b c d e f g is = refl
@@ -64,7 +65,7 @@ module _ (stamp : ℕ) (before : BookValue) (size : ℕ) (nodes : ℕ → NodeVa
         (asked_of part.asked (not part.blocked) (not (is_busy tid passed.node part)) (is_passive part.engage) (all_agree part) (not (needs_pass part)) (not (doings_of tid passed).prepared) ready)
         (agreed.commits part known unknown home ready quiet)
 
-    s_answered : Stands stamp before size nodes n answered
+    pub s_answered : Stands stamp before size nodes n answered
     s_answered = let held : HoldsWork stamp before answered = by_undecided stamp before passed s_passed.held tid (ready_rule tid) (λ part known unknown. by_ready stamp before tid passed s_passed.held part known unknown (commits_so part known unknown)) in
         record { held = held; by = keeps.readies passed tid s_passed held }
 
@@ -76,9 +77,9 @@ module _ (stamp : ℕ) (before : BookValue) (size : ℕ) (nodes : ℕ → NodeVa
 
         first : Every (IsTrueCause (book_at stamp before answered) tid) (cause ∷ more)
         first = subst (λ (cs : List Cause). Every (IsTrueCause (book_at stamp before answered) tid) cs) is
-            ((s_answered.by.beside.parts s_answered.held.holds.state tid tx.0 part s_answered.held.holds.there tx.1 known).causes unknown)
+            (((s_answered.by.beside.at tid).parts tx.0 part tx.1 known).causes unknown)
 
-    s_refused : Stands stamp before size nodes n refused
+    pub s_refused : Stands stamp before size nodes n refused
     s_refused = let held : HoldsWork stamp before refused = by_undecided stamp before answered s_answered.held tid (refuse_rule tid) (λ part known unknown. by_refuse stamp before tid answered s_answered.held part known unknown (λ cause more. aborts_so part cause more known unknown)) in
         record { held = held; by = keeps.refuses answered tid s_answered held }
 
@@ -87,7 +88,7 @@ module _ (stamp : ℕ) (before : BookValue) (size : ℕ) (nodes : ℕ → NodeVa
       passes = λ part known due. may_pass stamp before size nodes n work s.by tid part known (agreed.passes part known due);
       commits = commits_so;
       aborts = aborts_so;
-      forgets = λ part known forgotten. may_forget stamp before size nodes n refused s_refused.by tid part known (away part forgotten) forgotten s_refused.held.holds.state s_refused.held.holds.there;
+      forgets = λ part known forgotten. may_forget stamp before size nodes n refused s_refused tid part known (away part forgotten) forgotten;
     }
       where
         away : (part : Participant) → is_forgotten part ≡ true → part.engage.home ≡ false

@@ -13,6 +13,7 @@ use Rattle.qs_step.specs.declared.event.Event.{Event}
 use Rattle.qs_step.specs.declared.event.Event.TheVariants as events
 use Rattle.qs_step.specs.declared.state.OpenCommand.{OpenCommand}
 use Rattle.qs_lawful.specs.Agreed.{AgreementGives, AgreesEvent, AreLentUndone}
+use Rattle.qs_lawful.specs.BesideStep.{HasCountRoom}
 use Rattle.qs_lawful.specs.Coming.{ComesTo}
 use Rattle.qs_lawful.specs.Entering.{HoldsWork, book_at}
 use Rattle.qs_lawful.specs.Given.{AtEach, MayServe, MaySettle}
@@ -29,12 +30,17 @@ use Rattle.qs_lawful.proofs.GivenWaiting.{may_command, may_wait}
 use Rattle.qs_lawful.proofs.Replied.{by_served}
 use Rattle.qs_lawful.proofs.WholeStep.{by_happen}
 
-all_any : {A : Type 0} (xs : List A) → Every (λ (x : A). Unit {0}) xs
+pub all_any : {A : Type 0} (xs : List A) → Every (λ (x : A). Unit {0}) xs
 all_any [] = tt
 all_any (x ∷ xs) = (tt, all_any xs)
 
+-- what is given at each stage, one beside the other
+pub both_at : {A : Type 0} (P Q : Work → A → Type 0) (f : Work → A → Work) (xs : List A) (work : Work) → AtEach P f work xs → AtEach Q f work xs → AtEach (λ w x. P w x × Q w x) f work xs
+both_at P Q f [] work p q = tt
+both_at P Q f (x ∷ xs) work p q = ((p.0, q.0), both_at P Q f xs (f work x) p.1 q.1)
+
 -- each client with an open command has a small number
-small_clients : (P : ClientNo × OpenCommand → Type 0) (Q : ClientNo → Type 0) → ((entry : ClientNo × OpenCommand) → P entry → Q entry.0) → (entries : List (ClientNo × OpenCommand)) → Every P entries → Every Q (map (λ (entry : ClientNo × OpenCommand). entry.0) entries)
+pub small_clients : (P : ClientNo × OpenCommand → Type 0) (Q : ClientNo → Type 0) → ((entry : ClientNo × OpenCommand) → P entry → Q entry.0) → (entries : List (ClientNo × OpenCommand)) → Every P entries → Every Q (map (λ (entry : ClientNo × OpenCommand). entry.0) entries)
 small_clients P Q each [] every = tt
 small_clients P Q each (e ∷ es) every = (each e every.0, small_clients P Q each es every.1)
 
@@ -49,7 +55,7 @@ module _ (stamp : ℕ) (before : BookValue) (size : ℕ) (nodes : ℕ → NodeVa
   may_happen (events.Received peer message) is comes agrees = may_come stamp before size nodes n first s.first peer message comes agrees
   may_happen events.ServeAll is comes agrees = at_each (Stands stamp before size nodes n) (λ (server : ServerNo). Unit {0}) CanCount (MayServe stamp before) serve_next
       (λ work server k any room. may_serve stamp before size nodes n work k server room)
-      (λ work server k any room. let held : HoldsWork stamp before (serve_next work server) = by_served stamp before work k.held server (may_serve stamp before size nodes n work k server room) in record { held = held; by = s.rules.serves work server k held })
+      (λ work server k any room. let held : HoldsWork stamp before (serve_next work server) = by_served stamp before work k.held server (may_serve stamp before size nodes n work k server room) in record { held = held; by = s.rules.serves work server room k held })
       (ipc.turns first.node.queues) first s.first (all_any (ipc.turns first.node.queues)) comes
   may_happen (events.PeerRestarted peer old new) is comes agrees = tt
   may_happen events.Tick is comes agrees = s.ages is
@@ -57,21 +63,24 @@ module _ (stamp : ℕ) (before : BookValue) (size : ℕ) (nodes : ℕ → NodeVa
   happens : MayHappen stamp before event first
   happens = may_happen event refl s.comes s.agreed.comes
 
-  done : Stands stamp before size nodes n (done_work node event free)
+  pub done : Stands stamp before size nodes n (done_work node event free)
   done = let held : HoldsWork stamp before (done_work node event free) = by_happen stamp before event first s.first.held happens in record { held = held; by = s.happens s.comes s.first held }
 
   -- ---- settling
 
-  settles : AtEach (MaySettle stamp before) settle_tid (done_work node event free) (due_tids (done_work node event free))
-  settles = at_each (Stands stamp before size nodes n) (λ (tid : Tid). Unit {0}) (AgreementGives stamp before size nodes n) (MaySettle stamp before) settle_tid
-      (λ work tid k any g. may_settle stamp before size nodes n s.rules work tid k g)
-      (λ work tid k any g. s_settled stamp before size nodes n s.rules work tid k g)
-      (due_tids (done_work node event free)) (done_work node event free) done (all_any (due_tids (done_work node event free))) s.agreed.settles
+  pub given_so : AtEach (λ (work : Work) (tid : Tid). AgreementGives stamp before size nodes n work tid × HasCountRoom work tid) settle_tid (done_work node event free) (due_tids (done_work node event free))
+  given_so = both_at (AgreementGives stamp before size nodes n) HasCountRoom settle_tid (due_tids (done_work node event free)) (done_work node event free) s.agreed.settles s.rooms
 
-  settled : Stands stamp before size nodes n (settle (done_work node event free))
-  settled = reached (Stands stamp before size nodes n) (λ (tid : Tid). Unit {0}) (AgreementGives stamp before size nodes n) settle_tid
-      (λ work tid k any g. s_settled stamp before size nodes n s.rules work tid k g)
-      (due_tids (done_work node event free)) (done_work node event free) done (all_any (due_tids (done_work node event free))) s.agreed.settles
+  settles : AtEach (MaySettle stamp before) settle_tid (done_work node event free) (due_tids (done_work node event free))
+  settles = at_each (Stands stamp before size nodes n) (λ (tid : Tid). Unit {0}) (λ (work : Work) (tid : Tid). AgreementGives stamp before size nodes n work tid × HasCountRoom work tid) (MaySettle stamp before) settle_tid
+      (λ work tid k any g. may_settle stamp before size nodes n s.rules work tid k g.0 g.1)
+      (λ work tid k any g. s_settled stamp before size nodes n s.rules work tid k g.0 g.1)
+      (due_tids (done_work node event free)) (done_work node event free) done (all_any (due_tids (done_work node event free))) given_so
+
+  pub settled : Stands stamp before size nodes n (settle (done_work node event free))
+  settled = reached (Stands stamp before size nodes n) (λ (tid : Tid). Unit {0}) (λ (work : Work) (tid : Tid). AgreementGives stamp before size nodes n work tid × HasCountRoom work tid) settle_tid
+      (λ work tid k any g. s_settled stamp before size nodes n s.rules work tid k g.0 g.1)
+      (due_tids (done_work node event free)) (done_work node event free) done (all_any (due_tids (done_work node event free))) given_so
 
   -- ---- commands that stayed open
 

@@ -37,7 +37,7 @@ noted_at m n = by (noted_cmp m n) refl
     by Greater is h = absurd (cc (rw is at h))
 
 -- what is found among keys to which one was put was found before, or is that one
-any_put_back : {K : Type 0} (cmp : K → K → Ordering) (p : K → Bool) (k : K) (xs : List K) → list_any p (insert_key cmp xs k) ≡ true → (list_any p xs ≡ true) ⊎ (p k ≡ true)
+pub any_put_back : {K : Type 0} (cmp : K → K → Ordering) (p : K → Bool) (k : K) (xs : List K) → list_any p (insert_key cmp xs k) ≡ true → (list_any p xs ≡ true) ⊎ (p k ≡ true)
 any_put_back cmp p k [] h = by (p k) refl h
   where
     by : (b : Bool) → p k ≡ b → (b || false) ≡ true → (false ≡ true) ⊎ (p k ≡ true)

@@ -12,19 +12,19 @@ use Rattle.qs_lawful.specs.Logs.{Every}
 use Rattle.qs_lawful.specs.Parcels.{FitsChannels, HoldsChannels, IsParcel}
 use Rattle.qs_lawful.proofs.Truths.{number_is}
 
-every_more : {A : Type 0} (P : A → Type 0) (xs ys : List A) → Every P xs → Every P ys → Every P (xs ++ ys)
+pub every_more : {A : Type 0} (P : A → Type 0) (xs ys : List A) → Every P xs → Every P ys → Every P (xs ++ ys)
 every_more P [] ys a b = b
 every_more P (x ∷ xs) ys a b = (a.0, every_more P xs ys a.1 b)
 
 -- of what is changed at one number, and at one pair of them
-at_one : {A : Type 0} (P : ℕ → A → Type 0) (f : ℕ → A) (n : ℕ) (x : A) → P n x → ((k : ℕ) → P k (f k)) → (k : ℕ) → P k (with_at f n x k)
+pub at_one : {A : Type 0} (P : ℕ → A → Type 0) (f : ℕ → A) (n : ℕ) (x : A) → P n x → ((k : ℕ) → P k (f k)) → (k : ℕ) → P k (with_at f n x k)
 at_one P f n x new old k = by (k == n) refl
   where
     by : (b : Bool) → (k == n) ≡ b → P k (if b then x else f k)
     by true is = subst (λ (i : ℕ). P i x) (sym (number_is k n is)) new
     by false is = old k
 
-at_two : {A : Type 0} (P : ℕ → ℕ → A → Type 0) (f : ℕ → ℕ → A) (n m : ℕ) (x : A) → P n m x → ((p q : ℕ) → P p q (f p q)) → (p q : ℕ) → P p q (with_at2 f n m x p q)
+pub at_two : {A : Type 0} (P : ℕ → ℕ → A → Type 0) (f : ℕ → ℕ → A) (n m : ℕ) (x : A) → P n m x → ((p q : ℕ) → P p q (f p q)) → (p q : ℕ) → P p q (with_at2 f n m x p q)
 at_two P f n m x new old p q = by (p == n) refl (q == m) refl
   where
     by : (a : Bool) → (p == n) ≡ a → (b : Bool) → (q == m) ≡ b → P p q (if a then (if b then x else f p q) else f p q)

@@ -39,11 +39,11 @@ use Rattle.qs_lawful.proofs.Parts.{with_other}
 use Rattle.qs_lawful.proofs.Passing.{Passing, files_next, left, others_next}
 
 -- servers but files, each once
-abbrev IsApartFrom : ServerNo → List ServerNo → Type 0
+abbrev pub IsApartFrom : ServerNo → List ServerNo → Type 0
 IsApartFrom s [] = ⊤
 IsApartFrom s (x ∷ xs) = ((s.0 == x.0) ≡ false) × IsApartFrom s xs
 
-abbrev AreOthers : List ServerNo → Type 0
+abbrev pub AreOthers : List ServerNo → Type 0
 AreOthers [] = ⊤
 AreOthers (s ∷ ss) = (is_kept s ≡ true) × (rules.same_server s rules.files_no ≡ false) × IsApartFrom s ss × AreOthers ss
 
@@ -55,11 +55,11 @@ module _ (stamp : ℕ) (before : BookValue) (tid : Tid) (start : Participant) wh
   due s = is_due_at dues.Vote start s
 
   -- their votes are due as they were
-  abbrev AreDue : {work : Work} → Passing stamp before tid work → List ServerNo → Type 0
+  abbrev pub AreDue : {work : Work} → Passing stamp before tid work → List ServerNo → Type 0
   AreDue m [] = ⊤
   AreDue m (s ∷ ss) = (left stamp before tid m s ≡ due s) × AreDue m ss
 
-  due_on : (s : ServerNo) (work new : Work) (m : Passing stamp before tid work) (after : Passing stamp before tid new) → ((x : ServerNo) → s.0 ≢ x.0 → left stamp before tid after x ≡ left stamp before tid m x)
+  pub due_on : (s : ServerNo) (work new : Work) (m : Passing stamp before tid work) (after : Passing stamp before tid new) → ((x : ServerNo) → s.0 ≢ x.0 → left stamp before tid after x ≡ left stamp before tid m x)
       → (ss : List ServerNo) → IsApartFrom s ss → AreDue m ss → AreDue after ss
   due_on s work new m after others [] far same = tt
   due_on s work new m after others (x ∷ xs) far same = (others x (apart s.0 x.0 far.0) ∙ same.0, due_on s work new m after others xs far.1 same.1)
@@ -76,10 +76,10 @@ module _ (stamp : ℕ) (before : BookValue) (tid : Tid) (start : Participant) wh
           more (vote_next tid work s) n.after (due_on s work (vote_next tid work s) m n.after n.others ss ok.2 same.1)
 
   -- files first
-  abbrev others : List ServerNo
+  abbrev pub others : List ServerNo
   others = no 1 ∷ no 2 ∷ no 3 ∷ no 4 ∷ no 5 ∷ no 6 ∷ []
 
-  they_are : AreOthers others
+  pub they_are : AreOthers others
   they_are = (refl, refl, (refl, (refl, (refl, (refl, (refl, tt))))), (refl, refl, (refl, (refl, (refl, (refl, tt)))), (refl, refl, (refl, (refl, (refl, tt))), (refl, refl, (refl, (refl, tt)), (refl, refl, (refl, tt), (refl, refl, tt, tt))))))
 
   all_pass : (work : Work) (m : Passing stamp before tid work) → AreDue m (no 0 ∷ others) → awaits_note m.part ≡ false
@@ -106,10 +106,10 @@ module _ (stamp : ℕ) (before : BookValue) (tid : Tid) (work : Work) (h : Holds
   abbrev Due : {w : Work} → Passing stamp before tid w → Type 0
   Due m = AreDue stamp before tid part m (no 0 ∷ no 1 ∷ no 2 ∷ no 3 ∷ no 4 ∷ no 5 ∷ no 6 ∷ [])
 
-  in_machine : (tx : TransactionValue) × (find_transaction (book_at stamp before work) tid ≡ Some tx)
+  pub in_machine : (tx : TransactionValue) × (find_transaction (book_at stamp before work) tid ≡ Some tx)
   in_machine = stands stamp (book_at stamp before work) work.node tid part h.holds known
 
-  in_commit : (is_some in_machine.0.asked || is_abort in_machine.0.cell) ≡ true
+  pub in_commit : (is_some in_machine.0.asked || is_abort in_machine.0.cell) ≡ true
   in_commit = or_left _ _ (held.asked asked)
     where
       or_left : (a b : Bool) → a ≡ true → (a || b) ≡ true
@@ -121,27 +121,31 @@ module _ (stamp : ℕ) (before : BookValue) (tid : Tid) (work : Work) (h : Holds
   votes_is : due_votes tid work ≡ servers_due dues.Vote part
   votes_is = ap (λ (o : Option Participant). elim o [ None ↦ [] | Some p ↦ servers_due dues.Vote p ]) known
 
+  abbrev pub plain_passing : Passing stamp before tid work
+  plain_passing = record { held = h; part = part; known = known; asked = asked; open_still = given.open_still }
+
+  pub plain_due : Due plain_passing
+  plain_due = (refl, (refl, (refl, (refl, (refl, (refl, (refl, tt)))))))
+
+  module _ (fresh : (member_of part (no 3)).fresh ≡ true) where
+    abbrev pub ended_passing : Passing stamp before tid (end_member tid work (no 3))
+    ended_passing = record {
+      held = ended_held stamp before work tid part in_machine.0 h (files_held stamp before work h) known in_machine.1 in_commit fresh;
+      part = ended_part;
+      known = part_changed tid (outcome_rules.settled (no 3)) work.node.manager part known;
+      asked = asked;
+      open_still = uncommitted_on stamp before tid work (end_member tid work (no 3)) (acts.Ending tid (member_here work (no 3))) (machine.ended (member_here work (no 3)) (inc_at (book_at stamp before work) (record { 0 = (here work).0 }))) in_machine.0 (λ x. refl) refl in_machine.1 refl refl given.open_still;
+    }
+
+    other : (x : ServerNo) → 3 ≢ x.0 → rules.is_vote_due x (member_of ended_part x) ≡ rules.is_vote_due x (member_of part x)
+    other x far = ap (rules.is_vote_due x) (with_other (no 3) x (told_all (member_of part (no 3))) part far)
+
+    pub ended_due : Due ended_passing
+    ended_due = (other (no 0) (apart 3 0 refl), (other (no 1) (apart 3 1 refl), (other (no 2) (apart 3 2 refl), (refl, (other (no 4) (apart 3 4 refl), (other (no 5) (apart 3 5 refl), (other (no 6) (apart 3 6 refl), tt)))))))
+
   ended : (b : Bool) → (member_of part (no 3)).fresh ≡ b → HoldsWork stamp before (fold (vote_next tid) (end_if b tid work) (servers_due dues.Vote part))
-  ended false fresh = all_pass stamp before tid part work m (refl, (refl, (refl, (refl, (refl, (refl, (refl, tt))))))) idle given.audit
-    where
-      m : Passing stamp before tid work
-      m = record { held = h; part = part; known = known; asked = asked; open_still = given.open_still }
-  ended true fresh = all_pass stamp before tid part (end_member tid work (no 3)) m same idle given.audit
-    where
-      m : Passing stamp before tid (end_member tid work (no 3))
-      m = record {
-        held = ended_held stamp before work tid part in_machine.0 h (files_held stamp before work h) known in_machine.1 in_commit fresh;
-        part = ended_part;
-        known = part_changed tid (outcome_rules.settled (no 3)) work.node.manager part known;
-        asked = asked;
-        open_still = uncommitted_on stamp before tid work (end_member tid work (no 3)) (acts.Ending tid (member_here work (no 3))) (machine.ended (member_here work (no 3)) (inc_at (book_at stamp before work) (record { 0 = (here work).0 }))) in_machine.0 (λ x. refl) refl in_machine.1 refl refl given.open_still;
-      }
-
-      other : (x : ServerNo) → 3 ≢ x.0 → rules.is_vote_due x (member_of ended_part x) ≡ rules.is_vote_due x (member_of part x)
-      other x far = ap (rules.is_vote_due x) (with_other (no 3) x (told_all (member_of part (no 3))) part far)
-
-      same : Due m
-      same = (other (no 0) (apart 3 0 refl), (other (no 1) (apart 3 1 refl), (other (no 2) (apart 3 2 refl), (refl, (other (no 4) (apart 3 4 refl), (other (no 5) (apart 3 5 refl), (other (no 6) (apart 3 6 refl), tt)))))))
+  ended false fresh = all_pass stamp before tid part work plain_passing plain_due idle given.audit
+  ended true fresh = all_pass stamp before tid part (end_member tid work (no 3)) (ended_passing fresh) (ended_due fresh) idle given.audit
 
   pub by_pass : HoldsWork stamp before (vote_pass tid work)
   by_pass = subst (λ (w : Work). HoldsWork stamp before (fold (vote_next tid) w (due_votes tid work))) (sym (endings_are tid part work known))

@@ -108,7 +108,7 @@ module _ (opened : List Opened) (history more : List Entry) (coherent : IsCohere
 
   -- ---- what stood open
 
-  whole : IsLawful (opening opened) (history ++ more)
+  pub whole : IsLawful (opening opened) (history ++ more)
   whole = joined history (opening opened) lawful then_lawful
     where
       joined : (es : List Entry) (book : BookValue) → IsLawful book es → IsLawful (book_after book es) more → IsLawful book (es ++ more)

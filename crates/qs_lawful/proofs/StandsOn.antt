@@ -1,13 +1,10 @@
 -- What stands at each stage of a step stands on: the node's setting and its own facts, and what the homes have, by themselves; the rest as given.
 use Rattle.std.proofs.Common.{◌≡◌, ℕ, refl, ap, sym, subst, ◌∙◌}
-use Rattle.qs_base.specs.declared.identifiers.Outcome.TheVariants as outcomes
-use Rattle.std.proofs.Common.{Some}
 use Rattle.qs_machine.specs.Book.{BookValue}
-use Rattle.qs_ops.specs.declared.answer.Cause.TheVariants as causes
 use Rattle.qs_step.specs.Serving.{serve_next}
 use Rattle.qs_step.specs.Settling.{forget_rule, is_pass_due, pass_rule, ready_rule, refuse_rule, try}
 use Rattle.qs_step.specs.State.{NodeValue, Work, work_on}
-use Rattle.qs_step.specs.Step.{abort_old, happen, wait_on}
+use Rattle.qs_step.specs.Step.{happen, wait_on}
 use Rattle.qs_step.specs.Telling.{forget}
 use Rattle.qs_step.specs.Voting.{vote_pass}
 use Rattle.qs_step.specs.declared.event.Event.{Event}
@@ -20,17 +17,17 @@ use Rattle.qs_lawful.specs.Standing.{HoldsHomes, KeepsStanding, Stands, StandsBy
 use Rattle.qs_lawful.specs.StandingOn.{KeepsBeside, StandsBeside, StepBeside}
 use Rattle.qs_lawful.specs.StepStands.{StepStands}
 use Rattle.qs_lawful.proofs.FactsRules.{serve_next_keeps}
-use Rattle.qs_lawful.proofs.FactsStages.{forgets_keep, happens_keep, old_keeps, passes_keep, readies_keep, refuses_keep, waits_keep}
+use Rattle.qs_lawful.proofs.FactsStages.{forgets_keep, happens_keep, passes_keep, readies_keep, refuses_keep, waits_keep}
 use Rattle.qs_lawful.proofs.FactsTold.{begin_incarnation_keeps}
 use Rattle.qs_lawful.proofs.GivenWhole.{may_step}
 use Rattle.qs_lawful.proofs.HomesStand.{homes_stand}
-use Rattle.qs_lawful.proofs.SameSetting.{decided_same, if_same, serve_next_same, undecided_same}
+use Rattle.qs_lawful.proofs.SameSetting.{if_same, serve_next_same, undecided_same}
 use Rattle.qs_lawful.proofs.SameSettingTold.{begin_same}
 use Rattle.qs_lawful.proofs.SameSettings.{happen_same, pass_same, ready_same, refuse_same, wait_same}
 
 module _ (stamp : ℕ) (before : BookValue) (size : ℕ) (nodes : ℕ → NodeValue) (n : ℕ) (homes : HoldsHomes before size nodes n) where
   -- what stands after a rule that keeps the setting and the node's own facts
-  stands_on : (work new : Work) → new.node.setting ≡ work.node.setting → (HasNodeFacts work.node → HasNodeFacts new.node) → Stands stamp before size nodes n work → HoldsWork stamp before new → StandsBeside stamp before new → StandsBy stamp before size nodes n new
+  pub stands_on : (work new : Work) → new.node.setting ≡ work.node.setting → (HasNodeFacts work.node → HasNodeFacts new.node) → Stands stamp before size nodes n work → HoldsWork stamp before new → StandsBeside stamp before new → StandsBy stamp before size nodes n new
   stands_on work new same keeps s held beside = record {
     facts = keeps s.by.facts;
     sound = beside.sound;
@@ -45,13 +42,12 @@ module _ (stamp : ℕ) (before : BookValue) (size : ℕ) (nodes : ℕ → NodeVa
 
   pub keeps_standing : KeepsBeside stamp before size nodes n → KeepsStanding stamp before size nodes n
   keeps_standing k = record {
-    passes = λ work tid s held. stands_on work (try tid pass_rule work) (undecided_same tid (pass_rule tid) work (λ part. if_same (is_pass_due tid part work) (vote_pass tid work) work work (pass_same tid work) refl)) (passes_keep work tid) s held (k.passes work tid s held);
+    passes = λ work tid so s held. stands_on work (try tid pass_rule work) (undecided_same tid (pass_rule tid) work (λ part. if_same (is_pass_due tid part work) (vote_pass tid work) work work (pass_same tid work) refl)) (passes_keep work tid) s held (k.passes work tid so s held);
     readies = λ work tid s held. stands_on work (try tid ready_rule work) (undecided_same tid (ready_rule tid) work (λ part. ready_same tid part work)) (readies_keep work tid) s held (k.readies work tid s held);
     refuses = λ work tid s held. stands_on work (try tid refuse_rule work) (undecided_same tid (refuse_rule tid) work (λ part. refuse_same tid part work)) (refuses_keep work tid) s held (k.refuses work tid s held);
     forgets = λ work tid s held. stands_on work (try tid forget_rule work) (undecided_same tid (forget_rule tid) work (λ part. if_same (is_forgotten part) (forget tid work) work work refl refl)) (forgets_keep work tid) s held (k.forgets work tid s held);
-    serves = λ work server s held. stands_on work (serve_next work server) (serve_next_same work server) (serve_next_keeps work server) s held (k.serves work server s held);
+    serves = λ work server room s held. stands_on work (serve_next work server) (serve_next_same work server) (serve_next_keeps work server) s held (k.serves work server room s held);
     waits = λ work client s held. stands_on work (wait_on work client) (wait_same work client) (waits_keep work client) s held (k.waits work client s held);
-    olds = λ work age tid s held. stands_on work (abort_old age work tid) (decided_same tid outcomes.Abort (Some (causes.Old age)) work) (old_keeps work age tid) s held (k.olds work age tid s held);
   }
 
 -- the whole step
@@ -62,7 +58,7 @@ module _ (stamp : ℕ) (before : BookValue) (size : ℕ) (nodes : ℕ → NodeVa
   at_first : (first_work node free).node.setting.node.0 ≡ n
   at_first = ap (λ (t : Setting). t.node.0) setting_is ∙ s.at
 
-  first : Stands stamp before size nodes n (first_work node free)
+  pub first : Stands stamp before size nodes n (first_work node free)
   first = record {
     held = s.held;
     by = record {
@@ -75,7 +71,7 @@ module _ (stamp : ℕ) (before : BookValue) (size : ℕ) (nodes : ℕ → NodeVa
     };
   }
 
-  step_stands : StepStands stamp before size nodes n node event free
+  pub step_stands : StepStands stamp before size nodes n node event free
   step_stands = record {
     rules = keeps_standing stamp before size nodes n s.homes s.rules;
     happens = λ comes here held. stands_on stamp before size nodes n s.homes (first_work node free) (happen event (first_work node free)) (happen_same event (first_work node free))
@@ -84,6 +80,7 @@ module _ (stamp : ℕ) (before : BookValue) (size : ℕ) (nodes : ℕ → NodeVa
     comes = s.comes;
     ages = s.ages;
     agreed = s.agreed;
+    rooms = s.rooms;
   }
 
   pub beside_gives : MayStep stamp before node event free

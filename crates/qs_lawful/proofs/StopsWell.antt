@@ -31,6 +31,7 @@ use Rattle.qs_ops.specs.Servers.{audit_no, files_no}
 use Rattle.qs_ops.specs.Table.{applied}
 use Rattle.qs_ops.specs.declared.operation.Op.{Op}
 use Rattle.qs_ops.specs.declared.vote.Vote.TheVariants as votes
+use Rattle.qs_record.specs.declared.record.Record.{Record}
 use Rattle.qs_restart.specs.Recovery.{Prepared, Recovery, recovery}
 use Rattle.qs_world.specs.Moves.{is_in_order, stopped, stopped_host}
 use Rattle.qs_world.specs.Moves as moves
@@ -40,7 +41,7 @@ use Rattle.qs_lawful.specs.Holds.{HasEnded, IsOwner, MayBeTold}
 use Rattle.qs_lawful.specs.Lasting.{Lasts}
 use Rattle.qs_lawful.specs.Logged.{HasCommitted, HoldsLogged, IsCommitMade, Later}
 use Rattle.qs_lawful.specs.Logs.{Every, IsVoteLogged, found_of, found_votes}
-use Rattle.qs_lawful.specs.Said.{HoldsLeft, IsMadeBy, IsApart, IsAsRecorded, IsRecorded, IsToBeRecorded}
+use Rattle.qs_lawful.specs.Said.{HoldsLeft, HoldsSaid, IsMadeBy, IsApart, IsAsRecorded, IsRecorded, IsToBeRecorded}
 use Rattle.qs_lawful.specs.Worlds.{HoldsDown, HoldsKept, HoldsNodeAt, HoldsNodeOf, HoldsUp, HoldsWorld, IsLeftOpen, IsLoanOf, IsOpenStill}
 use Rattle.qs_lawful.proofs.LogCrashes.{may_crash}
 use Rattle.qs_lawful.proofs.LogCrashes as crashes
@@ -89,7 +90,7 @@ none_found here book done all = from done all
 
 -- ---- the whole
 
-module _ (book : BookValue) (world : World) (n stamp : ℕ) (cause : CrashCause) (lasts : Lasts book) (h : HoldsWorld book world) (up : world.channels.up n ≡ true) (ordered : is_in_order world n stamp ≡ true) (crash : is_crash cause ≡ true) where
+module _ (book : BookValue) (world : World) (n stamp : ℕ) (cause : CrashCause) (lasts : Lasts book) (h : HoldsWorld book world) (up : world.channels.up n ≡ true) (ordered : is_in_order world n stamp ≡ true) (crash : is_crash cause ≡ true) (disk : List Record) where
   and_both : (a b : Bool) → (a && b) ≡ true → (a ≡ true) × (b ≡ true)
   and_both true b e = (refl, e)
   and_both false b e = absurd (cc e)
@@ -100,22 +101,22 @@ module _ (book : BookValue) (world : World) (n stamp : ℕ) (cause : CrashCause)
       less : (a b : ℕ) → nat_lt a b ≡ true → a < b
       less a b e = grind (arith, nat_tests, e)
 
-  at : HoldsNodeAt book world n
+  pub at : HoldsNodeAt book world n
   at = h.nodes n in_run
 
-  u : HoldsUp n book at.state (world.hosts n)
+  pub u : HoldsUp n book at.state (world.hosts n)
   u = at.runs up
 
   abbrev log : Recovery
-  log = recovery (world.hosts n).log
+  log = recovery disk
 
   abbrev entry : Entry
   entry = entry_of n stamp (acts.Crash cause)
 
-  abbrev now : BookValue
+  abbrev pub now : BookValue
   now = effect book entry
 
-  abbrev state_now : machine.NodeValue
+  abbrev pub state_now : machine.NodeValue
   state_now = crash_node book.place at.state
 
   lawful : broken book entry ≡ None
@@ -124,126 +125,11 @@ module _ (book : BookValue) (world : World) (n stamp : ℕ) (cause : CrashCause)
   there_now : slice_get now.nodes n ≡ Some state_now
   there_now = changed_at_here (crash_node book.place) book.nodes n at.state at.there
 
-  later : Later book now
-  later = record { aborted = λ tid is. is; committed = λ tid is. is; learnt = learnt_self book }
+  abbrev pub host : Host
+  host = stopped_host stamp disk (world.hosts n)
 
-  logged : HoldsLogged n book at.state log
-  logged = subst (λ (s : machine.NodeValue). HoldsLogged n book s log) (ap (λ (o : Option machine.NodeValue). elim o [ None ↦ u.log.state | Some x ↦ x ]) (sym u.log.there ∙ at.there)) u.log.on_disk
-
-  logged_now : HoldsLogged n now state_now log
-  logged_now = logged_on n book now at.state state_now log later refl refl logged
-
-  -- ---- nothing that the log says is new
-
-  known_committed : (tid : Tid) → is_among log.committed tid ≡ true → HasCommitted book tid
-  known_committed tid among = by (every_among (IsCommitMade book at.state) log.committed tid logged.commits among)
-    where
-      own : slice_get book.nodes n ≡ Some at.state
-      own = at.there
-
-      by : IsCommitMade book at.state tid → HasCommitted book tid
-      by (inl opening) = (lasts.nodes (record { 0 = n }) at.state own).committed tid opening
-      by (inr is) = is
-
-  not_new : (v : Prepared) → IsVoteLogged n book at.state log v → is_new_vote n state_now (find_transaction now v.tid) (found_of v) ≡ false
-  not_new v (inl on) = of (find_transaction book v.tid)
-    where
-      of : (o : Option TransactionValue) → is_new_vote n state_now o (found_of v) ≡ false
-      of None = refl
-      of (Some tx) = rw on refl
-  not_new v (inr applied) = ap (λ (o : Option TransactionValue). is_new_vote n state_now o (found_of v)) applied.found ∙ clear
-    where
-      cell : applied.tx.cell ≡ cells.Commit
-      cell = ap (λ (o : Option Cell). elim o [ None ↦ cells.Commit | Some c ↦ c ]) (sym (ap cell_of_transaction applied.found) ∙ known_committed v.tid applied.has_commit)
-
-      before : (o : Option ℕ) → applied.tx.decided ≡ o → (is_commit applied.tx.cell && (not (is_some o) || is_before book.place o)) ≡ true
-      before None e = rw cell refl
-      before (Some p) e = rw cell (low p book.place (lasts.past v.tid applied.tx p applied.found e))
-        where
-          low : (a b : ℕ) → a < b → nat_lt a b ≡ true
-          low a b e = grind (arith, nat_tests, e)
-
-      past : was_committed book.place applied.tx ≡ true
-      past = before applied.tx.decided refl
-
-      and_false : (a b : Bool) → b ≡ false → (a && b) ≡ false
-      and_false true b e = e
-      and_false false b e = refl
-
-      between : (a b c : Bool) → b ≡ false → (a && (b && c)) ≡ false
-      between true true c e = absurd (cc e)
-      between true false c e = refl
-      between false b c e = refl
-
-      in_commit : was_in_commit book.place applied.tx ≡ false
-      in_commit = and_false (is_before book.place applied.tx.asked) (not (was_committed book.place applied.tx)) (ap not past)
-
-      clear : (not (is_on_record state_now (found_of v)) && could_vote n state_now applied.tx (found_of v)) ≡ false
-      clear = and_false (not (is_on_record state_now (found_of v))) (could_vote n state_now applied.tx (found_of v)) (between (has_vote v.server.0 votes.Recoverable) (was_in_commit book.place applied.tx) _ in_commit)
-
-  votes_none : new_votes n now (found_votes log) ≡ []
-  votes_none = new_votes_are n now state_now (found_votes log) there_now ∙ none_new n now state_now (found_votes log)
-      (found_of_all (λ (f : Found). is_new_vote n state_now (find_transaction now f.tid) f ≡ false) log (every_on (IsVoteLogged n book at.state log) (λ (v : Prepared). is_new_vote n state_now (find_transaction now v.tid) (found_of v) ≡ false) not_new log.prepared logged.votes))
-
-  abbrev mid : BookValue
-  mid = put_new_votes n (found_votes log) now
-
-  record_is : (tid : Tid) (s : ℕ) → record_at n mid tid s ≡ record_of at.state tid s
-  record_is tid s = ap (λ (o : Option machine.NodeValue). elim o [ None ↦ None | Some node ↦ record_of node tid s ]) (changed_at_here (with_votes (new_votes n now (found_votes log))) now.nodes n state_now there_now)
-      ∙ ap (λ (votes : List (Voter × OnRecord)). record_of (with_votes votes state_now) tid s) votes_none
-
-  gone : (tid : Tid) → is_among log.committed tid ≡ true → has_record n mid tid ≡ false
-  gone tid among = rw (record_is tid files_no ∙ u.on_disk.gone tid files_no refl among, record_is tid audit_no ∙ u.on_disk.gone tid audit_no refl among) refl
-
-  every_self : (P : Tid → Type 0) (tids : List Tid) → ((tid : Tid) → is_among tids tid ≡ true → P tid) → Every P tids
-  every_self P [] gives = tt
-  every_self P (t ∷ tids) gives = (gives t (first (same_tid t t) (is_among tids t) (same_tid-self t)), every_self P tids (λ u is. gives u (any (same_tid u t) (is_among tids u) is)))
-    where
-      first : (a b : Bool) → a ≡ true → (a || b) ≡ true
-      first true b e = refl
-      first false b e = absurd (cc e)
-
-      any : (a b : Bool) → b ≡ true → (a || b) ≡ true
-      any true b e = refl
-      any false b e = e
-
-  nothing_found : commits_found n mid log.committed ≡ []
-  nothing_found = none_found n mid log.committed (every_self (λ (tid : Tid). has_record n mid tid ≡ false) log.committed gone)
-
-  recorded : (v : Prepared) → IsVoteLogged n book at.state log v → IsAsRecorded n book at.state v → IsApart log v → IsToBeRecorded n now log v
-  recorded v (inr applied) as_recorded apart names clear = absurd (cc (sym (apart names clear) ∙ applied.has_commit))
-  recorded v (inl on) as_recorded apart names clear = by (record_of at.state v.tid v.server.0) refl on
-    where
-      by : (o : Option OnRecord) → record_of at.state v.tid v.server.0 ≡ o → is_on_record at.state (found_of v) ≡ true → IsRecorded n now (record_at n mid v.tid v.server.0) v
-      by None none on = absurd (cc (sym (ap (λ (o : Option OnRecord). elim o [ None ↦ false | Some rec ↦ rec.covers == v.covers ]) none) ∙ on))
-      by (Some rec) is on =
-          let k : IsRecorded n book (Some rec) v = as_recorded rec is in
-          subst (λ (o : Option OnRecord). IsRecorded n now o v) (sym (record_is v.tid v.server.0 ∙ is)) (record { changes = k.changes; count = k.count })
-
-  left : HoldsLeft n now state_now log
-  left = record {
-    files = subst (λ (ops : List Op). IsMadeBy (applied at.state.files ops) log.files) (sym (ap (flat_map (changes_at n mid files_no)) nothing_found)) (record { contents = u.on_disk.files.contents; notes = u.on_disk.files.notes });
-    audit = subst (λ (ops : List Op). IsMadeBy (applied at.state.audit ops) log.audit) (sym (ap (flat_map (changes_at n mid audit_no)) nothing_found)) (record { contents = u.on_disk.audit.contents; notes = u.on_disk.audit.notes });
-    recorded = every_two (λ (v : Prepared). IsVoteLogged n book at.state log v × IsAsRecorded n book at.state v) (IsApart log) (IsToBeRecorded n now log) (λ v both apart. recorded v both.0 both.1 apart) log.prepared
-        (every_two (IsVoteLogged n book at.state log) (IsAsRecorded n book at.state) (λ (v : Prepared). IsVoteLogged n book at.state log v × IsAsRecorded n book at.state v) (λ v a b. (a, b)) log.prepared logged.votes u.on_disk.recorded) u.on_disk.apart;
-    apart = u.on_disk.apart;
-    undone = u.on_disk.undone;
-  }
-
-  abbrev host : Host
-  host = stopped_host stamp (world.hosts n).log (world.hosts n)
-
-  down : HoldsDown n now state_now host
-  down = record {
-    log = crashes.stopped n now state_now log (lasts.nodes (record { 0 = n }) at.state at.there).tidy logged_now;
-    stands = logged_now.stands;
-    marked = logged_now.marked;
-    left = left;
-    nothing_waits = refl;
-  }
-
-  node_now : HoldsNodeOf now world.size n (inc_of world n) false host
-  node_now = record {
+  node_now : HoldsDown n now state_now host → HoldsNodeOf now world.size n (inc_of world n) false host
+  node_now down = record {
     state = state_now;
     there = there_now;
     up_is = refl;
@@ -257,9 +143,127 @@ module _ (book : BookValue) (world : World) (n stamp : ℕ) (cause : CrashCause)
     stopped = λ is. down;
   }
 
-  -- the entry is lawful, and the machine has what the log of the node says
-  pub stops_own : (broken book entry ≡ None) × HoldsNodeAt now (stopped world n stamp cause (world.hosts n).log) n
-  stops_own = (lawful, subst (λ (b : Bool). HoldsNodeOf now world.size n (inc_of world n) (if b then false else world.channels.up n) (if b then host else world.hosts n)) (sym (self n)) node_now)
+  -- the entry is lawful, and the machine has the node that is down, where it has what its log says
+  pub stops_by : HoldsDown n now state_now host → (broken book entry ≡ None) × HoldsNodeAt now (stopped world n stamp cause disk) n
+  stops_by down = (lawful, subst (λ (b : Bool). HoldsNodeOf now world.size n (inc_of world n) (if b then false else world.channels.up n) (if b then host else world.hosts n)) (sym (self n)) (node_now down))
     where
       self : (k : ℕ) → (k == k) ≡ true
       self k = grind (arith, nat_tests)
+
+  -- a log that has nothing new
+  module _ (logged : HoldsLogged n book at.state log) (said : HoldsSaid n book at.state log) where
+    later : Later book now
+    later = record { aborted = λ tid is. is; committed = λ tid is. is; learnt = learnt_self book }
+
+    logged_now : HoldsLogged n now state_now log
+    logged_now = logged_on n book now at.state state_now log later refl refl logged
+
+    -- ---- nothing that the log says is new
+
+    known_committed : (tid : Tid) → is_among log.committed tid ≡ true → HasCommitted book tid
+    known_committed tid among = by (every_among (IsCommitMade book at.state) log.committed tid logged.commits among)
+      where
+        own : slice_get book.nodes n ≡ Some at.state
+        own = at.there
+
+        by : IsCommitMade book at.state tid → HasCommitted book tid
+        by (inl opening) = (lasts.nodes (record { 0 = n }) at.state own).committed tid opening
+        by (inr is) = is
+
+    not_new : (v : Prepared) → IsVoteLogged n book at.state log v → is_new_vote n state_now (find_transaction now v.tid) (found_of v) ≡ false
+    not_new v (inl on) = of (find_transaction book v.tid)
+      where
+        of : (o : Option TransactionValue) → is_new_vote n state_now o (found_of v) ≡ false
+        of None = refl
+        of (Some tx) = rw on refl
+    not_new v (inr applied) = ap (λ (o : Option TransactionValue). is_new_vote n state_now o (found_of v)) applied.found ∙ clear
+      where
+        cell : applied.tx.cell ≡ cells.Commit
+        cell = ap (λ (o : Option Cell). elim o [ None ↦ cells.Commit | Some c ↦ c ]) (sym (ap cell_of_transaction applied.found) ∙ known_committed v.tid applied.has_commit)
+
+        before : (o : Option ℕ) → applied.tx.decided ≡ o → (is_commit applied.tx.cell && (not (is_some o) || is_before book.place o)) ≡ true
+        before None e = rw cell refl
+        before (Some p) e = rw cell (low p book.place (lasts.past v.tid applied.tx p applied.found e))
+          where
+            low : (a b : ℕ) → a < b → nat_lt a b ≡ true
+            low a b e = grind (arith, nat_tests, e)
+
+        past : was_committed book.place applied.tx ≡ true
+        past = before applied.tx.decided refl
+
+        and_false : (a b : Bool) → b ≡ false → (a && b) ≡ false
+        and_false true b e = e
+        and_false false b e = refl
+
+        between : (a b c : Bool) → b ≡ false → (a && (b && c)) ≡ false
+        between true true c e = absurd (cc e)
+        between true false c e = refl
+        between false b c e = refl
+
+        in_commit : was_in_commit book.place applied.tx ≡ false
+        in_commit = and_false (is_before book.place applied.tx.asked) (not (was_committed book.place applied.tx)) (ap not past)
+
+        clear : (not (is_on_record state_now (found_of v)) && could_vote n state_now applied.tx (found_of v)) ≡ false
+        clear = and_false (not (is_on_record state_now (found_of v))) (could_vote n state_now applied.tx (found_of v)) (between (has_vote v.server.0 votes.Recoverable) (was_in_commit book.place applied.tx) _ in_commit)
+
+    votes_none : new_votes n now (found_votes log) ≡ []
+    votes_none = new_votes_are n now state_now (found_votes log) there_now ∙ none_new n now state_now (found_votes log)
+        (found_of_all (λ (f : Found). is_new_vote n state_now (find_transaction now f.tid) f ≡ false) log (every_on (IsVoteLogged n book at.state log) (λ (v : Prepared). is_new_vote n state_now (find_transaction now v.tid) (found_of v) ≡ false) not_new log.prepared logged.votes))
+
+    abbrev mid : BookValue
+    mid = put_new_votes n (found_votes log) now
+
+    record_is : (tid : Tid) (s : ℕ) → record_at n mid tid s ≡ record_of at.state tid s
+    record_is tid s = ap (λ (o : Option machine.NodeValue). elim o [ None ↦ None | Some node ↦ record_of node tid s ]) (changed_at_here (with_votes (new_votes n now (found_votes log))) now.nodes n state_now there_now)
+        ∙ ap (λ (votes : List (Voter × OnRecord)). record_of (with_votes votes state_now) tid s) votes_none
+
+    gone : (tid : Tid) → is_among log.committed tid ≡ true → has_record n mid tid ≡ false
+    gone tid among = rw (record_is tid files_no ∙ said.gone tid files_no refl among, record_is tid audit_no ∙ said.gone tid audit_no refl among) refl
+
+    every_self : (P : Tid → Type 0) (tids : List Tid) → ((tid : Tid) → is_among tids tid ≡ true → P tid) → Every P tids
+    every_self P [] gives = tt
+    every_self P (t ∷ tids) gives = (gives t (first (same_tid t t) (is_among tids t) (same_tid-self t)), every_self P tids (λ u is. gives u (any (same_tid u t) (is_among tids u) is)))
+      where
+        first : (a b : Bool) → a ≡ true → (a || b) ≡ true
+        first true b e = refl
+        first false b e = absurd (cc e)
+
+        any : (a b : Bool) → b ≡ true → (a || b) ≡ true
+        any true b e = refl
+        any false b e = e
+
+    nothing_found : commits_found n mid log.committed ≡ []
+    nothing_found = none_found n mid log.committed (every_self (λ (tid : Tid). has_record n mid tid ≡ false) log.committed gone)
+
+    recorded : (v : Prepared) → IsVoteLogged n book at.state log v → IsAsRecorded n book at.state v → IsApart log v → IsToBeRecorded n now log v
+    recorded v (inr applied) as_recorded apart names clear = absurd (cc (sym (apart names clear) ∙ applied.has_commit))
+    recorded v (inl on) as_recorded apart names clear = by (record_of at.state v.tid v.server.0) refl on
+      where
+        by : (o : Option OnRecord) → record_of at.state v.tid v.server.0 ≡ o → is_on_record at.state (found_of v) ≡ true → IsRecorded n now (record_at n mid v.tid v.server.0) v
+        by None none on = absurd (cc (sym (ap (λ (o : Option OnRecord). elim o [ None ↦ false | Some rec ↦ rec.covers == v.covers ]) none) ∙ on))
+        by (Some rec) is on =
+            let k : IsRecorded n book (Some rec) v = as_recorded rec is in
+            subst (λ (o : Option OnRecord). IsRecorded n now o v) (sym (record_is v.tid v.server.0 ∙ is)) (record { changes = k.changes; count = k.count })
+
+    left : HoldsLeft n now state_now log
+    left = record {
+      files = subst (λ (ops : List Op). IsMadeBy (applied at.state.files ops) log.files) (sym (ap (flat_map (changes_at n mid files_no)) nothing_found)) (record { contents = said.files.contents; notes = said.files.notes });
+      audit = subst (λ (ops : List Op). IsMadeBy (applied at.state.audit ops) log.audit) (sym (ap (flat_map (changes_at n mid audit_no)) nothing_found)) (record { contents = said.audit.contents; notes = said.audit.notes });
+      recorded = every_two (λ (v : Prepared). IsVoteLogged n book at.state log v × IsAsRecorded n book at.state v) (IsApart log) (IsToBeRecorded n now log) (λ v both apart. recorded v both.0 both.1 apart) log.prepared
+          (every_two (IsVoteLogged n book at.state log) (IsAsRecorded n book at.state) (λ (v : Prepared). IsVoteLogged n book at.state log v × IsAsRecorded n book at.state v) (λ v a b. (a, b)) log.prepared logged.votes said.recorded) said.apart;
+      apart = said.apart;
+      undone = said.undone;
+    }
+
+    down : HoldsDown n now state_now host
+    down = record {
+      log = crashes.stopped n now state_now log (lasts.nodes (record { 0 = n }) at.state at.there).tidy logged_now;
+      stands = logged_now.stands;
+      marked = logged_now.marked;
+      left = left;
+      nothing_waits = refl;
+    }
+
+    -- and it has what a log says that has nothing new
+    pub stops_own : (broken book entry ≡ None) × HoldsNodeAt now (stopped world n stamp cause disk) n
+    stops_own = stops_by down

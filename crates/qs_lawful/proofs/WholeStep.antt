@@ -73,11 +73,12 @@ accepted_on stamp book node h =
     (at_none node.setting.node node.setting.inc book node (accept node) h.at (λ t. record { known = refl; local = refl; changes = refl; loans = refl; waiting = λ s. refl }))
     (clients_on book book node (accept node) (λ t. refl) (λ k. refl) (record { setting = refl; at = refl; in_inc = refl }) (record { commands = refl; labels = refl; outcomes = refl }) h.clients (λ t. refl)) h.servers h.waits
 
+-- as its event comes
+pub first_held : (stamp : ℕ) (book : BookValue) (node : NodeValue) (free : ℕ) → Holds stamp book node → HoldsWork stamp book (first_work node free)
+first_held stamp book node free h = by_begin_incarnation stamp book (work_on node free) (begun stamp book node free h) (files_held stamp book (work_on node free) (begun stamp book node free h))
+
 pub by_step : (stamp : ℕ) (book : BookValue) (node : NodeValue) (event : Event) (free : ℕ) → Holds stamp book node → MayStep stamp book node event free → HoldsWork stamp book (step_work node event free)
-by_step stamp book node event free h may = by_answer_waiting stamp book (settle (done_work node event free)) (by_settle stamp book (done_work node event free) (by_happen stamp book event (first_work node free) first may.happens) may.settles) may.waits
-  where
-    first : HoldsWork stamp book (first_work node free)
-    first = by_begin_incarnation stamp book (work_on node free) (begun stamp book node free h) (files_held stamp book (work_on node free) (begun stamp book node free h))
+by_step stamp book node event free h may = by_answer_waiting stamp book (settle (done_work node event free)) (by_settle stamp book (done_work node event free) (by_happen stamp book event (first_work node free) (first_held stamp book node free h) may.happens) may.settles) may.waits
 
 -- the entries of the step, and what the node is after it
 pub by_whole_step : (stamp : ℕ) (book : BookValue) (node : NodeValue) (event : Event) (free : ℕ) → Holds stamp book node → MayStep stamp book node event free

@@ -5,6 +5,7 @@ use Rattle.std.specs.Map.{lookup}
 use Rattle.std.specs.BTreeMap.{is_at}
 use Rattle.qs_base.specs.declared.identifiers.ClientNo.{ClientNo}
 use Rattle.qs_base.specs.declared.identifiers.Tid.{Tid}
+use Rattle.qs_engage.specs.Engage.{peer_of}
 use Rattle.qs_engage.specs.Nodes.{listed, same_node}
 use Rattle.qs_ipc.specs.Queue.{is_for}
 use Rattle.qs_journal.specs.declared.script_line.Command.{Command}
@@ -15,7 +16,8 @@ use Rattle.qs_kept.specs.declared.kept.Lent.{Lent}
 use Rattle.qs_machine.specs.Book.{BookValue, find_transaction}
 use Rattle.qs_machine.specs.Clauses.{has_no_record, is_fresh, is_gone_cause, note_text}
 use Rattle.qs_machine.specs.Nodes as machine
-use Rattle.qs_machine.specs.Transaction.{TransactionValue, has_note, has_refusal, is_abort, is_commit, is_outcome}
+use Rattle.qs_machine.specs.Transaction.{TransactionValue, has_note, has_refusal, is_abort, is_commit, is_covering, is_outcome, part_of}
+use Rattle.qs_ops.specs.Members.{class_of, is_two_phase}
 use Rattle.qs_ops.specs.declared.answer.Cause.{Cause}
 use Rattle.qs_ops.specs.declared.answer.Cause.TheVariants as causes
 use Rattle.qs_ops.specs.declared.operation.Op.{Op}
@@ -26,14 +28,15 @@ use Rattle.qs_step.specs.State.{NodeValue, client_cmp}
 use Rattle.qs_step.specs.Telling.{is_other_node}
 use Rattle.qs_step.specs.declared.state.OpenCommand.{OpenCommand}
 use Rattle.qs_tm.specs.Manager as tm
-use Rattle.qs_tm.specs.Participant.{has_noted, is_answered_by, is_undecided}
+use Rattle.qs_tm.specs.Members as rules
+use Rattle.qs_tm.specs.Participant.{has_noted, is_answered_by, is_undecided, member_of, needs_pass}
 use Rattle.qs_tm.specs.declared.participant.Outstanding.{Outstanding}
 use Rattle.qs_tm.specs.declared.participant.Participant.{Participant}
 use Rattle.qs_world.specs.Driven.{up_to}
 use Rattle.qs_world.specs.Openings.{are_rising, labels_begun}
 use Rattle.qs_world.specs.World.{Client, Parcel, World}
-use Rattle.qs_lawful.specs.Beside.{awaits_count, has_issued, is_committed_at}
-use Rattle.qs_lawful.specs.Face.{waiting_at}
+use Rattle.qs_lawful.specs.Beside.{awaits_count, has_issued}
+use Rattle.qs_lawful.specs.Face.{at_server, waiting_at}
 use Rattle.qs_lawful.specs.Parcels.{on_its_way, ops_of, way_between}
 use Rattle.qs_lawful.specs.Waits.{standing_ops, waiting_ops}
 use Rattle.qs_lawful.specs.TableTests.{same_op}
@@ -55,9 +58,15 @@ are_apart (request ∷ rest) = not (list_any (is_answered_by request.member requ
 abbrev young_test : NodeValue → Participant → Bool
 young_test node part = nat_le part.begun_at node.manager.ticks && elim node.setting.age [ None ↦ true | Some age ↦ nat_lt (node.manager.ticks - part.begun_at) age ]
 
+-- who answers to nobody has nothing due, and who is not involved sent nothing
+abbrev quiet_test : Participant → Bool
+quiet_test part =
+    implied (not part.engage.home && is_undecided part) (is_some part.engage.superior || not (needs_pass part))
+    && implied (not part.involved) (list_all (λ (peer : ℕ). (peer_of part.engage (record { 0 = peer })).sent == 0) (up_to 4))
+
 abbrev part_test : NodeValue → Tid × Participant → Bool
-part_test node entry =
-    (alike entry.1.engage.home (same_node entry.0.home node.setting.node) && ((length entry.1.engage.peers == 16) && implied entry.1.log.prepared entry.1.log.unended))
+part_test node entry = quiet_test entry.1
+    && (alike entry.1.engage.home (same_node entry.0.home node.setting.node) && ((length entry.1.engage.peers == 16) && implied entry.1.log.prepared entry.1.log.unended))
     && ((nat_lt (length (listed entry.1.told)) node.setting.nodes && are_apart entry.1.waiting)
     && implied (entry.1.engage.home && is_undecided entry.1) ((entry.0.inc == node.setting.inc) && young_test node entry.1))
 
@@ -103,14 +112,40 @@ note_test node tid tx part count =
     implied (has_issued tx node.setting.node node.setting.inc (note_text tid node.setting.node.0 (suc count))) (has_noted (suc count) part || awaits_count (suc count) part)
     && implied (has_note tx (record { node = node.setting.node; inc = node.setting.inc; text = note_text tid node.setting.node.0 (suc count) })) (has_issued tx node.setting.node node.setting.inc (note_text tid node.setting.node.0 (suc count)))
 
+-- what files have pending here
+abbrev pending_of : NodeValue → TransactionValue → ℕ
+pending_of node tx = (part_of tx (at_server node.setting.node rules.files_no) node.setting.inc).pending
+
+abbrev reader_test : NodeValue → TransactionValue → Participant → ℕ → Bool
+reader_test node tx part server =
+    implied (is_two_phase (class_of server) && rules.has_read (record { 0 = server }) (member_of part (record { 0 = server })))
+    (is_covering tx (at_server node.setting.node (record { 0 = server })) node.setting.inc 0 && not ((member_of part (record { 0 = server })).fresh && not (rules.is_let_go (member_of part (record { 0 = server })))))
+    && implied (rules.is_told_class (class_of server) && (member_of part (record { 0 = server })).fresh) part.involved
+
+abbrev counted_test : NodeValue → Tid → TransactionValue → ℕ → Bool
+counted_test node tid tx count = implied (has_issued tx node.setting.node node.setting.inc (note_text tid node.setting.node.0 (suc count))) (nat_lt count (pending_of node tx))
+
+abbrev reads_test : NodeValue → Tid → TransactionValue → Participant → Bool
+reads_test node tid tx part =
+    list_all (reader_test node tx part) (up_to 7)
+    && (implied (rules.has_read rules.files_no (member_of part rules.files_no)) (pending_of node tx == 0) && list_all (counted_test node tid tx) (up_to 4))
+
+abbrev outcome_test : TransactionValue → Participant → Bool
+outcome_test tx part = implied part.asked (is_some tx.asked) && elim part.outcome [ None ↦ true | Some o ↦ is_outcome o tx.cell ]
+
 abbrev beside_part : BookValue → machine.NodeValue → NodeValue → Tid → TransactionValue → Participant → Bool
 beside_part book state node tid tx part =
-    (list_all (note_test node tid tx part) (up_to 4) && implied (is_undecided part) (list_all (true_cause book tid) part.causes))
-    && (implied (part.engage.home && is_undecided part) (tx.begun_at == part.begun_at) && implied (not part.log.unended) (has_no_record state tid))
+    (list_all (note_test node tid tx part) (up_to 4) && (outcome_test tx part && implied (is_undecided part) (list_all (true_cause book tid) part.causes && reads_test node tid tx part)))
+    && implied (part.engage.home && is_undecided part) ((tx.begun_at == part.begun_at) && implied (not part.log.unended) (has_no_record state tid))
+
+-- of what a node does not know files issued no note here, and have nothing pending
+abbrev stranger_test : NodeValue → Tid → TransactionValue → Bool
+stranger_test node tid tx = is_commit tx.cell
+    || (list_all (λ (count : ℕ). not (has_issued tx node.setting.node node.setting.inc (note_text tid node.setting.node.0 (suc count)))) (up_to 4) && (pending_of node tx == 0))
 
 abbrev ended_test : NodeValue → Tid → TransactionValue → Bool
 ended_test node tid tx =
-    implied (same_node tid.home node.setting.node) (implied (is_commit tx.cell) (is_committed_at node tid)
+    implied (same_node tid.home node.setting.node) (implied (is_commit tx.cell) (was_committed tid node)
     && implied (not (tm.knows tid node.manager || was_committed tid node)) (is_abort tx.cell))
 
 abbrev owner_test : BookValue → TransactionValue → Bool
@@ -118,12 +153,13 @@ owner_test book tx = elim tx.owner [ None ↦ true | Some client ↦ is_some (sl
 
 abbrev beside_test : BookValue → machine.NodeValue → NodeValue → Tid × TransactionValue → Bool
 beside_test book state node entry =
-    (elim (tm.part_of entry.0 node.manager) [ None ↦ true | Some part ↦ beside_part book state node entry.0 entry.1 part ] && ended_test node entry.0 entry.1) && owner_test book entry.1
+    (elim (tm.part_of entry.0 node.manager) [ None ↦ stranger_test node entry.0 entry.1 | Some part ↦ beside_part book state node entry.0 entry.1 part ] && ended_test node entry.0 entry.1) && owner_test book entry.1
 
 abbrev pub holds_beside_test : BookValue → NodeValue → Bool
 holds_beside_test book node = elim (slice_get book.nodes node.setting.node.0) [
   | None ↦ false
-  | Some state ↦ list_all (beside_test book state node) book.transactions && (state.timers.ticks == node.manager.ticks)
+  | Some state ↦ (list_all (beside_test book state node) book.transactions && (state.timers.ticks == node.manager.ticks))
+      && list_all (λ (entry : Tid × Participant). is_some (find_transaction book entry.0)) node.manager.known
 ]
 
 -- ---- messages

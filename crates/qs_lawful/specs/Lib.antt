@@ -1,3 +1,5 @@
+pub mod WayLaws
+pub mod CutLaws
 pub mod Face
 pub mod Holds
 pub mod Entering
@@ -25,6 +27,11 @@ pub mod StepStands
 pub mod GivenTests
 pub mod TriedGiven
 pub mod Lasting
+pub mod LastingLaws
+pub mod Aside
+pub mod AsideLaws
+pub mod TriedOpenings
+pub mod TriedAside
 pub mod Said
 pub mod Worlds
 pub mod WorldTests
@@ -35,3 +42,7 @@ pub mod Doubtful
 pub mod WorldLaws
 pub mod CoherentOpenings
 pub mod WorldGives
+pub mod Amid
+pub mod BesideStep
+pub mod StepOn
+pub mod StepKeeps

@@ -11,11 +11,12 @@ use Rattle.qs_machine.specs.Transaction.{TransactionValue, is_commit}
 use Rattle.qs_step.specs.Serving.{serve_next}
 use Rattle.qs_step.specs.Settling.{forget_rule, pass_rule, ready_rule, refuse_rule, try}
 use Rattle.qs_step.specs.State.{NodeValue, Work}
-use Rattle.qs_step.specs.Step.{abort_old, wait_on}
+use Rattle.qs_step.specs.Step.{wait_on}
 use Rattle.qs_tm.specs.Manager as tm
 use Rattle.qs_tm.specs.Participant.{member_of}
 use Rattle.qs_tm.specs.declared.participant.Participant.{Participant}
 use Rattle.qs_lawful.specs.Beside.{HoldsBeside, is_committed_at}
+use Rattle.qs_lawful.specs.BesideStep.{PassesSo}
 use Rattle.qs_lawful.specs.Entering.{HoldsWork, book_at}
 use Rattle.qs_lawful.specs.Holds.{is_kept}
 use Rattle.qs_lawful.specs.NodeFacts.{HasNodeFacts, HasSoundFacts}
@@ -47,10 +48,9 @@ abbrev pub GoesOn : ℕ → BookValue → ℕ → (ℕ → NodeValue) → ℕ �
 GoesOn stamp before size nodes n old new = Stands stamp before size nodes n old → HoldsWork stamp before new → StandsBy stamp before size nodes n new
 
 pub record KeepsStanding (stamp : ℕ) (before : BookValue) (size : ℕ) (nodes : ℕ → NodeValue) (n : ℕ) : Type 0 where
-  pub passes : (work : Work) (tid : Tid) → GoesOn stamp before size nodes n work (try tid pass_rule work)
+  pub passes : (work : Work) (tid : Tid) → PassesSo stamp before work tid → GoesOn stamp before size nodes n work (try tid pass_rule work)
   pub readies : (work : Work) (tid : Tid) → GoesOn stamp before size nodes n work (try tid ready_rule work)
   pub refuses : (work : Work) (tid : Tid) → GoesOn stamp before size nodes n work (try tid refuse_rule work)
   pub forgets : (work : Work) (tid : Tid) → GoesOn stamp before size nodes n work (try tid forget_rule work)
-  pub serves : (work : Work) (server : ServerNo) → GoesOn stamp before size nodes n work (serve_next work server)
+  pub serves : (work : Work) (server : ServerNo) → CanCount work server → GoesOn stamp before size nodes n work (serve_next work server)
   pub waits : (work : Work) (client : ClientNo) → GoesOn stamp before size nodes n work (wait_on work client)
-  pub olds : (work : Work) (age : ℕ) (tid : Tid) → GoesOn stamp before size nodes n work (abort_old age work tid)

@@ -6,18 +6,20 @@ use Rattle.qs_base.specs.declared.identifiers.ServerNo.{ServerNo}
 use Rattle.qs_base.specs.declared.identifiers.Tid.{Tid}
 use Rattle.qs_machine.specs.Book.{BookValue}
 use Rattle.qs_step.specs.Serving.{serve_next}
-use Rattle.qs_step.specs.Settling.{forget_rule, pass_rule, ready_rule, refuse_rule, try}
+use Rattle.qs_step.specs.Settling.{due_tids, forget_rule, pass_rule, ready_rule, refuse_rule, settle_tid, try}
 use Rattle.qs_step.specs.State.{NodeValue, Work}
-use Rattle.qs_step.specs.Step.{abort_old, happen, wait_on}
+use Rattle.qs_step.specs.Step.{happen, wait_on}
 use Rattle.qs_step.specs.declared.event.Event.{Event}
 use Rattle.qs_step.specs.declared.event.Event.TheVariants as events
 use Rattle.qs_lawful.specs.Agreed.{StepAgrees}
 use Rattle.qs_lawful.specs.Beside.{HoldsBeside}
+use Rattle.qs_lawful.specs.BesideStep.{HasCountRoom, PassesSo}
 use Rattle.qs_lawful.specs.Coming.{ComesTo}
 use Rattle.qs_lawful.specs.Entering.{HoldsWork, book_at}
-use Rattle.qs_lawful.specs.GivenStep.{MayAge, first_work, tick_work}
+use Rattle.qs_lawful.specs.Given.{AtEach}
+use Rattle.qs_lawful.specs.GivenStep.{MayAge, done_work, first_work, tick_work}
 use Rattle.qs_lawful.specs.NodeFacts.{FitsEvent, HasNodeFacts, HasSoundFacts}
-use Rattle.qs_lawful.specs.Standing.{HoldsHomes, Stands}
+use Rattle.qs_lawful.specs.Standing.{CanCount, HoldsHomes, Stands}
 
 pub record StandsBeside (stamp : ℕ) (before : BookValue) (work : Work) : Type 0 where
   pub sound : HasSoundFacts work.node
@@ -27,13 +29,12 @@ abbrev pub BesideOn : ℕ → BookValue → ℕ → (ℕ → NodeValue) → ℕ 
 BesideOn stamp before size nodes n old new = Stands stamp before size nodes n old → HoldsWork stamp before new → StandsBeside stamp before new
 
 pub record KeepsBeside (stamp : ℕ) (before : BookValue) (size : ℕ) (nodes : ℕ → NodeValue) (n : ℕ) : Type 0 where
-  pub passes : (work : Work) (tid : Tid) → BesideOn stamp before size nodes n work (try tid pass_rule work)
+  pub passes : (work : Work) (tid : Tid) → PassesSo stamp before work tid → BesideOn stamp before size nodes n work (try tid pass_rule work)
   pub readies : (work : Work) (tid : Tid) → BesideOn stamp before size nodes n work (try tid ready_rule work)
   pub refuses : (work : Work) (tid : Tid) → BesideOn stamp before size nodes n work (try tid refuse_rule work)
   pub forgets : (work : Work) (tid : Tid) → BesideOn stamp before size nodes n work (try tid forget_rule work)
-  pub serves : (work : Work) (server : ServerNo) → BesideOn stamp before size nodes n work (serve_next work server)
+  pub serves : (work : Work) (server : ServerNo) → CanCount work server → BesideOn stamp before size nodes n work (serve_next work server)
   pub waits : (work : Work) (client : ClientNo) → BesideOn stamp before size nodes n work (wait_on work client)
-  pub olds : (work : Work) (age : ℕ) (tid : Tid) → BesideOn stamp before size nodes n work (abort_old age work tid)
 
 -- ---- the whole step: as StepStands, over what stands of the node before it
 
@@ -50,3 +51,4 @@ pub record StepBeside (stamp : ℕ) (before : BookValue) (size : ℕ) (nodes : �
   pub comes : ComesTo (book_at stamp before (first_work node free)) event (first_work node free)
   pub ages : event ≡ events.Tick → MayAge stamp before (first_work node free).node.setting.age (tick_work (first_work node free))
   pub agreed : StepAgrees stamp before size nodes n node event free
+  pub rooms : AtEach HasCountRoom settle_tid (done_work node event free) (due_tids (done_work node event free))

@@ -9,7 +9,9 @@ use Rattle.qs_machine.specs.Lawful.{IsLawful, book_after}
 use Rattle.qs_restart.specs.Recovery.{recovery}
 use Rattle.qs_world.specs.Moves.{Cut, Meet, Rise, Source, Stop, may_move, moved}
 use Rattle.qs_world.specs.Posting.{entry_of}
-use Rattle.qs_world.specs.World.{World}
+use Rattle.qs_world.specs.Histories.{book_of}
+use Rattle.qs_world.specs.Openings.{IsOpening}
+use Rattle.qs_world.specs.World.{Opening, World, start}
 use Rattle.qs_step.specs.State.{NodeValue}
 use Rattle.qs_lawful.specs.Holds.{Holds, is_next}
 use Rattle.qs_lawful.specs.Lasting.{Lasts}
@@ -50,3 +52,7 @@ EachStops = (book : BookValue) (world : World) (n stamp : ℕ) (cause : CrashCau
 -- in a step whose batch is lost
 abbrev pub EachLosesItsBatch : Type 0
 EachLosesItsBatch = (book : BookValue) (world : World) (n stamp free : ℕ) (source : Source) (cause : CrashCause) → Lasts book → HoldsWorld book world → may_move world (Cut n stamp free source false cause) ≡ true → StopsWell book (moved (Cut n stamp free source false cause) world) n stamp cause
+
+-- as a run begins the machine has the world that begins, over old logs too
+abbrev pub EachOpensHeld : Type 0
+EachOpensHeld = (o : Opening) → IsOpening o → HoldsWorld (book_of o) (start o)

@@ -1,9 +1,10 @@
 //! What a step is given: from what stands at each of its stages, and from what the agreement protocol gives.
-ghost use Rattle.std.specs.Prelude.{◌≡◌, ℕ, true, false, List, None, Option, Some, nat_lt, slice_get};
+ghost use Rattle.std.specs.Prelude.{◌≡◌, ℕ, true, false, List, None, Option, Some, nat_lt};
 ghost use Rattle.qs_base.specs.declared.identifiers.Member.{Member};
 ghost use Rattle.qs_base.specs.declared.identifiers.ServerNo.{ServerNo};
 ghost use Rattle.qs_base.specs.declared.identifiers.Tid.{Tid};
 ghost use Rattle.qs_lawful.specs.Agreed.{AgreementGives, AgreesMessage, AreLentUndone, IsSettledAll, IsUndone};
+ghost use Rattle.qs_lawful.specs.BesideStep.{HasCountRoom};
 ghost use Rattle.qs_lawful.specs.Coming.{ComesLine, ComesMessage, ComesTo};
 ghost use Rattle.qs_lawful.specs.WorldGives.{WorldGives};
 ghost use Rattle.qs_lawful.specs.GivenStep.{MayCome, MayCommand, MayStep, MayWait, tick_work};
@@ -47,7 +48,6 @@ ghost use Rattle.qs_lawful.specs.Given.{HasCause, IsUncommitted, MayCommit, MayD
 ghost use Rattle.qs_lawful.specs.Standing.{CanCount, HoldsHomes, KeepsStanding, Stands, StandsBy};
 ghost use Rattle.qs_step.specs.Settling.{forget_rule, pass_rule, ready_rule, refuse_rule, settle_tid, try};
 ghost use Rattle.qs_machine.specs.Book.{BookValue};
-ghost use Rattle.qs_machine.specs.Nodes as machine;
 ghost use Rattle.qs_ops.specs.declared.answer.Cause.{Cause};
 ghost use Rattle.qs_step.specs.State.{NodeValue, Work, here, work_on};
 ghost use Rattle.qs_tm.specs.Manager as tm;
@@ -63,13 +63,13 @@ pub fn settling_is_given()
     ensures causes { (stamp : ℕ) (before : BookValue) (size : ℕ) (nodes : ℕ → NodeValue) (n : ℕ) (work : Work) → StandsBy stamp before size nodes n work → (tid : Tid) (part : Participant) → tm.part_of tid work.node.manager ≡ Some part → (cause : Cause) → IsTrueCause (book_at stamp before work) tid cause → HasCause stamp before work tid cause }
     ensures passes { (stamp : ℕ) (before : BookValue) (size : ℕ) (nodes : ℕ → NodeValue) (n : ℕ) (work : Work) → StandsBy stamp before size nodes n work → (tid : Tid) (part : Participant) → tm.part_of tid work.node.manager ≡ Some part → IsUndone size nodes n work tid → MayPass stamp before work tid part }
     ensures commits { (stamp : ℕ) (before : BookValue) (size : ℕ) (nodes : ℕ → NodeValue) (n : ℕ) (work : Work) → Stands stamp before size nodes n work → (tid : Tid) (part : Participant) → tm.part_of tid work.node.manager ≡ Some part → part.engage.home ≡ true → part.outcome ≡ None → part.asked ≡ true → IsSettledAll (book_at stamp before work) tid → MayCommit stamp before work tid }
-    ensures forgets { (stamp : ℕ) (before : BookValue) (size : ℕ) (nodes : ℕ → NodeValue) (n : ℕ) (work : Work) → StandsBy stamp before size nodes n work → (tid : Tid) (part : Participant) → tm.part_of tid work.node.manager ≡ Some part → part.engage.home ≡ false → is_forgotten part ≡ true → (state : machine.NodeValue) → slice_get (book_at stamp before work).nodes work.node.setting.node.0 ≡ Some state → MayForget stamp before work tid }
+    ensures forgets { (stamp : ℕ) (before : BookValue) (size : ℕ) (nodes : ℕ → NodeValue) (n : ℕ) (work : Work) → Stands stamp before size nodes n work → (tid : Tid) (part : Participant) → tm.part_of tid work.node.manager ≡ Some part → part.engage.home ≡ false → is_forgotten part ≡ true → MayForget stamp before work tid }
 {}
 
 /// Each transaction is settled with what it is given, and what stands goes on.
 pub fn settling_is_given_whole()
-    ensures may { (stamp : ℕ) (before : BookValue) (size : ℕ) (nodes : ℕ → NodeValue) (n : ℕ) → KeepsStanding stamp before size nodes n → (work : Work) (tid : Tid) → Stands stamp before size nodes n work → AgreementGives stamp before size nodes n work tid → MaySettle stamp before work tid }
-    ensures stands { (stamp : ℕ) (before : BookValue) (size : ℕ) (nodes : ℕ → NodeValue) (n : ℕ) → KeepsStanding stamp before size nodes n → (work : Work) (tid : Tid) → Stands stamp before size nodes n work → AgreementGives stamp before size nodes n work tid → Stands stamp before size nodes n (settle_tid work tid) }
+    ensures may { (stamp : ℕ) (before : BookValue) (size : ℕ) (nodes : ℕ → NodeValue) (n : ℕ) → KeepsStanding stamp before size nodes n → (work : Work) (tid : Tid) → Stands stamp before size nodes n work → AgreementGives stamp before size nodes n work tid → HasCountRoom work tid → MaySettle stamp before work tid }
+    ensures stands { (stamp : ℕ) (before : BookValue) (size : ℕ) (nodes : ℕ → NodeValue) (n : ℕ) → KeepsStanding stamp before size nodes n → (work : Work) (tid : Tid) → Stands stamp before size nodes n work → AgreementGives stamp before size nodes n work tid → HasCountRoom work tid → Stands stamp before size nodes n (settle_tid work tid) }
 {}
 
 /// Serving is given that what is served of notes is waited for, and a reply comes to who waits for it.

@@ -1,7 +1,7 @@
 //! Moves of the world against the machine: what the machine has of a whole world is had on through a move.
-ghost use Rattle.std.specs.Global.{Global};
-ghost use Rattle.qs_lawful.specs.CoherentOpenings.{EachOpensSoundly, VotesAgain};
-ghost use Rattle.qs_lawful.specs.WorldLaws.{EachLosesItsBatch, EachMeets, EachRiseKeepsOthers, EachRises, EachStops};
+ghost use Rattle.qs_lawful.specs.CutLaws.{EachCutIsHeld, EachKeepsItsQuietBatch};
+ghost use Rattle.qs_lawful.specs.CoherentOpenings.{EachOpensSoundly};
+ghost use Rattle.qs_lawful.specs.WorldLaws.{EachLosesItsBatch, EachMeets, EachOpensHeld, EachRiseKeepsOthers, EachRises, EachStops};
 
 /// A node that is down restarts, and begins an incarnation with what its log says: the entry is lawful, what it finds in its log with it;
 /// and the machine after it has all that the node keeps then. What the log has committed is applied once, in order, and committed; what
@@ -25,9 +25,21 @@ pub fn stop_is_held()
     ensures cut { EachLosesItsBatch }
 {}
 
-/// What the logs of an opening hold is what the laws want of an opening, where no log has a vote in doubt of a transaction that it has
-/// committed. That is asked for besides: a run may begin with such a log.
+/// And so it is in a step whose batch is kept, where that step forces nothing or has no record of its own; and in any that is cut off where the
+/// machine has what the node's log says then, which is all that is left to show of it.
+pub fn kept_cut_is_held()
+    ensures quiet { EachKeepsItsQuietBatch }
+    ensures said { EachCutIsHeld }
+{}
+
+/// What the logs of an opening hold is coherent: each transaction that a log names began in an earlier incarnation of its home, and no log
+/// has a vote in doubt of a transaction that it has committed.
 pub fn opening_is_coherent()
     ensures sound { EachOpensSoundly }
-    ensures needed { (alloc : Global) → VotesAgain alloc }
+{}
+
+/// As a run begins the machine has the whole world that begins: each node with the votes that stand in doubt in its log, the Commits that it
+/// still has to tell, and what its log has committed; with what the log says of contents and changes; and nothing for clients.
+pub fn opening_is_held()
+    ensures held { EachOpensHeld }
 {}

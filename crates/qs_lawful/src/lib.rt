@@ -1,19 +1,25 @@
 //! Steps of nodes are lawful steps of the reference machine: what the two have alike, and what each rule of a node enters.
 #![tactic(auto)]
 
+mod lawful_beside;
 mod lawful_commands;
 mod lawful_entries;
 mod lawful_given;
+mod lawful_histories;
 mod lawful_logs;
 mod lawful_outcomes;
 mod lawful_restarts;
 mod lawful_rules;
 mod lawful_servers;
 mod lawful_steps;
+mod lawful_ways;
 mod lawful_worlds;
 mod tried;
 mod tried_worlds;
 
+pub use lawful_beside::rules_keep_what_is_beside;
+pub use lawful_beside::whole_step_is_given;
+pub use lawful_beside::whole_step_is_kept;
 pub use lawful_commands::borrowers_request_is_lawful;
 pub use lawful_commands::coming_abort_is_lawful;
 pub use lawful_commands::coming_begin_is_lawful;
@@ -43,6 +49,9 @@ pub use lawful_given::step_is_given_beside;
 pub use lawful_given::what_is_said_stays;
 pub use lawful_given::world_gives_events;
 pub use lawful_given::world_gives_what_comes;
+pub use lawful_histories::histories_last;
+pub use lawful_histories::steps_leave_other_nodes;
+pub use lawful_histories::steps_leave_what_stands_beside;
 pub use lawful_logs::crash_is_lawful;
 pub use lawful_logs::others_keep_the_log;
 pub use lawful_logs::requests_keep_the_log;
@@ -108,11 +117,21 @@ pub use lawful_steps::settle_is_lawful;
 pub use lawful_steps::settling_is_lawful;
 pub use lawful_steps::step_is_lawful;
 pub use lawful_steps::vote_pass_is_lawful;
+pub use lawful_ways::channels_stay_sound;
+pub use lawful_ways::crash_keeps_what_comes;
+pub use lawful_ways::meeting_keeps_what_comes;
+pub use lawful_ways::opening_holds_what_comes;
+pub use lawful_ways::restart_keeps_what_comes;
+pub use lawful_ways::steps_leave_other_ways;
+pub use lawful_worlds::kept_cut_is_held;
 pub use lawful_worlds::meeting_is_held;
 pub use lawful_worlds::opening_is_coherent;
+pub use lawful_worlds::opening_is_held;
 pub use lawful_worlds::restart_is_held;
 pub use lawful_worlds::stop_is_held;
 pub use tried::given_at_stages;
 pub use tried::given_in_runs;
 pub use tried::held_in_runs;
+pub use tried_worlds::openings_held_in_runs;
+pub use tried_worlds::others_held_in_runs;
 pub use tried_worlds::worlds_held_in_runs;
