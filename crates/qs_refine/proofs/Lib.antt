@@ -296,6 +296,8 @@ pub mod Reopening
 pub mod LeftLogs
 pub mod LeftOpenings
 pub mod StillSteps
+pub mod PreparedHeld
+pub mod PreparedSteps
 pub mod PassedOver
 pub mod ToCome
 pub mod BeginSteps

@@ -39,6 +39,7 @@ pub mod RiseLaws
 pub mod Lists
 pub mod SaidLaws
 pub mod MoveLaws
+pub mod CutLaws
 pub mod OpenLaws
 pub mod JoinLaws
 pub mod SaysLaws
