@@ -1,5 +1,5 @@
--- At the end of a step that logged a Prepare of a transaction its node is engaged for it, or has decided it.
-use Rattle.std.proofs.Common.{◌≡◌, ◌⊎◌, inl, inr, ℕ, ◌<◌, Bool, true, false, List, [], ◌∷◌, ◌++◌, Option, Some, None, refl, sym, ap, ◌∙◌}
+-- At the end of a step that logged a Prepare of a transaction its node is engaged for it, or has decided it, as it has where it logged a Commit.
+use Rattle.std.proofs.Common.{◌≡◌, ◌⊎◌, inl, inr, ℕ, ◌<◌, Bool, true, false, List, [], ◌∷◌, ◌++◌, Option, Some, None, refl, sym, ap, subst, ◌∙◌}
 use Rattle.std.specs.List.{list_any}
 use Rattle.std.specs.Map.{lookup, remove_entry}
 use Rattle.std.specs.BTreeMap.{is_at}
@@ -25,13 +25,13 @@ use Rattle.qs_step.specs.declared.event.Event.{Event}
 use Rattle.qs_step.specs.declared.event.Event.TheVariants as events
 use Rattle.qs_step.specs.declared.state.OpenCommand.{OpenCommand}
 use Rattle.qs_world.specs.World.{World}
-use Rattle.qs_refine.specs.CutLaws.{is_prepare_of}
+use Rattle.qs_refine.specs.CutLaws.{is_prepare_of, is_commit_of}
 use Rattle.qs_refine.specs.Sound.{is_sound}
 use Rattle.qs_refine.specs.SoundSteps.{begun}
 use Rattle.qs_refine.specs.Steadies.{IsSteadyWorld, MachineGives}
 use Rattle.qs_refine.specs.Tidy.{Stage, IsStage, IsTidy}
 use Rattle.qs_refine.proofs.BeginKeeps.{begin_keeps}
-use Rattle.qs_refine.proofs.PreparedHeld.{HeldIn, Both, both_reads, both_keeps}
+use Rattle.qs_refine.proofs.PreparedHeld.{LoggedWell, Both, both_reads, both_keeps}
 use Rattle.qs_refine.proofs.SoundHappen.{happen_sound}
 use Rattle.qs_refine.proofs.SoundRestart.{begin_incarnation_sound}
 use Rattle.qs_refine.proofs.SteadyBegins.{ComesFit, c, stage, begun_tidy, comes_may, comes_on}
@@ -70,6 +70,12 @@ begin_records line (Some (faults.Last number)) work = refl
 begin_records line (Some faults.NoMemory) work = refl
 
 module _ (t : Tid) where
+  commit_forced : (rec : Record) → is_commit_of t rec ≡ true → is_forced rec ≡ true
+  commit_forced (records.Prepare tid server covers changes) is = absurd (cc is)
+  commit_forced (records.Commit tid told) is = refl
+  commit_forced (records.Aborted tid) is = absurd (cc is)
+  commit_forced (records.End tid) is = absurd (cc is)
+
   prepare_forced : (rec : Record) → is_prepare_of t rec ≡ true → is_forced rec ≡ true
   prepare_forced (records.Prepare tid server covers changes) is = refl
   prepare_forced (records.Commit tid told) is = absurd (cc is)
@@ -87,18 +93,29 @@ module _ (t : Tid) where
     abbrev first : Work
     first = begun node free
 
-    none_first : list_any (is_prepare_of t) first.out.records ≡ true → ⊥
-    none_first has =
-        let some : list_any is_forced first.out.records ≡ true = any_wider (is_prepare_of t) is_forced prepare_forced first.out.records has in
+    none_first : (p : Record → Bool) → ((rec : Record) → p rec ≡ true → is_forced rec ≡ true) → list_any p first.out.records ≡ true → ⊥
+    none_first p each has =
+        let some : list_any is_forced first.out.records ≡ true = any_wider p is_forced each first.out.records has in
         let none : list_any is_forced first.out.records ≡ false = (begin_keeps (work_on node free)).forced in cc (some, none)
 
-    first_held : HeldIn t first
-    first_held has = absurd (none_first has)
+    -- where nothing more was logged
+    none_logged : (new : Work) → new.out.records ≡ first.out.records → LoggedWell t new
+    none_logged new same = record {
+      noted = λ has. absurd (none_first (is_prepare_of t) prepare_forced (before (is_prepare_of t) has));
+      held = λ has. absurd (none_first (is_prepare_of t) prepare_forced (before (is_prepare_of t) has));
+      decided = λ has. absurd (none_first (is_commit_of t) commit_forced (before (is_commit_of t) has));
+    }
+      where
+        before : (p : Record → Bool) → list_any p new.out.records ≡ true → list_any p first.out.records ≡ true
+        before p has = subst (λ (rs : List Record). list_any p rs ≡ true) same has
+
+    first_held : LoggedWell t first
+    first_held = none_logged first refl
 
     sound : (event : Event) → ComesFit world steady n free low up event → MachineGives event first → is_sound (happen event first).node ≡ true
     sound event fit gives = happen_sound event first (comes_may world steady n free low up event fit gives) (begin_incarnation_sound (work_on node free) (steady.sound n low).node)
 
-    still : (event : Event) → begins_in event ≡ false → ComesFit world steady n free low up event → MachineGives event first → HeldIn t (step_work node event free)
+    still : (event : Event) → begins_in event ≡ false → ComesFit world steady n free low up event → MachineGives event first → LoggedWell t (step_work node event free)
     still event none fit gives = (settles (c world steady n free low up) (stage world steady n free low up) (happen event first) (sound event fit gives)
         (happen_walk s.past s.begun s.met s.setting.node s.setting.nodes (Both t s (stage world steady n free low up)) (both_reads t s (stage world steady n free low up)) (both_keeps t s (stage world steady n free low up)) event first
         (may_on s (stage world steady n free low up) event none (comes_on world steady n free low up event fit)) (begun_tidy world steady n free low up, first_held))).1
@@ -106,7 +123,7 @@ module _ (t : Tid) where
         s : Stage
         s = c world steady n free low up
 
-    begins : (client : ClientNo) (line : ℕ) (label : List ℕ) → ComesFit world steady n free low up (events.Command client line label commands.Begin) → MachineGives (events.Command client line label commands.Begin) first → HeldIn t (step_work node (events.Command client line label commands.Begin) free)
+    begins : (client : ClientNo) (line : ℕ) (label : List ℕ) → ComesFit world steady n free low up (events.Command client line label commands.Begin) → MachineGives (events.Command client line label commands.Begin) first → LoggedWell t (step_work node (events.Command client line label commands.Begin) free)
     begins client line label fit gives = by (happen_tidy (c world steady n free low up) (stage world steady n free low up) (d world steady n free low up) (later world steady n free low up) event first (comes_on world steady n free low up event fit) (begun_tidy world steady n free low up))
       where
         event : Event
@@ -115,21 +132,21 @@ module _ (t : Tid) where
         its : ScriptLine
         its = record { client = client; line = line; label = label; command = commands.Begin }
 
-        held : HeldIn t (happen event first)
-        held has = absurd (none_first (sym (ap (λ (l : List Record). list_any (is_prepare_of t) l) (begin_records its (tm.begin_fault (with_command its first).room (with_command its first).node.manager) (with_command its first))) ∙ has))
+        held : LoggedWell t (happen event first)
+        held = none_logged (happen event first) (begin_records its (tm.begin_fault (with_command its first).room (with_command its first).node.manager) (with_command its first))
 
-        by : IsTidy (c world steady n free low up) (happen event first) ⊎ IsTidy (d world steady n free low up) (happen event first) → HeldIn t (step_work node event free)
+        by : IsTidy (c world steady n free low up) (happen event first) ⊎ IsTidy (d world steady n free low up) (happen event first) → LoggedWell t (step_work node event free)
         by (inl tidy) = (settles (c world steady n free low up) (stage world steady n free low up) (happen event first) (sound event fit gives) (tidy, held)).1
         by (inr tidy) = (settles (d world steady n free low up) (stage_d world steady n free low up) (happen event first) (sound event fit gives) (tidy, held)).1
 
-    pub step_held : (event : Event) → ComesFit world steady n free low up event → MachineGives event first → HeldIn t (step_work node event free)
-    step_held (events.Command client line label commands.Begin) fit gives = begins client line label fit gives
-    step_held (events.Command client line label commands.Commit) fit gives = still (events.Command client line label commands.Commit) refl fit gives
-    step_held (events.Command client line label commands.Abort) fit gives = still (events.Command client line label commands.Abort) refl fit gives
-    step_held (events.Command client line label commands.Take) fit gives = still (events.Command client line label commands.Take) refl fit gives
-    step_held (events.Command client line label commands.Yield) fit gives = still (events.Command client line label commands.Yield) refl fit gives
-    step_held (events.Command client line label (commands.Request member op)) fit gives = still (events.Command client line label (commands.Request member op)) refl fit gives
-    step_held (events.Received peer message) fit gives = still (events.Received peer message) refl fit gives
-    step_held events.ServeAll fit gives = still events.ServeAll refl fit gives
-    step_held (events.PeerRestarted peer old new) fit gives = still (events.PeerRestarted peer old new) refl fit gives
-    step_held events.Tick fit gives = still events.Tick refl fit gives
+    pub step_logs : (event : Event) → ComesFit world steady n free low up event → MachineGives event first → LoggedWell t (step_work node event free)
+    step_logs (events.Command client line label commands.Begin) fit gives = begins client line label fit gives
+    step_logs (events.Command client line label commands.Commit) fit gives = still (events.Command client line label commands.Commit) refl fit gives
+    step_logs (events.Command client line label commands.Abort) fit gives = still (events.Command client line label commands.Abort) refl fit gives
+    step_logs (events.Command client line label commands.Take) fit gives = still (events.Command client line label commands.Take) refl fit gives
+    step_logs (events.Command client line label commands.Yield) fit gives = still (events.Command client line label commands.Yield) refl fit gives
+    step_logs (events.Command client line label (commands.Request member op)) fit gives = still (events.Command client line label (commands.Request member op)) refl fit gives
+    step_logs (events.Received peer message) fit gives = still (events.Received peer message) refl fit gives
+    step_logs events.ServeAll fit gives = still events.ServeAll refl fit gives
+    step_logs (events.PeerRestarted peer old new) fit gives = still (events.PeerRestarted peer old new) refl fit gives
+    step_logs events.Tick fit gives = still events.Tick refl fit gives

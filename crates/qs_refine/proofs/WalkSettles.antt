@@ -271,7 +271,7 @@ module _ (P Q : Tid → Bool) (R : NodeNo → Bool) (me : NodeNo) (nodes : ℕ) 
   resume_home_walk tid part outcomes.Commit work known home i = sends_walk P Q R me nodes I reads keeps (listed part.tell) (messages.Tell tid outcomes.Commit) work
       (λ node. both_and (P tid) _ (reads.known tid part work i known) (sym (reads.home tid part work i known) ∙ home refl)) i
   resume_home_walk tid part outcomes.Abort work known home i = log_if_walk P Q R me nodes I reads keeps (record_learnt tid outcomes.Abort part) _
-      (λ rec logged. learnt_fits P Q R me nodes I reads keeps tid outcomes.Abort part rec (reads.known tid part work i known) logged) (λ rec logged. learnt_may P Q R me nodes I reads keeps tid outcomes.Abort part rec _ logged) (notices_walk P Q R me nodes I reads keeps tid outcomes.Abort work i)
+      (λ rec logged. learnt_fits P Q R me nodes I reads keeps tid outcomes.Abort part rec (reads.known tid part work i known) logged) (λ rec logged. learnt_may P Q R me nodes I reads keeps tid outcomes.Abort part rec _ (λ never. absurd (cc never)) logged) (notices_walk P Q R me nodes I reads keeps tid outcomes.Abort work i)
 
   pub resume_tid_walk : (work : Work) (tid : Tid) → ((part : Participant) → part_of tid work ≡ Some part → part.outcome ≡ Some outcomes.Commit → part.engage.home ≡ true) → I work → I (resume_tid work tid)
   resume_tid_walk work tid committed i = by (part_of tid work) refl

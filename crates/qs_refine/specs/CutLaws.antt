@@ -24,6 +24,13 @@ is_prepare_of t (records.Commit tid told) = false
 is_prepare_of t (records.Aborted tid) = false
 is_prepare_of t (records.End tid) = false
 
+-- a Commit of it
+abbrev pub is_commit_of : Tid → Record → Bool
+is_commit_of t (records.Prepare tid server covers changes) = false
+is_commit_of t (records.Commit tid told) = same_tid t tid
+is_commit_of t (records.Aborted tid) = false
+is_commit_of t (records.End tid) = false
+
 -- the place stopped, and nothing else happened
 abbrev pub stopped_at : machine.World → machine.World → ℕ → Type 0
 stopped_at w v q = v ≡ record w { up = with_at w.up q false }

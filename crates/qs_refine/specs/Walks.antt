@@ -1,5 +1,5 @@
 -- A fact of a node in the middle of a step that each thing which a rule does keeps, so that the whole step keeps it.
-use Rattle.std.specs.Prelude.{◌≡◌, ◌⊎◌, ℕ, ◌<◌, ◌++◌, ⊤, Bool, true, false, ◌&&◌, List, [], ◌∷◌, Option, Some, None, nat_lt}
+use Rattle.std.specs.Prelude.{◌≡◌, ◌⊎◌, ℕ, ◌<◌, ◌++◌, ⊤, Bool, true, false, not, ◌&&◌, List, [], ◌∷◌, Option, Some, None, nat_lt}
 use Rattle.std.specs.List.{list_all}
 use Rattle.std.specs.Map.{lookup}
 use Rattle.std.specs.BTreeMap.{is_at}
@@ -91,10 +91,13 @@ same_kind f = (value : ServerValue) → (f value).kind ≡ value.kind
 abbrev pub keeps_prepared : (Doings → Doings) → Type 0
 keeps_prepared f = (doings : Doings) → doings.prepared ≡ true → (f doings).prepared ≡ true
 
--- a Prepare is logged once that is noted, where the node is engaged for the transaction
+abbrev pub is_decided : Participant → Bool
+is_decided part = not (is_undecided part)
+
+-- a Prepare is logged once that is noted, where the node is engaged for the transaction, and a Commit where it has decided it
 abbrev pub MayLog : Record → Work → Type 0
 MayLog (records.Prepare tid server covers changes) work = ((doings_of tid work).prepared ≡ true) × (tm.told_of tid false is_engaged work.node.manager ≡ true)
-MayLog (records.Commit tid told) work = ⊤
+MayLog (records.Commit tid told) work = tm.told_of tid false is_decided work.node.manager ≡ true
 MayLog (records.Aborted tid) work = ⊤
 MayLog (records.End tid) work = ⊤
 
