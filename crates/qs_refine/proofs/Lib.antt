@@ -298,6 +298,8 @@ pub mod LeftOpenings
 pub mod StillSteps
 pub mod PreparedHeld
 pub mod PreparedSteps
+pub mod CutsAlone
+pub mod CutsKept
 pub mod PassedOver
 pub mod ToCome
 pub mod BeginSteps

@@ -1,6 +1,5 @@
 -- Once a step logged a Prepare of a transaction its node is engaged for it to the end of the step, or has decided it: it says Yes in a later step.
-use Rattle.std.proofs.Common.{◌≡◌, ◌⊎◌, inl, inr, ℕ, ◌==◌, ◌&&◌, ◌||◌, not, Bool, true, false, List, [], ◌∷◌, ◌++◌, Option, Some, None, is_none, is_some, unwrap_or, refl, sym, ap, subst, ◌∙◌, arith, if◌then◌else◌}
-use Rattle.std.proofs.lemmas.Bool.Decides.{nat_tests}
+use Rattle.std.proofs.Common.{◌≡◌, ◌⊎◌, inl, inr, ℕ, ◌&&◌, ◌||◌, not, Bool, true, false, List, [], ◌∷◌, ◌++◌, Option, Some, None, is_none, is_some, unwrap_or, refl, sym, ap, subst, ◌∙◌, if◌then◌else◌}
 use Rattle.std.proofs.lemmas.List.Folds.{list_any-append}
 use Rattle.std.specs.List.{list_any}
 use Rattle.std.specs.Map.{lookup, remove_entry}
@@ -42,8 +41,7 @@ use Rattle.qs_refine.specs.Sound.{is_engaged}
 use Rattle.qs_refine.specs.Tidy.{Stage, IsStage, IsTidy}
 use Rattle.qs_refine.specs.Walks.{Reads, Keeps, IsPlain, MayLog, MayForget, is_decided, keeps_prepared}
 use Rattle.qs_refine.proofs.Frames.{part_apart}
-use Rattle.qs_refine.proofs.LogFrames.{Apart}
-use Rattle.qs_refine.proofs.Maps.{lookup_put, lookup_put_apart}
+use Rattle.qs_refine.proofs.Maps.{lookup_put_apart}
 use Rattle.qs_refine.proofs.Others.{put_apart, key_apart}
 use Rattle.qs_refine.proofs.OthersCame.{forget_leaves}
 use Rattle.qs_refine.proofs.SoundHolds.{told_with, is_held, told_part}

@@ -44,7 +44,7 @@ use Rattle.qs_refine.proofs.Maps.{lookup_put}
 use Rattle.qs_refine.proofs.ServerKinds.{vote_kind}
 use Rattle.qs_refine.proofs.SoundSettle.{undecided_known, settle_tid_sound}
 use Rattle.qs_refine.proofs.SoundVotes.{pass_open, pass_rule_sound, vote_next_holds}
-use Rattle.qs_refine.proofs.SoundHolds.{Holds, is_open, open_held, held_is, told_with}
+use Rattle.qs_refine.proofs.SoundHolds.{Holds, is_open, open_held, told_with}
 use Rattle.qs_refine.proofs.SoundNotices.{end_members_hold}
 use Rattle.qs_refine.proofs.SoundParts.{and_both, both_and}
 use Rattle.qs_refine.proofs.WalkRules.{fold_walk, if_walk, sends_walk, issue_walk, block_walk, undecided_walk}
