@@ -300,6 +300,7 @@ pub mod PreparedHeld
 pub mod PreparedSteps
 pub mod CutsAlone
 pub mod CutsKept
+pub mod CommitIdles
 pub mod PassedOver
 pub mod ToCome
 pub mod BeginSteps
