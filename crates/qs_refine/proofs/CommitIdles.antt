@@ -1,5 +1,5 @@
--- Once commit is decided no request is on its way, and elsewhere than at the home nodes are idle.
-use Rattle.std.proofs.Common.{◌≡◌, ◌≢◌, ℕ, ◌+◌, ◌<◌, ◌≤◌, ◌&&◌, ◌||◌, not, Bool, true, false, List, [], ◌∷◌, Option, Some, None, is_none, is_some, refl, sym, ap, subst, ◌∙◌, arith, if◌then◌else◌}
+-- A node that is not engaged is idle; and once commit is decided none is engaged, and no request is on its way.
+use Rattle.std.proofs.Common.{◌≡◌, ◌≢◌, ◌==◌, ℕ, ◌+◌, ◌<◌, ◌≤◌, ◌&&◌, ◌||◌, not, Bool, true, false, List, [], ◌∷◌, Option, Some, None, is_none, is_some, refl, sym, ap, subst, ◌∙◌, arith, if◌then◌else◌}
 use Rattle.std.proofs.lemmas.Bool.Decides.{nat_tests}
 use Rattle.qs_base.specs.declared.identifiers.NodeNo.{NodeNo}
 use Rattle.qs_base.specs.declared.identifiers.Outcome.{Outcome}
@@ -15,7 +15,7 @@ use Rattle.qs_agree.specs.World.{World, Committed}
 use Rattle.qs_agree.specs.Carry.{IsLawful}
 use Rattle.qs_agree.specs.Doomed.{IsLeft, IsKeptBack}
 use Rattle.qs_agree.proofs.Doomed.{left_open, kept_back_open, engaged_is_open}
-use Rattle.qs_refine.specs.CommitLaws.{has_request, IsIdle, CommitIdle, CommitClear, CommitUnmet}
+use Rattle.qs_refine.specs.CommitLaws.{has_request, IsIdle, OffIdle, CommitIdle, CommitClear, CommitUnmet}
 use Rattle.qs_refine.specs.Faces.{ShowsFace}
 use Rattle.qs_refine.specs.Links.{Said, Requested, Closed, Outcome_told, Taken_in, Inquired, Link, link, waiting_link, IsLink}
 use Rattle.qs_refine.specs.NodeFaces.{face_at, began_here, part_at}
@@ -31,7 +31,7 @@ use Rattle.qs_refine.proofs.SoundViews.{PartSound, is_apart}
 -- ---- channels
 
 -- a request on its way was put, and not handed up
-requested : (saids : List Said) (l : Link) → has_request saids ≡ true → IsLink l saids → l.received < l.posted
+pub requested : (saids : List Said) (l : Link) → has_request saids ≡ true → IsLink l saids → l.received < l.posted
 requested [] l has is = absurd (cc has)
 requested (Requested number server ∷ rest) l has is = let all = all_within rest (record l { received = l.received + 1 }) is.2 in omega (arith, all.requests)
 requested (Closed number told ∷ rest) l has is = requested rest (record l { taken = l.taken + 1 }) has is.2
@@ -39,7 +39,7 @@ requested (Outcome_told commit ∷ rest) l has is = requested rest l has is.1
 requested (Taken_in further ∷ rest) l has is = requested rest l has is.1
 requested (Inquired ∷ rest) l has is = requested rest (record l { inquiry_taken = l.inquiry_taken + 1 }) has is
 
-never : (b : Bool) → (b ≡ true → ⊥) → b ≡ false
+pub never : (b : Bool) → (b ≡ true → ⊥) → b ≡ false
 never true no_more = absurd (no_more refl)
 never false no_more = refl
 
@@ -99,31 +99,52 @@ module _ (tid : Tid) (node : NodeValue) (sound : is_sound node ≡ true) where
           by true false false true so is = absurd (cc is)
           by false a b m so is = absurd (cc so)
 
-pub commit_idle : CommitIdle
-commit_idle tid node q w lawful committed face sound away undecided = by (tm.part_of tid node.manager) refl
+-- a node that is not engaged is idle for what it has not decided
+pub off_idle : OffIdle
+off_idle tid node sound off undecided = by (tm.part_of tid node.manager) refl
   where
-    off : (face_at node tid).on ≡ false
-    off = never (face_at node tid).on (λ on. engaged_is_open w q lawful.reached (face.engaged ∙ on) committed)
+    at : (part : Participant) → tm.part_of tid node.manager ≡ Some part → (if began_here node tid then not (is_some part.outcome) else is_some part.engage.superior) ≡ false
+    at part known = subst (λ (p : Participant). (if began_here node tid then not (is_some p.outcome) else is_some p.engage.superior) ≡ false) (ap (λ (o : Option Participant). Rattle.std.proofs.Common.unwrap_or o (Rattle.qs_refine.specs.NodeFaces.unknown node tid)) known) off
 
-    here : began_here node tid ≡ false
-    here = rw away refl
-
-    free : (part : Participant) → part_at node tid ≡ part → part.engage.superior ≡ None
-    free part is = none part.engage.superior (superior (began_here node tid) (not (is_some part.outcome)) (is_some part.engage.superior) here (subst (λ (p : Participant). (if began_here node tid then not (is_some p.outcome) else is_some p.engage.superior) ≡ false) is off))
+    by : (o : Option Participant) → tm.part_of tid node.manager ≡ o → IsIdle tid node
+    by None none = unknown_idle tid node sound none
+    by (Some part) known = home part.engage.home refl
       where
-        superior : (a b c : Bool) → a ≡ false → (if a then b else c) ≡ false → c ≡ false
-        superior true b c is so = absurd (cc is)
-        superior false b c is so = so
+        s : PartSound node tid part
+        s = known_sound tid node part known sound
+
+        so_then : (a b : Bool) → where_so a b ≡ true → a ≡ true → b ≡ true
+        so_then true b is so = is
+        so_then false b is so = absurd (cc so)
+
+        same : (h b : Bool) → same_flag h b ≡ true → b ≡ h
+        same true b is = is
+        same false true is = absurd (cc is)
+        same false false is = refl
+
+        at_home : same_node tid.home node.setting.node ≡ part.engage.home
+        at_home = same part.engage.home (same_node tid.home node.setting.node) s.homed
+
+        superior : (b c : Bool) → b ≡ false → (if b then not (is_some part.outcome) else c) ≡ false → c ≡ false
+        superior true c is so = absurd (cc is)
+        superior false c is so = so
 
         none : (o : Option NodeNo) → is_some o ≡ false → o ≡ None
         none None is = refl
         none (Some x) is = absurd (cc is)
 
-    by : (o : Option Participant) → tm.part_of tid node.manager ≡ o → IsIdle tid node
-    by None none = unknown_idle tid node sound none
-    by (Some part) known = free_idle tid node sound part known (undecided part known) (not_home part.engage.home (known_sound tid node part known sound).homed)
-        (free part (ap (λ (o : Option Participant). Rattle.std.proofs.Common.unwrap_or o (Rattle.qs_refine.specs.NodeFaces.unknown node tid)) known))
-      where
-        not_home : (h : Bool) → same_flag h (same_node tid.home node.setting.node) ≡ true → h ≡ false
-        not_home true is = absurd (cc (is, away))
-        not_home false is = refl
+        -- a home that has not decided is engaged
+        never_home : part.engage.home ≡ true → ⊥
+        never_home is =
+            let began : began_here node tid ≡ true = rw (at_home, is) ((and_both (tid.inc == node.setting.inc) _ (so_then (part.engage.home && is_undecided part) _ s.began (rw (is, undecided part known) refl))).0) in
+            let on : (if began_here node tid then not (is_some part.outcome) else is_some part.engage.superior) ≡ true = rw (began, undecided part known) refl in
+            let no_more : (if began_here node tid then not (is_some part.outcome) else is_some part.engage.superior) ≡ false = at part known in
+            cc (on, no_more)
+
+        home : (h : Bool) → part.engage.home ≡ h → IsIdle tid node
+        home true is = absurd (never_home is)
+        home false is = free_idle tid node sound part known (undecided part known) is (none part.engage.superior (superior (began_here node tid) (is_some part.engage.superior) (rw (at_home, is) refl) (at part known)))
+
+pub commit_idle : CommitIdle
+commit_idle tid node q w lawful committed face sound undecided =
+    off_idle tid node sound (never (face_at node tid).on (λ on. engaged_is_open w q lawful.reached (face.engaged ∙ on) committed)) undecided

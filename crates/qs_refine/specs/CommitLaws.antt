@@ -1,7 +1,6 @@
--- What is seen of a transaction once commit is decided: elsewhere than at its home nodes that have not learnt it are idle, and no request is on its way.
-use Rattle.std.specs.Prelude.{◌≡◌, ◌≢◌, ℕ, ◌<◌, Bool, true, false, List, [], ◌∷◌, Some, None}
+-- What is seen of a transaction once commit is decided: nodes that have not learnt it are idle, and no request is on its way.
+use Rattle.std.specs.Prelude.{◌≡◌, ℕ, ◌<◌, Bool, true, false, List, [], ◌∷◌, Some, None}
 use Rattle.qs_base.specs.declared.identifiers.Tid.{Tid}
-use Rattle.qs_engage.specs.Nodes.{same_node}
 use Rattle.qs_ipc.specs.Ipc as ipc
 use Rattle.qs_step.specs.Settling.{is_lent}
 use Rattle.qs_step.specs.State.{NodeValue}
@@ -31,8 +30,13 @@ pub record IsIdle (tid : Tid) (node : NodeValue) : Type 0 where
   pub lent : is_lent tid node ≡ false
   pub due : (part : Participant) → tm.part_of tid node.manager ≡ Some part → needs_pass part ≡ false
 
+-- a node that is not engaged is, of what it has not decided
+abbrev pub OffIdle : Type 0
+OffIdle = (tid : Tid) (node : NodeValue) → is_sound node ≡ true → (face_at node tid).on ≡ false → ((part : Participant) → tm.part_of tid node.manager ≡ Some part → part.outcome ≡ None) → IsIdle tid node
+
+-- once commit is decided none is engaged
 abbrev pub CommitIdle : Type 0
-CommitIdle = (tid : Tid) (node : NodeValue) (q : ℕ) (w : World) → IsLawful w → w.cell ≡ Committed → ShowsFace (face_at node tid) q w → is_sound node ≡ true → same_node tid.home node.setting.node ≡ false
+CommitIdle = (tid : Tid) (node : NodeValue) (q : ℕ) (w : World) → IsLawful w → w.cell ≡ Committed → ShowsFace (face_at node tid) q w → is_sound node ≡ true
     → ((part : Participant) → tm.part_of tid node.manager ≡ Some part → part.outcome ≡ None) → IsIdle tid node
 
 -- to a node that runs nothing is on its way, from whatever incarnation of another, and nothing waits for a node that is not known

@@ -1,5 +1,5 @@
 //! Worlds in which each transaction that has begun is shown, so that a move asks nothing.
-ghost use Rattle.qs_refine.specs.CommitLaws.{CommitIdle, CommitClear, CommitUnmet};
+ghost use Rattle.qs_refine.specs.CommitLaws.{OffIdle, CommitIdle, CommitClear, CommitUnmet};
 ghost use Rattle.qs_refine.specs.CutLaws.{StopGoesAlone, CutGoesAlone, CutGoesKept};
 ghost use Rattle.qs_refine.specs.Listed.{StartListed, MoveListed, SteadyGives};
 ghost use Rattle.qs_refine.specs.ShownWorlds.{ShownFit, ShownGives, ShownGoes, BegunStays, MoveShown, RunShown, ShownRunGoes};
@@ -36,9 +36,10 @@ pub fn stops()
     ensures kept { CutGoesKept }
 {}
 
-/// Once commit is decided, a node elsewhere than at the home that has not learnt it is idle: nothing waits there, nothing is lent, and no
-/// vote is due. And no request is on its way to a node that runs, nor kept back for one that is not known.
+/// A node that is not engaged is idle for what it has not decided: nothing waits there, nothing is lent, and no vote is due. Once commit
+/// is decided none is engaged, and no request is on its way to a node that runs, nor kept back for one that is not known.
 pub fn commits()
+    ensures off { OffIdle }
     ensures idle { CommitIdle }
     ensures clear { CommitClear }
     ensures unmet { CommitUnmet }
