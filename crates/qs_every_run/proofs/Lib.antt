@@ -1,0 +1,3 @@
+pub mod FreeLives
+pub mod Quiets
+pub mod CommitsPlaced
