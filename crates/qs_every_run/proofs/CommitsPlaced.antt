@@ -167,29 +167,31 @@ committed_keeps tid world w all committed n m n_in m_in server number = kept (wo
     kept true false on known = refl
     kept false b off unknown = refl
 
+-- ---- what the reference machine has undecided no node has decided
+
+pub none_decided : (next : ℕ) (book : BookValue) (tid : Tid) (tx : TransactionValue) (node : NodeValue) → Holds next book node → find_transaction book tid ≡ Some tx → is_open tx.cell ≡ true → (part : Participant) → tm.part_of tid node.manager ≡ Some part → part.outcome ≡ None
+none_decided next book tid tx node h found undecided part known = by part.outcome refl
+  where
+    its : HoldsTid node.setting.node node.setting.inc tid tx (face_of node tid)
+    its = subst (λ (o : Option TransactionValue). HoldsAt node.setting.node node.setting.inc tid o (face_of node tid)) found (h.at tid)
+
+    clash : (c : Cell) (o : Outcome) → is_open c ≡ true → is_outcome o c ≡ true → ⊥
+    clash cells.Open outcomes.Commit so it = cc it
+    clash cells.Open outcomes.Abort so it = cc it
+    clash cells.Commit o so it = cc so
+    clash cells.Abort o so it = cc so
+
+    by : (o : Option Outcome) → part.outcome ≡ o → part.outcome ≡ None
+    by None none = none
+    by (Some outcome) some = absurd (clash tx.cell outcome undecided (its.outcome outcome (ap (λ (o : Option Participant). (part_or_new o).outcome) known ∙ some)))
+
 -- ---- so it is unanimous
 
 pub committed_unanimous : CommittedUnanimous
 committed_unanimous tid book world w tx is all committed holds places found undecided asked_for = by (places tx found undecided)
   where
     none_known : (k : ℕ) → k < world.size → world.channels.up k ≡ true → (part : Participant) → tm.part_of tid (world.hosts k).node.manager ≡ Some part → part.outcome ≡ None
-    none_known k k_in up part known = by_outcome part.outcome refl
-      where
-        h : (stamp : ℕ) × Holds stamp book (world.hosts k).node
-        h = holds k k_in up
-
-        its : HoldsTid (world.hosts k).node.setting.node (world.hosts k).node.setting.inc tid tx (face_of (world.hosts k).node tid)
-        its = subst (λ (o : Option TransactionValue). HoldsAt (world.hosts k).node.setting.node (world.hosts k).node.setting.inc tid o (face_of (world.hosts k).node tid)) found (h.1.at tid)
-
-        clash : (c : Cell) (o : Outcome) → is_open c ≡ true → is_outcome o c ≡ true → ⊥
-        clash cells.Open outcomes.Commit so it = cc it
-        clash cells.Open outcomes.Abort so it = cc it
-        clash cells.Commit o so it = cc so
-        clash cells.Abort o so it = cc so
-
-        by_outcome : (o : Option Outcome) → part.outcome ≡ o → part.outcome ≡ None
-        by_outcome None none = none
-        by_outcome (Some outcome) some = absurd (clash tx.cell outcome undecided (its.outcome outcome (ap (λ (o : Option Participant). (part_or_new o).outcome) known ∙ some)))
+    none_known k k_in up = none_decided (holds k k_in up).0 book tid tx (world.hosts k).node (holds k k_in up).1 found undecided
 
     free : (k : ℕ) → k < world.size → world.channels.up k ≡ true → IsFree tid (world.hosts k).node
     free k k_in up = committed_free tid (world.hosts k).node (Rattle.qs_refine.specs.Places.place k (world.channels.inc k)) w all.seen.lawful committed (all.seen.shown.faces k k_in up) ((steady world is).sound k k_in).node (none_known k k_in up)

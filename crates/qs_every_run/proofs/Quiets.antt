@@ -28,7 +28,7 @@ two false b is = absurd (cc is)
 
 -- ---- what does not wait
 
-none_counted : (tid : Tid) (ds : List Delivery) → count_of tid ds ≡ 0 → filter (is_of tid) ds ≡ []
+pub none_counted : (tid : Tid) (ds : List Delivery) → count_of tid ds ≡ 0 → filter (is_of tid) ds ≡ []
 none_counted tid [] none = refl
 none_counted tid (d ∷ ds) none = by (is_of tid d) refl none (none_counted tid ds)
   where
