@@ -6,7 +6,7 @@ use Rattle.qs_agree.specs.Guards.{Votes}
 use Rattle.qs_agree.specs.Step.{Event}
 use Rattle.qs_agree.specs.Laws.{Run, IsReached, IsSettled}
 use Rattle.qs_agree.specs.Carry.{Leads}
-use Rattle.qs_agree.specs.Doomed.{IsDoomed, IsPast, IsLeft, IsKeptBack, IsBusy, DoomStays, AbortDooms, EngagedPastDooms, PastHomeDooms, AbortVoteDooms, GoneDooms, RefusalDooms, LeftDooms, KeptBackDooms, BusyEngaged, EngagedOpen, LeftOpen, KeptBackOpen}
+use Rattle.qs_agree.specs.Doomed.{IsDoomed, IsPast, IsLeft, IsKeptBack, IsBusy, DoomStays, AbortDooms, EngagedPastDooms, PastHomeDooms, AbortVoteDooms, GoneDooms, RefusalDooms, LeftDooms, LeftBehindDooms, KeptBackDooms, BusyEngaged, EngagedOpen, LeftOpen, KeptBackOpen}
 use Rattle.qs_agree.proofs.Carries.{leads_on}
 use Rattle.qs_agree.proofs.Counts.{Counts}
 use Rattle.qs_agree.proofs.Places.{Places}
@@ -17,8 +17,8 @@ use Rattle.qs_agree.proofs.Inv.{inv_step, inv_run}
 use Rattle.qs_agree.proofs.Lasts.{Lasts}
 use Rattle.qs_agree.proofs.Heeded.{lasts_run}
 use Rattle.qs_agree.proofs.Lawful.{inv_reached, settled_at}
-use Rattle.qs_agree.proofs.Past.{Past, Missed}
-use Rattle.qs_agree.proofs.PastTable.{past_step, missed_step}
+use Rattle.qs_agree.proofs.Past.{Past, Missed, Behind}
+use Rattle.qs_agree.proofs.PastTable.{past_step, missed_step, behind_step}
 
 -- ---- over a run
 
@@ -42,6 +42,12 @@ missed_run (e ∷ es) w v k p j i r =
     let rest : Missed r.0 v k p j = missed_run es r.0 v k p j (inv_step e w r.0 i r.1) r.2 in
     let gone : Past w r.0 k 0 = past_step e w r.0 k 0 r.1 in
     record { left = λ h l. rest.left (gone.stopped h) (first.left h l) }
+
+behind_run : (es : List Event) (w v : World) (k p j : ℕ) → Inv w → Run w es v → p < w.peer k (w.node p) → IsLeft w p k j → IsLeft v p k j
+behind_run [] w v k p j i r later l = subst (λ (x : World). IsLeft x p k j) (sym r) l
+behind_run (e ∷ es) w v k p j i r later l =
+    let first : Behind w r.0 k p j = behind_step e w r.0 k p j i.counts r.1 in
+    behind_run es r.0 v k p j (inv_step e w r.0 i r.1) r.2 (subst (λ (node : ℕ → ℕ). p < r.0.peer k (node p)) (sym first.node) (first.later later)) (first.left later l)
 
 -- ---- what is not committed
 
@@ -148,6 +154,9 @@ refusal_dooms w q r on refused v l is = by ((lasts_run l.events w v q (inv_reach
 
 pub left_dooms : LeftDooms
 left_dooms w p q j r past left v l = left_not v p q j (later w v (inv_reached w r) l) ((missed_run l.events w v q p j (inv_reached w r) l.run).left past left)
+
+pub left_behind_dooms : LeftBehindDooms
+left_behind_dooms w p q j r later left v l = left_not v p q j (inv_run l.events w v (inv_reached w r) l.run) (behind_run l.events w v q p j (inv_reached w r) l.run later left)
 
 pub kept_back_dooms : KeptBackDooms
 kept_back_dooms w p m j r past kept v l =

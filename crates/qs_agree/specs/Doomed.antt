@@ -60,6 +60,10 @@ RefusalDooms = (w : World) (q : ℕ) → IsReached w → w.engaged q ≡ true �
 abbrev pub LeftDooms : Type 0
 LeftDooms = (w : World) (p q j : ℕ) → IsReached w → IsPast w q → IsLeft w p q j → IsDoomed w
 
+-- a request of an earlier incarnation of a node than the one that its receiver knows
+abbrev pub LeftBehindDooms : Type 0
+LeftBehindDooms = (w : World) (p q j : ℕ) → IsReached w → p < w.peer q (w.node p) → IsLeft w p q j → IsDoomed w
+
 -- a request that still waited to be put as its sender stopped
 abbrev pub KeptBackDooms : Type 0
 KeptBackDooms = (w : World) (p m j : ℕ) → IsReached w → IsPast w p → IsKeptBack w p m j → IsDoomed w

@@ -5,7 +5,7 @@ ghost use Rattle.qs_agree.specs.Origins.{Origin, IsOrigin, first};
 ghost use Rattle.qs_agree.specs.Step.{Event, Refuse, Answer_running};
 ghost use Rattle.qs_agree.specs.Laws.{Run, IsSettled, IsAnswered, IsInvolved, IsAgreed, IsSilenced};
 ghost use Rattle.qs_agree.specs.Events.{Happens, IsOpposed, NeverCommits, IsRemembered};
-ghost use Rattle.qs_agree.specs.Doomed.{DoomStays, AbortDooms, EngagedPastDooms, PastHomeDooms, AbortVoteDooms, GoneDooms, RefusalDooms, LeftDooms, KeptBackDooms, BusyEngaged, EngagedOpen, LeftOpen, KeptBackOpen};
+ghost use Rattle.qs_agree.specs.Doomed.{DoomStays, AbortDooms, EngagedPastDooms, PastHomeDooms, AbortVoteDooms, GoneDooms, RefusalDooms, LeftDooms, LeftBehindDooms, KeptBackDooms, BusyEngaged, EngagedOpen, LeftOpen, KeptBackOpen};
 
 /// Once commit is decided, every request was served and stands before a vote, and no vote was against it.
 pub fn unanimity()
@@ -40,8 +40,8 @@ pub fn inquirers_are_told()
 {}
 
 /// A transaction is doomed, and never commits, where abort is decided or voted, where an engaged place stopped, was refused or has a cause
-/// Gone, where the home stopped before it committed, and where a request can be taken no more: what it was put for stopped, or its
-/// sender did before it was put.
+/// Gone, where the home stopped before it committed, and where a request can be taken no more: what it was put for stopped, or knows a later
+/// incarnation of its sender's node, or its sender stopped before it was put.
 pub fn doom()
     ensures stays { DoomStays }
     ensures aborted { AbortDooms }
@@ -51,6 +51,7 @@ pub fn doom()
     ensures gone { GoneDooms }
     ensures refused { RefusalDooms }
     ensures left { LeftDooms }
+    ensures left_behind { LeftBehindDooms }
     ensures kept_back { KeptBackDooms }
 {}
 
