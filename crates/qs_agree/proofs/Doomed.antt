@@ -1,20 +1,19 @@
 -- What dooms a transaction, and what is not committed while it lasts.
-use Rattle.std.proofs.Common.{◌≡◌, ◌≢◌, ◌⊎◌, ◌∙◌, ℕ, ◌<◌, ◌≤◌, inl, inr, true, false, List, [], ◌∷◌, refl, sym, subst, ap, arith}
+use Rattle.std.proofs.Common.{◌≡◌, ◌≢◌, ◌⊎◌, ◌∙◌, ℕ, ◌<◌, ◌≤◌, inl, inr, true, List, [], ◌∷◌, refl, sym, subst, arith}
 use Rattle.std.proofs.lemmas.Bool.Decides.{nat_tests}
 use Rattle.qs_agree.specs.World.{Outcome, Open, Committed, Aborted, World}
 use Rattle.qs_agree.specs.Guards.{Votes}
 use Rattle.qs_agree.specs.Step.{Event}
-use Rattle.qs_agree.specs.Laws.{Run, IsReached, IsSettled}
+use Rattle.qs_agree.specs.Laws.{Run}
 use Rattle.qs_agree.specs.Carry.{Leads}
-use Rattle.qs_agree.specs.Doomed.{IsDoomed, IsPast, IsLeft, IsKeptBack, IsBusy, DoomStays, AbortDooms, EngagedPastDooms, PastHomeDooms, AbortVoteDooms, GoneDooms, RefusalDooms, LeftDooms, LeftBehindDooms, KeptBackDooms, BusyEngaged, EngagedOpen, LeftOpen, KeptBackOpen}
+use Rattle.qs_agree.specs.Doomed.{IsDoomed, IsLeft, IsKeptBack, DoomStays, AbortDooms, EngagedPastDooms, PastHomeDooms, AbortVoteDooms, GoneDooms, RefusalDooms, LeftDooms, LeftBehindDooms, KeptBackDooms, BusyEngaged, EngagedOpen, LeftOpen, KeptBackOpen}
 use Rattle.qs_agree.proofs.Carries.{leads_on}
 use Rattle.qs_agree.proofs.Counts.{Counts}
 use Rattle.qs_agree.proofs.Places.{Places}
-use Rattle.qs_agree.proofs.Tree.{Tree, engaged_open}
+use Rattle.qs_agree.proofs.Tree.{engaged_open}
 use Rattle.qs_agree.proofs.At.{At}
 use Rattle.qs_agree.proofs.Whole.{Inv, Whole}
 use Rattle.qs_agree.proofs.Inv.{inv_step, inv_run}
-use Rattle.qs_agree.proofs.Lasts.{Lasts}
 use Rattle.qs_agree.proofs.Heeded.{lasts_run}
 use Rattle.qs_agree.proofs.Lawful.{inv_reached, settled_at}
 use Rattle.qs_agree.proofs.Past.{Past, Missed, Behind}

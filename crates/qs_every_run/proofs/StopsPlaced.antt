@@ -24,7 +24,7 @@ use Rattle.qs_agree.specs.Carry.{Leads, IsLawful}
 use Rattle.qs_agree.specs.Doomed.{IsDoomed, IsPast, IsLeft, IsKeptBack}
 use Rattle.qs_agree.proofs.Doomed.{doom_stays, abort_dooms, engaged_past_dooms, left_dooms, kept_back_dooms, engaged_is_open}
 use Rattle.qs_refine.specs.CommitLaws.{has_request}
-use Rattle.qs_refine.specs.CutLaws.{StopsAlone}
+use Rattle.qs_refine.specs.CutLaws.{StopsAlone, CutsOff}
 use Rattle.qs_refine.specs.EachMove.{ShowsAll}
 use Rattle.qs_refine.specs.Faces.{ShowsFace}
 use Rattle.qs_refine.specs.Links.{link, waiting_link}
@@ -44,7 +44,7 @@ use Rattle.qs_lawful.specs.Holds.{Holds}
 use Rattle.qs_lawful.specs.Parcels.{pending, pending_from}
 use Rattle.qs_every_run.specs.Placed.{Field, message_of, sent_between, kept_between, field_of, standing, waiting, asked, IsPlaced, EachPlaced, IsLife, IsPresent, EachLives, Placed}
 use Rattle.qs_every_run.specs.PlacedLaws.{IsFree}
-use Rattle.qs_every_run.specs.StopLaws.{StopsPlaced}
+use Rattle.qs_every_run.specs.StopLaws.{IsApart, StopsPlaced, CutPlaced}
 use Rattle.qs_every_run.proofs.CommitsPlaced.{NoneIn, none_in, none_then, idle_free, none_decided}
 use Rattle.qs_every_run.proofs.StoppedFields.{placed_then}
 
@@ -136,3 +136,36 @@ module _ (tid : Tid) (book : BookValue) (tx : TransactionValue) (world : World) 
 pub stops_placed : StopsPlaced
 stops_placed tid book tx world n stamp cause log w goes is all n_in on found undecided next h (inl doomed) = inl (doom_stays w goes.goes.next doomed goes.goes.leads)
 stops_placed tid book tx world n stamp cause log w goes is all n_in on found undecided next h (inr placed) = stays_placed tid book tx world n stamp cause log w goes is all n_in on found undecided next h placed w.cell refl
+
+-- ---- with a record of it kept
+
+pub cut_placed : CutPlaced
+cut_placed tid book tx world n stamp cause log w goes is all n_in on found undecided next h decides (inl doomed) = inl (doom_stays w goes.goes.next doomed goes.goes.leads)
+cut_placed tid book tx world n stamp cause log w goes is all n_in on found undecided next h decides (inr placed) = by goes.fate
+  where
+    apart : IsApart tid world n → IsDoomed goes.goes.next ⊎ Placed tid tx (field_of (stopped world n stamp cause log))
+    apart its = placed_then tid book tx world n stamp cause log goes.goes.next is n_in on found undecided next h its.free
+        (λ k i k_in has. absurd (let none : has_request (all_said tid (map message_of (pending world.channels k n i (world.channels.inc n)))) ≡ false = its.to_it k i k_in in cc (has, none)))
+        (λ m m_in unknown has. absurd (let none : has_request (all_said tid (map message_of (world.channels.waits n m))) ≡ false = its.by_it m m_in unknown in cc (has, none))) placed
+
+    face : ShowsFace (face_at (world.hosts n).node tid) (place n (world.channels.inc n)) w
+    face = all.seen.shown.faces n n_in on
+
+    off : w.cell ≡ Committed → (face_at (world.hosts n).node tid).on ≡ false
+    off committed = never (face_at (world.hosts n).node tid).on (λ so. engaged_is_open w (place n (world.channels.inc n)) all.seen.lawful.reached (face.engaged ∙ so) committed)
+
+    decided : w.cell ≡ Committed → IsApart tid world n
+    decided committed = record {
+      free = idle_free tid (world.hosts n).node (off_idle tid (world.hosts n).node ((steady world is).sound n n_in).node (off committed) (none_decided next book tid tx (world.hosts n).node h found undecided));
+      to_it = λ k i k_in. commit_clear tid (sight tid (scene_of world)) w all.seen.lawful committed all.seen.shown k i n k_in n_in on;
+      by_it = λ m m_in unknown. commit_unmet tid (sight tid (scene_of world)) w all.seen.lawful committed all.seen.shown n m n_in m_in on unknown;
+    }
+
+    of_cell : (o : Outcome) → w.cell ≡ o → goes.goes.next.cell ≡ Committed → IsDoomed goes.goes.next ⊎ Placed tid tx (field_of (stopped world n stamp cause log))
+    of_cell Open open_now committed = apart (decides open_now committed)
+    of_cell Committed before committed = apart (decided before)
+    of_cell Aborted aborted committed = inl (doom_stays w goes.goes.next (abort_dooms w all.seen.lawful.reached aborted) goes.goes.leads)
+
+    by : IsDoomed goes.goes.next ⊎ (goes.goes.next.cell ≡ Committed) → IsDoomed goes.goes.next ⊎ Placed tid tx (field_of (stopped world n stamp cause log))
+    by (inl doomed) = inl doomed
+    by (inr committed) = of_cell w.cell refl committed

@@ -1,5 +1,5 @@
 //! A transaction of which all places hold what they should is unanimous as it is committed.
-ghost use Rattle.qs_every_run.specs.StopLaws.{StopsPlaced};
+ghost use Rattle.qs_every_run.specs.StopLaws.{StopsPlaced, CutPlaced};
 ghost use Rattle.qs_every_run.specs.PlacedLaws.{FreeAgrees, QuietUnanimous, CommittedFree, CommittedWays, CommittedKeeps, CommittedUnanimous};
 
 /// At a node where no request of it waits, no loan stands and every vote covers what was served, its present lives agree. Where all nodes
@@ -18,7 +18,9 @@ pub fn commits()
     ensures unanimous { CommittedUnanimous }
 {}
 
-/// A node stops, between two steps or in one of which nothing is kept of it: it is doomed then, or so placed still.
+/// A node stops, between two steps or in one of which nothing is kept of it: it is doomed then, or so placed still. So it is where a record
+/// of it is kept, if a home that decided it in that step was free of it as the step began.
 pub fn stops()
     ensures placed { StopsPlaced }
+    ensures cut { CutPlaced }
 {}

@@ -1,8 +1,6 @@
 -- A node that is not engaged is idle; and once commit is decided none is engaged, and no request is on its way.
 use Rattle.std.proofs.Common.{◌≡◌, ◌≢◌, ◌==◌, ℕ, ◌+◌, ◌<◌, ◌≤◌, ◌&&◌, ◌||◌, not, Bool, true, false, List, [], ◌∷◌, Option, Some, None, is_none, is_some, refl, sym, ap, subst, ◌∙◌, arith, if◌then◌else◌}
-use Rattle.std.proofs.lemmas.Bool.Decides.{nat_tests}
 use Rattle.qs_base.specs.declared.identifiers.NodeNo.{NodeNo}
-use Rattle.qs_base.specs.declared.identifiers.Outcome.{Outcome}
 use Rattle.qs_base.specs.declared.identifiers.Tid.{Tid}
 use Rattle.qs_engage.specs.Nodes.{same_node}
 use Rattle.qs_ipc.specs.Ipc as ipc
@@ -11,18 +9,14 @@ use Rattle.qs_step.specs.State.{NodeValue}
 use Rattle.qs_tm.specs.Manager as tm
 use Rattle.qs_tm.specs.Participant.{needs_pass, is_undecided}
 use Rattle.qs_tm.specs.declared.participant.Participant.{Participant}
-use Rattle.qs_agree.specs.World.{World, Committed}
-use Rattle.qs_agree.specs.Carry.{IsLawful}
-use Rattle.qs_agree.specs.Doomed.{IsLeft, IsKeptBack}
+use Rattle.qs_agree.specs.Doomed.{IsLeft}
 use Rattle.qs_agree.proofs.Doomed.{left_open, kept_back_open, engaged_is_open}
 use Rattle.qs_refine.specs.CommitLaws.{has_request, IsIdle, OffIdle, CommitIdle, CommitClear, CommitUnmet}
-use Rattle.qs_refine.specs.Faces.{ShowsFace}
 use Rattle.qs_refine.specs.Links.{Said, Requested, Closed, Outcome_told, Taken_in, Inquired, Link, link, waiting_link, IsLink}
 use Rattle.qs_refine.specs.NodeFaces.{face_at, began_here, part_at}
 use Rattle.qs_refine.specs.Places.{place}
-use Rattle.qs_refine.specs.Sights.{Sight, ShowsSight}
 use Rattle.qs_refine.specs.Sound.{is_sound, may_be_served, where_so, same_flag}
-use Rattle.qs_refine.proofs.Crashing.{AllWithin, all_within}
+use Rattle.qs_refine.proofs.Crashing.{all_within}
 use Rattle.qs_refine.proofs.SoundHolds.{known_sound}
 use Rattle.qs_refine.proofs.SoundKnown.{nothing_waits, nothing_lent}
 use Rattle.qs_refine.proofs.SoundParts.{and_both}
@@ -47,7 +41,7 @@ pub commit_clear : CommitClear
 commit_clear tid x w lawful committed shown n i m n_in m_in up =
     never (has_request (x.said n i m (x.inc m))) (λ has.
     left_open w (place n i) (place m (x.inc m)) (w.received (place m (x.inc m)) (place n i) + 1) lawful.reached
-        (next (requested (x.said n i m (x.inc m)) (link w (place n i) (place m (x.inc m))) has (shown.links n i m (x.inc m) n_in m_in up refl))) committed)
+    (next (requested (x.said n i m (x.inc m)) (link w (place n i) (place m (x.inc m))) has (shown.links n i m (x.inc m) n_in m_in up refl))) committed)
   where
     next : w.received (place m (x.inc m)) (place n i) < w.posted (place n i) (place m (x.inc m)) → IsLeft w (place n i) (place m (x.inc m)) (w.received (place m (x.inc m)) (place n i) + 1)
     next less = record { number = omega arith; put = omega (arith, less); untaken = omega arith }

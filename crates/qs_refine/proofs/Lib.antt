@@ -296,6 +296,7 @@ pub mod Reopening
 pub mod LeftLogs
 pub mod LeftOpenings
 pub mod StillSteps
+pub mod PreparedKept
 pub mod PreparedHeld
 pub mod PreparedSteps
 pub mod CutsAlone
