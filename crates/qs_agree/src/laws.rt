@@ -5,6 +5,7 @@ ghost use Rattle.qs_agree.specs.Origins.{Origin, IsOrigin, first};
 ghost use Rattle.qs_agree.specs.Step.{Event, Refuse, Answer_running};
 ghost use Rattle.qs_agree.specs.Laws.{Run, IsSettled, IsAnswered, IsInvolved, IsAgreed, IsSilenced};
 ghost use Rattle.qs_agree.specs.Events.{Happens, IsOpposed, NeverCommits, IsRemembered};
+ghost use Rattle.qs_agree.specs.Doomed.{DoomStays, AbortDooms, EngagedPastDooms, PastHomeDooms, AbortVoteDooms, GoneDooms, RefusalDooms, LeftDooms, LeftBehindDooms, KeptBackDooms, BusyEngaged, EngagedOpen, LeftOpen, KeptBackOpen};
 
 /// Once commit is decided, every request was served and stands before a vote, and no vote was against it.
 pub fn unanimity()
@@ -36,4 +37,29 @@ pub fn abort_votes_are_heeded()
 /// Whoever inquired while the home ran the transaction is told what the home decides: a Commit names its node, and stands until that acknowledges; where the home aborts, it is to tell the node.
 pub fn inquirers_are_told()
     ensures remembered { (origin : Origin) (events : List Event) (q : ℕ) (new : World) → IsOrigin origin → Run (first origin) events new → Happens events (Answer_running q) → IsRemembered events new (new.node q) }
+{}
+
+/// A transaction is doomed, and never commits, where abort is decided or voted, where an engaged place stopped, was refused or has a cause
+/// Gone, where the home stopped before it committed, and where a request can be taken no more: what it was put for stopped, or knows a later
+/// incarnation of its sender's node, or its sender stopped before it was put.
+pub fn doom()
+    ensures stays { DoomStays }
+    ensures aborted { AbortDooms }
+    ensures engaged { EngagedPastDooms }
+    ensures home { PastHomeDooms }
+    ensures voted { AbortVoteDooms }
+    ensures gone { GoneDooms }
+    ensures refused { RefusalDooms }
+    ensures left { LeftDooms }
+    ensures left_behind { LeftBehindDooms }
+    ensures kept_back { KeptBackDooms }
+{}
+
+/// While a place is engaged, and a request is still to be handed up or put, commit is not decided; and a place is engaged while anything is
+/// open there.
+pub fn open_still()
+    ensures busy { BusyEngaged }
+    ensures engaged { EngagedOpen }
+    ensures left { LeftOpen }
+    ensures kept_back { KeptBackOpen }
 {}

@@ -14,12 +14,12 @@ use Rattle.qs_refine.proofs.Same.{same_place}
 use Rattle.qs_refine.proofs.Streams.{Stays, still}
 use Rattle.qs_refine.proofs.Still.{log_still}
 
-record AllWithin (l : Link) : Type 0 where
-  requests : l.received ≤ l.posted
-  closers : l.taken ≤ l.closers
-  inquiries : l.to_home ≡ true → l.inquiry_taken ≤ l.inquiry_put
+pub record AllWithin (l : Link) : Type 0 where
+  pub requests : l.received ≤ l.posted
+  pub closers : l.taken ≤ l.closers
+  pub inquiries : l.to_home ≡ true → l.inquiry_taken ≤ l.inquiry_put
 
-all_within : (saids : List Said) (l : Link) → IsLink l saids → AllWithin l
+pub all_within : (saids : List Said) (l : Link) → IsLink l saids → AllWithin l
 all_within [] l is = record { requests = is.requests; closers = is.closers; inquiries = is.inquiries }
 all_within (Requested number server ∷ rest) l is = let more = all_within rest (record l { received = l.received + 1 }) is.2 in record { requests = omega (arith, more.requests); closers = more.closers; inquiries = more.inquiries }
 all_within (Closed number told ∷ rest) l is = let more = all_within rest (record l { taken = l.taken + 1 }) is.2 in record { requests = more.requests; closers = omega (arith, more.closers); inquiries = more.inquiries }

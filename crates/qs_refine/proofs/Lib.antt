@@ -296,6 +296,12 @@ pub mod Reopening
 pub mod LeftLogs
 pub mod LeftOpenings
 pub mod StillSteps
+pub mod PreparedKept
+pub mod PreparedHeld
+pub mod PreparedSteps
+pub mod CutsAlone
+pub mod CutsKept
+pub mod CommitIdles
 pub mod PassedOver
 pub mod ToCome
 pub mod BeginSteps

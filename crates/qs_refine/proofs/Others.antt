@@ -40,7 +40,7 @@ manager_leaves t f work same = out_leaves t work (with_manager f work) (record {
 
 -- ---- another transaction becomes known, or unknown
 
-key_apart : (t tid : Tid) → Apart t tid → is_at (tid_cmp t) tid ≡ false
+pub key_apart : (t tid : Tid) → Apart t tid → is_at (tid_cmp t) tid ≡ false
 key_apart t tid apart = grind (arith, nat_tests, apart)
 
 pub put_apart : (t tid : Tid) (part : Participant) (manager : Manager) → Apart t tid → tm.part_of t (tm.put_part tid part manager) ≡ tm.part_of t manager

@@ -40,11 +40,11 @@ known_begun world tid is low = by (nat_lt tid.home.0 world.size) low (and_both (
     by false off its = absurd (cc (off))
 
 module _ (world : World) (is : IsShownWorld world) where
-  steady : IsSteady world
+  pub steady : IsSteady world
   steady = steady_gives world is.steady is.listed
 
-  in_run : (tid : Tid) → has_begun world tid ≡ true → tid.home.0 < world.size
-  in_run tid begun = let low : nat_lt tid.home.0 world.size ≡ true = (and_both (nat_lt tid.home.0 world.size) _ (and_both (names_transaction tid) _ begun).1).0 in grind (arith, nat_tests, low)
+  pub home_in_run : (tid : Tid) → has_begun world tid ≡ true → tid.home.0 < world.size
+  home_in_run tid begun = let low : nat_lt tid.home.0 world.size ≡ true = (and_both (nat_lt tid.home.0 world.size) _ (and_both (names_transaction tid) _ begun).1).0 in grind (arith, nat_tests, low)
 
   -- of which transaction it is
   module _ (n m free : ℕ) (two : are_two world.size m n ≡ true) where
@@ -70,9 +70,9 @@ module _ (world : World) (is : IsShownWorld world) where
     of_one (messages.Told tid further) its each = let both : (may_be_known world tid ≡ true) × (same_node tid.home (node_no n) ≡ true) = and_both (may_be_known world tid) _ its in each tid (known_begun world tid both.0 (at_low tid n both.1 n_low)) refl
     of_one (messages.Inquire tid) its each = tt
 
-  messages_fit : MessagesFit world
+  pub messages_fit : MessagesFit world
   messages_fit n m free parcel n_in on found = of_one n m free both.0 parcel.message both.1
-      (λ tid begun about. shown_fits tid world (is.shown tid begun).machine n m free parcel steady (in_run tid begun) (begun_low world tid begun) (is.shown tid begun).shows n_in on found about)
+      (λ tid begun about. shown_fits tid world (is.shown tid begun).machine n m free parcel steady (home_in_run tid begun) (begun_low world tid begun) (is.shown tid begun).shows n_in on found about)
     where
       its : is_steady_parcel world m n parcel ≡ true
       its = all_get (is_steady_parcel world m n) (length (world.channels.handed m n (world.channels.peer n m) (world.channels.inc n))) (world.channels.posted m n (world.channels.peer n m) (world.channels.inc n)) parcel found (is.steady.posted m n (world.channels.peer n m) (world.channels.inc n))
@@ -93,7 +93,7 @@ module _ (world : World) (is : IsShownWorld world) where
   fit_gives n m free (messages.Told tid further) fit = tt
   fit_gives n m free (messages.Inquire tid) fit = tt
 
-  event_gives : (n stamp free : ℕ) (source : Source) (event : Event) → n < world.size → world.channels.up n ≡ true → event_of world n stamp source ≡ Some event → MachineGives event (begun (world.hosts n).node free)
+  pub event_gives : (n stamp free : ℕ) (source : Source) (event : Event) → n < world.size → world.channels.up n ≡ true → event_of world n stamp source ≡ Some event → MachineGives event (begun (world.hosts n).node free)
   event_gives n stamp free (Commanded k) event n_in on came = let from = from_client world n k event steady came in subst (λ (e : Event). MachineGives e (begun (world.hosts n).node free)) (sym from.is) tt
   event_gives n stamp free (Handed m) event n_in on came = let from = from_node world n stamp m event came in
       subst (λ (e : Event). MachineGives e (begun (world.hosts n).node free)) (sym from.is) (fit_gives n m free from.parcel.message (messages_fit n m free from.parcel n_in on from.found))
@@ -125,7 +125,7 @@ shown_gives world (Rise n stamp inc) may is = tt
 shown_gives world (Meet n stamp m inc) may is = tt
 
 pub shown_goes : ShownGoes
-shown_goes tid world move w may is begun shows = each_move_goes tid world move w may (steady world is) (messages_fit world is) (in_run world is tid begun) (begun_low world tid begun) shows
+shown_goes tid world move w may is begun shows = each_move_goes tid world move w may (steady world is) (messages_fit world is) (home_in_run world is tid begun) (begun_low world tid begun) shows
 
 -- ---- the world after it
 

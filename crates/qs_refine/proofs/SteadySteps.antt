@@ -72,7 +72,7 @@ module _ (world : World) (steady : IsSteadyWorld world) (n free : ℕ) (low : n 
   pub more : Rises (inc_in world) (count_in world) (inc_in world) (bump n (count_in world))
   more k = inr (refl, bumped n (count_in world) k)
 
-  stage_d : IsStage d
+  pub stage_d : IsStage d
   stage_d = record {
     inside = λ tid is. subst (λ (k : ℕ). (d.past tid ≡ true) × (nat_lt tid.home.0 k ≡ true)) (sym (steady.seated.nodes n low)) (begun_past world.size (inc_in world) (bump n (count_in world)) tid is);
     own = λ tid is home. subst (λ (k : ℕ). (names_transaction tid ≡ true) × ((tid.inc < k) ⊎ ((tid.inc ≡ k) × (tid.seq ≤ c.count + 1)))) incs
@@ -84,7 +84,7 @@ module _ (world : World) (steady : IsSteadyWorld world) (n free : ℕ) (low : n 
   next_is node t = next_begun world.size n (inc_in world) (count_in world) node.manager.node node.manager.inc node.manager.begun
       (ap (λ (m : NodeNo). m.0) (t.own ∙ steady.seated.node n low)) (t.inc ∙ sym incs) (t.count ∙ sym counts) low
 
-  later : Later c d
+  pub later : Later c d
   later = record {
     wide = record { setting = refl; past = past_rises world.size (inc_in world) (count_in world) (inc_in world) (bump n (count_in world)) more; begun = begun_rises world.size (inc_in world) (count_in world) (inc_in world) (bump n (count_in world)) more; met = λ m is. is };
     stage = stage_d;

@@ -60,7 +60,7 @@ pub record TellsAt (t : Tid) (after : World) (k : ℕ) (v : machine.World) : Typ
 
 module _ (t : Tid) (world : World) (w : machine.World) (home_in : t.home.0 < world.size) (all : ShowsAll t world w) (after : World) (v : machine.World) (leads : Leads w v) (sized : after.size ≡ world.size) (shown : ShowsWorld t after v) (then_kept : KeepsDecided t after v)
     (each_node : (k : ℕ) → k < world.size → after.channels.up k ≡ true → StaysAt world after k ⊎ TellsAt t after k v) where
-  outcome_on : ShowsOutcome t after v
+  pub outcome_on : ShowsOutcome t after v
   outcome_on = record {
     learnt = λ k part k_in up known decided. learnt k part known decided (subst (λ (s : ℕ). k < s) sized k_in) (each_node k (subst (λ (s : ℕ). k < s) sized k_in) up);
     acknowledged = λ part up known m has. acked part known m has (each_node t.home.0 home_in up);
@@ -113,10 +113,10 @@ node_stopped world n stamp cause log k = by (k == n) refl
 
 module _ (t : Tid) (world : World) (w : machine.World) (steady : IsSteady world) (home_in : t.home.0 < world.size) (all : ShowsAll t world w) (n stamp free : ℕ) (n_in : n < world.size) (on : world.channels.up n ≡ true) (source : Source) (event : Event)
     (is : event_of world n stamp source ≡ Some event) (came : StepCame t world n free source event w) (may : MayHappen event (begun (world.hosts n).node free) × BeginsNew event (begun (world.hosts n).node free)) where
-  shown_step : (shown : StepShown t world n free source event w) × Leads (joined.f t world w steady home_in all n stamp free n_in on source event is came may) shown.next
+  pub shown_step : (shown : StepShown t world n free source event w) × Leads (joined.f t world w steady home_in all n stamp free n_in on source event is came may) shown.next
   shown_step = joined.step_shown t world w steady home_in all n stamp free n_in on source event is came may
 
-  abbrev then_f : machine.World
+  abbrev pub then_f : machine.World
   then_f = joined.f t world w steady home_in all n stamp free n_in on source event is came may
 
   abbrev work : Work
@@ -125,7 +125,7 @@ module _ (t : Tid) (world : World) (w : machine.World) (steady : IsSteady world)
   abbrev after : World
   after = step_with world n stamp free source (Some event)
 
-  stood : Stands t (joined.later t world w steady home_in all n stamp free n_in on source event is came may) n work then_f
+  pub stood : Stands t (joined.later t world w steady home_in all n stamp free n_in on source event is came may) n work then_f
   stood = joined.stands t world w steady home_in all n stamp free n_in on source event is came may
 
   turned : Turned (case_of t world n came.came.ends then_f) work
@@ -134,7 +134,7 @@ module _ (t : Tid) (world : World) (w : machine.World) (steady : IsSteady world)
   fate_is : (part : Participant) → part_of t work ≡ Some part → fate_at t work.node ≡ became part.outcome part.acknowledged
   fate_is part known = ap fate_found known
 
-  learnt_then : (part : Participant) → part_of t work ≡ Some part → part.outcome ≡ Some outcomes.Commit → then_f.cell ≡ Committed
+  pub learnt_then : (part : Participant) → part_of t work ≡ Some part → part.outcome ≡ Some outcomes.Commit → then_f.cell ≡ Committed
   learnt_then part known decided = by (same_node t.home work.node.setting.node) refl
     where
       home_flag : same_node t.home work.node.setting.node ≡ true → part.engage.home ≡ true

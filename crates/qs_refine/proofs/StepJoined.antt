@@ -98,7 +98,7 @@ module _ (t : Tid) (world : World) (w : machine.World) (steady : IsSteady world)
   home_place : n ≡ t.home.0 → (v : machine.World) → (work : Work) → Stands t later n work v → v.node q ≡ v.node v.home
   home_place at v work so = subst (λ (k : ℕ). v.node k ≡ v.node v.home) q_is (node_is t later n work v so ∙ (at ∙ sym (ap v.node so.shown.stage.home ∙ so.shown.stage.nodes t.home.0 t.inc so.home_in)))
 
-  aborted_then : list_any (is_aborted_of t) last_work.out.records ≡ true → f.outcome q ≡ Aborted
+  pub aborted_then : list_any (is_aborted_of t) last_work.out.records ≡ true → f.outcome q ≡ Aborted
   aborted_then has = face_then.outcome ∙ by (part_of t last_work) refl
     where
       among : (xs ys : List Record) → list_any (is_aborted_of t) ys ≡ true → list_any (is_aborted_of t) (xs ++ ys) ≡ true

@@ -66,7 +66,7 @@ module _ (tid : Tid) (world : World) (w : machine.World) (seated : IsSeated worl
   -- ---- a node stops
 
   -- once what is on its disk counts
-  crashes : (n stamp : ℕ) (cause : CrashCause) (log : List Record) (between : machine.World) (first : Leads w between) (last : SightGoes tid (sight tid (scene_of (stopped world n stamp cause log))) between) → WorldGoes tid (stopped world n stamp cause log) w
+  pub crashes : (n stamp : ℕ) (cause : CrashCause) (log : List Record) (between : machine.World) (first : Leads w between) (last : SightGoes tid (sight tid (scene_of (stopped world n stamp cause log))) between) → WorldGoes tid (stopped world n stamp cause log) w
   crashes n stamp cause log between first last = record {
     next = last.next;
     leads = all;

@@ -26,7 +26,7 @@ begins_in (events.PeerRestarted peer old new) = false
 begins_in events.Tick = false
 
 module _ (s : Stage) (its : IsStage s) where
-  may_on : (event : Event) → begins_in event ≡ false → MayComeOn s its event → MayStepOn s.past s.begun s.met s.setting.node s.setting.nodes event
+  pub may_on : (event : Event) → begins_in event ≡ false → MayComeOn s its event → MayStepOn s.past s.begun s.met s.setting.node s.setting.nodes event
   may_on (events.Command client line label command) none may = (may, none)
   may_on (events.Received peer message) none may = may
   may_on events.ServeAll none may = tt

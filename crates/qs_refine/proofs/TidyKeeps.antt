@@ -1,13 +1,15 @@
 -- A node in the middle of a step stays tidy through each thing that a rule does.
-use Rattle.std.proofs.Common.{◌≡◌, ℕ, ◌&&◌, not, Bool, true, false, List, [], ◌∷◌, ◌++◌, Option, Some, None, is_some, refl, sym, ap, subst, ◌∙◌, arith, nat_lt, nat_le, if◌then◌else◌}
+use Rattle.std.proofs.Common.{◌≡◌, ◌⊎◌, inl, inr, ℕ, ◌&&◌, not, Bool, true, false, List, [], ◌∷◌, ◌++◌, Option, Some, None, is_some, refl, sym, ap, subst, ◌∙◌, arith, nat_lt, nat_le, if◌then◌else◌}
 use Rattle.std.proofs.lemmas.Bool.Decides.{nat_tests}
 use Rattle.std.specs.List.{list_all}
 use Rattle.std.specs.BTreeMap.{is_at, insert_entry}
 use Rattle.std.specs.Map.{lookup, remove_entry}
 use Rattle.qs_base.specs.declared.identifiers.ClientNo.{ClientNo}
 use Rattle.qs_base.specs.declared.identifiers.NodeNo.{NodeNo}
+use Rattle.qs_base.specs.declared.identifiers.Outcome.TheVariants as outcomes
 use Rattle.qs_base.specs.declared.identifiers.ServerNo.{ServerNo}
 use Rattle.qs_base.specs.declared.identifiers.Tid.{Tid}
+use Rattle.qs_engage.specs.Nodes.{same_node}
 use Rattle.qs_journal.specs.declared.entry.Act.TheVariants as acts
 use Rattle.qs_journal.specs.declared.script_line.ScriptLine.{ScriptLine}
 use Rattle.qs_kept.specs.Loans.{take_first, give_back, last_taken, is_taken, is_untaken}
@@ -29,7 +31,7 @@ use Rattle.qs_tm.specs.Outcomes as outcome_rules
 use Rattle.qs_refine.specs.Begun.{fits, fits_record, may_command}
 use Rattle.qs_refine.specs.Sound.{is_owned_label}
 use Rattle.qs_refine.specs.Tidy.{Stage, IsStage, IsTidy, IsTidyNode, is_tidy_label, is_tidy_loan, is_tidy_command, is_tidy_sending, is_tidy_record}
-use Rattle.qs_refine.specs.Walks.{Keeps, IsPlain, same_kind}
+use Rattle.qs_refine.specs.Walks.{Keeps, IsPlain, MayForget, same_kind}
 use Rattle.qs_refine.proofs.Entries.{all_changed_value, all_inserted, all_but_removed}
 use Rattle.qs_refine.proofs.ServerKinds.{kind_kept}
 use Rattle.qs_refine.proofs.SoundBegin.{all_last}
@@ -233,22 +235,26 @@ module _ (c : Stage) where
       → (part : Rattle.qs_tm.specs.declared.participant.Participant.Participant) → SamePart part (f part)
   plain_same f plain part = record { home = (plain part).home; superior = (plain part).superior; asked = (plain part).asked; outcome = (plain part).outcome }
 
+  may_forget : (tid : Tid) (part : Rattle.qs_tm.specs.declared.participant.Participant.Participant) (work : Work) → MayForget c.setting.node tid part work → (same_node tid.home c.setting.node ≡ false) ⊎ (part.outcome ≡ Some outcomes.Commit)
+  may_forget tid part work (inl away) = inl away.0
+  may_forget tid part work (inr committed) = inr committed.0
+
   pub tidy_keeps : IsStage c → Keeps c.past c.begun c.met c.setting.node c.setting.nodes (IsTidy c)
   tidy_keeps stage = record {
     enter = λ act work t. out_tidy work (Rattle.qs_step.specs.Bringing.enter act work) refl refl refl t;
-    doing = λ tid f work t. out_tidy work (Rattle.qs_step.specs.State.with_doings tid f work) refl refl refl t;
+    doing = λ tid f work same t. out_tidy work (Rattle.qs_step.specs.State.with_doings tid f work) refl refl refl t;
     send = send_tidy;
-    log = log_tidy;
+    log = λ rec work fit may t. log_tidy rec work fit t;
     answer = answer_tidy;
     part = λ tid f work plain t. node_tidy c work _ refl (part_tidy c work.node t.node tid f (plain_same f plain)) t;
     ask = λ tid work begun t. node_tidy c work _ refl (ask_tidy c work.node t.node tid begun) t;
     request = λ tid peer number work begun met t. node_tidy c work _ refl (request_tidy c work.node t.node tid peer number begun met) t;
-    release = λ tid work t. node_tidy c work _ refl (release_tidy c work.node t.node tid) t;
+    release = λ tid work none t. node_tidy c work _ refl (release_tidy c work.node t.node tid) t;
     meet = λ tid work begun away t. node_tidy c work _ refl (meet_tidy c work.node t.node tid (stage.inside tid begun).0 away) t;
     keep_abort = λ tid work past none t. node_tidy c work _ refl (keep_abort_tidy c work.node t.node tid past none) t;
     decide = λ tid outcome cause work homed open_now t. node_tidy c work _ refl (decide_tidy c work.node t.node tid outcome cause homed open_now) t;
     learn = λ tid outcome work away t. node_tidy c work _ refl (learn_tidy c work.node t.node tid outcome away) t;
-    forget = λ tid part work known may t. node_tidy c work _ refl (forget_tidy c work.node t.node tid part known may) t;
+    forget = λ tid part work known may t. node_tidy c work _ refl (forget_tidy c work.node t.node tid part known (may_forget tid part work may)) t;
     tick = λ work t. node_tidy c work _ refl (tick_tidy c work.node t.node) t;
     enqueue = enqueue_tidy c;
     next = next_tidy c;

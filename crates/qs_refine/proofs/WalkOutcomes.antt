@@ -1,6 +1,5 @@
 -- What each thing of a step keeps, decisions, outcomes that are told and inquiries keep.
-use Rattle.std.proofs.Common.{◌≡◌, inr, ℕ, Bool, true, false, List, [], ◌∷◌, Option, Some, None, refl, subst, if◌then◌else◌}
-use Rattle.std.specs.Prelude.{◌⊎◌}
+use Rattle.std.proofs.Common.{◌≡◌, inr, ℕ, Bool, true, false, List, [], ◌∷◌, Option, Some, None, refl, ap, subst, if◌then◌else◌, fold, ◌∙◌}
 use Rattle.std.specs.List.{list_any}
 use Rattle.qs_base.specs.declared.identifiers.NodeNo.{NodeNo}
 use Rattle.qs_base.specs.declared.identifiers.Outcome.{Outcome}
@@ -30,9 +29,10 @@ use Rattle.qs_step.specs.Deciding.{notice_of, notify, end_member, due_endings, e
 use Rattle.qs_step.specs.State.{Work, here, part_of, with_manager, change_server}
 use Rattle.qs_step.specs.Telling.{names_at, end_record, record_learnt, learn, learn_unknown, take_outcome, tell_came, forget, end_told, take_told, take_names, keep_abort_told, is_other_node, told_unknown, told_known, told_came}
 use Rattle.qs_refine.specs.Begun.{fits_record}
-use Rattle.qs_refine.specs.Walks.{Reads, Keeps, is_homed}
+use Rattle.qs_refine.specs.Walks.{Reads, Keeps, MayLog, MayForget, is_decided, is_homed}
 use Rattle.qs_refine.proofs.Maps.{lookup_changed}
 use Rattle.qs_refine.proofs.ServerKinds.{notice_kind}
+use Rattle.qs_refine.proofs.SoundHolds.{told_with}
 use Rattle.qs_refine.proofs.SoundParts.{and_both, both_and}
 use Rattle.qs_refine.proofs.WalkRules.{fold_walk, if_walk, here_home, sends_walk}
 
@@ -41,9 +41,9 @@ abbrev pub made : Tid → Outcome → Option Participant → Decision
 made tid outcome o = elim o [ None ↦ tm.no_decision | Some part ↦ record { rec = record_of tid outcome part; tell = listed (outcome_rules.tell_of outcome part) } ]
 
 module _ (P Q : Tid → Bool) (R : NodeNo → Bool) (me : NodeNo) (nodes : ℕ) (I : Work → Type 0) (reads : Reads P Q R me nodes I) (keeps : Keeps P Q R me nodes I) where
-  pub log_if_walk : (rec : Option Record) (work : Work) → ((r : Record) → rec ≡ Some r → fits_record P me r ≡ true) → I work → I (log_if rec work)
-  log_if_walk None work fit i = i
-  log_if_walk (Some rec) work fit i = keeps.log rec work (fit rec refl) i
+  pub log_if_walk : (rec : Option Record) (work : Work) → ((r : Record) → rec ≡ Some r → fits_record P me r ≡ true) → ((r : Record) → rec ≡ Some r → MayLog r work) → I work → I (log_if rec work)
+  log_if_walk None work fit may i = i
+  log_if_walk (Some rec) work fit may i = keeps.log rec work (fit rec refl) (may rec refl) i
 
   -- ---- notices
 
@@ -84,6 +84,23 @@ module _ (P Q : Tid → Bool) (R : NodeNo → Bool) (me : NodeNo) (nodes : ℕ) 
       by true is = let same : records.Aborted tid ≡ rec = cc (is) in subst (λ (r : Record). fits_record P me r ≡ true) same (and_both (P tid) _ homed).0
       by false is = absurd (cc (is))
 
+  -- a Commit is logged of what is decided then, and no Prepare
+  decided_may : (tid : Tid) (outcome : Outcome) (cause : Option Cause) (rec : Record) (work : Work) → (o : Option Participant) → part_of tid work ≡ o → (made tid outcome o).rec ≡ Some rec → MayLog rec (keep_outcome tid outcome cause (with_manager (tm.decide tid outcome) work))
+  decided_may tid outcome cause rec work None none is = absurd (cc (is))
+  decided_may tid outcomes.Commit cause rec work (Some part) known is = by (writes_commit part) is
+    where
+      told : tm.told_of tid false is_decided (tm.decide tid outcomes.Commit work.node.manager) ≡ true
+      told = told_with tid false is_decided (outcome_rules.decided outcomes.Commit) work.node.manager ∙ ap (λ (o : Option Participant). elim o [ None ↦ false | Some p ↦ is_decided (outcome_rules.decided outcomes.Commit p) ]) known
+
+      by : (b : Bool) → (if b then Some (records.Commit tid (listed part.told)) else None) ≡ Some rec → MayLog rec (keep_outcome tid outcomes.Commit cause (with_manager (tm.decide tid outcomes.Commit) work))
+      by true is = let same : records.Commit tid (listed part.told) ≡ rec = cc (is) in subst (λ (r : Record). MayLog r (keep_outcome tid outcomes.Commit cause (with_manager (tm.decide tid outcomes.Commit) work))) same told
+      by false is = absurd (cc (is))
+  decided_may tid outcomes.Abort cause rec work (Some part) known is = by part.log.prepared is
+    where
+      by : (b : Bool) → (if b then Some (records.Aborted tid) else None) ≡ Some rec → MayLog rec (keep_outcome tid outcomes.Abort cause (with_manager (tm.decide tid outcomes.Abort) work))
+      by true is = let same : records.Aborted tid ≡ rec = cc (is) in subst (λ (r : Record). MayLog r (keep_outcome tid outcomes.Abort cause (with_manager (tm.decide tid outcomes.Abort) work))) same tt
+      by false is = absurd (cc (is))
+
   -- what is kept for the owner and what is logged stand apart
   kept_then_logged : (rec : Option Record) (tid : Tid) (outcome : Outcome) (cause : Option Cause) (work : Work) → log_if rec (keep_outcome tid outcome cause work) ≡ keep_outcome tid outcome cause (log_if rec work)
   kept_then_logged None tid outcome cause work = refl
@@ -98,7 +115,7 @@ module _ (P Q : Tid → Bool) (R : NodeNo → Bool) (me : NodeNo) (nodes : ℕ) 
 
       logged : I (keep_outcome tid outcome cause (log_if (tm.decision tid outcome work.node.manager).rec (with_manager (tm.decide tid outcome) work)))
       logged = subst I (kept_then_logged (tm.decision tid outcome work.node.manager).rec tid outcome cause (with_manager (tm.decide tid outcome) work))
-          (log_if_walk (tm.decision tid outcome work.node.manager).rec _ (λ rec is. decided_fits tid outcome rec homed (part_of tid work) is) kept)
+          (log_if_walk (tm.decision tid outcome work.node.manager).rec _ (λ rec is. decided_fits tid outcome rec homed (part_of tid work) is) (λ rec is. decided_may tid outcome cause rec work (part_of tid work) refl is) kept)
 
   pub decide_commit_walk : (tid : Tid) (work : Work) → is_homed P me tid ≡ true → tm.told_of tid false is_undecided work.node.manager ≡ true → I work → I (decide_commit tid work)
   decide_commit_walk tid work homed open_now i = by (tm.need_past tid work.room work.node.manager)
@@ -120,6 +137,32 @@ module _ (P Q : Tid → Bool) (R : NodeNo → Bool) (me : NodeNo) (nodes : ℕ) 
       by true is = let same : end_record tid outcome ≡ rec = cc (is) in subst (λ (r : Record). fits_record P me r ≡ true) same (ended outcome)
       by false is = absurd (cc (is))
 
+  pub learnt_may : (tid : Tid) (outcome : Outcome) (part : Participant) (rec : Record) (work : Work) → (outcome ≡ outcomes.Commit → tm.told_of tid false is_decided work.node.manager ≡ true) → record_learnt tid outcome part ≡ Some rec → MayLog rec work
+  learnt_may tid outcome part rec work told is = by part.log.prepared is
+    where
+      ended : (outcome : Outcome) → (outcome ≡ outcomes.Commit → tm.told_of tid false is_decided work.node.manager ≡ true) → MayLog (end_record tid outcome) work
+      ended outcomes.Commit told = told refl
+      ended outcomes.Abort told = tt
+
+      by : (b : Bool) → (if b then Some (end_record tid outcome) else None) ≡ Some rec → MayLog rec work
+      by true is = let same : end_record tid outcome ≡ rec = cc (is) in subst (λ (r : Record). MayLog r work) same (ended outcome told)
+      by false is = absurd (cc (is))
+
+  -- what is decided is so once its members learnt it
+  notified : (tid : Tid) (notice : Notice) (server : ServerNo) (work : Work) → tm.told_of tid false is_decided work.node.manager ≡ true → tm.told_of tid false is_decided (notify tid notice server work).node.manager ≡ true
+  notified tid notice server work is = told_with tid false is_decided (outcome_rules.settled server) work.node.manager ∙ is
+
+  members_told : (tid : Tid) (outcome : Outcome) (servers : List ServerNo) (work : Work) → tm.told_of tid false is_decided work.node.manager ≡ true → tm.told_of tid false is_decided (fold (learn_member tid outcome) work servers).node.manager ≡ true
+  members_told tid outcome [] work is = is
+  members_told tid outcome (server ∷ servers) work is = members_told tid outcome servers (learn_member tid outcome work server) (notified tid (notice_of outcome) server work is)
+
+  took_told : (tid : Tid) (part : Participant) (work : Work) → part_of tid work ≡ Some part → tm.told_of tid false is_decided (tm.took_outcome tid outcomes.Commit work.node.manager) ≡ true
+  took_told tid part work known = told_with tid false is_decided (outcome_rules.took_outcome outcomes.Commit) work.node.manager ∙ ap (λ (o : Option Participant). elim o [ None ↦ false | Some p ↦ is_decided (outcome_rules.took_outcome outcomes.Commit p) ]) known
+
+  learnt_told : (tid : Tid) (outcome : Outcome) (part : Participant) (work : Work) → part_of tid work ≡ Some part → outcome ≡ outcomes.Commit → tm.told_of tid false is_decided (give_notices tid outcome (with_manager (tm.took_outcome tid outcome) work)).node.manager ≡ true
+  learnt_told tid outcomes.Commit part work known is = members_told tid outcomes.Commit (learners_at tid (with_manager (tm.took_outcome tid outcomes.Commit) work)) (with_manager (tm.took_outcome tid outcomes.Commit) work) (took_told tid part work known)
+  learnt_told tid outcomes.Abort part work known is = absurd (cc is)
+
   take_outcome_walk : (tid : Tid) (outcome : Outcome) (work : Work) → P tid ≡ true → same_node tid.home me ≡ false → I work → I (take_outcome tid outcome work)
   take_outcome_walk tid outcome work its away i = by (part_of tid work) refl
     where
@@ -130,7 +173,7 @@ module _ (P Q : Tid → Bool) (R : NodeNo → Bool) (me : NodeNo) (nodes : ℕ) 
       by : (o : Option Participant) → part_of tid work ≡ o → I (elim o [ None ↦ learn_unknown tid outcome work | Some part ↦ if is_undecided part then learn tid outcome part work else work ])
       by None none = unknown outcome none
       by (Some part) known = if_walk P Q R me nodes I reads keeps (is_undecided part)
-          (λ is. log_if_walk (record_learnt tid outcome part) _ (λ rec logged. learnt_fits tid outcome part rec its logged) (notices_walk tid outcome _ (keeps.learn tid outcome work away i)))
+          (λ is. log_if_walk (record_learnt tid outcome part) _ (λ rec logged. learnt_fits tid outcome part rec its logged) (λ rec logged. learnt_may tid outcome part rec _ (learnt_told tid outcome part work known) logged) (notices_walk tid outcome _ (keeps.learn tid outcome work away i)))
           (λ is. i)
 
   -- it comes from the home
@@ -140,7 +183,7 @@ module _ (P Q : Tid → Bool) (R : NodeNo → Bool) (me : NodeNo) (nodes : ℕ) 
 
   -- ---- it was taken in
 
-  pub forget_walk : (tid : Tid) (part : Participant) (work : Work) → part_of tid work ≡ Some part → (same_node tid.home me ≡ false) ⊎ (part.outcome ≡ Some outcomes.Commit) → I work → I (forget tid work)
+  pub forget_walk : (tid : Tid) (part : Participant) (work : Work) → part_of tid work ≡ Some part → MayForget me tid part work → I work → I (forget tid work)
   forget_walk tid part work known may i = keeps.drop tid _ (keeps.forget tid part work known may i)
 
   take_told_walk : (peer : NodeNo) (tid : Tid) (part : Participant) (work : Work) → part_of tid work ≡ Some part → part.outcome ≡ Some outcomes.Commit → I work → I (take_told peer tid work)
@@ -153,12 +196,12 @@ module _ (P Q : Tid → Bool) (R : NodeNo → Bool) (me : NodeNo) (nodes : ℕ) 
       taken = keeps.part tid (outcome_rules.acknowledged peer) work (λ part. record { home = refl; superior = refl; asked = refl; outcome = refl; log = refl }) i
 
       logged : I (log (records.End tid) told)
-      logged = keeps.log (records.End tid) told (reads.known tid part work i known) taken
+      logged = keeps.log (records.End tid) told (reads.known tid part work i known) tt taken
 
       by : (b : Bool) → I (end_told b tid told)
       by false = taken
       by true = forget_walk tid (outcome_rules.logged (records.End tid) (outcome_rules.acknowledged peer part)) (log (records.End tid) told)
-          (lookup_changed _ (outcome_rules.logged (records.End tid)) told.node.manager.known (outcome_rules.acknowledged peer part) (lookup_changed _ (outcome_rules.acknowledged peer) work.node.manager.known part known)) (inr committed) logged
+          (lookup_changed _ (outcome_rules.logged (records.End tid)) told.node.manager.known (outcome_rules.acknowledged peer part) (lookup_changed _ (outcome_rules.acknowledged peer) work.node.manager.known part known)) (inr (committed, (told.out.records, refl))) logged
 
   take_names_walk : (tid : Tid) (further : List NodeNo) (work : Work) → is_homed P me tid ≡ true → I work → I (take_names tid further work)
   take_names_walk tid further work homed i = sends_walk P Q R me nodes I reads keeps (listed (tm.new_names tid further work.node.manager)) (messages.Tell tid outcomes.Abort) _ (λ node. homed)

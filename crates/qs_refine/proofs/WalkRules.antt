@@ -161,7 +161,7 @@ module _ (P Q : Tid → Bool) (R : NodeNo → Bool) (me : NodeNo) (nodes : ℕ) 
   enter_serve_walk : (server : ServerNo) (delivery : Delivery) (reply : Reply) (work : Work) → I work → I (enter_serve server delivery reply work)
   enter_serve_walk server delivery reply work i =
       keeps.enter _ _ (keeps.part delivery.tid (participant.served server) _ (served_plain server)
-      (keeps.doing delivery.tid (λ doings. record doings { served = true }) _ (change_served_walk server delivery.tid delivery.op reply work i)))
+      (keeps.doing delivery.tid (λ doings. record doings { served = true }) _ (λ doings is. is) (change_served_walk server delivery.tid delivery.op reply work i)))
 
   make_loan_walk : (tid : Tid) (client : Option ClientNo) (work : Work) → Q tid ≡ true → I work → I (make_loan tid client work)
   make_loan_walk tid None work its i = i

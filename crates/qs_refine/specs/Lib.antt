@@ -39,6 +39,8 @@ pub mod RiseLaws
 pub mod Lists
 pub mod SaidLaws
 pub mod MoveLaws
+pub mod CutLaws
+pub mod CommitLaws
 pub mod OpenLaws
 pub mod JoinLaws
 pub mod SaysLaws

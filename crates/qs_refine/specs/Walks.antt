@@ -1,5 +1,5 @@
 -- A fact of a node in the middle of a step that each thing which a rule does keeps, so that the whole step keeps it.
-use Rattle.std.specs.Prelude.{◌≡◌, ◌⊎◌, ℕ, ◌<◌, ◌++◌, ⊤, Bool, true, false, ◌&&◌, List, [], ◌∷◌, Option, Some, None, nat_lt}
+use Rattle.std.specs.Prelude.{◌≡◌, ◌⊎◌, ℕ, ◌<◌, ◌++◌, ⊤, Bool, true, false, not, ◌&&◌, List, [], ◌∷◌, Option, Some, None, nat_lt}
 use Rattle.std.specs.List.{list_all}
 use Rattle.std.specs.Map.{lookup}
 use Rattle.std.specs.BTreeMap.{is_at}
@@ -26,10 +26,11 @@ use Rattle.qs_ops.specs.declared.vote.Vote.TheVariants as votes
 use Rattle.qs_packet.specs.declared.message.Message.{Message}
 use Rattle.qs_packet.specs.declared.message.Message.TheVariants as messages
 use Rattle.qs_record.specs.declared.record.Record.{Record}
+use Rattle.qs_record.specs.declared.record.Record.TheVariants as records
 use Rattle.qs_servers.specs.Servers.{server_at}
 use Rattle.qs_tm.specs.Manager as tm
 use Rattle.qs_tm.specs.Outcomes.{told_with_own}
-use Rattle.qs_tm.specs.Participant.{is_undecided}
+use Rattle.qs_tm.specs.Participant.{is_undecided, is_forgotten}
 use Rattle.qs_tm.specs.declared.participant.Participant.{Participant}
 use Rattle.qs_step.specs.Answering.{kept_outcome}
 use Rattle.qs_step.specs.Bringing.{enter, send, answer, log}
@@ -37,7 +38,7 @@ use Rattle.qs_step.specs.Commands.{with_issued}
 use Rattle.qs_step.specs.Deciding.{keep_outcome}
 use Rattle.qs_step.specs.Requests.{with_local}
 use Rattle.qs_step.specs.Serving.{label_at, put_label}
-use Rattle.qs_step.specs.State.{Work, part_of, with_manager, with_queues, with_kept, with_doings, change_server, client_cmp}
+use Rattle.qs_step.specs.State.{Work, part_of, with_manager, with_queues, with_kept, with_doings, doings_of, change_server, client_cmp}
 use Rattle.qs_step.specs.Step.{with_command}
 use Rattle.qs_step.specs.Telling.{drop_counts}
 use Rattle.qs_step.specs.declared.event.Event.{Event}
@@ -46,7 +47,7 @@ use Rattle.qs_step.specs.declared.state.Doings.{Doings}
 use Rattle.qs_step.specs.declared.state.Issued.{Issued}
 use Rattle.qs_step.specs.declared.state.OpenCommand.{OpenCommand}
 use Rattle.qs_refine.specs.Begun.{fits, fits_record, may_command}
-use Rattle.qs_refine.specs.Sound.{is_sound}
+use Rattle.qs_refine.specs.Sound.{is_sound, is_engaged}
 
 -- ---- what the fact says: at node `me` of so many, where P tells which transactions may be known, Q which have begun, and R which nodes it knows
 
@@ -86,24 +87,43 @@ pub record IsPlain (old new : Participant) : Type 0 where
 abbrev pub same_kind : (ServerValue → ServerValue) → Type 0
 same_kind f = (value : ServerValue) → (f value).kind ≡ value.kind
 
+-- a change of what is noted of a step that leaves it noted that a Prepare was logged
+abbrev pub keeps_prepared : (Doings → Doings) → Type 0
+keeps_prepared f = (doings : Doings) → doings.prepared ≡ true → (f doings).prepared ≡ true
+
+abbrev pub is_decided : Participant → Bool
+is_decided part = not (is_undecided part)
+
+-- a Prepare is logged once that is noted, where the node is engaged for the transaction, and a Commit where it has decided it
+abbrev pub MayLog : Record → Work → Type 0
+MayLog (records.Prepare tid server covers changes) work = ((doings_of tid work).prepared ≡ true) × (tm.told_of tid false is_engaged work.node.manager ≡ true)
+MayLog (records.Commit tid told) work = tm.told_of tid false is_decided work.node.manager ≡ true
+MayLog (records.Aborted tid) work = ⊤
+MayLog (records.End tid) work = ⊤
+
+-- what only read elsewhere than at its home is forgotten, and a commit once its End is logged
+abbrev pub MayForget : NodeNo → Tid → Participant → Work → Type 0
+MayForget me tid part work =
+    ((same_node tid.home me ≡ false) × (is_forgotten part ≡ true)) ⊎ ((part.outcome ≡ Some outcomes.Commit) × ((before : List Record) × (work.out.records ≡ before ++ records.End tid ∷ [])))
+
 pub record Keeps (P Q : Tid → Bool) (R : NodeNo → Bool) (me : NodeNo) (nodes : ℕ) (I : Work → Type 0) : Type 0 where
   -- what a step does beside what it keeps
   pub enter : (act : Act) (work : Work) → I work → I (enter act work)
-  pub doing : (tid : Tid) (f : Doings → Doings) (work : Work) → I work → I (with_doings tid f work)
+  pub doing : (tid : Tid) (f : Doings → Doings) (work : Work) → keeps_prepared f → I work → I (with_doings tid f work)
   pub send : (to : NodeNo) (message : Message) (work : Work) → (nat_lt to.0 nodes ≡ true → fits P Q nodes me to message ≡ true) → I work → I (send to message work)
-  pub log : (rec : Record) (work : Work) → fits_record P me rec ≡ true → I work → I (log rec work)
+  pub log : (rec : Record) (work : Work) → fits_record P me rec ≡ true → MayLog rec work → I work → I (log rec work)
   pub answer : (client : ClientNo) (said : Answer) (work : Work) → I work → I (answer client said work)
   -- what is kept of transactions
   pub part : (tid : Tid) (f : Participant → Participant) (work : Work) → ((part : Participant) → IsPlain part (f part)) → I work → I (with_manager (tm.with_part tid f) work)
   pub ask : (tid : Tid) (work : Work) → Q tid ≡ true → I work → I (with_manager (tm.ask tid) work)
   pub request : (tid : Tid) (peer : NodeNo) (number : ℕ) (work : Work) → Q tid ≡ true → R peer ≡ true → I work → I (with_manager (tm.requested tid peer number) work)
-  pub release : (tid : Tid) (work : Work) → I work → I (with_manager (tm.released tid) work)
+  pub release : (tid : Tid) (work : Work) → (doings_of tid work).prepared ≡ false → I work → I (with_manager (tm.released tid) work)
   pub meet : (tid : Tid) (work : Work) → Q tid ≡ true → same_node tid.home me ≡ false → I work → I (with_manager (tm.meet tid) work)
   pub keep_abort : (tid : Tid) (work : Work) → P tid ≡ true → part_of tid work ≡ None → I work → I (with_manager (tm.keep_abort tid) work)
   pub decide : (tid : Tid) (outcome : Outcome) (cause : Option Cause) (work : Work) → is_homed P me tid ≡ true → (outcome ≡ outcomes.Commit → tm.told_of tid false is_undecided work.node.manager ≡ true)
       → I work → I (keep_outcome tid outcome cause (with_manager (tm.decide tid outcome) work))
   pub learn : (tid : Tid) (outcome : Outcome) (work : Work) → same_node tid.home me ≡ false → I work → I (with_manager (tm.took_outcome tid outcome) work)
-  pub forget : (tid : Tid) (part : Participant) (work : Work) → part_of tid work ≡ Some part → (same_node tid.home me ≡ false) ⊎ (part.outcome ≡ Some outcomes.Commit) → I work → I (with_manager (tm.forget tid) work)
+  pub forget : (tid : Tid) (part : Participant) (work : Work) → part_of tid work ≡ Some part → MayForget me tid part work → I work → I (with_manager (tm.forget tid) work)
   pub tick : (work : Work) → I work → I (with_manager tm.tick work)
   -- what waits
   pub enqueue : (server : ServerNo) (delivery : Delivery) (work : Work) → Q delivery.tid ≡ true → I work → I (with_queues (ipc.enqueue server delivery) work)

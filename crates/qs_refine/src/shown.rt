@@ -1,4 +1,6 @@
 //! Worlds in which each transaction that has begun is shown, so that a move asks nothing.
+ghost use Rattle.qs_refine.specs.CommitLaws.{OffIdle, CommitIdle, CommitClear, CommitUnmet};
+ghost use Rattle.qs_refine.specs.CutLaws.{StopGoesAlone, CutGoesAlone, CutGoesKept};
 ghost use Rattle.qs_refine.specs.Listed.{StartListed, MoveListed, SteadyGives};
 ghost use Rattle.qs_refine.specs.ShownWorlds.{ShownFit, ShownGives, ShownGoes, BegunStays, MoveShown, RunShown, ShownRunGoes};
 
@@ -24,4 +26,21 @@ pub fn runs()
     ensures moved { MoveShown }
     ensures shown { RunShown }
     ensures goes { ShownRunGoes }
+{}
+
+/// A node stops. Where nothing of a step is kept of a transaction, its place had what it had before the step; where a record of it is on
+/// the disk, it is committed, or never will be: its place died engaged, or abort was decided.
+pub fn stops()
+    ensures alone { StopGoesAlone }
+    ensures lost { CutGoesAlone }
+    ensures kept { CutGoesKept }
+{}
+
+/// A node that is not engaged is idle for what it has not decided: nothing waits there, nothing is lent, and no vote is due. Once commit
+/// is decided none is engaged, and no request is on its way to a node that runs, nor kept back for one that is not known.
+pub fn commits()
+    ensures off { OffIdle }
+    ensures idle { CommitIdle }
+    ensures clear { CommitClear }
+    ensures unmet { CommitUnmet }
 {}

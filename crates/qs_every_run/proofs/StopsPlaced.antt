@@ -1,0 +1,171 @@
+-- A node stops: who was engaged dooms what it was engaged for; who was not was idle, and its lives agree. What was on its way to it, and what it kept back, dooms too.
+use Rattle.std.proofs.Common.{◌≡◌, ◌⊎◌, inl, inr, ℕ, ◌+◌, ◌-◌, ◌<◌, ◌≤◌, ◌==◌, ◌&&◌, Bool, true, false, List, [], ◌∷◌, length, map, Some, None, zero, suc, refl, sym, ap, subst, ◌∙◌, arith, if◌then◌else◌}
+use Rattle.std.proofs.lemmas.Bool.{eqb-true}
+use Rattle.std.proofs.lemmas.Bool.Decides.{nat_tests}
+use Rattle.std.specs.List.{filter}
+use Rattle.qs_base.specs.declared.identifiers.ServerNo.{ServerNo}
+use Rattle.qs_base.specs.declared.identifiers.Tid.{Tid}
+use Rattle.qs_ipc.specs.Ipc.{queue_at}
+use Rattle.qs_ipc.specs.declared.delivery.Delivery.{Delivery}
+use Rattle.qs_journal.specs.declared.entry.CrashCause.{CrashCause}
+use Rattle.qs_machine.specs.Book.{BookValue, find_transaction}
+use Rattle.qs_machine.specs.Transaction.{TransactionValue, agrees, is_open}
+use Rattle.qs_machine.specs.declared.transaction.Life.{Life}
+use Rattle.qs_machine.specs.declared.transaction.Part.{Part}
+use Rattle.qs_machine.specs.declared.transaction.Request.{Request}
+use Rattle.qs_machine.specs.declared.transaction.RequestNo.{RequestNo}
+use Rattle.qs_record.specs.declared.record.Record.{Record}
+use Rattle.qs_step.specs.State.{NodeValue}
+use Rattle.qs_world.specs.Moves.{stopped}
+use Rattle.qs_world.specs.World.{Parcel, World}
+use Rattle.qs_agree.specs.World as machine
+use Rattle.qs_agree.specs.World.{Outcome, Open, Committed, Aborted}
+use Rattle.qs_agree.specs.Carry.{Leads, IsLawful}
+use Rattle.qs_agree.specs.Doomed.{IsDoomed, IsPast, IsLeft, IsKeptBack}
+use Rattle.qs_agree.proofs.Doomed.{doom_stays, abort_dooms, engaged_past_dooms, left_dooms, kept_back_dooms, engaged_is_open}
+use Rattle.qs_refine.specs.CommitLaws.{has_request}
+use Rattle.qs_refine.specs.CutLaws.{StopsAlone, CutsOff}
+use Rattle.qs_refine.specs.EachMove.{ShowsAll}
+use Rattle.qs_refine.specs.Faces.{ShowsFace}
+use Rattle.qs_refine.specs.Links.{link, waiting_link}
+use Rattle.qs_refine.specs.Messages.{all_said}
+use Rattle.qs_refine.specs.NodeFaces.{face_at}
+use Rattle.qs_refine.specs.Places.{place}
+use Rattle.qs_refine.specs.Shows.{scene_of, sight}
+use Rattle.qs_refine.specs.ShownWorlds.{IsShownWorld}
+use Rattle.qs_refine.specs.Sights.{Sight}
+use Rattle.qs_refine.proofs.CommitIdles.{never, requested, off_idle, commit_clear, commit_unmet}
+use Rattle.qs_refine.proofs.Facts.{invariant}
+use Rattle.qs_refine.proofs.NodeReady.{none_waits}
+use Rattle.qs_refine.proofs.ShownMoves.{steady}
+use Rattle.qs_refine.proofs.StepAll.{node_stopped}
+use Rattle.qs_lawful.specs.Face.{is_numbered}
+use Rattle.qs_lawful.specs.Holds.{Holds}
+use Rattle.qs_lawful.specs.Parcels.{pending, pending_from}
+use Rattle.qs_every_run.specs.Placed.{Field, message_of, sent_between, kept_between, field_of, standing, waiting, asked, IsPlaced, EachPlaced, IsLife, IsPresent, EachLives, Placed}
+use Rattle.qs_every_run.specs.PlacedLaws.{IsFree}
+use Rattle.qs_every_run.specs.StopLaws.{IsApart, StopsPlaced, CutPlaced}
+use Rattle.qs_every_run.proofs.CommitsPlaced.{NoneIn, none_in, none_then, idle_free, none_decided}
+use Rattle.qs_every_run.proofs.StoppedFields.{placed_then}
+
+module _ (tid : Tid) (book : BookValue) (tx : TransactionValue) (world : World) (n stamp : ℕ) (cause : CrashCause) (log : List Record) (w : machine.World) (goes : StopsAlone tid world (stopped world n stamp cause log) n w)
+    (is : IsShownWorld world) (all : ShowsAll tid world w) (n_in : n < world.size) (on : world.channels.up n ≡ true) (found : find_transaction book tid ≡ Some tx) (undecided : is_open tx.cell ≡ true) (next : ℕ) (h : Holds next book (world.hosts n).node) where
+  abbrev v : machine.World
+  v = goes.goes.next
+
+  abbrev q : ℕ
+  q = place n (world.channels.inc n)
+
+  abbrev on_now : Bool
+  on_now = (face_at (world.hosts n).node tid).on
+
+  abbrev After : Type 0
+  After = IsDoomed v ⊎ Placed tid tx (field_of (stopped world n stamp cause log))
+
+  face : ShowsFace (face_at (world.hosts n).node tid) q w
+  face = all.seen.shown.faces n n_in on
+
+  free : on_now ≡ false → IsFree tid (world.hosts n).node
+  free off = idle_free tid (world.hosts n).node (off_idle tid (world.hosts n).node ((steady world is).sound n n_in).node off (none_decided next book tid tx (world.hosts n).node h found undecided))
+
+  abbrev to_it : ℕ → ℕ → Bool
+  to_it k i = has_request (all_said tid (map message_of (pending world.channels k n i (world.channels.inc n))))
+
+  abbrev by_it : ℕ → Bool
+  by_it m = has_request (all_said tid (map message_of (world.channels.waits n m)))
+
+  then_placed : Placed tid tx (field_of world) → on_now ≡ false → ((k i : ℕ) → k < world.size → to_it k i ≡ true → IsDoomed v) → ((m : ℕ) → m < world.size → world.channels.peer n m ≡ 0 → by_it m ≡ true → IsDoomed v) → After
+  then_placed placed off left kept_back = placed_then tid book tx world n stamp cause log v is n_in on found undecided next h (free off) left kept_back placed
+
+  -- ---- undecided: its place stopped, and nothing else happened
+
+  module _ (open_now : w.cell ≡ Open) where
+    abbrev down : machine.World
+    down = record w { up = machine.with_at w.up q false }
+
+    same : v ≡ down
+    same = goes.alone open_now
+
+    as_stopped : (P : machine.World → Type 0) → P down → P v
+    as_stopped P its = subst P (sym same) its
+
+    past : IsPast v q
+    past = as_stopped (λ (y : machine.World). IsPast y q) (record { down = grind (arith, nat_tests); begun = below (w.present (w.node q)) ((invariant w all.seen.lawful).counts.up_present q face.up) })
+      where
+        below : (a : ℕ) → a ≡ q → q ≤ a
+        below a so = omega (arith, so)
+
+    engaged : on_now ≡ true → IsDoomed v
+    engaged so = engaged_past_dooms v q goes.goes.shown.seen.lawful.reached past (as_stopped (λ (y : machine.World). y.engaged q ≡ true) (face.engaged ∙ so))
+
+    left : (k i : ℕ) → k < world.size → to_it k i ≡ true → IsDoomed v
+    left k i k_in has = left_dooms v (place k i) q (w.received q (place k i) + 1) goes.goes.shown.seen.lawful.reached past (as_stopped (λ (y : machine.World). IsLeft y (place k i) q (w.received q (place k i) + 1)) put)
+      where
+        less : w.received q (place k i) < w.posted (place k i) q
+        less = requested (all_said tid (map message_of (pending world.channels k n i (world.channels.inc n)))) (link w (place k i) q) has (all.seen.shown.links k i n (world.channels.inc n) k_in n_in on refl)
+
+        put : IsLeft down (place k i) q (w.received q (place k i) + 1)
+        put = record { number = omega arith; put = omega (arith, less); untaken = omega arith }
+
+    kept_back : (m : ℕ) → m < world.size → world.channels.peer n m ≡ 0 → by_it m ≡ true → IsDoomed v
+    kept_back m m_in unknown has = kept_back_dooms v q m 1 goes.goes.shown.seen.lawful.reached past (as_stopped (λ (y : machine.World). IsKeptBack y q m 1) kept)
+      where
+        kept : IsKeptBack down q m 1
+        kept = record {
+          number = omega arith;
+          was_sent = requested (all_said tid (map message_of (world.channels.waits n m))) (waiting_link w q m) has (all.seen.shown.unmet n m n_in m_in on unknown);
+          unknown = all.seen.shown.stage.peers n m n_in m_in on ∙ rw unknown refl;
+        }
+
+    open_then : Placed tid tx (field_of world) → (b : Bool) → on_now ≡ b → After
+    open_then placed true so = inl (engaged so)
+    open_then placed false off = then_placed placed off left kept_back
+
+  -- ---- committed: nobody is engaged, and nothing is on its way
+
+  committed_then : w.cell ≡ Committed → Placed tid tx (field_of world) → After
+  committed_then committed placed = then_placed placed (never on_now (λ so. engaged_is_open w q all.seen.lawful.reached (face.engaged ∙ so) committed))
+      (λ k i k_in has. absurd (let none : to_it k i ≡ false = commit_clear tid (sight tid (scene_of world)) w all.seen.lawful committed all.seen.shown k i n k_in n_in on in cc (has, none)))
+      (λ m m_in unknown has. absurd (let none : by_it m ≡ false = commit_unmet tid (sight tid (scene_of world)) w all.seen.lawful committed all.seen.shown n m n_in m_in on unknown in cc (has, none)))
+
+  stays_placed : Placed tid tx (field_of world) → (o : Outcome) → w.cell ≡ o → After
+  stays_placed placed Open open_now = open_then open_now placed on_now refl
+  stays_placed placed Committed committed = committed_then committed placed
+  stays_placed placed Aborted aborted = inl (doom_stays w v (abort_dooms w all.seen.lawful.reached aborted) goes.goes.leads)
+
+pub stops_placed : StopsPlaced
+stops_placed tid book tx world n stamp cause log w goes is all n_in on found undecided next h (inl doomed) = inl (doom_stays w goes.goes.next doomed goes.goes.leads)
+stops_placed tid book tx world n stamp cause log w goes is all n_in on found undecided next h (inr placed) = stays_placed tid book tx world n stamp cause log w goes is all n_in on found undecided next h placed w.cell refl
+
+-- ---- with a record of it kept
+
+pub cut_placed : CutPlaced
+cut_placed tid book tx world n stamp cause log w goes is all n_in on found undecided next h decides (inl doomed) = inl (doom_stays w goes.goes.next doomed goes.goes.leads)
+cut_placed tid book tx world n stamp cause log w goes is all n_in on found undecided next h decides (inr placed) = by goes.fate
+  where
+    apart : IsApart tid world n → IsDoomed goes.goes.next ⊎ Placed tid tx (field_of (stopped world n stamp cause log))
+    apart its = placed_then tid book tx world n stamp cause log goes.goes.next is n_in on found undecided next h its.free
+        (λ k i k_in has. absurd (let none : has_request (all_said tid (map message_of (pending world.channels k n i (world.channels.inc n)))) ≡ false = its.to_it k i k_in in cc (has, none)))
+        (λ m m_in unknown has. absurd (let none : has_request (all_said tid (map message_of (world.channels.waits n m))) ≡ false = its.by_it m m_in unknown in cc (has, none))) placed
+
+    face : ShowsFace (face_at (world.hosts n).node tid) (place n (world.channels.inc n)) w
+    face = all.seen.shown.faces n n_in on
+
+    off : w.cell ≡ Committed → (face_at (world.hosts n).node tid).on ≡ false
+    off committed = never (face_at (world.hosts n).node tid).on (λ so. engaged_is_open w (place n (world.channels.inc n)) all.seen.lawful.reached (face.engaged ∙ so) committed)
+
+    decided : w.cell ≡ Committed → IsApart tid world n
+    decided committed = record {
+      free = idle_free tid (world.hosts n).node (off_idle tid (world.hosts n).node ((steady world is).sound n n_in).node (off committed) (none_decided next book tid tx (world.hosts n).node h found undecided));
+      to_it = λ k i k_in. commit_clear tid (sight tid (scene_of world)) w all.seen.lawful committed all.seen.shown k i n k_in n_in on;
+      by_it = λ m m_in unknown. commit_unmet tid (sight tid (scene_of world)) w all.seen.lawful committed all.seen.shown n m n_in m_in on unknown;
+    }
+
+    of_cell : (o : Outcome) → w.cell ≡ o → goes.goes.next.cell ≡ Committed → IsDoomed goes.goes.next ⊎ Placed tid tx (field_of (stopped world n stamp cause log))
+    of_cell Open open_now committed = apart (decides open_now committed)
+    of_cell Committed before committed = apart (decided before)
+    of_cell Aborted aborted committed = inl (doom_stays w goes.goes.next (abort_dooms w all.seen.lawful.reached aborted) goes.goes.leads)
+
+    by : IsDoomed goes.goes.next ⊎ (goes.goes.next.cell ≡ Committed) → IsDoomed goes.goes.next ⊎ Placed tid tx (field_of (stopped world n stamp cause log))
+    by (inl doomed) = inl doomed
+    by (inr committed) = of_cell w.cell refl committed
