@@ -112,7 +112,7 @@ any_insert cmp p k (x ∷ xs) h = by (cmp k x) refl (p x) refl (any_insert cmp p
     by Greater is true has more = rw (is, has) refl
     by Greater is false has more = rw (is, has) (more (rw has at h))
 
-starts_grow : (ballot : Vote) (at : Life) (n : ℕ) (p : Start → Bool) (starts : List Start) → list_any p starts ≡ true → list_any p (starts_after ballot at n starts) ≡ true
+pub starts_grow : (ballot : Vote) (at : Life) (n : ℕ) (p : Start → Bool) (starts : List Start) → list_any p starts ≡ true → list_any p (starts_after ballot at n starts) ≡ true
 starts_grow (votes.Abort reason) at n p starts h = h
 starts_grow votes.ReadOnly at n p starts h = any_insert start_cmp p (record { life = at; served = n }) starts h
 starts_grow votes.Volatile at n p starts h = h

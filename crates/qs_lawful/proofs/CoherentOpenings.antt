@@ -3,7 +3,7 @@ use Rattle.std.proofs.Common.{◌≡◌, ℕ, ◌+◌, ◌<◌, ◌==◌, ◌&&�
 use Rattle.std.proofs.lemmas.Bool.Decides.{nat_tests}
 use Rattle.std.specs.Global.{Global}
 use Rattle.std.specs.Prelude.{slice_get}
-use Rattle.std.specs.List.{All, filter, list_all}
+use Rattle.std.specs.List.{All, filter, list_all, list_any}
 use Rattle.std.proofs.lemmas.List.Elements.{All-cons, All-nil}
 use Rattle.qs_base.specs.declared.identifiers.NodeNo.{NodeNo}
 use Rattle.qs_base.specs.declared.identifiers.Tid.{Tid}
@@ -14,12 +14,11 @@ use Rattle.qs_machine.specs.declared.opened.Pending.{Pending}
 use Rattle.qs_ops.specs.declared.operation.Op.{Op}
 use Rattle.qs_record.specs.declared.record.Record.{Record}
 use Rattle.qs_record.specs.declared.record.Record.TheVariants as records
-use Rattle.qs_restart.specs.Recovery.{Prepared, Recovery, found_record, is_in_doubt, is_of, is_vote_of, mark_committed, names_transaction, nothing_said, prepare_of, recovery, with_list}
+use Rattle.qs_restart.specs.Recovery.{Prepared, Recovery, found_record, is_in_doubt, is_of, is_untold_of, is_vote_of, mark_committed, names_transaction, nothing_said, prepare_of, recovery, with_list}
 use Rattle.qs_step.specs.Opening.{recovered_of}
 use Rattle.qs_world.specs.Histories.{opened_from, opened_with, pending_of}
-use Rattle.qs_world.specs.Openings.{IsOpening, each_below, is_earlier, is_record}
+use Rattle.qs_world.specs.Openings.{IsOpening, are_unended, each_below, is_doubt, is_earlier, is_record}
 use Rattle.qs_world.specs.World.{Opening}
-use Rattle.qs_lawful.specs.CoherentOpenings.{HasNoVoteAfterCommit, VotesAgain, is_apart}
 use Rattle.qs_lawful.specs.Logs.{Every}
 use Rattle.qs_lawful.proofs.LogFrames.{every_on}
 use Rattle.qs_lawful.proofs.LogRecords.{every_append, every_filter, every_map}
@@ -121,7 +120,7 @@ opened_at o n (suc more) (suc k) one is =
     same : (a b : ℕ) → (a + 1) + b ≡ a + suc b
     same a b = grind (arith)
 
-module _ (o : Opening) (opens : IsOpening o) (apart : HasNoVoteAfterCommit o) where
+module _ (o : Opening) (opens : IsOpening o) where
   abbrev opened : List Opened
   opened = opened_from o 0 o.size
 
@@ -176,16 +175,19 @@ module _ (o : Opening) (opens : IsOpening o) (apart : HasNoVoteAfterCommit o) wh
       committed = all_of (IsEarlier opened) log.committed (every_on (λ (tid : Tid). is_earlier o tid ≡ true) (IsEarlier opened) earlier log.committed says.commits);
       pending = pending_all (IsVoteEarlier opened) log.prepared (every_on (λ (v : Prepared). is_earlier o v.tid ≡ true) _ (λ v is doubt. earlier v.tid is) log.prepared says.votes);
       apart = pending_all (HasNoCommit (opened_with (o.settings n) (recovered_of (o.logs n)))) log.prepared
-          (every_on (λ (v : Prepared). is_apart log v ≡ true) _ far log.prepared (every_of (is_apart log) log.prepared (each_is o.size (λ m. list_all (is_apart (recovery (o.logs m))) (recovery (o.logs m)).prepared) apart n low)));
+          (every_on (λ (v : Prepared). is_doubt log v ≡ true) _ far log.prepared (every_of (is_doubt log) log.prepared (and_both (list_all (is_doubt log) log.prepared) _ (each_is o.size (λ m. are_unended (recovery (o.logs m))) opens.unended n low)).0));
     }
       where
-        far : (v : Prepared) → is_apart log v ≡ true → is_in_doubt v ≡ true → is_among log.committed v.tid ≡ false
-        far v is doubt = of (is_in_doubt v) (is_among log.committed v.tid) refl doubt is
+        far : (v : Prepared) → is_doubt log v ≡ true → is_in_doubt v ≡ true → is_among log.committed v.tid ≡ false
+        far v is doubt = of v.committed (names_transaction v.tid) (list_any (is_untold_of v.tid) log.untold) (is_among log.committed v.tid) refl is doubt
           where
-            of : (a b : Bool) → is_among log.committed v.tid ≡ b → a ≡ true → (not a || not b) ≡ true → is_among log.committed v.tid ≡ false
-            of true false e d h = e
-            of true true e d h = absurd (cc h)
-            of false b e d h = absurd (cc d)
+            of : (a b c d : Bool) → is_among log.committed v.tid ≡ d → (a || (b && (not c && not d))) ≡ true → (b && not a) ≡ true → is_among log.committed v.tid ≡ false
+            of false true false false e h k = e
+            of false true false true e h k = absurd (cc h)
+            of false true true d e h k = absurd (cc h)
+            of false false c d e h k = absurd (cc k)
+            of true true c d e h k = absurd (cc k)
+            of true false c d e h k = absurd (cc k)
 
   each_sound : (ones : List Opened) → ((n : ℕ) (one : Opened) → slice_get ones n ≡ Some one → IsSound opened one) → All (IsSound opened) ones
   each_sound [] all = All-nil (IsSound opened)
@@ -193,6 +195,3 @@ module _ (o : Opening) (opens : IsOpening o) (apart : HasNoVoteAfterCommit o) wh
 
   pub opens_soundly : IsCoherent opened
   opens_soundly = each_sound opened (λ n one there. let p = opened_is n one there in subst (IsSound opened) (sym p.1) (sound n p.0))
-
-pub votes_again_shown : (alloc : Global) → VotesAgain alloc
-votes_again_shown alloc = record { opens = record { size = refl; settings = refl; scripts = refl; labels = refl; logs = refl; votes = refl; unended = refl }; in_doubt = refl; committed = refl }

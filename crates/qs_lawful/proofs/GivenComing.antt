@@ -77,4 +77,4 @@ module _ (stamp : ℕ) (before : BookValue) (size : ℕ) (nodes : ℕ → NodeVa
     where
       by : (o : Option TransactionValue) → find_transaction (book_at stamp before work) tid ≡ o → is_some o ≡ true → tm.part_of tid work.node.manager ≡ None → was_committed tid work.node ≡ false → IsAborted stamp before work tid
       by None found there unknown kept = absurd (cc there)
-      by (Some tx) found there unknown kept = record { tx = tx; found = found; aborted = (s.by.beside.ended tid tx (node_is tid.home work.node.setting.node c.goes) found).unknown unknown kept }
+      by (Some tx) found there unknown kept = record { tx = tx; found = found; aborted = ((s.by.beside.at tid).ended tx (node_is tid.home work.node.setting.node c.goes) found).unknown unknown kept }

@@ -47,7 +47,7 @@ use Rattle.qs_lawful.proofs.ServingNext.{after_serve, loan_alike, served_waiting
 use Rattle.qs_lawful.proofs.Steps.{tx_changed}
 use Rattle.qs_lawful.proofs.Truths.{of_some}
 
-served_noted : (server : ServerNo) (part : Participant) → (participant.served server part).noted ≡ part.noted
+pub served_noted : (server : ServerNo) (part : Participant) → (participant.served server part).noted ≡ part.noted
 served_noted server part = by ((member_of part server).served == last_number)
   where
     by : (b : Bool) → (if b then part else record (participant.with_member server (record (member_of part server) { served = (member_of part server).served + 1; fresh = true }) part) { involved = part.involved || is_told_class (class_here server) }).noted ≡ part.noted
@@ -108,7 +108,7 @@ module _ (stamp : ℕ) (before : BookValue) (work : Work) (server : ServerNo) (d
       (l.0, ap (λ (b : BookValue). find_transaction b delivery.tid) (book_now stamp before entered (make_loan delivery.tid (Some client) entered) (acts.Loan delivery.tid client) refl refl) ∙ l.1, l.2)
 
 -- what is noted of one transaction is noted of another with the same notes
-notes_alike : (here : NodeNo) (inc : ℕ) (tid : Tid) (a b : TransactionValue) (p q : Participant) → SameNotes a b → q.noted ≡ p.noted → q.waiting ≡ p.waiting → HoldsNotes here inc tid b p → HoldsNotes here inc tid a q
+pub notes_alike : (here : NodeNo) (inc : ℕ) (tid : Tid) (a b : TransactionValue) (p q : Participant) → SameNotes a b → q.noted ≡ p.noted → q.waiting ≡ p.waiting → HoldsNotes here inc tid b p → HoldsNotes here inc tid a q
 notes_alike here inc tid a b p q same noted waiting h = record {
   issued = λ count one is. turned count (h.issued count one (ap (λ (rs : List (RequestNo × List Request)). list_any (has_note_in here inc (note_text tid here.0 count)) rs) (sym same.requests) ∙ is));
   served = λ count one is. ap (λ (rs : List (RequestNo × List Request)). list_any (has_note_in here inc (note_text tid here.0 count)) rs) same.requests
@@ -120,7 +120,7 @@ notes_alike here inc tid a b p q same noted waiting h = record {
     turned count (inr is) = inr (ap (list_any (is_note_with count)) waiting ∙ is)
 
 -- after a serve
-notes_served : (here : NodeNo) (inc : ℕ) (tid : Tid) (tx : TransactionValue) (part : Participant) → HoldsNotes here inc tid tx part → (at : RequestNo) (member : Member) (i stamp : ℕ) (done : Bool) → HoldsNotes here inc tid (served_in at member i stamp done tx) part
+pub notes_served : (here : NodeNo) (inc : ℕ) (tid : Tid) (tx : TransactionValue) (part : Participant) → HoldsNotes here inc tid tx part → (at : RequestNo) (member : Member) (i stamp : ℕ) (done : Bool) → HoldsNotes here inc tid (served_in at member i stamp done tx) part
 notes_served here inc tid tx part h at member i stamp done = record {
   issued = λ count one is. h.issued count one (sym (served_issued at member i stamp done tx here inc (note_text tid here.0 count)) ∙ is);
   served = λ count one is. served_issued at member i stamp done tx here inc (note_text tid here.0 count) ∙ of count (served_note at member i stamp done tx here inc (note_text tid here.0 count) is) (h.served count one);
@@ -133,7 +133,7 @@ notes_served here inc tid tx part h at member i stamp done = record {
 
 module _ (stamp : ℕ) (before : BookValue) (size : ℕ) (nodes : ℕ → NodeValue) (n : ℕ) (work : Work) (s : Stands stamp before size nodes n work) where
   notes_of : (tid : Tid) (tx : TransactionValue) (part : Participant) → find_transaction (book_at stamp before work) tid ≡ Some tx → tm.part_of tid work.node.manager ≡ Some part → HoldsNotes work.node.setting.node work.node.setting.inc tid tx part
-  notes_of tid tx part found known = (s.by.beside.parts s.held.holds.state tid tx part s.held.holds.there found known).notes
+  notes_of tid tx part found known = ((s.by.beside.at tid).parts tx part found known).notes
 
   -- a reply may come, whichever it is
   pub may_reply : (tid : Tid) (member : Member) (number : ℕ) → MayReply stamp before work tid member number

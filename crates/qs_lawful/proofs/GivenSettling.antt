@@ -20,11 +20,12 @@ use Rattle.qs_tm.specs.Participant.{is_forgotten}
 use Rattle.qs_tm.specs.declared.participant.Participant.{Participant}
 use Rattle.qs_world.specs.Openings.{is_audit}
 use Rattle.qs_lawful.specs.Agreed.{IsSettledAll, IsUndone}
-use Rattle.qs_lawful.specs.Beside.{IsTrueCause, is_committed_at}
+use Rattle.qs_lawful.specs.Beside.{IsTrueCause, is_committed_at, is_done}
 use Rattle.qs_lawful.specs.Entering.{book_at}
 use Rattle.qs_lawful.specs.Face.{face_of, part_or_new}
 use Rattle.qs_lawful.specs.Holds.{HoldsNode, HoldsTid}
 use Rattle.qs_lawful.proofs.Clauses.{of_tid}
+use Rattle.qs_lawful.proofs.OnlyRead.{only_read_there}
 use Rattle.qs_lawful.proofs.Truths.{both_true, clash, left_true, node_is, number_is, not_false, not_true, of_some, right_true}
 use Rattle.qs_lawful.proofs.Unanimity.{unanimous}
 use Rattle.qs_lawful.specs.Given.{HasCause, IsUncommitted, MayCommit, MayDecide, MayForget, MayPass}
@@ -67,7 +68,7 @@ module _ (stamp : ℕ) (before : BookValue) (size : ℕ) (nodes : ℕ → NodeVa
       here_is e = node_is tid.home work.node.setting.node (number_is tid.home.0 n e ∙ sym s.at)
 
       node_now : (b : Bool) → (tid.home.0 == n) ≡ b → is_commit tx.cell ≡ true → is_committed_at (if b then work.node else nodes tid.home.0) tid ≡ true
-      node_now true e is = (s.beside.ended tid tx (here_is e) found).committed is
+      node_now true e is = ap (λ (b : Bool). b || tm.told_of tid false (λ part. is_done part.outcome) work.node.manager) (((s.beside.at tid).ended tx (here_is e) found).committed is)
       node_now false e is = s.homes tid tx found is undone.in_run e
 
       by : (c : Bool) → is_commit tx.cell ≡ c → c ≡ false
@@ -87,7 +88,7 @@ module _ (stamp : ℕ) (before : BookValue) (size : ℕ) (nodes : ℕ → NodeVa
     may_decide home unknown = record {
       home = at_home home;
       inc = is_part.began home unknown;
-      owner = λ tx client found owns. s.beside.owners tid tx client found owns;
+      owner = λ tx client found owns. s.beside.owners tid tx found client owns;
     }
 
     -- ---- causes
@@ -118,21 +119,21 @@ module _ (stamp : ℕ) (before : BookValue) (size : ℕ) (nodes : ℕ → NodeVa
         below : (to : NodeNo) → nat_lt to.0 work.node.setting.nodes ≡ true → to.0 < length part.engage.peers
         below to is = let slots = is_part.slots in let small = s.facts.setting.small in grind (arith, nat_tests, is, slots, small)
 
+  module _ (work : Work) (s : Stands stamp before size nodes n work) (tid : Tid) (part : Participant) (known : tm.part_of tid work.node.manager ≡ Some part) where
     -- ---- forgetting
 
-    pub may_forget : part.engage.home ≡ false → is_forgotten part ≡ true → (state : machine.NodeValue) → slice_get (book_at stamp before work).nodes work.node.setting.node.0 ≡ Some state → MayForget stamp before work tid
-    may_forget away forgotten state there = record {
-      away = λ e. clash (sym away ∙ (is_part.homed ∙ ap (λ (k : NodeNo). same_node k work.node.setting.node) e ∙ itself work.node.setting.node.0));
-      once = s.facts.rising;
-      read = λ tx found. (s.beside.parts state tid tx part there found known).read forgotten;
+    pub may_forget : part.engage.home ≡ false → is_forgotten part ≡ true → MayForget stamp before work tid
+    may_forget away forgotten = record {
+      away = λ e. clash (sym away ∙ ((s.by.facts.parts tid part known).homed ∙ ap (λ (k : NodeNo). same_node k work.node.setting.node) e ∙ itself work.node.setting.node.0));
+      once = s.by.facts.rising;
+      read = λ tx found. only_read_there stamp before size nodes n work s tid part known tx found forgotten;
     }
       where
         itself : (k : ℕ) → (k == k) ≡ true
         itself k = grind (arith, nat_tests)
 
-  -- ---- committing: what is settled, and where its Commit finds no room the machine finds so
+    -- ---- committing: what is settled, and where its Commit finds no room the machine finds so
 
-  module _ (work : Work) (s : Stands stamp before size nodes n work) (tid : Tid) (part : Participant) (known : tm.part_of tid work.node.manager ≡ Some part) where
     -- the Commit names at least one node, and not all
     room_cause : part.engage.home ≡ true → part.outcome ≡ None → part.asked ≡ true → IsSettledAll (book_at stamp before work) tid → (need : ℕ) → tm.need_past tid work.room work.node.manager ≡ Some need → HasCause stamp before work tid (causes.Room need work.room)
     room_cause home unknown asked settled need is state tx there found = both_true (is_unanimous tx && has_no_record state tid) _ (both_true (is_unanimous tx) (has_no_record state tid) agreed unrecorded) (room_within work.node.manager.extra work.node.manager.keep (length (listed part.told)) (length (book_at stamp before work).nodes) need work.room (machine.extra_of state.format) (machine.keep_of state.format) same_extra same_keep named few lacks.1 short)
@@ -170,7 +171,7 @@ module _ (stamp : ℕ) (before : BookValue) (size : ℕ) (nodes : ℕ → NodeVa
         short = right_true (not part.log.unended) _ (right_true (outcome_rules.writes_commit part) _ lacks.0)
 
         unrecorded : has_no_record state tid ≡ true
-        unrecorded = (s.by.beside.parts state tid tx part there found known).records unended
+        unrecorded = subst (λ (x : machine.NodeValue). has_no_record x tid ≡ true) (of_some (sym s.by.beside.there ∙ there)) (((s.by.beside.at tid).parts tx part found known).records home unknown unended)
 
         unprepared : (b : Bool) → part.log.prepared ≡ b → b ≡ false
         unprepared true e = absurd (clash (sym unended ∙ sound.logged e))

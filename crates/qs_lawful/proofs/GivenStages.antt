@@ -76,7 +76,7 @@ module _ (stamp : ℕ) (before : BookValue) (size : ℕ) (nodes : ℕ → NodeVa
 
         first : Every (IsTrueCause (book_at stamp before answered) tid) (cause ∷ more)
         first = subst (λ (cs : List Cause). Every (IsTrueCause (book_at stamp before answered) tid) cs) is
-            ((s_answered.by.beside.parts s_answered.held.holds.state tid tx.0 part s_answered.held.holds.there tx.1 known).causes unknown)
+            (((s_answered.by.beside.at tid).parts tx.0 part tx.1 known).causes unknown)
 
     s_refused : Stands stamp before size nodes n refused
     s_refused = let held : HoldsWork stamp before refused = by_undecided stamp before answered s_answered.held tid (refuse_rule tid) (λ part known unknown. by_refuse stamp before tid answered s_answered.held part known unknown (λ cause more. aborts_so part cause more known unknown)) in
@@ -87,7 +87,7 @@ module _ (stamp : ℕ) (before : BookValue) (size : ℕ) (nodes : ℕ → NodeVa
       passes = λ part known due. may_pass stamp before size nodes n work s.by tid part known (agreed.passes part known due);
       commits = commits_so;
       aborts = aborts_so;
-      forgets = λ part known forgotten. may_forget stamp before size nodes n refused s_refused.by tid part known (away part forgotten) forgotten s_refused.held.holds.state s_refused.held.holds.there;
+      forgets = λ part known forgotten. may_forget stamp before size nodes n refused s_refused tid part known (away part forgotten) forgotten;
     }
       where
         away : (part : Participant) → is_forgotten part ≡ true → part.engage.home ≡ false

@@ -71,7 +71,7 @@ abbrev reads : Participant → ℕ → Bool
 reads part n = rules.has_read (record { 0 = n }) (member_of part (record { 0 = n }))
 
 -- each server of a node
-all_read : (part : Participant) → only_read part ≡ true → (server : ServerNo) → is_kept server ≡ true → is_two_phase (class_of server.0) ≡ true → rules.has_read server (member_of part server) ≡ true
+pub all_read : (part : Participant) → only_read part ≡ true → (server : ServerNo) → is_kept server ≡ true → is_two_phase (class_of server.0) ≡ true → rules.has_read server (member_of part server) ≡ true
 unfolding all_servers
 all_read part read server kept two = by (server.0 == 0) (server.0 == 1) (server.0 == 2) (server.0 == 3) (server.0 == 4) (server.0 == 5) refl refl refl refl refl refl
   where

@@ -40,7 +40,7 @@ pub not_let_go : (served : ℕ) (fresh : Bool) (vote : Option Cast) → rules.is
 not_let_go served fresh None h = refl
 not_let_go served fresh (Some cast) h = rw h (and_false (rules.is_read_only cast.ballot))
 
-newly_served : (m : MemberPart) → covers_at_most m.served m.vote → rules.is_let_go (one_more m) ≡ false
+pub newly_served : (m : MemberPart) → covers_at_most m.served m.vote → rules.is_let_go (one_more m) ≡ false
 newly_served m h = not_let_go (m.served + 1) true m.vote (not_covering m.served true m.vote h)
 
 lesser : (a b : ℕ) → a ≤ b → nat_lt a (b + 1) ≡ true

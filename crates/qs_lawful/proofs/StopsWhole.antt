@@ -9,7 +9,7 @@ use Rattle.qs_machine.specs.Book.{BookValue, crash_node}
 use Rattle.qs_machine.specs.Clauses.{is_crash}
 use Rattle.qs_machine.specs.Lawful.{effect}
 use Rattle.qs_step.specs.declared.event.Event.{Event}
-use Rattle.qs_world.specs.Moves.{Cut, Source, Stop, cut_with, event_of, is_in_order, is_later, may_move, moved, stamp_limit, stopped, stopped_host}
+use Rattle.qs_world.specs.Moves.{Cut, Source, Stop, cut_with, event_of, is_in_order, is_later, may_move, may_step, moved, stamp_limit, stopped, stopped_host}
 use Rattle.qs_world.specs.Posting.{entry_of}
 use Rattle.qs_world.specs.World.{World, inc_of}
 use Rattle.qs_lawful.specs.Holds.{is_next}
@@ -78,10 +78,11 @@ by_stop book world n stamp cause lasts h may =
 
 pub by_cut : (book : BookValue) (world : World) (n stamp free : ℕ) (source : Source) (cause : CrashCause) → Lasts book → HoldsWorld book world → may_move world (Cut n stamp free source false cause) ≡ true → StopsWell book (moved (Cut n stamp free source false cause) world) n stamp cause
 by_cut book world n stamp free source cause lasts h may =
-    let one = and_both (world.channels.up n) _ may in
+    let whole = and_both (may_step world n stamp source) (is_crash cause) may in
+    let one = and_both (world.channels.up n) _ whole.0 in
     let two = and_both (is_later world n stamp) _ one.1 in
-    let three = and_both (is_some (event_of world n stamp source)) (is_crash cause) two.1 in
-    subst (λ (w : World). StopsWell book w n stamp cause) (sym (same (event_of world n stamp source) three.0)) (stops_well book world n stamp cause lasts h one.0 (and_both (is_in_order world n stamp) _ two.0).0 three.1)
+    let three = and_both (is_some (event_of world n stamp source)) _ two.1 in
+    subst (λ (w : World). StopsWell book w n stamp cause) (sym (same (event_of world n stamp source) three.0)) (stops_well book world n stamp cause lasts h one.0 (and_both (is_in_order world n stamp) _ two.0).0 whole.1)
   where
     same : (o : Option Event) → is_some o ≡ true → cut_with world n stamp free false cause o ≡ stopped world n stamp cause (world.hosts n).log
     same None e = absurd (cc e)

@@ -25,7 +25,7 @@ use Rattle.qs_machine.specs.declared.state.Owner.{Owner}
 use Rattle.qs_step.specs.Commands.{outcome_answer}
 use Rattle.qs_lawful.proofs.Casting.{any_insert}
 
-same_reason-self : (r : Reason) → same_reason r r ≡ true
+pub same_reason-self : (r : Reason) → same_reason r r ≡ true
 same_reason-self (Quota bytes limit) = grind (arith, nat_tests)
 same_reason-self (LogRoom need room) = grind (arith, nat_tests)
 same_reason-self (Taken name) = same_bytes-self name

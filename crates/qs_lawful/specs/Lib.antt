@@ -35,3 +35,4 @@ pub mod Doubtful
 pub mod WorldLaws
 pub mod CoherentOpenings
 pub mod WorldGives
+pub mod Amid

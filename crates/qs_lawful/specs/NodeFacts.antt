@@ -6,6 +6,7 @@ use Rattle.qs_base.specs.declared.identifiers.ClientNo.{ClientNo}
 use Rattle.qs_base.specs.declared.identifiers.Member.{Member}
 use Rattle.qs_base.specs.declared.identifiers.NodeNo.{NodeNo}
 use Rattle.qs_base.specs.declared.identifiers.Tid.{Tid}
+use Rattle.qs_engage.specs.Engage.{peer_of}
 use Rattle.qs_engage.specs.Nodes.{listed, same_node}
 use Rattle.qs_ipc.specs.Queue.{is_for}
 use Rattle.qs_journal.specs.declared.script_line.Command.TheVariants as commands
@@ -21,7 +22,7 @@ use Rattle.qs_step.specs.declared.event.Event.TheVariants as events
 use Rattle.qs_step.specs.declared.setting.Setting.{Setting}
 use Rattle.qs_step.specs.declared.state.OpenCommand.{OpenCommand}
 use Rattle.qs_tm.specs.Manager as tm
-use Rattle.qs_tm.specs.Participant.{is_answered_by}
+use Rattle.qs_tm.specs.Participant.{is_answered_by, needs_pass}
 use Rattle.qs_tm.specs.declared.manager.Manager.{Manager}
 use Rattle.qs_tm.specs.declared.participant.Outstanding.{Outstanding}
 use Rattle.qs_tm.specs.declared.participant.Participant.{Participant}
@@ -97,7 +98,7 @@ FitsEvent setting event = ⊤
 abbrev pub AreHomed : NodeNo → Kept → Type 0
 AreHomed node kept = (label : List ℕ) (begun : Begun) (tid : Tid) (client : ClientNo) → find (has_label label) kept.labels ≡ Some begun → begun.tid ≡ Some tid → begun.owner ≡ Some client → tid.home ≡ node
 
--- ---- what follows from the invariant of one node (qs_refine's is_sound: is_sound_peer and the told set without the home; is_sound_loan),
+-- ---- what follows from the invariant of one node (qs_refine's is_sound: is_sound_peer and the told set without the home; is_sound_loan; is_idle),
 -- and that its requests are numbered
 
 -- no two requests wait under one number at one member
@@ -109,6 +110,8 @@ pub record HasSoundFacts (node : NodeValue) : Type 0 where
   pub told : (tid : Tid) (part : Participant) → tm.part_of tid node.manager ≡ Some part → length (listed part.told) < node.setting.nodes  -- nodes of the run, and not the home
   pub lent : (tid : Tid) → is_lent tid node ≡ true → tm.knows tid node.manager ≡ true  -- what is lent here is known
   pub apart : (tid : Tid) (part : Participant) → tm.part_of tid node.manager ≡ Some part → AreApart part.waiting
+  pub idle : (tid : Tid) (part : Participant) → tm.part_of tid node.manager ≡ Some part → part.engage.home ≡ false → part.outcome ≡ None → part.engage.superior ≡ None → needs_pass part ≡ false  -- who answers to nobody has nothing due
+  pub unsent : (tid : Tid) (part : Participant) → tm.part_of tid node.manager ≡ Some part → part.involved ≡ false → (peer : NodeNo) → (peer_of part.engage peer).sent ≡ 0
 
 -- ---- ages, between steps
 

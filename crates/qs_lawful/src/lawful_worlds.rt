@@ -1,6 +1,5 @@
 //! Moves of the world against the machine: what the machine has of a whole world is had on through a move.
-ghost use Rattle.std.specs.Global.{Global};
-ghost use Rattle.qs_lawful.specs.CoherentOpenings.{EachOpensSoundly, VotesAgain};
+ghost use Rattle.qs_lawful.specs.CoherentOpenings.{EachOpensSoundly};
 ghost use Rattle.qs_lawful.specs.WorldLaws.{EachLosesItsBatch, EachMeets, EachRiseKeepsOthers, EachRises, EachStops};
 
 /// A node that is down restarts, and begins an incarnation with what its log says: the entry is lawful, what it finds in its log with it;
@@ -25,9 +24,8 @@ pub fn stop_is_held()
     ensures cut { EachLosesItsBatch }
 {}
 
-/// What the logs of an opening hold is what the laws want of an opening, where no log has a vote in doubt of a transaction that it has
-/// committed. That is asked for besides: a run may begin with such a log.
+/// What the logs of an opening hold is coherent: each transaction that a log names began in an earlier incarnation of its home, and no log
+/// has a vote in doubt of a transaction that it has committed.
 pub fn opening_is_coherent()
     ensures sound { EachOpensSoundly }
-    ensures needed { (alloc : Global) → VotesAgain alloc }
 {}
