@@ -94,7 +94,7 @@ every_of : {A : Type 0} (p : A → Bool) (xs : List A) → list_all p xs ≡ tru
 every_of p [] all = tt
 every_of p (x ∷ xs) all = ((and_both (p x) _ all).0, every_of p xs (and_both (p x) _ all).1)
 
-all_of : {A : Type 0} (P : A → Type 0) (xs : List A) → Every P xs → All P xs
+pub all_of : {A : Type 0} (P : A → Type 0) (xs : List A) → Every P xs → All P xs
 all_of P [] all = All-nil P
 all_of P (x ∷ xs) all = All-cons P x xs all.0 (all_of P xs all.1)
 
@@ -127,7 +127,7 @@ module _ (o : Opening) (opens : IsOpening o) where
   zero_plus : (k : ℕ) → 0 + k ≡ k
   zero_plus k = grind (arith)
 
-  opened_is : (k : ℕ) (one : Opened) → slice_get opened k ≡ Some one → (k < o.size) × (one ≡ opened_with (o.settings k) (recovered_of (o.logs k)))
+  pub opened_is : (k : ℕ) (one : Opened) → slice_get opened k ≡ Some one → (k < o.size) × (one ≡ opened_with (o.settings k) (recovered_of (o.logs k)))
   opened_is k one is =
       let p = opened_at o 0 o.size k one is in
       (p.0, subst (λ (m : ℕ). one ≡ opened_with (o.settings m) (recovered_of (o.logs m))) (zero_plus k) p.1)

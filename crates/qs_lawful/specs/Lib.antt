@@ -25,6 +25,11 @@ pub mod StepStands
 pub mod GivenTests
 pub mod TriedGiven
 pub mod Lasting
+pub mod LastingLaws
+pub mod Aside
+pub mod AsideLaws
+pub mod TriedOpenings
+pub mod TriedAside
 pub mod Said
 pub mod Worlds
 pub mod WorldTests
