@@ -6,3 +6,8 @@ pub mod AgreesWaits
 pub mod AgreesEach
 pub mod AgreesWhole
 pub mod AgreesPasses
+pub mod JoinedParts
+pub mod JoinedHomes
+pub mod JoinedSteps
+pub mod JoinedMoves
+pub mod JoinedOver

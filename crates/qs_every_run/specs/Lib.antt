@@ -1,1 +1,5 @@
 pub mod Agrees
+pub mod Joined
+pub mod JoinedOwed
+pub mod JoinedPlaces
+pub mod JoinedRuns

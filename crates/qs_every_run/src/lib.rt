@@ -2,5 +2,7 @@
 #![tactic(auto)]
 
 mod joined_agrees;
+mod joined_runs;
 
 pub use joined_agrees::steps_agree;
+pub use joined_runs::runs_are_lawful;

@@ -1,0 +1,120 @@
+-- What is still to be shown so that every run is lawful: each is a law of its own, of a run's beginning, of what a step is given, or of what a move keeps.
+use Rattle.std.specs.Prelude.{◌≡◌, ℕ, ◌<◌, ◌≤◌, ⊤, true, false, None, Some}
+use Rattle.qs_base.specs.declared.identifiers.NodeNo.{NodeNo}
+use Rattle.qs_base.specs.declared.identifiers.Tid.{Tid}
+use Rattle.qs_engage.specs.Engage.{peer_of}
+use Rattle.qs_journal.specs.declared.entry.CrashCause.{CrashCause}
+use Rattle.qs_machine.specs.Book.{BookValue}
+use Rattle.qs_machine.specs.Lawful.{IsLawful}
+use Rattle.qs_packet.specs.declared.message.Message.TheVariants as messages
+use Rattle.qs_step.specs.Settling.{due_tids, is_quiet, may_answer, pass_rule, settle_tid, try}
+use Rattle.qs_step.specs.State.{Work, doings_of}
+use Rattle.qs_step.specs.declared.event.Event.{Event}
+use Rattle.qs_step.specs.declared.event.Event.TheVariants as events
+use Rattle.qs_tm.specs.Manager as tm
+use Rattle.qs_tm.specs.Participant.{is_undecided}
+use Rattle.qs_tm.specs.declared.participant.Participant.{Participant}
+use Rattle.qs_world.specs.Histories.{book_of}
+use Rattle.qs_world.specs.Moves.{Cut, Meet, Move, Rise, Source, Step, Stop, may_move, moved}
+use Rattle.qs_world.specs.Openings.{IsOpening}
+use Rattle.qs_world.specs.World.{Opening, World, start}
+use Rattle.qs_lawful.specs.Agreed.{IsSettledAll, StepAgrees}
+use Rattle.qs_lawful.specs.Entering.{book_at}
+use Rattle.qs_lawful.specs.Given.{AtEach}
+use Rattle.qs_lawful.specs.GivenStep.{MayStep, done_work, first_work}
+use Rattle.qs_lawful.specs.Lasting.{Lasts}
+use Rattle.qs_lawful.specs.WorldLaws.{StopsWell}
+use Rattle.qs_lawful.specs.Worlds.{HoldsWorld}
+use Rattle.qs_every_run.specs.Agrees.{MakesStep, nodes_in}
+use Rattle.qs_every_run.specs.Joined.{ChannelsAt, HeldAt, HomesAt, Joined, RunningAt, ScriptsAt, WaysAt, book_in}
+
+-- ---- as a run begins
+
+abbrev pub Opens : (Opening → World → Type 0) → Type 0
+Opens X = (o : Opening) → IsOpening o → X o (start o)
+
+-- ---- a step
+
+-- where a home commits, all places are settled
+abbrev pub CommitsSettled : ℕ → BookValue → Work → Tid → Type 0
+CommitsSettled stamp before work tid = (part : Participant) → tm.part_of tid (try tid pass_rule work).node.manager ≡ Some part → part.outcome ≡ None → part.engage.home ≡ true → may_answer tid part (try tid pass_rule work) ≡ true
+    → is_quiet (doings_of tid (try tid pass_rule work)) ≡ true → IsSettledAll (book_at stamp before (try tid pass_rule work)) tid
+
+abbrev pub EachCommitsSettled : (Opening → World → Type 0) → Type 0
+EachCommitsSettled P = (o : Opening) (world : World) (n stamp free : ℕ) (source : Source) (event : Event) → Joined P o world → MakesStep world n stamp source event
+    → AtEach (CommitsSettled stamp (book_in o world)) settle_tid (done_work (world.hosts n).node event free) (due_tids (done_work (world.hosts n).node event free))
+
+-- what answers for requests of what is decided here answers for some that were sent; it counts for nothing then
+abbrev pub AnswersLate : Event → Work → Type 0
+AnswersLate (events.Received peer (messages.Covered tid up_to)) work = (part : Participant) → tm.part_of tid work.node.manager ≡ Some part → is_undecided part ≡ false → up_to ≤ (peer_of part.engage peer).sent
+AnswersLate (events.Received peer (messages.VotedYes tid up_to told)) work = (part : Participant) → tm.part_of tid work.node.manager ≡ Some part → is_undecided part ≡ false → up_to ≤ (peer_of part.engage peer).sent
+AnswersLate event work = ⊤
+
+abbrev pub EachAnswersLate : (Opening → World → Type 0) → Type 0
+EachAnswersLate P = (o : Opening) (world : World) (n stamp free : ℕ) (source : Source) (event : Event) → Joined P o world → MakesStep world n stamp source event → AnswersLate event (first_work (world.hosts n).node free)
+
+-- from what the protocol gives, a step is given all that it needs
+abbrev pub EachGiven : (Opening → World → Type 0) → Type 0
+EachGiven P = (o : Opening) (world : World) (n stamp free : ℕ) (source : Source) (event : Event) → Joined P o world → MakesStep world n stamp source event
+    → StepAgrees stamp (book_in o world) world.size (nodes_in world) n (world.hosts n).node event free → MayStep stamp (book_in o world) (world.hosts n).node event free
+
+-- a step that is cut off and whose batch is kept, as where it is lost
+abbrev pub EachKeepsItsBatch : (Opening → World → Type 0) → Type 0
+EachKeepsItsBatch P = (o : Opening) (world : World) (n stamp free : ℕ) (source : Source) (cause : CrashCause) → Joined P o world → may_move world (Cut n stamp free source true cause) ≡ true
+    → StopsWell (book_in o world) (moved (Cut n stamp free source true cause) world) n stamp cause
+
+-- ---- moves whose entries are lawful, by kind
+
+abbrev pub IsStep : Move → Type 0
+IsStep (Step n stamp free source) = ⊤
+IsStep move = ⊥
+
+abbrev pub IsCrash : Move → Type 0
+IsCrash (Stop n stamp cause) = ⊤
+IsCrash (Cut n stamp free source is_kept cause) = ⊤
+IsCrash move = ⊥
+
+abbrev pub IsRise : Move → Type 0
+IsRise (Rise n stamp inc) = ⊤
+IsRise move = ⊥
+
+abbrev pub IsMeet : Move → Type 0
+IsMeet (Meet n stamp m inc) = ⊤
+IsMeet move = ⊥
+
+abbrev pub Keeps : (Opening → World → Type 0) → (Move → Type 0) → (Opening → World → Type 0) → Type 0
+Keeps P kind X = (o : Opening) (world : World) (move : Move) → kind move → Joined P o world → may_move world move ≡ true → IsLawful (book_of o) (moved move world).journal → X o (moved move world)
+
+-- ---- all that is owed
+
+pub record Owed (P : Opening → World → Type 0) : Type 0 where
+  -- as a run begins
+  pub opens_held : Opens HeldAt
+  pub opens_running : Opens RunningAt
+  pub opens_homes : Opens HomesAt
+  pub opens_ways : Opens WaysAt
+  pub opens_scripts : Opens ScriptsAt
+  pub opens_places : Opens P
+  -- what a step is given
+  pub commits : EachCommitsSettled P
+  pub answers : EachAnswersLate P
+  pub given : EachGiven P
+  -- after a whole step
+  pub steps_held : Keeps P IsStep HeldAt
+  pub steps_running : Keeps P IsStep RunningAt
+  pub steps_channels : Keeps P IsStep ChannelsAt
+  pub steps_ways : Keeps P IsStep WaysAt
+  pub steps_scripts : Keeps P IsStep ScriptsAt
+  -- after a crash
+  pub keeps_its_batch : EachKeepsItsBatch P
+  pub crashes_running : Keeps P IsCrash RunningAt
+  pub crashes_ways : Keeps P IsCrash WaysAt
+  pub crashes_scripts : Keeps P IsCrash ScriptsAt
+  -- after a restart
+  pub rises_running : Keeps P IsRise RunningAt
+  pub rises_ways : Keeps P IsRise WaysAt
+  pub rises_scripts : Keeps P IsRise ScriptsAt
+  -- after a first meeting
+  pub meets_ways : Keeps P IsMeet WaysAt
+  -- what all places hold of each transaction
+  pub places : Keeps P (λ (move : Move). ⊤) P
