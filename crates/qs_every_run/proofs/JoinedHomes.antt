@@ -30,7 +30,7 @@ others_have book size nodes n stamp node acts at lawful homes = subst (λ (k : �
     (homes_stand stamp book size nodes n (work_of node acts) at (subst (λ (k : ℕ). IsLawful book (entries_of k stamp acts)) (sym at) lawful) (λ tid tx found committed in_run far. homes tid tx found committed in_run))
 
 -- and of what began at a node that runs, from what the machine has beside it
-own_has : (book : BookValue) (node : NodeValue) (n : ℕ) → node.setting.node.0 ≡ n → HoldsBeside book node → (tid : Tid) (tx : TransactionValue) → find_transaction book tid ≡ Some tx → is_commit tx.cell ≡ true → (tid.home.0 == n) ≡ true → is_committed_at node tid ≡ true
+pub own_has : (book : BookValue) (node : NodeValue) (n : ℕ) → node.setting.node.0 ≡ n → HoldsBeside book node → (tid : Tid) (tx : TransactionValue) → find_transaction book tid ≡ Some tx → is_commit tx.cell ≡ true → (tid.home.0 == n) ≡ true → is_committed_at node tid ≡ true
 own_has book node n at beside tid tx found committed here = ap (λ (b : Bool). b || tm.told_of tid false (λ part. is_done part.outcome) node.manager) (((beside.at tid).ended tx home found).committed committed)
   where
     home : tid.home ≡ node.setting.node

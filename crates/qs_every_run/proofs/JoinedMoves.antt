@@ -19,7 +19,7 @@ use Rattle.qs_step.specs.State.{NodeValue, client_cmp}
 use Rattle.qs_step.specs.Step.{after_step, effects_of}
 use Rattle.qs_step.specs.declared.event.Event.{Event}
 use Rattle.qs_world.specs.Histories.{book_of}
-use Rattle.qs_world.specs.Moves.{Cut, Meet, Move, Rise, Source, Step, Stop, client_count, cut_log, cut_with, event_of, is_in_order, is_later, may_move, moved, risen_host, step_with, stepped_host, stopped, taken_by}
+use Rattle.qs_world.specs.Moves.{Cut, Meet, Move, Rise, Source, Step, Stop, client_count, cut_log, cut_with, event_of, is_in_order, is_later, may_move, moved, reopened, risen_host, step_with, stepped_host, stopped, taken_by}
 use Rattle.qs_world.specs.Posting.{entry_of}
 use Rattle.qs_world.specs.World.{Opening, World, known_of}
 use Rattle.qs_refine.proofs.Moving.{up_taken}
@@ -31,7 +31,9 @@ use Rattle.qs_refine.proofs.StepAll.{node_stopped}
 use Rattle.qs_lawful.specs.Beside.{HoldsBeside, is_committed_at}
 use Rattle.qs_lawful.specs.Lasting.{Lasts}
 use Rattle.qs_lawful.specs.Logs.{found_votes}
-use Rattle.qs_lawful.specs.Scripts.{HoldsClient}
+use Rattle.qs_lawful.specs.NodeFacts.{HasNodeFacts}
+use Rattle.qs_lawful.specs.Parcels.{HoldsWays}
+use Rattle.qs_lawful.specs.Scripts.{HoldsClient, HoldsScripts}
 use Rattle.qs_lawful.specs.WorldLaws.{RisesWell, StopsWell, rise_entry}
 use Rattle.qs_lawful.specs.Worlds.{HoldsWorld}
 use Rattle.qs_lawful.proofs.LastsAlways.{in_runs}
@@ -40,9 +42,10 @@ use Rattle.qs_lawful.proofs.ParcelsKept.{channels_moved}
 use Rattle.qs_lawful.proofs.RisesWhole.{rises_well}
 use Rattle.qs_lawful.proofs.StopsWhole.{by_cut, by_stop}
 use Rattle.qs_every_run.specs.Agrees.{MakesStep, nodes_in}
-use Rattle.qs_every_run.specs.Joined.{ChannelsAt, HeldAt, HomesAt, HomesHave, HoldsRunning, Joined, RunningAt, ScriptsAt, WaysAt, book_in}
+use Rattle.qs_every_run.specs.Joined.{ChannelsAt, FactsAt, HeldAt, HomesAt, HomesHave, HoldsRunning, Joined, RunningAt, ScriptsAt, WaysAt, book_in}
 use Rattle.qs_every_run.specs.JoinedOwed.{IsCrash, Owed}
 use Rattle.qs_every_run.specs.JoinedRuns.{EachMoveJoined}
+use Rattle.qs_every_run.proofs.JoinedFacts.{rises_facts, steps_facts}
 use Rattle.qs_every_run.proofs.JoinedHomes.{homes_after}
 use Rattle.qs_every_run.proofs.JoinedParts.{book_on, channels_later, lawful_on}
 use Rattle.qs_every_run.proofs.JoinedSteps.{step_at, step_entries, step_journal, step_lawful, step_low, step_up}
@@ -59,6 +62,7 @@ module _ (P : Opening → World → Type 0) (owed : Owed P) (o : Opening) (world
     size : new.size ≡ world.size
     lawful : IsLawful (book_of o) new.journal
     held : HeldAt o new
+    facts : FactsAt new
     running : RunningAt o new
     homes : HomesAt o new
     channels : ChannelsAt o new
@@ -72,6 +76,7 @@ module _ (P : Opening → World → Type 0) (owed : Owed P) (o : Opening) (world
     lawful = k.lawful;
     shown = move_shown world move may j.shown (each_begun_shown world move may j.shown);
     held = k.held;
+    facts = k.facts;
     running = k.running;
     homes = k.homes;
     channels = k.channels;
@@ -120,6 +125,21 @@ module _ (P : Opening → World → Type 0) (owed : Owed P) (o : Opening) (world
     low_then : n < new.size
     low_then = subst (λ (s : ℕ). n < s) (sym sized) (step_low P owed o world j n stamp free source event makes)
 
+    facts_then : FactsAt new
+    facts_then k low = by (k == n) refl
+      where
+        own : (new.hosts n).node ≡ after_step (world.hosts n).node event free
+        own = ap (λ (e : Option Event). ((step_with world n stamp free source e).hosts n).node) makes.comes ∙ picked (n == n) (grind (arith, nat_tests))
+          where
+            picked : (b : Bool) → b ≡ true → (if b then stepped_host stamp (after_step (world.hosts n).node event free) (effects_of (world.hosts n).node event free) (world.hosts n) else world.hosts n).node ≡ after_step (world.hosts n).node event free
+            picked b is = rw is refl
+
+        by : (b : Bool) → (k == n) ≡ b → HasNodeFacts (new.hosts k).node
+        by true near = subst (λ (i : ℕ). HasNodeFacts (new.hosts i).node) (sym (eqb-true k n near)) (subst HasNodeFacts (sym own)
+            (steps_facts o j.opens book world n stamp free j.scripts j.size (step_low P owed o world j n stamp free source event makes) (step_up P owed o world j n stamp free source event makes) (j.held.nodes n (step_low P owed o world j n stamp free source event makes)).run
+            source event makes.comes (j.facts n (step_low P owed o world j n stamp free source event makes))))
+        by false far = subst HasNodeFacts (sym (same k far)) (j.facts k (subst (λ (s : ℕ). k < s) sized low))
+
     homes_then : HomesAt o new
     homes_then = subst (λ (size : ℕ). HomesHave (book_in o new) size (nodes_in new)) (sym sized)
         (subst (λ (b : BookValue). HomesHave b world.size (nodes_in new)) (sym (book_on o world new entries journal))
@@ -132,6 +152,7 @@ module _ (P : Opening → World → Type 0) (owed : Owed P) (o : Opening) (world
       size = sized;
       lawful = lawful_then;
       held = held_then;
+      facts = facts_then;
       running = runs_then;
       homes = homes_then;
       channels = owed.steps_channels o world step tt j may lawful_then;
@@ -166,11 +187,12 @@ module _ (P : Opening → World → Type 0) (owed : Owed P) (o : Opening) (world
       size = refl;
       lawful = crash_lawful;
       held = subst (λ (b : BookValue). HoldsWorld b after) (sym (book_on o world after (entry ∷ []) refl)) crashed.holds;
+      facts = λ k low. subst HasNodeFacts (sym (node_stopped world n stamp cause log k)) (j.facts k low);
       running = subst (λ (w : World). RunningAt o w) is (owed.crashes_running o world move crash j may its_lawful);
       homes = crash_homes;
       channels = channels_later o world after (entry ∷ []) j.opens refl crash_lawful world.size after.channels (channels_moved book world.size (channel.Crash n) world.channels tt j.channels);
-      ways = subst (λ (w : World). WaysAt o w) is (owed.crashes_ways o world move crash j may its_lawful);
-      scripts = subst (λ (w : World). ScriptsAt o w) is (owed.crashes_scripts o world move crash j may its_lawful);
+      ways = subst (λ (b : BookValue). HoldsWays b after) (sym (book_on o world after (entry ∷ []) refl)) (owed.crashes_ways book world n stamp cause log j.ways);
+      scripts = subst (λ (b : BookValue). HoldsScripts o b after) (sym (book_on o world after (entry ∷ []) refl)) (owed.crashes_scripts o book world n stamp cause log j.scripts);
     }
 
     pub crash_joined : Joined P o (moved move world)
@@ -215,6 +237,19 @@ module _ (P : Opening → World → Type 0) (owed : Owed P) (o : Opening) (world
         picked : (b : Bool) → b ≡ false → (if b then risen_host stamp inc (recovered_of (world.hosts n).log) (world.hosts n) else world.hosts k).node ≡ (world.hosts k).node
         picked b so = rw so refl
 
+    rise_facts : FactsAt risen_world
+    rise_facts k low = by (k == n) refl
+      where
+        own : (risen_world.hosts n).node ≡ reopened inc (recovered_of (world.hosts n).log) (world.hosts n).node
+        own = picked (n == n) (grind (arith, nat_tests))
+          where
+            picked : (b : Bool) → b ≡ true → (if b then risen_host stamp inc (recovered_of (world.hosts n).log) (world.hosts n) else world.hosts n).node ≡ reopened inc (recovered_of (world.hosts n).log) (world.hosts n).node
+            picked b is = rw is refl
+
+        by : (b : Bool) → (k == n) ≡ b → HasNodeFacts (risen_world.hosts k).node
+        by true near = subst (λ (i : ℕ). HasNodeFacts (risen_world.hosts i).node) (sym (eqb-true k n near)) (subst HasNodeFacts (sym own) (rises_facts (world.hosts n).node inc (recovered_of (world.hosts n).log) (j.held.nodes n n_low).accepted (j.facts n n_low)))
+        by false far = subst HasNodeFacts (sym (rise_same k far)) (j.facts k low)
+
     rise_homes : HomesAt o risen_world
     rise_homes = subst (λ (b : BookValue). HomesHave b world.size (nodes_in risen_world)) (sym rise_book)
         (homes_after book world.size (nodes_in world) (nodes_in risen_world) n stamp (acts.Restart inc (found_votes (recovery (world.hosts n).log)) (recovery (world.hosts n).log).committed ∷ []) (j.held.nodes n n_low).node (rise_held.nodes n n_low).node rise_same
@@ -225,12 +260,13 @@ module _ (P : Opening → World → Type 0) (owed : Owed P) (o : Opening) (world
       size = refl;
       lawful = rise_lawful;
       held = rise_held;
+      facts = rise_facts;
       running = rise_running;
       homes = rise_homes;
       channels = channels_later o world risen_world (rise_entry world n stamp inc ∷ []) j.opens refl rise_lawful world.size risen_world.channels
           (channels_moved book world.size (channel.Restart n inc) world.channels (let later : nat_lt (world.channels.inc n) inc ≡ true = tests.1 in grind (arith, nat_tests, later)) j.channels);
-      ways = owed.rises_ways o world (Rise n stamp inc) tt j may rise_lawful;
-      scripts = owed.rises_scripts o world (Rise n stamp inc) tt j may rise_lawful;
+      ways = subst (λ (b : BookValue). HoldsWays b risen_world) (sym rise_book) (owed.rises_ways book world n stamp inc lasts j.held j.shown.steady.seated may j.ways);
+      scripts = subst (λ (b : BookValue). HoldsScripts o b risen_world) (sym rise_book) (owed.rises_scripts o book world n stamp inc lasts j.held may j.scripts);
     })
 
   -- ---- a first meeting: nothing is entered, and each node stays
@@ -272,10 +308,11 @@ module _ (P : Opening → World → Type 0) (owed : Owed P) (o : Opening) (world
       size = refl;
       lawful = j.lawful;
       held = meets book world n stamp m inc j.held may;
+      facts = λ k low. subst HasNodeFacts (sym (met_node k)) (j.facts k low);
       running = met_running;
       homes = met_homes;
       channels = channels_moved book world.size (channel.Meet n m inc) world.channels known_inc j.channels;
-      ways = owed.meets_ways o world (Meet n stamp m inc) tt j may j.lawful;
+      ways = owed.meets_ways book world n stamp m inc j.channels j.shown.steady.seated may j.ways;
       scripts = met_scripts;
     })
 

@@ -1,5 +1,7 @@
 -- All stands together as a run begins, and over the run; so the run's history is lawful.
-use Rattle.std.proofs.Common.{◌≡◌, ℕ, ◌≤◌, List, [], ◌∷◌, refl, sym, subst, arith}
+use Rattle.std.proofs.Common.{◌≡◌, ℕ, ◌<◌, ◌≤◌, ◌==◌, true, List, [], ◌∷◌, refl, sym, subst, arith}
+use Rattle.std.proofs.lemmas.Bool.Decides.{nat_tests}
+use Rattle.qs_world.specs.Histories.{book_of}
 use Rattle.qs_world.specs.Moves.{Move, moved}
 use Rattle.qs_world.specs.Openings.{IsOpening}
 use Rattle.qs_world.specs.Runs.{Run}
@@ -8,6 +10,8 @@ use Rattle.qs_refine.proofs.EveryRunShown.{every_run_shown}
 use Rattle.qs_every_run.specs.Joined.{Joined}
 use Rattle.qs_every_run.specs.JoinedOwed.{Owed}
 use Rattle.qs_every_run.specs.JoinedRuns.{EachOpensJoined, EachRunJoined, EachRunLawful, HasWholeLogs}
+use Rattle.qs_every_run.proofs.JoinedFacts.{opens_facts}
+use Rattle.qs_every_run.proofs.JoinedHomes.{own_has}
 use Rattle.qs_every_run.proofs.JoinedMoves.{each_move_joined}
 
 pub each_opens_joined : (P : Opening → World → Type 0) → EachOpensJoined P
@@ -18,13 +22,18 @@ each_opens_joined P owed o opens whole = record {
   shown = every_run_shown (start o) (record { opening = o; opens = opens; whole = whole; moves = []; run = refl });
   held = owed.opens_held o opens;
   running = owed.opens_running o opens;
-  homes = owed.opens_homes o opens;
+  facts = λ n low. opens_facts o opens n low;
+  homes = λ tid tx found committed in_run. let low : tid.home.0 < o.size = grind (arith, nat_tests, in_run) in
+      own_has (book_of o) ((start o).hosts tid.home.0).node tid.home.0 ((owed.opens_held o opens).nodes tid.home.0 low).node (owed.opens_running o opens tid.home.0 low refl).beside tid tx found committed (itself tid.home.0);
   channels = record { posted = λ n m i j. tt; waits = λ n m. tt; known = λ n m. least ((start o).channels.inc m) };
   ways = owed.opens_ways o opens;
   scripts = owed.opens_scripts o opens;
   places = owed.opens_places o opens;
 }
   where
+    itself : (k : ℕ) → (k == k) ≡ true
+    itself k = grind (arith, nat_tests)
+
     least : (k : ℕ) → 0 ≤ k
     least k = grind (arith)
 

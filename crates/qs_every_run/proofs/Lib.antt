@@ -7,6 +7,7 @@ pub mod AgreesEach
 pub mod AgreesWhole
 pub mod AgreesPasses
 pub mod JoinedParts
+pub mod JoinedFacts
 pub mod JoinedHomes
 pub mod JoinedSteps
 pub mod JoinedMoves

@@ -25,10 +25,13 @@ book_in o world = book_after (book_of o) world.journal
 abbrev pub HeldAt : Opening → World → Type 0
 HeldAt o world = HoldsWorld (book_in o world) world
 
--- a node that runs: what the machine has beside it, and what holds of it by itself
+-- what holds of each node by itself, whether it runs or not
+abbrev pub FactsAt : World → Type 0
+FactsAt world = (n : ℕ) → n < world.size → HasNodeFacts (world.hosts n).node
+
+-- a node that runs: what the machine has beside it, and the rest of what holds of it by itself
 pub record HoldsRunning (book : BookValue) (node : NodeValue) : Type 0 where
   pub beside : HoldsBeside book node
-  pub facts : HasNodeFacts node
   pub sound : HasSoundFacts node
   pub young : AreYoung node
 
@@ -59,6 +62,7 @@ pub record Joined (P : Opening → World → Type 0) (o : Opening) (world : Worl
   pub lawful : IsLawful (book_of o) world.journal
   pub shown : IsShownWorld world
   pub held : HeldAt o world
+  pub facts : FactsAt world
   pub running : RunningAt o world
   pub homes : HomesAt o world
   pub channels : ChannelsAt o world

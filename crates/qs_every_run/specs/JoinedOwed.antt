@@ -1,12 +1,14 @@
 -- What is still to be shown so that every run is lawful: each is a law of its own, of a run's beginning, of what a step is given, or of what a move keeps.
-use Rattle.std.specs.Prelude.{◌≡◌, ℕ, ◌<◌, ◌≤◌, ⊤, true, false, None, Some}
-use Rattle.qs_base.specs.declared.identifiers.NodeNo.{NodeNo}
+use Rattle.std.specs.Prelude.{◌≡◌, ℕ, ◌≤◌, ⊤, true, false, List, [], ◌∷◌, None, Some}
 use Rattle.qs_base.specs.declared.identifiers.Tid.{Tid}
 use Rattle.qs_engage.specs.Engage.{peer_of}
+use Rattle.qs_journal.specs.declared.entry.Act.TheVariants as acts
 use Rattle.qs_journal.specs.declared.entry.CrashCause.{CrashCause}
+use Rattle.qs_journal.specs.declared.entry.Entry.{Entry}
 use Rattle.qs_machine.specs.Book.{BookValue}
-use Rattle.qs_machine.specs.Lawful.{IsLawful}
+use Rattle.qs_machine.specs.Lawful.{IsLawful, book_after}
 use Rattle.qs_packet.specs.declared.message.Message.TheVariants as messages
+use Rattle.qs_record.specs.declared.record.Record.{Record}
 use Rattle.qs_step.specs.Settling.{due_tids, is_quiet, may_answer, pass_rule, settle_tid, try}
 use Rattle.qs_step.specs.State.{Work, doings_of}
 use Rattle.qs_step.specs.declared.event.Event.{Event}
@@ -15,18 +17,22 @@ use Rattle.qs_tm.specs.Manager as tm
 use Rattle.qs_tm.specs.Participant.{is_undecided}
 use Rattle.qs_tm.specs.declared.participant.Participant.{Participant}
 use Rattle.qs_world.specs.Histories.{book_of}
-use Rattle.qs_world.specs.Moves.{Cut, Meet, Move, Rise, Source, Step, Stop, may_move, moved}
+use Rattle.qs_world.specs.Moves.{Cut, Meet, Move, Rise, Source, Step, Stop, may_move, moved, stopped}
 use Rattle.qs_world.specs.Openings.{IsOpening}
+use Rattle.qs_world.specs.Posting.{entry_of}
 use Rattle.qs_world.specs.World.{Opening, World, start}
+use Rattle.qs_refine.specs.MoveLaws.{IsSeated}
 use Rattle.qs_lawful.specs.Agreed.{IsSettledAll, StepAgrees}
 use Rattle.qs_lawful.specs.Entering.{book_at}
 use Rattle.qs_lawful.specs.Given.{AtEach}
 use Rattle.qs_lawful.specs.GivenStep.{MayStep, done_work, first_work}
 use Rattle.qs_lawful.specs.Lasting.{Lasts}
-use Rattle.qs_lawful.specs.WorldLaws.{StopsWell}
+use Rattle.qs_lawful.specs.Parcels.{HoldsChannels, HoldsWays}
+use Rattle.qs_lawful.specs.Scripts.{HoldsScripts}
+use Rattle.qs_lawful.specs.WorldLaws.{StopsWell, rise_entry}
 use Rattle.qs_lawful.specs.Worlds.{HoldsWorld}
 use Rattle.qs_every_run.specs.Agrees.{MakesStep, nodes_in}
-use Rattle.qs_every_run.specs.Joined.{ChannelsAt, HeldAt, HomesAt, Joined, RunningAt, ScriptsAt, WaysAt, book_in}
+use Rattle.qs_every_run.specs.Joined.{ChannelsAt, HeldAt, Joined, RunningAt, ScriptsAt, WaysAt, book_in}
 
 -- ---- as a run begins
 
@@ -78,12 +84,32 @@ abbrev pub IsRise : Move → Type 0
 IsRise (Rise n stamp inc) = ⊤
 IsRise move = ⊥
 
-abbrev pub IsMeet : Move → Type 0
-IsMeet (Meet n stamp m inc) = ⊤
-IsMeet move = ⊥
-
 abbrev pub Keeps : (Opening → World → Type 0) → (Move → Type 0) → (Opening → World → Type 0) → Type 0
 Keeps P kind X = (o : Opening) (world : World) (move : Move) → kind move → Joined P o world → may_move world move ≡ true → IsLawful (book_of o) (moved move world).journal → X o (moved move world)
+
+-- ---- scripts, and what is on its way, through what is no step: over any world
+
+abbrev pub crash_entry : ℕ → ℕ → CrashCause → Entry
+crash_entry n stamp cause = entry_of n stamp (acts.Crash cause)
+
+abbrev pub CrashKeepsScripts : Type 0
+CrashKeepsScripts = (o : Opening) (book : BookValue) (world : World) (n stamp : ℕ) (cause : CrashCause) (log : List Record) → HoldsScripts o book world
+    → HoldsScripts o (book_after book (crash_entry n stamp cause ∷ [])) (stopped world n stamp cause log)
+
+abbrev pub CrashKeepsWays : Type 0
+CrashKeepsWays = (book : BookValue) (world : World) (n stamp : ℕ) (cause : CrashCause) (log : List Record) → HoldsWays book world → HoldsWays (book_after book (crash_entry n stamp cause ∷ [])) (stopped world n stamp cause log)
+
+abbrev pub RiseKeepsScripts : Type 0
+RiseKeepsScripts = (o : Opening) (book : BookValue) (world : World) (n stamp inc : ℕ) → Lasts book → HoldsWorld book world → may_move world (Rise n stamp inc) ≡ true → HoldsScripts o book world
+    → HoldsScripts o (book_after book (rise_entry world n stamp inc ∷ [])) (moved (Rise n stamp inc) world)
+
+abbrev pub RiseKeepsWays : Type 0
+RiseKeepsWays = (book : BookValue) (world : World) (n stamp inc : ℕ) → Lasts book → HoldsWorld book world → IsSeated world → may_move world (Rise n stamp inc) ≡ true → HoldsWays book world
+    → HoldsWays (book_after book (rise_entry world n stamp inc ∷ [])) (moved (Rise n stamp inc) world)
+
+abbrev pub MeetKeepsWays : Type 0
+MeetKeepsWays = (book : BookValue) (world : World) (n stamp m inc : ℕ) → HoldsChannels book world.size world.channels → IsSeated world → may_move world (Meet n stamp m inc) ≡ true → HoldsWays book world
+    → HoldsWays book (moved (Meet n stamp m inc) world)
 
 -- ---- all that is owed
 
@@ -91,7 +117,6 @@ pub record Owed (P : Opening → World → Type 0) : Type 0 where
   -- as a run begins
   pub opens_held : Opens HeldAt
   pub opens_running : Opens RunningAt
-  pub opens_homes : Opens HomesAt
   pub opens_ways : Opens WaysAt
   pub opens_scripts : Opens ScriptsAt
   pub opens_places : Opens P
@@ -108,13 +133,13 @@ pub record Owed (P : Opening → World → Type 0) : Type 0 where
   -- after a crash
   pub keeps_its_batch : EachKeepsItsBatch P
   pub crashes_running : Keeps P IsCrash RunningAt
-  pub crashes_ways : Keeps P IsCrash WaysAt
-  pub crashes_scripts : Keeps P IsCrash ScriptsAt
+  pub crashes_ways : CrashKeepsWays
+  pub crashes_scripts : CrashKeepsScripts
   -- after a restart
   pub rises_running : Keeps P IsRise RunningAt
-  pub rises_ways : Keeps P IsRise WaysAt
-  pub rises_scripts : Keeps P IsRise ScriptsAt
+  pub rises_ways : RiseKeepsWays
+  pub rises_scripts : RiseKeepsScripts
   -- after a first meeting
-  pub meets_ways : Keeps P IsMeet WaysAt
+  pub meets_ways : MeetKeepsWays
   -- what all places hold of each transaction
   pub places : Keeps P (λ (move : Move). ⊤) P
