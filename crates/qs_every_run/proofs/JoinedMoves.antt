@@ -46,6 +46,7 @@ use Rattle.qs_every_run.specs.Joined.{ChannelsAt, FactsAt, HeldAt, HomesAt, Home
 use Rattle.qs_every_run.specs.JoinedOwed.{IsCrash, Owed}
 use Rattle.qs_every_run.specs.JoinedRuns.{EachMoveJoined}
 use Rattle.qs_every_run.proofs.JoinedFacts.{rises_facts, steps_facts}
+use Rattle.qs_every_run.proofs.JoinedHeld as held_proofs
 use Rattle.qs_every_run.proofs.JoinedHomes.{homes_after}
 use Rattle.qs_every_run.proofs.JoinedParts.{book_on, channels_later, lawful_on}
 use Rattle.qs_every_run.proofs.JoinedSteps.{step_at, step_entries, step_journal, step_lawful, step_low, step_up}
@@ -117,7 +118,8 @@ module _ (P : Opening → World → Type 0) (owed : Owed P) (o : Opening) (world
         picked b is = rw is refl
 
     held_then : HeldAt o new
-    held_then = owed.steps_held o world step tt j may lawful_then
+    held_then = subst (λ (b : BookValue). HoldsWorld b new) (sym (book_on o world new entries journal))
+        (subst (λ (w : World). HoldsWorld (book_after book entries) w) (sym (ap (step_with world n stamp free source) makes.comes)) (held_proofs.held_then P owed o world j n stamp free source event makes))
 
     runs_then : RunningAt o new
     runs_then = owed.steps_running o world step tt j may lawful_then

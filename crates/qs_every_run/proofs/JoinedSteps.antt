@@ -6,12 +6,12 @@ use Rattle.qs_base.specs.declared.identifiers.Tid.{Tid}
 use Rattle.qs_engage.specs.Engage.{peer_of}
 use Rattle.qs_journal.specs.declared.entry.Entry.{Entry}
 use Rattle.qs_machine.specs.Book.{BookValue}
-use Rattle.qs_machine.specs.Lawful.{IsLawful}
+use Rattle.qs_machine.specs.Lawful.{IsLawful, book_after}
 use Rattle.qs_packet.specs.declared.message.Message.{Message}
 use Rattle.qs_packet.specs.declared.message.Message.TheVariants as messages
 use Rattle.qs_step.specs.Settling.{due_tids, settle_tid}
 use Rattle.qs_step.specs.State.{NodeValue, Work}
-use Rattle.qs_step.specs.Step.{effects_of}
+use Rattle.qs_step.specs.Step.{after_step, effects_of}
 use Rattle.qs_step.specs.declared.event.Event.{Event}
 use Rattle.qs_step.specs.declared.event.Event.TheVariants as events
 use Rattle.qs_tm.specs.Manager as tm
@@ -85,8 +85,8 @@ module _ (P : Opening → World → Type 0) (owed : Owed P) (o : Opening) (world
   pub step_up : world.channels.up n ≡ true
   step_up = its.runs
 
-  ordered : is_in_order world n stamp ≡ true
-  ordered = (and_both (is_in_order world n stamp) _ (and_both (is_later world n stamp) _ (and_both (world.channels.up n) _ makes.may).1).0).0
+  pub step_ordered : is_in_order world n stamp ≡ true
+  step_ordered = (and_both (is_in_order world n stamp) _ (and_both (is_later world n stamp) _ (and_both (world.channels.up n) _ makes.may).1).0).0
 
   at : HoldsNodeAt (book_in o world) world n
   at = j.held.nodes n its.low
@@ -102,14 +102,20 @@ module _ (P : Opening → World → Type 0) (owed : Owed P) (o : Opening) (world
   }
 
   holds : Holds stamp (book_in o world) node
-  holds = (at.runs its.runs).next stamp (j.held.order n stamp ordered)
+  holds = (at.runs its.runs).next stamp (j.held.order n stamp step_ordered)
 
   abbrev pub step_entries : List Entry
   step_entries = entries_of n stamp (effects_of node event free).entries
 
+  both : (k : ℕ) → node.setting.node.0 ≡ k → IsLawful (book_in o world) (entries_of k stamp (effects_of node event free).entries) × Holds stamp (book_after (book_in o world) (entries_of k stamp (effects_of node event free).entries)) (after_step node event free)
+  both k same = subst (λ (i : ℕ). IsLawful (book_in o world) (entries_of i stamp (effects_of node event free).entries) × Holds stamp (book_after (book_in o world) (entries_of i stamp (effects_of node event free).entries)) (after_step node event free)) same
+      (by_whole_step stamp (book_in o world) node event free holds (owed.given o world n stamp free source event j makes agreed))
+
   pub step_lawful : IsLawful (book_in o world) step_entries
-  step_lawful = subst (λ (k : ℕ). IsLawful (book_in o world) (entries_of k stamp (effects_of node event free).entries)) at.node
-      (by_whole_step stamp (book_in o world) node event free holds (owed.given o world n stamp free source event j makes agreed)).0
+  step_lawful = (both n at.node).0
+
+  pub step_holds : Holds stamp (book_after (book_in o world) step_entries) (after_step node event free)
+  step_holds = (both n at.node).1
 
   pub step_journal : (moved (Step n stamp free source) world).journal ≡ world.journal ++ step_entries
   step_journal = ap (λ (e : Option Event). (step_with world n stamp free source e).journal) makes.comes

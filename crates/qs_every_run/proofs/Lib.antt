@@ -10,5 +10,6 @@ pub mod JoinedParts
 pub mod JoinedFacts
 pub mod JoinedHomes
 pub mod JoinedSteps
+pub mod JoinedHeld
 pub mod JoinedMoves
 pub mod JoinedOver

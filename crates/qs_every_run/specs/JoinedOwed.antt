@@ -1,36 +1,44 @@
 -- What is still to be shown so that every run is lawful: each is a law of its own, of a run's beginning, of what a step is given, or of what a move keeps.
-use Rattle.std.specs.Prelude.{◌≡◌, ℕ, ◌≤◌, ⊤, true, false, List, [], ◌∷◌, None, Some}
+use Rattle.std.specs.Prelude.{◌≡◌, ℕ, ◌≤◌, ◌<◌, ◌==◌, ◌++◌, ⊤, true, false, List, [], ◌∷◌, None, Some, slice_get}
 use Rattle.qs_base.specs.declared.identifiers.Tid.{Tid}
 use Rattle.qs_engage.specs.Engage.{peer_of}
+use Rattle.qs_journal.specs.declared.entry.Act.{Act}
 use Rattle.qs_journal.specs.declared.entry.Act.TheVariants as acts
 use Rattle.qs_journal.specs.declared.entry.CrashCause.{CrashCause}
 use Rattle.qs_journal.specs.declared.entry.Entry.{Entry}
 use Rattle.qs_machine.specs.Book.{BookValue}
 use Rattle.qs_machine.specs.Lawful.{IsLawful, book_after}
+use Rattle.qs_machine.specs.Nodes as machine
 use Rattle.qs_packet.specs.declared.message.Message.TheVariants as messages
 use Rattle.qs_record.specs.declared.record.Record.{Record}
+use Rattle.qs_restart.specs.Recovery.{recovery}
 use Rattle.qs_step.specs.Settling.{due_tids, is_quiet, may_answer, pass_rule, settle_tid, try}
-use Rattle.qs_step.specs.State.{Work, doings_of}
+use Rattle.qs_step.specs.State.{NodeValue, Work, doings_of}
+use Rattle.qs_step.specs.Step.{after_step, effects_of}
 use Rattle.qs_step.specs.declared.event.Event.{Event}
 use Rattle.qs_step.specs.declared.event.Event.TheVariants as events
 use Rattle.qs_tm.specs.Manager as tm
 use Rattle.qs_tm.specs.Participant.{is_undecided}
 use Rattle.qs_tm.specs.declared.participant.Participant.{Participant}
 use Rattle.qs_world.specs.Histories.{book_of}
-use Rattle.qs_world.specs.Moves.{Cut, Meet, Move, Rise, Source, Step, Stop, may_move, moved, stopped}
+use Rattle.qs_world.specs.Moves.{Cut, Meet, Move, Rise, Source, Step, Stop, log_after, may_move, moved, stopped, waiting_after}
 use Rattle.qs_world.specs.Openings.{IsOpening}
-use Rattle.qs_world.specs.Posting.{entry_of}
-use Rattle.qs_world.specs.World.{Opening, World, start}
+use Rattle.qs_world.specs.Posting.{entries_of, entry_of}
+use Rattle.qs_world.specs.World.{Opening, World, inc_of, start}
 use Rattle.qs_refine.specs.MoveLaws.{IsSeated}
 use Rattle.qs_lawful.specs.Agreed.{IsSettledAll, StepAgrees}
+use Rattle.qs_lawful.specs.Aside.{AnswersElsewhere, HoldsIssued, IsOfStep, KeepsUnanimous}
+use Rattle.qs_lawful.specs.Beside.{HoldsBeside}
 use Rattle.qs_lawful.specs.Entering.{book_at}
 use Rattle.qs_lawful.specs.Given.{AtEach}
 use Rattle.qs_lawful.specs.GivenStep.{MayStep, done_work, first_work}
 use Rattle.qs_lawful.specs.Lasting.{Lasts}
+use Rattle.qs_lawful.specs.Logs.{Every}
 use Rattle.qs_lawful.specs.Parcels.{HoldsChannels, HoldsWays}
+use Rattle.qs_lawful.specs.Said.{HoldsSaid}
 use Rattle.qs_lawful.specs.Scripts.{HoldsScripts}
 use Rattle.qs_lawful.specs.WorldLaws.{StopsWell, rise_entry}
-use Rattle.qs_lawful.specs.Worlds.{HoldsWorld}
+use Rattle.qs_lawful.specs.Worlds.{HoldsKept, HoldsWorld}
 use Rattle.qs_every_run.specs.Agrees.{MakesStep, nodes_in}
 use Rattle.qs_every_run.specs.Joined.{ChannelsAt, HeldAt, Joined, RunningAt, ScriptsAt, WaysAt, book_in}
 
@@ -68,6 +76,40 @@ EachGiven P = (o : Opening) (world : World) (n stamp free : ℕ) (source : Sourc
 abbrev pub EachKeepsItsBatch : (Opening → World → Type 0) → Type 0
 EachKeepsItsBatch P = (o : Opening) (world : World) (n stamp free : ℕ) (source : Source) (cause : CrashCause) → Joined P o world → may_move world (Cut n stamp free source true cause) ≡ true
     → StopsWell (book_in o world) (moved (Cut n stamp free source true cause) world) n stamp cause
+
+-- ---- a whole step: the world that the machine has after it
+
+abbrev pub entries_in : World → ℕ → ℕ → ℕ → Event → List Entry
+entries_in world n stamp free event = entries_of n stamp (effects_of (world.hosts n).node event free).entries
+
+-- the machine after it
+abbrev pub book_then : Opening → World → ℕ → ℕ → ℕ → Event → BookValue
+book_then o world n stamp free event = book_after (book_in o world) (entries_in world n stamp free event)
+
+abbrev pub AfterStep : (Opening → World → Type 0) → (Opening → World → ℕ → ℕ → ℕ → Event → Type 0) → Type 0
+AfterStep P X = (o : Opening) (world : World) (n stamp free : ℕ) (source : Source) (event : Event) → Joined P o world → MakesStep world n stamp source event → IsLawful (book_in o world) (entries_in world n stamp free event) → X o world n stamp free event
+
+-- what is kept for the clients of its node
+abbrev pub KeptThen : Opening → World → ℕ → ℕ → ℕ → Event → Type 0
+KeptThen o world n stamp free event = HoldsKept (after_step (world.hosts n).node event free).setting.node (inc_of world n) (book_then o world n stamp free event) (after_step (world.hosts n).node event free).kept.saved
+
+-- what its log says of contents and changes, with the records that wait and on the disk
+abbrev pub SaidThen : Opening → World → ℕ → ℕ → ℕ → Event → Type 0
+SaidThen o world n stamp free event = (state : machine.NodeValue) → slice_get (book_then o world n stamp free event).nodes n ≡ Some state
+    → HoldsSaid n (book_then o world n stamp free event) state (recovery (log_after (world.hosts n) (effects_of (world.hosts n).node event free) ++ waiting_after (world.hosts n) (effects_of (world.hosts n).node event free)))
+    × HoldsSaid n (book_then o world n stamp free event) state (recovery (log_after (world.hosts n) (effects_of (world.hosts n).node event free)))
+
+-- it enters no restart, and answers no client that has a command in hand at another node
+abbrev pub EntersAside : Opening → World → ℕ → ℕ → ℕ → Event → Type 0
+EntersAside o world n stamp free event = (k : ℕ) → (k == n) ≡ false → k < world.size → Every (λ (act : Act). IsOfStep act × AnswersElsewhere (world.hosts k).node act) (effects_of (world.hosts n).node event free).entries
+
+-- what is unanimous, and open at a home that is down, stays unanimous
+abbrev pub StaysUnanimousThen : Opening → World → ℕ → ℕ → ℕ → Event → Type 0
+StaysUnanimousThen o world n stamp free event = (k : ℕ) → (k == n) ≡ false → k < world.size → world.channels.up k ≡ false → KeepsUnanimous k (book_in o world) (entries_in world n stamp free event)
+
+-- each note that files issued is noted or waited for
+abbrev pub BesideHoldsIssued : Type 0
+BesideHoldsIssued = (book : BookValue) (node : NodeValue) → HoldsBeside book node → HoldsIssued book node
 
 -- ---- moves whose entries are lawful, by kind
 
@@ -125,7 +167,11 @@ pub record Owed (P : Opening → World → Type 0) : Type 0 where
   pub answers : EachAnswersLate P
   pub given : EachGiven P
   -- after a whole step
-  pub steps_held : Keeps P IsStep HeldAt
+  pub issued : BesideHoldsIssued
+  pub steps_kept : AfterStep P KeptThen
+  pub steps_said : AfterStep P SaidThen
+  pub steps_aside : AfterStep P EntersAside
+  pub steps_unanimous : AfterStep P StaysUnanimousThen
   pub steps_running : Keeps P IsStep RunningAt
   pub steps_channels : Keeps P IsStep ChannelsAt
   pub steps_ways : Keeps P IsStep WaysAt
