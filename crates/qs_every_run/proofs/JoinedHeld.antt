@@ -3,13 +3,14 @@ use Rattle.std.proofs.Common.{◌≡◌, ℕ, ◌<◌, ◌==◌, ◌&&◌, ◌||
 use Rattle.std.proofs.lemmas.Bool.{eqb-true}
 use Rattle.std.proofs.lemmas.Bool.Decides.{nat_tests}
 use Rattle.std.specs.Prelude.{slice_get}
-use Rattle.qs_channels.specs.Channels.{Channels}
+use Rattle.qs_channels.specs.Channels as channel
 use Rattle.qs_journal.specs.declared.entry.Act.{Act}
 use Rattle.qs_journal.specs.declared.entry.Entry.{Entry}
 use Rattle.qs_laws.proofs.InRun.{ran_run}
 use Rattle.qs_laws.proofs.Steps.{after_both}
 use Rattle.qs_machine.specs.Book.{BookValue}
 use Rattle.qs_machine.specs.Lawful.{IsLawful, book_after}
+use Rattle.qs_machine.specs.Nodes as machine
 use Rattle.qs_packet.specs.declared.message.Message.{Message}
 use Rattle.qs_packet.specs.declared.message.Message.TheVariants as messages
 use Rattle.qs_step.specs.State.{NodeValue}
@@ -18,7 +19,7 @@ use Rattle.qs_step.specs.declared.event.Event.{Event}
 use Rattle.qs_step.specs.declared.event.Event.TheVariants as events
 use Rattle.qs_step.specs.declared.setting.Setting.{Setting}
 use Rattle.qs_world.specs.Histories.{book_of, opened_from}
-use Rattle.qs_world.specs.Moves.{Clock, Commanded, Handed, Noticed, Queues, Source, event_of, is_in_order, log_after, stamp_limit, step_with, stepped_host, taken_by, waiting_after}
+use Rattle.qs_world.specs.Moves.{Clock, Commanded, Handed, Noticed, Queues, Source, event_of, hand_next, is_in_order, log_after, stamp_limit, step_with, stepped_host, taken_by, waiting_after}
 use Rattle.qs_world.specs.Posting.{entries_of, entry_of, next_parcel, post_all}
 use Rattle.qs_world.specs.World.{Host, Opening, Parcel, World, inc_of}
 use Rattle.qs_refine.proofs.EachMay.{from_client, from_node, from_notice}
@@ -27,21 +28,23 @@ use Rattle.qs_refine.proofs.Posted.{inc_all, up_all}
 use Rattle.qs_refine.proofs.SteadyFrom.{steady_gives}
 use Rattle.qs_lawful.specs.Aside.{AnswersElsewhere, IsAside, IsOfStep}
 use Rattle.qs_lawful.specs.AsideLaws.{HoldsAside}
+use Rattle.qs_lawful.specs.Beside.{HoldsBeside}
 use Rattle.qs_lawful.specs.Holds.{Holds, is_next}
 use Rattle.qs_lawful.specs.Logged.{HoldsHost, IsTrueEvent}
 use Rattle.qs_lawful.specs.Logs.{Every}
-use Rattle.qs_lawful.specs.Parcels.{IsBetween, IsSaid}
+use Rattle.qs_lawful.specs.Parcels.{HoldsChannels, IsBetween, IsSaid}
 use Rattle.qs_lawful.specs.Worlds.{HoldsNodeAt, HoldsNodeOf, HoldsUp, HoldsWorld}
 use Rattle.qs_lawful.proofs.AsideWhole.{keeps_others}
 use Rattle.qs_lawful.proofs.CoherentOpenings.{opens_soundly}
 use Rattle.qs_lawful.proofs.GivenByWorld.{message_between, message_comes}
 use Rattle.qs_lawful.proofs.LogLaws.{step_keeps}
 use Rattle.qs_lawful.proofs.NumberedLogs.{opened_numbered}
+use Rattle.qs_lawful.proofs.ParcelsKept.{channels_moved}
 use Rattle.qs_lawful.proofs.SameSettings.{step_same}
 use Rattle.qs_lawful.proofs.StopsWhole.{back_by, next_by}
 use Rattle.qs_every_run.specs.Agrees.{MakesStep}
-use Rattle.qs_every_run.specs.Joined.{Joined, book_in}
-use Rattle.qs_every_run.specs.JoinedOwed.{Owed, book_then, entries_in}
+use Rattle.qs_every_run.specs.Joined.{HoldsRunning, Joined, book_in}
+use Rattle.qs_every_run.specs.JoinedOwed.{HasOwner, Owed, book_then, entries_in}
 use Rattle.qs_every_run.proofs.JoinedParts.{lawful_both}
 use Rattle.qs_every_run.proofs.JoinedSteps.{step_at, step_holds, step_lawful, step_low, step_ordered, step_up}
 
@@ -52,6 +55,17 @@ all_aside k n stamp node (act ∷ acts) far all = (record { far = λ same. other
   where
     other : (a b : ℕ) → (a == b) ≡ false → b ≡ a → ⊥
     other a b off same = let on : (a == b) ≡ true = grind (arith, nat_tests, same) in let both : true ≡ false = sym on ∙ off in cc (both)
+
+all_entries : (Q : Act → Type 0) (n stamp : ℕ) (acts : List Act) → Every Q acts → Every (λ (entry : Entry). Q entry.act) (entries_of n stamp acts)
+all_entries Q n stamp [] all = tt
+all_entries Q n stamp (act ∷ acts) all = (all.0, all_entries Q n stamp acts all.1)
+
+-- the machine has a node up that runs
+pub runs_at : (book : BookValue) (world : World) (k : ℕ) → HoldsNodeAt book world k → world.channels.up k ≡ true → (state : machine.NodeValue) → slice_get book.nodes k ≡ Some state → state.up ≡ true
+runs_at book world k its on state there = ap (λ (s : machine.NodeValue). s.up) (one state its.state (sym there ∙ its.there)) ∙ (its.up_is ∙ on)
+  where
+    one : (a b : machine.NodeValue) → Some a ≡ Some b → a ≡ b
+    one a b same = cc same
 
 -- the same is held of a node with a later stamp
 holds_next : (stamp s : ℕ) (book : BookValue) (node : NodeValue) → Holds stamp book node → is_next s node.setting.node.0 book ≡ true → Holds s book node
@@ -181,6 +195,41 @@ module _ (P : Opening → World → Type 0) (owed : Owed P) (o : Opening) (world
       (all_aside k n stamp (world.hosts k).node (effects_of node event free).entries far (owed.steps_aside o world n stamp free source event j makes lawful k far k_low))
       (λ off. owed.steps_unanimous o world n stamp free source event j makes lawful k far k_low off)
       (record { node = j.held.nodes k k_low; issued = λ on. owed.issued old (world.hosts k).node (j.running k k_low on).beside })).node
+
+  -- what is said of those that run
+
+  pub own_running : HoldsRunning now (after_step node event free)
+  own_running = owed.steps_running o world n stamp free source event j makes lawful
+
+  pub other_running : (k : ℕ) → (k == n) ≡ false → k < world.size → world.channels.up k ≡ true → HoldsRunning now (world.hosts k).node
+  other_running k far k_low on = record {
+    beside = subst (λ (b : BookValue). HoldsBeside b (world.hosts k).node) (after_both world.journal entries (book_of o))
+        (owed.others_beside (opened_from o 0 o.size) world.journal entries (opens_soundly o j.opens) (opened_numbered o 0 o.size) whole (world.hosts k).node
+        (subst (λ (i : ℕ). Every (IsAside i (world.hosts k).node) entries) (sym its.node) (all_aside k n stamp (world.hosts k).node (effects_of node event free).entries far (owed.steps_aside o world n stamp free source event j makes lawful k far k_low)))
+        (all_entries (HasOwner old) n stamp (effects_of node event free).entries (owed.steps_owned o world n stamp free source event j makes lawful))
+        (λ state there. runs_at old world k its on state (subst (λ (i : ℕ). slice_get old.nodes i ≡ Some state) its.node there)) (j.running k k_low on).beside);
+    sound = (j.running k k_low on).sound;
+    young = (j.running k k_low on).young;
+  }
+    where
+      its : HoldsNodeAt old world k
+      its = j.held.nodes k k_low
+
+  -- ---- what channels hold
+
+  taken_fits : (source : Source) → event_of world n stamp source ≡ Some event → HoldsChannels old world.size (taken_by world n source)
+  taken_fits (Commanded k) comes = j.channels
+  taken_fits (Handed m) comes = by (next_parcel world n m)
+    where
+      by : (p : Option Parcel) → HoldsChannels old world.size (hand_next n m p world.channels)
+      by None = j.channels
+      by (Some parcel) = channels_moved old world.size (channel.Hand n m parcel) world.channels tt j.channels
+  taken_fits Queues comes = j.channels
+  taken_fits Clock comes = j.channels
+  taken_fits (Noticed m new) comes = channels_moved old world.size (channel.Notice n m new) world.channels (from_notice world n stamp m new event comes).begun j.channels
+
+  pub channels_then : HoldsChannels now world.size after.channels
+  channels_then = owed.steps_sent o world n stamp free source event j makes lawful (taken_by world n source) (taken_fits source makes.comes)
 
   -- ---- all of it
 

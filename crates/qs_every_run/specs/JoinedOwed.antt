@@ -1,14 +1,19 @@
 -- What is still to be shown so that every run is lawful: each is a law of its own, of a run's beginning, of what a step is given, or of what a move keeps.
-use Rattle.std.specs.Prelude.{◌≡◌, ℕ, ◌≤◌, ◌<◌, ◌==◌, ◌++◌, ⊤, true, false, List, [], ◌∷◌, None, Some, slice_get}
+use Rattle.std.specs.Prelude.{◌≡◌, ℕ, ◌≤◌, ◌<◌, ◌==◌, ◌++◌, ⊤, true, false, List, [], ◌∷◌, None, Some, is_some, slice_get}
+use Rattle.qs_base.specs.declared.identifiers.ClientNo.{ClientNo}
 use Rattle.qs_base.specs.declared.identifiers.Tid.{Tid}
+use Rattle.qs_channels.specs.Channels.{Channels}
 use Rattle.qs_engage.specs.Engage.{peer_of}
 use Rattle.qs_journal.specs.declared.entry.Act.{Act}
 use Rattle.qs_journal.specs.declared.entry.Act.TheVariants as acts
 use Rattle.qs_journal.specs.declared.entry.CrashCause.{CrashCause}
 use Rattle.qs_journal.specs.declared.entry.Entry.{Entry}
 use Rattle.qs_machine.specs.Book.{BookValue}
+use Rattle.qs_laws.specs.Laws.{IsCoherent}
 use Rattle.qs_machine.specs.Lawful.{IsLawful, book_after}
 use Rattle.qs_machine.specs.Nodes as machine
+use Rattle.qs_machine.specs.Opening.{opening}
+use Rattle.qs_machine.specs.declared.opened.Opened.{Opened}
 use Rattle.qs_packet.specs.declared.message.Message.TheVariants as messages
 use Rattle.qs_record.specs.declared.record.Record.{Record}
 use Rattle.qs_restart.specs.Recovery.{recovery}
@@ -23,16 +28,17 @@ use Rattle.qs_tm.specs.declared.participant.Participant.{Participant}
 use Rattle.qs_world.specs.Histories.{book_of}
 use Rattle.qs_world.specs.Moves.{Cut, Meet, Move, Rise, Source, Step, Stop, log_after, may_move, moved, stopped, waiting_after}
 use Rattle.qs_world.specs.Openings.{IsOpening}
-use Rattle.qs_world.specs.Posting.{entries_of, entry_of}
-use Rattle.qs_world.specs.World.{Opening, World, inc_of, start}
+use Rattle.qs_world.specs.Posting.{entries_of, entry_of, post_all}
+use Rattle.qs_world.specs.World.{Opening, Parcel, World, inc_of, start}
 use Rattle.qs_refine.specs.MoveLaws.{IsSeated}
 use Rattle.qs_lawful.specs.Agreed.{IsSettledAll, StepAgrees}
-use Rattle.qs_lawful.specs.Aside.{AnswersElsewhere, HoldsIssued, IsOfStep, KeepsUnanimous}
+use Rattle.qs_lawful.specs.Aside.{AnswersElsewhere, HoldsIssued, IsAside, IsOfStep, KeepsUnanimous}
 use Rattle.qs_lawful.specs.Beside.{HoldsBeside}
 use Rattle.qs_lawful.specs.Entering.{book_at}
 use Rattle.qs_lawful.specs.Given.{AtEach}
 use Rattle.qs_lawful.specs.GivenStep.{MayStep, done_work, first_work}
 use Rattle.qs_lawful.specs.Lasting.{Lasts}
+use Rattle.qs_lawful.specs.LastingLaws.{IsNumbered}
 use Rattle.qs_lawful.specs.Logs.{Every}
 use Rattle.qs_lawful.specs.Parcels.{HoldsChannels, HoldsWays}
 use Rattle.qs_lawful.specs.Said.{HoldsSaid}
@@ -40,7 +46,7 @@ use Rattle.qs_lawful.specs.Scripts.{HoldsScripts}
 use Rattle.qs_lawful.specs.WorldLaws.{StopsWell, rise_entry}
 use Rattle.qs_lawful.specs.Worlds.{HoldsKept, HoldsWorld}
 use Rattle.qs_every_run.specs.Agrees.{MakesStep, nodes_in}
-use Rattle.qs_every_run.specs.Joined.{ChannelsAt, HeldAt, Joined, RunningAt, ScriptsAt, WaysAt, book_in}
+use Rattle.qs_every_run.specs.Joined.{HeldAt, HoldsRunning, Joined, RunningAt, ScriptsAt, WaysAt, book_in}
 
 -- ---- as a run begins
 
@@ -103,6 +109,21 @@ SaidThen o world n stamp free event = (state : machine.NodeValue) → slice_get 
 abbrev pub EntersAside : Opening → World → ℕ → ℕ → ℕ → Event → Type 0
 EntersAside o world n stamp free event = (k : ℕ) → (k == n) ≡ false → k < world.size → Every (λ (act : Act). IsOfStep act × AnswersElsewhere (world.hosts k).node act) (effects_of (world.hosts n).node event free).entries
 
+-- what begins has an owner
+abbrev pub HasOwner : BookValue → Act → Type 0
+HasOwner book act = (tid : Tid) (label : List ℕ) (client : ClientNo) → act ≡ acts.Begin tid label client → is_some (slice_get book.owners client.0) ≡ true
+
+abbrev pub BeginsOwned : Opening → World → ℕ → ℕ → ℕ → Event → Type 0
+BeginsOwned o world n stamp free event = Every (HasOwner (book_in o world)) (effects_of (world.hosts n).node event free).entries
+
+-- what is said of its own node
+abbrev pub RunningThen : Opening → World → ℕ → ℕ → ℕ → Event → Type 0
+RunningThen o world n stamp free event = HoldsRunning (book_then o world n stamp free event) (after_step (world.hosts n).node event free)
+
+-- what it sends is so, and goes between two nodes of the run
+abbrev pub SentThen : Opening → World → ℕ → ℕ → ℕ → Event → Type 0
+SentThen o world n stamp free event = (c : Channels Parcel) → HoldsChannels (book_in o world) world.size c → HoldsChannels (book_then o world n stamp free event) world.size (post_all n stamp (effects_of (world.hosts n).node event free).messages c)
+
 -- what is unanimous, and open at a home that is down, stays unanimous
 abbrev pub StaysUnanimousThen : Opening → World → ℕ → ℕ → ℕ → Event → Type 0
 StaysUnanimousThen o world n stamp free event = (k : ℕ) → (k == n) ≡ false → k < world.size → world.channels.up k ≡ false → KeepsUnanimous k (book_in o world) (entries_in world n stamp free event)
@@ -111,16 +132,18 @@ StaysUnanimousThen o world n stamp free event = (k : ℕ) → (k == n) ≡ false
 abbrev pub BesideHoldsIssued : Type 0
 BesideHoldsIssued = (book : BookValue) (node : NodeValue) → HoldsBeside book node → HoldsIssued book node
 
+-- what entries of one node in steps leave of what the machine has beside another that runs
+abbrev pub OthersBeside : Type 0
+OthersBeside = (opened : List Opened) (history more : List Entry) → IsCoherent opened → Every IsNumbered opened → IsLawful (opening opened) (history ++ more)
+    → (node : NodeValue) → Every (IsAside node.setting.node.0 node) more → Every (λ (entry : Entry). HasOwner (book_after (opening opened) history) entry.act) more
+    → ((state : machine.NodeValue) → slice_get (book_after (opening opened) history).nodes node.setting.node.0 ≡ Some state → state.up ≡ true)
+    → HoldsBeside (book_after (opening opened) history) node → HoldsBeside (book_after (opening opened) (history ++ more)) node
+
 -- ---- moves whose entries are lawful, by kind
 
 abbrev pub IsStep : Move → Type 0
 IsStep (Step n stamp free source) = ⊤
 IsStep move = ⊥
-
-abbrev pub IsCrash : Move → Type 0
-IsCrash (Stop n stamp cause) = ⊤
-IsCrash (Cut n stamp free source is_kept cause) = ⊤
-IsCrash move = ⊥
 
 abbrev pub IsRise : Move → Type 0
 IsRise (Rise n stamp inc) = ⊤
@@ -172,13 +195,14 @@ pub record Owed (P : Opening → World → Type 0) : Type 0 where
   pub steps_said : AfterStep P SaidThen
   pub steps_aside : AfterStep P EntersAside
   pub steps_unanimous : AfterStep P StaysUnanimousThen
-  pub steps_running : Keeps P IsStep RunningAt
-  pub steps_channels : Keeps P IsStep ChannelsAt
+  pub steps_owned : AfterStep P BeginsOwned
+  pub steps_running : AfterStep P RunningThen
+  pub steps_sent : AfterStep P SentThen
+  pub others_beside : OthersBeside
   pub steps_ways : Keeps P IsStep WaysAt
   pub steps_scripts : Keeps P IsStep ScriptsAt
   -- after a crash
   pub keeps_its_batch : EachKeepsItsBatch P
-  pub crashes_running : Keeps P IsCrash RunningAt
   pub crashes_ways : CrashKeepsWays
   pub crashes_scripts : CrashKeepsScripts
   -- after a restart
