@@ -39,7 +39,8 @@ use Rattle.qs_lawful.specs.Agreed.{AreLentUndone, IsUndone}
 use Rattle.qs_lawful.specs.Given.{AtEach}
 use Rattle.qs_lawful.specs.Logs.{Every}
 use Rattle.qs_every_run.specs.Agrees.{MakesStep, PassesAgree, PassesUndone, WaitsAgree, nodes_in}
-use Rattle.qs_every_run.proofs.AgreesEach.{AllFollow, Follows, all_done, begins_new, came_to, low, may, steady}
+use Rattle.qs_every_run.proofs.AgreesEach.{AllFollow, all_done, begins_new, came_to, low, may, steady}
+use Rattle.qs_every_run.proofs.AgreesFirst.{Follows}
 use Rattle.qs_every_run.proofs.AgreesOpen.{none_due}
 use Rattle.qs_every_run.proofs.AgreesWhole.{Following, its_undone, lent_undone, settles_on, waits_on}
 

@@ -42,7 +42,8 @@ use Rattle.qs_refine.proofs.TidyReads.{tidy_reads}
 use Rattle.qs_refine.proofs.WalkSettles.{settle_tid_walk}
 use Rattle.qs_lawful.specs.Agreed.{AreLentUndone, IsUndone}
 use Rattle.qs_every_run.specs.Agrees.{AgreesCame, AgreesOn, EventAgrees, MakesStep, nodes_in}
-use Rattle.qs_every_run.proofs.AgreesEach.{AllFollow, Follows, all_first, came_to, first_stage, fit, gives, low, steady, up}
+use Rattle.qs_every_run.proofs.AgreesEach.{AllFollow, all_first, came_to, fit, gives, low, steady, up}
+use Rattle.qs_every_run.proofs.AgreesFirst.{Follows, first_stage}
 use Rattle.qs_every_run.proofs.AgreesFollow.{after_settling, after_waiting}
 use Rattle.qs_every_run.proofs.AgreesOpen.{none_lent}
 use Rattle.qs_every_run.proofs.AgreesStage.{AtStage, undone}

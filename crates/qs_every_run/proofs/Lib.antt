@@ -3,6 +3,7 @@ pub mod AgreesOpen
 pub mod AgreesFollow
 pub mod AgreesTidy
 pub mod AgreesWaits
+pub mod AgreesFirst
 pub mod AgreesEach
 pub mod AgreesWhole
 pub mod AgreesPasses
@@ -11,5 +12,6 @@ pub mod JoinedFacts
 pub mod JoinedHomes
 pub mod JoinedSteps
 pub mod JoinedHeld
+pub mod JoinedAfter
 pub mod JoinedMoves
 pub mod JoinedOver
