@@ -14,7 +14,7 @@ use Rattle.qs_step.specs.Bringing.{answer}
 use Rattle.qs_step.specs.Commands.{decided_answer}
 use Rattle.qs_step.specs.Serving.{label_at}
 use Rattle.qs_step.specs.Settling.{forget_rule, pass_rule, ready_rule, refuse_rule, settle_tid, try}
-use Rattle.qs_step.specs.State.{Work, client_cmp, part_of}
+use Rattle.qs_step.specs.State.{Work, client_cmp}
 use Rattle.qs_step.specs.Step.{borrower_waits, is_owner, owner_waits, wait_command, wait_on, waits_at}
 use Rattle.qs_step.specs.declared.state.Issued.{Issued}
 use Rattle.qs_step.specs.declared.state.OpenCommand.{OpenCommand}

@@ -1,7 +1,6 @@
 -- While a loan of a transaction stands at a node, or a vote of it is due there, the machine has no commit of it.
 use Rattle.std.proofs.Common.{◌≡◌, ℕ, ◌+◌, ◌==◌, ◌&&◌, ◌||◌, not, Bool, true, false, List, [], ◌∷◌, length, Option, Some, None, is_none, is_some, refl, sym, ap, ◌∙◌, arith, if◌then◌else◌}
 use Rattle.std.specs.List.{filter, list_any}
-use Rattle.qs_base.specs.declared.identifiers.NodeNo.{NodeNo}
 use Rattle.qs_base.specs.declared.identifiers.Outcome.{Outcome}
 use Rattle.qs_base.specs.declared.identifiers.Outcome.TheVariants as outcomes
 use Rattle.qs_base.specs.declared.identifiers.Tid.{Tid}
@@ -17,10 +16,10 @@ use Rattle.qs_tm.specs.declared.participant.Participant.{Participant}
 use Rattle.qs_agree.specs.World as machine
 use Rattle.qs_agree.specs.World.{Committed, Aborted, Open}
 use Rattle.qs_refine.specs.Faces.{Face}
-use Rattle.qs_refine.specs.NodeFaces.{began_here, face, face_at, outcome_seen}
+use Rattle.qs_refine.specs.NodeFaces.{began_here, face_at, outcome_seen}
 use Rattle.qs_refine.specs.Places.{place}
 use Rattle.qs_refine.specs.Shows.{Scene}
-use Rattle.qs_refine.specs.Sound.{is_engaged, is_idle, may_be_served, same_flag, where_so}
+use Rattle.qs_refine.specs.Sound.{is_engaged, is_idle, same_flag, where_so}
 use Rattle.qs_refine.specs.Stands.{Stands}
 use Rattle.qs_refine.proofs.Heads.{aborted_cell, face_is, none_engaged, shown_here}
 use Rattle.qs_refine.proofs.SoundHolds.{known_sound}

@@ -1,5 +1,5 @@
 -- At the turn of each transaction, as a node settles, nothing is committed of which a vote is due; nor is what is lent, as commands that stayed open are answered.
-use Rattle.std.proofs.Common.{◌≡◌, ℕ, ◌==◌, ◌&&◌, ◌||◌, not, Bool, true, false, List, [], ◌∷◌, ◌++◌, fold, map, Option, Some, None, is_none, refl, sym, ap, subst, ◌∙◌, arith, if◌then◌else◌}
+use Rattle.std.proofs.Common.{◌≡◌, ℕ, ◌&&◌, Bool, true, false, List, [], ◌∷◌, fold, Option, Some, None, is_none, refl, sym, subst, ◌∙◌, arith, if◌then◌else◌}
 use Rattle.std.specs.BTreeMap.{is_at}
 use Rattle.std.specs.List.{list_all}
 use Rattle.std.specs.Map.{lookup}
@@ -8,7 +8,7 @@ use Rattle.qs_base.specs.Order.{same_tid, tid_cmp}
 use Rattle.qs_base.specs.declared.identifiers.ClientNo.{ClientNo}
 use Rattle.qs_base.specs.declared.identifiers.Outcome.{Outcome}
 use Rattle.qs_base.specs.declared.identifiers.Tid.{Tid}
-use Rattle.qs_step.specs.Settling.{due_tids, is_pass_due, settle, settle_tid}
+use Rattle.qs_step.specs.Settling.{due_tids, settle, settle_tid}
 use Rattle.qs_step.specs.State.{Work}
 use Rattle.qs_step.specs.Step.{happen, wait_on, waiting_clients}
 use Rattle.qs_step.specs.declared.event.Event.{Event}
@@ -19,12 +19,9 @@ use Rattle.qs_tm.specs.declared.manager.Which.TheVariants as whiches
 use Rattle.qs_tm.specs.declared.participant.Participant.{Participant}
 use Rattle.qs_world.specs.Moves.{Source}
 use Rattle.qs_world.specs.World.{World}
-use Rattle.qs_agree.specs.World as machine
-use Rattle.qs_agree.specs.World.{Committed}
 use Rattle.qs_refine.specs.ShownWorlds.{IsShownWorld}
 use Rattle.qs_refine.specs.Sound.{in_order, is_less, where_so}
 use Rattle.qs_refine.specs.SoundSteps.{commands_in_run}
-use Rattle.qs_refine.specs.Tidy.{Stage, is_tidy_part}
 use Rattle.qs_refine.proofs.LogFrames.{Apart}
 use Rattle.qs_refine.proofs.SaidSteps.{step_open}
 use Rattle.qs_refine.proofs.SettleFrames.{settle_leaves}
@@ -35,11 +32,11 @@ use Rattle.qs_refine.proofs.SoundParts.{and_both}
 use Rattle.qs_refine.proofs.SoundStep.{wait_carries}
 use Rattle.qs_refine.proofs.SoundViews.{seen}
 use Rattle.qs_refine.proofs.TidyNodes.{part_read}
-use Rattle.qs_lawful.specs.Agreed.{AreLentUndone, IsUndone}
+use Rattle.qs_lawful.specs.Agreed.{AreLentUndone}
 use Rattle.qs_lawful.specs.Given.{AtEach}
 use Rattle.qs_lawful.specs.Logs.{Every}
 use Rattle.qs_every_run.specs.Agrees.{MakesStep, PassesAgree, PassesUndone, WaitsAgree, nodes_in}
-use Rattle.qs_every_run.proofs.AgreesEach.{AllFollow, all_done, begins_new, came_to, low, may, steady}
+use Rattle.qs_every_run.proofs.AgreesEach.{all_done, begins_new, came_to, low, may, steady}
 use Rattle.qs_every_run.proofs.AgreesFirst.{Follows}
 use Rattle.qs_every_run.proofs.AgreesOpen.{none_due}
 use Rattle.qs_every_run.proofs.AgreesWhole.{Following, its_undone, lent_undone, settles_on, waits_on}

@@ -1,31 +1,16 @@
 -- A node at each stage of its step keeps of transactions that have begun alone: before the step, or in it, where a client begins one.
-use Rattle.std.proofs.Common.{◌≡◌, ◌⊎◌, inl, inr, ℕ, ◌+◌, ◌<◌, ◌≤◌, ◌==◌, ◌&&◌, ◌||◌, Bool, true, false, Option, Some, None, refl, sym, ap, subst, ◌∙◌, arith, nat_lt, nat_le, if◌then◌else◌}
+use Rattle.std.proofs.Common.{◌≡◌, ◌⊎◌, inl, inr, ℕ, ◌+◌, ◌<◌, ◌≤◌, ◌==◌, ◌&&◌, ◌||◌, Bool, true, false, refl, sym, ap, subst, ◌∙◌, arith, nat_lt, nat_le}
 use Rattle.std.proofs.lemmas.Bool.Decides.{nat_tests}
-use Rattle.std.specs.Map.{lookup}
-use Rattle.std.specs.BTreeMap.{is_at}
-use Rattle.qs_base.specs.declared.identifiers.ClientNo.{ClientNo}
 use Rattle.qs_base.specs.declared.identifiers.NodeNo.{NodeNo}
-use Rattle.qs_base.specs.declared.identifiers.Tid.{Tid}
 use Rattle.qs_engage.specs.Nodes.{same_node}
-use Rattle.qs_journal.specs.declared.script_line.Command.{Command}
-use Rattle.qs_kept.specs.declared.kept.Begun.{Begun}
-use Rattle.qs_kept.specs.declared.kept.Decided.{Decided}
-use Rattle.qs_ops.specs.declared.answer.Answer.TheVariants as answers
 use Rattle.qs_restart.specs.Recovery.{names_transaction}
-use Rattle.qs_step.specs.Answering.{kept_outcome}
-use Rattle.qs_step.specs.Borrowing.{is_aborted}
-use Rattle.qs_step.specs.Bringing.{answer}
-use Rattle.qs_step.specs.Commands.{decided_answer}
-use Rattle.qs_step.specs.Serving.{label_at}
-use Rattle.qs_step.specs.State.{NodeValue, Work, client_cmp}
-use Rattle.qs_step.specs.Step.{borrower_waits, happen, is_owner, owner_waits, wait_command, wait_on, waits_at}
+use Rattle.qs_step.specs.State.{NodeValue, Work}
+use Rattle.qs_step.specs.Step.{happen}
 use Rattle.qs_step.specs.declared.event.Event.{Event}
 use Rattle.qs_step.specs.declared.event.Event.TheVariants as events
-use Rattle.qs_step.specs.declared.state.Issued.{Issued}
-use Rattle.qs_step.specs.declared.state.OpenCommand.{OpenCommand}
 use Rattle.qs_tm.specs.Manager as tm
 use Rattle.qs_world.specs.World.{World}
-use Rattle.qs_refine.specs.Begun.{begun_among, count_in, inc_in, may_command, past_among}
+use Rattle.qs_refine.specs.Begun.{begun_among, count_in, inc_in}
 use Rattle.qs_refine.specs.SoundSteps.{begun}
 use Rattle.qs_refine.specs.Steadies.{IsSteadyWorld}
 use Rattle.qs_refine.specs.Tidy.{IsStage, IsTidy, IsTidyNode, Stage}
@@ -33,7 +18,7 @@ use Rattle.qs_refine.specs.Walks.{MayStepOn}
 use Rattle.qs_refine.proofs.SoundParts.{both_and}
 use Rattle.qs_refine.proofs.SteadyBegins.{ComesFit, begun_tidy, c, comes_on, stage}
 use Rattle.qs_refine.proofs.SteadyGrows.{begun_past, begun_rises, own_past, past_rises}
-use Rattle.qs_refine.proofs.SteadySteps.{bump, bumped, d, more}
+use Rattle.qs_refine.proofs.SteadySteps.{bump, d, more}
 use Rattle.qs_refine.proofs.StillSteps.{begins_in}
 use Rattle.qs_refine.proofs.TidyHappens.{Later, MayComeOn, happen_tidy}
 use Rattle.qs_refine.proofs.TidyKeeps.{tidy_keeps}

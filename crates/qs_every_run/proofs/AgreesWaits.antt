@@ -1,51 +1,34 @@
 -- What is kept at each stage of a step is kept as a command that stayed open is answered.
-use Rattle.std.proofs.Common.{◌≡◌, ℕ, Bool, true, false, List, [], ◌∷◌, fold, Option, Some, None, refl, sym, ap, ◌∙◌}
-use Rattle.std.specs.List.{list_all}
+use Rattle.std.proofs.Common.{◌≡◌, ℕ, Bool, true, List, Option, Some, None, refl}
 use Rattle.std.specs.Map.{lookup}
 use Rattle.std.specs.BTreeMap.{is_at}
 use Rattle.qs_base.specs.declared.identifiers.ClientNo.{ClientNo}
 use Rattle.qs_base.specs.declared.identifiers.Member.{Member}
 use Rattle.qs_base.specs.declared.identifiers.NodeNo.{NodeNo}
-use Rattle.qs_base.specs.declared.identifiers.Outcome.TheVariants as outcomes
 use Rattle.qs_base.specs.declared.identifiers.Tid.{Tid}
-use Rattle.qs_engage.specs.Nodes.{same_node}
 use Rattle.qs_ipc.specs.Queue.{is_for}
 use Rattle.qs_journal.specs.declared.script_line.Command.{Command}
 use Rattle.qs_journal.specs.declared.script_line.Command.TheVariants as commands
-use Rattle.qs_journal.specs.declared.script_line.ScriptLine.{ScriptLine}
 use Rattle.qs_kept.specs.Loans.{first_untaken, last_taken}
 use Rattle.qs_kept.specs.declared.kept.Begun.{Begun}
 use Rattle.qs_kept.specs.declared.kept.Decided.{Decided}
 use Rattle.qs_kept.specs.declared.kept.Lent.{Lent}
-use Rattle.qs_ops.specs.Timers.{ticked}
 use Rattle.qs_ops.specs.declared.answer.Answer.TheVariants as answers
-use Rattle.qs_ops.specs.declared.answer.Cause.TheVariants as causes
 use Rattle.qs_ops.specs.declared.operation.Op.{Op}
-use Rattle.qs_packet.specs.declared.message.Message.{Message}
-use Rattle.qs_packet.specs.declared.message.Message.TheVariants as messages
-use Rattle.qs_journal.specs.declared.entry.Act.TheVariants as acts
-use Rattle.qs_servers.specs.Servers.{timers_no}
-use Rattle.qs_tm.specs.Manager as tm
-use Rattle.qs_tm.specs.declared.participant.Participant.{Participant}
 use Rattle.qs_step.specs.Answering.{kept_outcome}
 use Rattle.qs_step.specs.Borrowing.{is_aborted, is_void, take, take_command, lent_command, with_loan, loan_command, borrower_command}
 use Rattle.qs_step.specs.Bringing.{enter}
-use Rattle.qs_step.specs.Commands.{request_as, request_command, with_issued, enter_ask, ask, open_command, decided_answer, owner_command}
-use Rattle.qs_step.specs.Deciding.{decide}
+use Rattle.qs_step.specs.Commands.{request_as, request_command, with_issued, decided_answer}
 use Rattle.qs_step.specs.Requests.{next_number}
 use Rattle.qs_step.specs.Serving.{label_at}
-use Rattle.qs_step.specs.State.{Work, part_of, with_manager, change_server, client_cmp}
-use Rattle.qs_step.specs.Step.{is_owner, labelled, obey, with_command, command_came, message_came, abort_old, age_rule, tick, happen, owner_waits, borrower_waits, waits_at, wait_command, wait_on, waiting_clients, answer_waiting}
-use Rattle.qs_step.specs.declared.event.Event.{Event}
-use Rattle.qs_step.specs.declared.event.Event.TheVariants as events
+use Rattle.qs_step.specs.State.{Work, client_cmp}
+use Rattle.qs_step.specs.Step.{is_owner, owner_waits, borrower_waits, waits_at, wait_command, wait_on}
 use Rattle.qs_step.specs.declared.state.Issued.{Issued}
 use Rattle.qs_step.specs.declared.state.OpenCommand.{OpenCommand}
-use Rattle.qs_refine.specs.Begun.{fits, may_command}
-use Rattle.qs_refine.specs.Walks.{Reads, Keeps, is_homed, is_run, MayStepOn, begins_one}
-use Rattle.qs_refine.proofs.SoundParts.{and_both, both_and}
-use Rattle.qs_refine.proofs.WalkRules.{fold_walk, if_walk, issue_as_walk, reply_came_walk, request_came_walk, serve_all_walk, undecided_walk, become_asked_walk, ask_came_walk, closer_came_walk, refusal_came_walk}
-use Rattle.qs_refine.proofs.WalkOutcomes.{decide_walk, tell_came_walk, told_came_walk, inquiry_came_walk}
-use Rattle.qs_refine.proofs.WalkSettles.{peer_restarted_walk}
+use Rattle.qs_refine.specs.Begun.{may_command}
+use Rattle.qs_refine.specs.Walks.{Reads, Keeps}
+use Rattle.qs_refine.proofs.SoundParts.{and_both}
+use Rattle.qs_refine.proofs.WalkRules.{if_walk, issue_as_walk}
 
 module _ (P Q : Tid → Bool) (R : NodeNo → Bool) (me : NodeNo) (nodes : ℕ) (I : Work → Type 0) (reads : Reads P Q R me nodes I) (keeps : Keeps P Q R me nodes I) where
   request_command_walk : (client : ClientNo) (tid : Tid) (member : Member) (op : Op) (work : Work) → Q tid ≡ true → is_for member.server op ≡ true → I work → I (request_command client tid member op work)

@@ -1,19 +1,18 @@
 -- At each stage of a step nothing is committed of which a request comes, or a loan stands; and so it is from stage to stage.
-use Rattle.std.proofs.Common.{◌≡◌, ℕ, ◌<◌, ◌==◌, ◌&&◌, ◌||◌, not, Bool, true, false, List, [], ◌∷◌, Option, Some, None, refl, sym, ap, subst, ◌∙◌, arith, nat_lt, if◌then◌else◌}
+use Rattle.std.proofs.Common.{◌≡◌, ℕ, ◌<◌, ◌||◌, Bool, true, false, List, [], ◌∷◌, Some, refl, sym, ap, subst, arith, nat_lt, if◌then◌else◌}
 use Rattle.std.specs.List.{list_all, list_any}
 use Rattle.std.proofs.lemmas.Bool.Decides.{nat_tests}
 use Rattle.qs_base.specs.Order.{same_tid}
 use Rattle.qs_base.specs.declared.identifiers.ClientNo.{ClientNo}
-use Rattle.qs_base.specs.declared.identifiers.NodeNo.{NodeNo}
 use Rattle.qs_base.specs.declared.identifiers.Tid.{Tid}
 use Rattle.qs_kept.specs.Loans.{is_standing_loan}
 use Rattle.qs_kept.specs.declared.kept.Lent.{Lent}
 use Rattle.qs_packet.specs.declared.message.Message.{Message}
 use Rattle.qs_packet.specs.declared.message.Message.TheVariants as messages
 use Rattle.qs_restart.specs.Recovery.{names_transaction}
-use Rattle.qs_step.specs.Settling.{is_lent, settle, settle_tid}
-use Rattle.qs_step.specs.State.{Work, work_on}
-use Rattle.qs_step.specs.Step.{happen, wait_on}
+use Rattle.qs_step.specs.Settling.{is_lent, settle_tid}
+use Rattle.qs_step.specs.State.{Work}
+use Rattle.qs_step.specs.Step.{wait_on}
 use Rattle.qs_step.specs.declared.event.Event.{Event}
 use Rattle.qs_step.specs.declared.event.Event.TheVariants as events
 use Rattle.qs_world.specs.Moves.{Clock, Commanded, Handed, Noticed, Queues, Source, event_of}
@@ -26,7 +25,7 @@ use Rattle.qs_refine.specs.Links.{Requested, node_no}
 use Rattle.qs_refine.specs.Messages.{said}
 use Rattle.qs_refine.specs.Shows.{scene_of}
 use Rattle.qs_refine.specs.ShownWorlds.{IsShownWorld}
-use Rattle.qs_refine.specs.SoundSteps.{begun, commands_in_run}
+use Rattle.qs_refine.specs.SoundSteps.{commands_in_run}
 use Rattle.qs_refine.specs.Steadies.{MachineGives}
 use Rattle.qs_refine.specs.TakenLaws.{rest_behind}
 use Rattle.qs_refine.specs.Tidy.{IsTidy, Stage, is_tidy_loan}

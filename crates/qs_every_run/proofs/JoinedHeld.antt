@@ -1,5 +1,5 @@
 -- After a whole step the machine has the whole world: its own node by the step, the others as the step leaves them.
-use Rattle.std.proofs.Common.{◌≡◌, ℕ, ◌<◌, ◌==◌, ◌&&◌, ◌||◌, not, Bool, true, false, List, [], ◌∷◌, ◌++◌, length, Option, Some, None, refl, sym, ap, subst, ◌∙◌, arith, nat_lt, nat_le, if◌then◌else◌}
+use Rattle.std.proofs.Common.{◌≡◌, ℕ, ◌<◌, ◌==◌, Bool, true, false, List, [], ◌∷◌, ◌++◌, Option, Some, None, refl, sym, ap, subst, ◌∙◌, arith, if◌then◌else◌}
 use Rattle.std.proofs.lemmas.Bool.{eqb-true}
 use Rattle.std.proofs.lemmas.Bool.Decides.{nat_tests}
 use Rattle.std.specs.Prelude.{slice_get}
@@ -20,20 +20,19 @@ use Rattle.qs_step.specs.declared.event.Event.TheVariants as events
 use Rattle.qs_step.specs.declared.setting.Setting.{Setting}
 use Rattle.qs_world.specs.Histories.{book_of, opened_from}
 use Rattle.qs_world.specs.Moves.{Clock, Commanded, Handed, Noticed, Queues, Source, event_of, hand_next, is_in_order, log_after, stamp_limit, step_with, stepped_host, taken_by, waiting_after}
-use Rattle.qs_world.specs.Posting.{entries_of, entry_of, next_parcel, post_all}
+use Rattle.qs_world.specs.Posting.{entries_of, next_parcel}
 use Rattle.qs_world.specs.World.{Host, Opening, Parcel, World, inc_of}
 use Rattle.qs_refine.proofs.EachMay.{from_client, from_node, from_notice}
 use Rattle.qs_refine.proofs.Moving.{inc_taken, up_taken}
 use Rattle.qs_refine.proofs.Posted.{inc_all, up_all}
 use Rattle.qs_refine.proofs.SteadyFrom.{steady_gives}
 use Rattle.qs_lawful.specs.Aside.{AnswersElsewhere, IsAside, IsOfStep}
-use Rattle.qs_lawful.specs.AsideLaws.{HoldsAside}
 use Rattle.qs_lawful.specs.Beside.{HoldsBeside}
 use Rattle.qs_lawful.specs.Holds.{Holds, is_next}
 use Rattle.qs_lawful.specs.Logged.{HoldsHost, IsTrueEvent}
 use Rattle.qs_lawful.specs.Logs.{Every}
 use Rattle.qs_lawful.specs.Parcels.{HoldsChannels, IsBetween, IsSaid}
-use Rattle.qs_lawful.specs.Worlds.{HoldsNodeAt, HoldsNodeOf, HoldsUp, HoldsWorld}
+use Rattle.qs_lawful.specs.Worlds.{HoldsNodeAt, HoldsNodeOf, HoldsWorld}
 use Rattle.qs_lawful.proofs.AsideWhole.{keeps_others}
 use Rattle.qs_lawful.proofs.CoherentOpenings.{opens_soundly}
 use Rattle.qs_lawful.proofs.GivenByWorld.{message_between, message_comes}
@@ -46,7 +45,7 @@ use Rattle.qs_every_run.specs.Agrees.{MakesStep}
 use Rattle.qs_every_run.specs.Joined.{HoldsRunning, Joined, book_in}
 use Rattle.qs_every_run.specs.JoinedOwed.{HasOwner, Owed, book_then, entries_in}
 use Rattle.qs_every_run.proofs.JoinedParts.{lawful_both}
-use Rattle.qs_every_run.proofs.JoinedSteps.{step_at, step_holds, step_lawful, step_low, step_ordered, step_up}
+use Rattle.qs_every_run.proofs.JoinedSteps.{step_holds, step_lawful, step_low, step_up}
 
 -- each entry of a step is aside of another node
 all_aside : (k n stamp : ℕ) (node : NodeValue) (acts : List Act) → (k == n) ≡ false → Every (λ (act : Act). IsOfStep act × AnswersElsewhere node act) acts → Every (IsAside k node) (entries_of n stamp acts)

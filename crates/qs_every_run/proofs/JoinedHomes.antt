@@ -1,8 +1,6 @@
 -- What the machine has committed its home has, through each move: what a node enters decides nothing that began elsewhere.
-use Rattle.std.proofs.Common.{◌≡◌, ℕ, ◌<◌, ◌==◌, ◌||◌, Bool, true, false, List, [], ◌∷◌, ◌++◌, Some, refl, sym, ap, subst, ◌∙◌, arith, nat_lt}
+use Rattle.std.proofs.Common.{◌≡◌, ℕ, ◌==◌, ◌||◌, Bool, true, false, List, [], Some, refl, sym, ap, subst, ◌∙◌}
 use Rattle.std.proofs.lemmas.Bool.{eqb-true}
-use Rattle.std.proofs.lemmas.Bool.Decides.{nat_tests}
-use Rattle.qs_base.specs.declared.identifiers.NodeNo.{NodeNo}
 use Rattle.qs_base.specs.declared.identifiers.Tid.{Tid}
 use Rattle.qs_journal.specs.declared.entry.Act.{Act}
 use Rattle.qs_machine.specs.Book.{BookValue, find_transaction}
@@ -11,9 +9,7 @@ use Rattle.qs_machine.specs.Transaction.{TransactionValue, is_commit}
 use Rattle.qs_step.specs.State.{NodeValue, Work, no_effects}
 use Rattle.qs_tm.specs.Manager as tm
 use Rattle.qs_world.specs.Posting.{entries_of}
-use Rattle.qs_world.specs.World.{World}
 use Rattle.qs_lawful.specs.Beside.{HoldsBeside, is_committed_at, is_done}
-use Rattle.qs_lawful.specs.Entering.{book_at}
 use Rattle.qs_lawful.specs.Standing.{HoldsHomes}
 use Rattle.qs_lawful.proofs.HomesStand.{homes_stand}
 use Rattle.qs_every_run.specs.Joined.{HomesHave}

@@ -1,19 +1,15 @@
 -- What a world's journal, size and channels are after a move, and that channels hold what is so.
-use Rattle.std.proofs.Common.{◌≡◌, ℕ, ◌<◌, ◌≤◌, ◌==◌, ◌&&◌, ◌||◌, not, Bool, true, false, List, [], ◌∷◌, ◌++◌, Option, Some, None, refl, sym, ap, subst, ◌∙◌, arith, nat_lt, nat_le, if◌then◌else◌}
-use Rattle.std.proofs.lemmas.Bool.Decides.{nat_tests}
-use Rattle.qs_channels.specs.Channels as channel
+use Rattle.std.proofs.Common.{◌≡◌, ℕ, List, [], ◌∷◌, ◌++◌, sym, ap, subst, ◌∙◌}
 use Rattle.qs_channels.specs.Channels.{Channels}
 use Rattle.qs_journal.specs.declared.entry.Entry.{Entry}
 use Rattle.qs_machine.specs.Book.{BookValue}
 use Rattle.qs_machine.specs.Lawful.{IsLawful, book_after, effect}
-use Rattle.qs_machine.specs.Opening.{opening}
 use Rattle.qs_laws.proofs.Steps.{after_both, lawful_front, lawful_rest}
 use Rattle.qs_world.specs.Histories.{book_of, opened_from}
 use Rattle.qs_world.specs.Openings.{IsOpening}
-use Rattle.qs_world.specs.World.{Opening, Parcel, World, start}
+use Rattle.qs_world.specs.World.{Opening, Parcel, World}
 use Rattle.qs_lawful.specs.Parcels.{HoldsChannels}
 use Rattle.qs_lawful.proofs.CoherentOpenings.{opens_soundly}
-use Rattle.qs_lawful.proofs.LastsAlways.{in_runs}
 use Rattle.qs_lawful.proofs.SaidStays.{channels_stay}
 use Rattle.qs_every_run.specs.Joined.{book_in}
 

@@ -1,6 +1,5 @@
 -- A whole step of a world in which all stands together: its entries are lawful, from what the agreement machine gives at each of its stages.
-use Rattle.std.proofs.Common.{◌≡◌, ℕ, ◌<◌, ◌≤◌, ◌==◌, ◌&&◌, ◌||◌, Bool, true, false, List, [], ◌∷◌, ◌++◌, Option, Some, None, is_none, refl, sym, ap, subst, ◌∙◌, arith, nat_lt, if◌then◌else◌}
-use Rattle.qs_base.specs.declared.identifiers.ClientNo.{ClientNo}
+use Rattle.std.proofs.Common.{◌≡◌, ℕ, ◌<◌, ◌≤◌, Bool, true, false, List, [], ◌∷◌, ◌++◌, Option, Some, refl, ap, subst}
 use Rattle.qs_base.specs.declared.identifiers.NodeNo.{NodeNo}
 use Rattle.qs_base.specs.declared.identifiers.Tid.{Tid}
 use Rattle.qs_engage.specs.Engage.{peer_of}
@@ -17,8 +16,7 @@ use Rattle.qs_step.specs.declared.event.Event.TheVariants as events
 use Rattle.qs_tm.specs.Manager as tm
 use Rattle.qs_tm.specs.Participant.{is_undecided}
 use Rattle.qs_tm.specs.declared.participant.Participant.{Participant}
-use Rattle.qs_world.specs.Histories.{book_of}
-use Rattle.qs_world.specs.Moves.{Source, Step, event_of, is_in_order, is_later, moved, step_with}
+use Rattle.qs_world.specs.Moves.{Source, Step, is_in_order, is_later, moved, step_with}
 use Rattle.qs_world.specs.Posting.{entries_of}
 use Rattle.qs_world.specs.World.{Opening, World}
 use Rattle.qs_refine.specs.SoundSteps.{AnswersFor}
@@ -26,7 +24,7 @@ use Rattle.qs_refine.proofs.MoveGoes.{StepMay, step_may}
 use Rattle.qs_refine.proofs.SoundParts.{and_both}
 use Rattle.qs_lawful.specs.Agreed.{AgreementGives, AgreesEvent, AgreesMessage, StepAgrees, WasSent}
 use Rattle.qs_lawful.specs.Given.{AtEach}
-use Rattle.qs_lawful.specs.GivenStep.{MayStep, done_work, first_work}
+use Rattle.qs_lawful.specs.GivenStep.{done_work, first_work}
 use Rattle.qs_lawful.specs.Holds.{Holds}
 use Rattle.qs_lawful.specs.Worlds.{HoldsNodeAt}
 use Rattle.qs_lawful.proofs.WholeStep.{by_whole_step}
@@ -35,7 +33,6 @@ use Rattle.qs_every_run.specs.Joined.{Joined, book_in}
 use Rattle.qs_every_run.specs.JoinedOwed.{AnswersLate, CommitsSettled, Owed}
 use Rattle.qs_every_run.proofs.AgreesPasses.{passes_agree, waits_agree}
 use Rattle.qs_every_run.proofs.AgreesWhole.{event_agrees}
-use Rattle.qs_every_run.proofs.JoinedParts.{lawful_on}
 
 -- ---- what the protocol gives, put together
 

@@ -26,7 +26,7 @@ use Rattle.qs_tm.specs.Manager as tm
 use Rattle.qs_tm.specs.Participant.{is_undecided}
 use Rattle.qs_tm.specs.declared.participant.Participant.{Participant}
 use Rattle.qs_world.specs.Histories.{book_of}
-use Rattle.qs_world.specs.Moves.{Cut, Meet, Move, Rise, Source, Step, Stop, log_after, may_move, moved, stopped, waiting_after}
+use Rattle.qs_world.specs.Moves.{Cut, Meet, Move, Rise, Source, Step, log_after, may_move, moved, stopped, waiting_after}
 use Rattle.qs_world.specs.Openings.{IsOpening}
 use Rattle.qs_world.specs.Posting.{entries_of, entry_of, post_all}
 use Rattle.qs_world.specs.World.{Opening, Parcel, World, inc_of, start}
