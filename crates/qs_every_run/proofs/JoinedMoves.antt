@@ -70,8 +70,29 @@ module _ (P : Opening → World → Type 0) (owed : Owed P) (o : Opening) (world
     rise_held : HeldAt o risen_world
     rise_held = subst (λ (b : BookValue). HoldsWorld b risen_world) (sym rise_book) rises.holds
 
+    rise_same : (k : ℕ) → (k == n) ≡ false → (risen_world.hosts k).node ≡ (world.hosts k).node
+    rise_same k far = picked (k == n) far
+      where
+        picked : (b : Bool) → b ≡ false → (if b then risen_host stamp inc (recovered_of (world.hosts n).log) (world.hosts n) else world.hosts k).node ≡ (world.hosts k).node
+        picked b so = rw so refl
+
+    rise_own : (risen_world.hosts n).node ≡ reopened inc (recovered_of (world.hosts n).log) (world.hosts n).node
+    rise_own = picked (n == n) (grind (arith, nat_tests))
+      where
+        picked : (b : Bool) → b ≡ true → (if b then risen_host stamp inc (recovered_of (world.hosts n).log) (world.hosts n) else world.hosts n).node ≡ reopened inc (recovered_of (world.hosts n).log) (world.hosts n).node
+        picked b is = rw is refl
+
     rise_running : RunningAt o risen_world
-    rise_running = owed.rises_running o world (Rise n stamp inc) tt j may rise_lawful
+    rise_running k low on = subst (λ (b : BookValue). HoldsRunning b (risen_world.hosts k).node) (sym rise_book) (by (k == n) refl on)
+      where
+        by : (b : Bool) → (k == n) ≡ b → (if b then true else world.channels.up k) ≡ true → HoldsRunning (book_after book (rise_entry world n stamp inc ∷ [])) (risen_world.hosts k).node
+        by true near runs = subst (λ (i : ℕ). HoldsRunning (book_after book (rise_entry world n stamp inc ∷ [])) (risen_world.hosts i).node) (sym (eqb-true k n near))
+            (subst (λ (m : NodeValue). HoldsRunning (book_after book (rise_entry world n stamp inc ∷ [])) m) (sym rise_own) (owed.rises_running o world n stamp inc j may))
+        by false far runs = subst (λ (m : NodeValue). HoldsRunning (book_after book (rise_entry world n stamp inc ∷ [])) m) (sym (rise_same k far)) (record {
+          beside = owed.rises_beside book world n stamp inc lasts j.held may k far low runs (j.running k low runs).beside;
+          sound = (j.running k low runs).sound;
+          young = (j.running k low runs).young;
+        })
 
     rise_up : risen_world.channels.up n ≡ true
     rise_up = picked (n == n) (grind (arith, nat_tests))
@@ -79,23 +100,11 @@ module _ (P : Opening → World → Type 0) (owed : Owed P) (o : Opening) (world
         picked : (b : Bool) → b ≡ true → (if b then true else world.channels.up n) ≡ true
         picked b so = rw so refl
 
-    rise_same : (k : ℕ) → (k == n) ≡ false → (risen_world.hosts k).node ≡ (world.hosts k).node
-    rise_same k far = picked (k == n) far
-      where
-        picked : (b : Bool) → b ≡ false → (if b then risen_host stamp inc (recovered_of (world.hosts n).log) (world.hosts n) else world.hosts k).node ≡ (world.hosts k).node
-        picked b so = rw so refl
-
     rise_facts : FactsAt risen_world
     rise_facts k low = by (k == n) refl
       where
-        own : (risen_world.hosts n).node ≡ reopened inc (recovered_of (world.hosts n).log) (world.hosts n).node
-        own = picked (n == n) (grind (arith, nat_tests))
-          where
-            picked : (b : Bool) → b ≡ true → (if b then risen_host stamp inc (recovered_of (world.hosts n).log) (world.hosts n) else world.hosts n).node ≡ reopened inc (recovered_of (world.hosts n).log) (world.hosts n).node
-            picked b is = rw is refl
-
         by : (b : Bool) → (k == n) ≡ b → HasNodeFacts (risen_world.hosts k).node
-        by true near = subst (λ (i : ℕ). HasNodeFacts (risen_world.hosts i).node) (sym (eqb-true k n near)) (subst HasNodeFacts (sym own) (rises_facts (world.hosts n).node inc (recovered_of (world.hosts n).log) (j.held.nodes n n_low).accepted (j.facts n n_low)))
+        by true near = subst (λ (i : ℕ). HasNodeFacts (risen_world.hosts i).node) (sym (eqb-true k n near)) (subst HasNodeFacts (sym rise_own) (rises_facts (world.hosts n).node inc (recovered_of (world.hosts n).log) (j.held.nodes n n_low).accepted (j.facts n n_low)))
         by false far = subst HasNodeFacts (sym (rise_same k far)) (j.facts k low)
 
     rise_homes : HomesAt o risen_world

@@ -17,6 +17,7 @@ use Rattle.qs_machine.specs.declared.opened.Opened.{Opened}
 use Rattle.qs_packet.specs.declared.message.Message.TheVariants as messages
 use Rattle.qs_record.specs.declared.record.Record.{Record}
 use Rattle.qs_restart.specs.Recovery.{recovery}
+use Rattle.qs_step.specs.Opening.{recovered_of}
 use Rattle.qs_step.specs.Settling.{due_tids, is_quiet, may_answer, pass_rule, settle_tid, try}
 use Rattle.qs_step.specs.State.{NodeValue, Work, doings_of}
 use Rattle.qs_step.specs.Step.{after_step, effects_of}
@@ -26,7 +27,7 @@ use Rattle.qs_tm.specs.Manager as tm
 use Rattle.qs_tm.specs.Participant.{is_undecided}
 use Rattle.qs_tm.specs.declared.participant.Participant.{Participant}
 use Rattle.qs_world.specs.Histories.{book_of}
-use Rattle.qs_world.specs.Moves.{Cut, Meet, Move, Rise, Source, Step, log_after, may_move, moved, stopped, waiting_after}
+use Rattle.qs_world.specs.Moves.{Cut, Meet, Move, Rise, Source, Step, log_after, may_move, moved, reopened, stopped, waiting_after}
 use Rattle.qs_world.specs.Openings.{IsOpening}
 use Rattle.qs_world.specs.Posting.{entries_of, entry_of, post_all}
 use Rattle.qs_world.specs.World.{Opening, Parcel, World, inc_of, start}
@@ -145,10 +146,6 @@ abbrev pub IsStep : Move → Type 0
 IsStep (Step n stamp free source) = ⊤
 IsStep move = ⊥
 
-abbrev pub IsRise : Move → Type 0
-IsRise (Rise n stamp inc) = ⊤
-IsRise move = ⊥
-
 abbrev pub Keeps : (Opening → World → Type 0) → (Move → Type 0) → (Opening → World → Type 0) → Type 0
 Keeps P kind X = (o : Opening) (world : World) (move : Move) → kind move → Joined P o world → may_move world move ≡ true → IsLawful (book_of o) (moved move world).journal → X o (moved move world)
 
@@ -175,6 +172,18 @@ RiseKeepsWays = (book : BookValue) (world : World) (n stamp inc : ℕ) → Lasts
 abbrev pub MeetKeepsWays : Type 0
 MeetKeepsWays = (book : BookValue) (world : World) (n stamp m inc : ℕ) → HoldsChannels book world.size world.channels → IsSeated world → may_move world (Meet n stamp m inc) ≡ true → HoldsWays book world
     → HoldsWays book (moved (Meet n stamp m inc) world)
+
+-- ---- what is said of nodes that run, after a restart of one: of that one, and of the others
+
+abbrev pub rise_book : Opening → World → ℕ → ℕ → ℕ → BookValue
+rise_book o world n stamp inc = book_after (book_in o world) (rise_entry world n stamp inc ∷ [])
+
+abbrev pub EachRisesRunning : (Opening → World → Type 0) → Type 0
+EachRisesRunning P = (o : Opening) (world : World) (n stamp inc : ℕ) → Joined P o world → may_move world (Rise n stamp inc) ≡ true → HoldsRunning (rise_book o world n stamp inc) (reopened inc (recovered_of (world.hosts n).log) (world.hosts n).node)
+
+abbrev pub RiseKeepsBeside : Type 0
+RiseKeepsBeside = (book : BookValue) (world : World) (n stamp inc : ℕ) → Lasts book → HoldsWorld book world → may_move world (Rise n stamp inc) ≡ true
+    → (k : ℕ) → (k == n) ≡ false → k < world.size → world.channels.up k ≡ true → HoldsBeside book (world.hosts k).node → HoldsBeside (book_after book (rise_entry world n stamp inc ∷ [])) (world.hosts k).node
 
 -- ---- all that is owed
 
@@ -206,7 +215,8 @@ pub record Owed (P : Opening → World → Type 0) : Type 0 where
   pub crashes_ways : CrashKeepsWays
   pub crashes_scripts : CrashKeepsScripts
   -- after a restart
-  pub rises_running : Keeps P IsRise RunningAt
+  pub rises_running : EachRisesRunning P
+  pub rises_beside : RiseKeepsBeside
   pub rises_ways : RiseKeepsWays
   pub rises_scripts : RiseKeepsScripts
   -- after a first meeting
