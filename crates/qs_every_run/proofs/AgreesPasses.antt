@@ -20,7 +20,7 @@ use Rattle.qs_tm.specs.declared.participant.Participant.{Participant}
 use Rattle.qs_world.specs.Moves.{Source}
 use Rattle.qs_world.specs.World.{World}
 use Rattle.qs_refine.specs.ShownWorlds.{IsShownWorld}
-use Rattle.qs_refine.specs.Sound.{in_order, is_less, where_so}
+use Rattle.qs_refine.specs.Sound.{in_order, is_less, is_sound, where_so}
 use Rattle.qs_refine.specs.SoundSteps.{commands_in_run}
 use Rattle.qs_refine.proofs.LogFrames.{Apart}
 use Rattle.qs_refine.proofs.SaidSteps.{step_open}
@@ -35,8 +35,8 @@ use Rattle.qs_refine.proofs.TidyNodes.{part_read}
 use Rattle.qs_lawful.specs.Agreed.{AreLentUndone}
 use Rattle.qs_lawful.specs.Given.{AtEach}
 use Rattle.qs_lawful.specs.Logs.{Every}
-use Rattle.qs_every_run.specs.Agrees.{MakesStep, PassesAgree, PassesUndone, WaitsAgree, nodes_in}
-use Rattle.qs_every_run.proofs.AgreesEach.{all_done, begins_new, came_to, low, may, steady}
+use Rattle.qs_every_run.specs.Agrees.{MakesStep, PassesAgree, PassesUndone, SoundStages, StagesSound, WaitsAgree, nodes_in}
+use Rattle.qs_every_run.proofs.AgreesEach.{all_done, all_first, begins_new, came_to, low, may, steady}
 use Rattle.qs_every_run.proofs.AgreesFirst.{Follows}
 use Rattle.qs_every_run.proofs.AgreesOpen.{none_due}
 use Rattle.qs_every_run.proofs.AgreesWhole.{Following, its_undone, lent_undone, settles_on, waits_on}
@@ -185,6 +185,29 @@ module _ (world : World) (is : IsShownWorld world) (n stamp free : ℕ) (source 
   waits_so = wait_stages (waiting_clients (settle done)) (settle done)
       (step_open (world.hosts n).node event free (may world is n stamp free source event makes) (begins_new world is n stamp free source event makes) (is.steady.sound n (low world is n stamp free source event makes)).node
       ((steady world is n stamp free source event makes).commands n (low world is n stamp free source event makes))).0 settled_so.1
+
+  -- ---- and the invariant of the node at each of them
+
+  settles_sound : (tids : List Tid) (work : Work) → Here work → AtEach (λ (work : Work) (tid : Tid). is_sound work.node ≡ true) settle_tid work tids
+  settles_sound [] work all = tt
+  settles_sound (t ∷ tids) work all = (all.sound, settles_sound tids (settle_tid work t) (settles_on world is n stamp free source event makes work t all))
+
+  waits_sound : (clients : List ClientNo) (work : Work) → commands_in_run work.node ≡ true → Here work → AtEach (λ (work : Work) (client : ClientNo). is_sound work.node ≡ true) wait_on work clients
+  waits_sound [] work in_run all = tt
+  waits_sound (client ∷ clients) work in_run all = (all.sound, waits_sound clients (wait_on work client) (wait_carries work client (all.sound, in_run)).1 (waits_on world is n stamp free source event makes work client in_run all))
+
+  sound_so : SoundStages (world.hosts n).node event free
+  sound_so = record {
+    first = (all_first world is n stamp free source event makes).sound;
+    done = (all_done world is n stamp free source event makes).sound;
+    settles = settles_sound (due_tids done) done (all_done world is n stamp free source event makes);
+    waits = waits_sound (waiting_clients (settle done)) (settle done)
+        (step_open (world.hosts n).node event free (may world is n stamp free source event makes) (begins_new world is n stamp free source event makes) (is.steady.sound n (low world is n stamp free source event makes)).node
+        ((steady world is n stamp free source event makes).commands n (low world is n stamp free source event makes))).0 settled_so.1;
+  }
+
+pub stages_sound : StagesSound
+stages_sound world n stamp free source event is makes = sound_so world is n stamp free source event makes
 
 pub passes_agree : PassesAgree
 passes_agree world n stamp free source event is makes = (settled_so world is n stamp free source event makes).0

@@ -90,7 +90,7 @@ module _ (P : Opening → World → Type 0) (owed : Owed P) (o : Opening) (world
             (subst (λ (m : NodeValue). HoldsRunning (book_after book (rise_entry world n stamp inc ∷ [])) m) (sym rise_own) (owed.rises_running o world n stamp inc j may))
         by false far runs = subst (λ (m : NodeValue). HoldsRunning (book_after book (rise_entry world n stamp inc ∷ [])) m) (sym (rise_same k far)) (record {
           beside = owed.rises_beside book world n stamp inc lasts j.held may k far low runs (j.running k low runs).beside;
-          sound = (j.running k low runs).sound;
+          numbered = (j.running k low runs).numbered;
           young = (j.running k low runs).young;
         })
 

@@ -11,6 +11,7 @@ pub mod JoinedParts
 pub mod JoinedFacts
 pub mod JoinedHomes
 pub mod JoinedSteps
+pub mod JoinedSound
 pub mod JoinedHeld
 pub mod JoinedAfter
 pub mod JoinedMoves

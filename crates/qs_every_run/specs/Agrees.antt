@@ -15,6 +15,7 @@ use Rattle.qs_tm.specs.declared.participant.Participant.{Participant}
 use Rattle.qs_world.specs.Moves.{Source, event_of, may_step}
 use Rattle.qs_world.specs.World.{World}
 use Rattle.qs_refine.specs.ShownWorlds.{IsShownWorld}
+use Rattle.qs_refine.specs.Sound.{is_sound}
 use Rattle.qs_refine.specs.SoundSteps.{AnswersFor}
 use Rattle.qs_lawful.specs.Agreed.{AreLentUndone, IsUndone}
 use Rattle.qs_lawful.specs.Given.{AtEach}
@@ -59,3 +60,14 @@ PassesAgree = (world : World) (n stamp free : ℕ) (source : Source) (event : Ev
 abbrev pub WaitsAgree : Type 0
 WaitsAgree = (world : World) (n stamp free : ℕ) (source : Source) (event : Event) → IsShownWorld world → MakesStep world n stamp source event
     → AtEach (λ (work : Work) (client : ClientNo). AreLentUndone world.size (nodes_in world) n work) wait_on (settle (done_work (world.hosts n).node event free)) (waiting_clients (settle (done_work (world.hosts n).node event free)))
+
+-- ---- at each stage the invariant of the node holds
+
+pub record SoundStages (node : NodeValue) (event : Event) (free : ℕ) : Type 0 where
+  pub first : is_sound (first_work node free).node ≡ true
+  pub done : is_sound (done_work node event free).node ≡ true
+  pub settles : AtEach (λ (work : Work) (tid : Tid). is_sound work.node ≡ true) settle_tid (done_work node event free) (due_tids (done_work node event free))
+  pub waits : AtEach (λ (work : Work) (client : ClientNo). is_sound work.node ≡ true) wait_on (settle (done_work node event free)) (waiting_clients (settle (done_work node event free)))
+
+abbrev pub StagesSound : Type 0
+StagesSound = (world : World) (n stamp free : ℕ) (source : Source) (event : Event) → IsShownWorld world → MakesStep world n stamp source event → SoundStages (world.hosts n).node event free

@@ -4,5 +4,5 @@
 mod joined_agrees;
 mod joined_runs;
 
-pub use joined_agrees::steps_agree;
+pub use joined_agrees::{stages_are_sound, steps_agree};
 pub use joined_runs::runs_are_lawful;
