@@ -1,4 +1,10 @@
-//! Over every run, what nodes do is lawful: what all places hold of a transaction makes each commit unanimous.
+//! Every run of the world of nodes is lawful, as far as it is owed: what the agreement machine gives each step, what all places hold of
+//! a transaction, and the induction over the moves of a run.
 #![tactic(auto)]
 
+mod joined_agrees;
+mod joined_runs;
 pub mod placed;
+
+pub use joined_agrees::{stages_are_sound, steps_agree};
+pub use joined_runs::runs_are_lawful;

@@ -1,0 +1,214 @@
+-- All that stands together of a world stands after a whole step, and after a crash: what the machines and the nodes are known to keep, and what is owed.
+use Rattle.std.proofs.Common.{◌≡◌, ℕ, ◌<◌, ◌==◌, Bool, true, false, List, [], ◌∷◌, ◌++◌, Option, Some, refl, sym, ap, subst, ◌∙◌, arith, if◌then◌else◌}
+use Rattle.std.specs.Prelude.{slice_get}
+use Rattle.std.proofs.lemmas.Bool.{eqb-true}
+use Rattle.std.proofs.lemmas.Bool.Decides.{nat_tests}
+use Rattle.qs_channels.specs.Channels as channel
+use Rattle.qs_journal.specs.declared.entry.Act.TheVariants as acts
+use Rattle.qs_journal.specs.declared.entry.CrashCause.{CrashCause}
+use Rattle.qs_journal.specs.declared.entry.Entry.{Entry}
+use Rattle.qs_machine.specs.Book.{BookValue, find_transaction}
+use Rattle.qs_machine.specs.Lawful.{IsLawful, book_after}
+use Rattle.qs_record.specs.declared.record.Record.{Record}
+use Rattle.qs_step.specs.State.{NodeValue}
+use Rattle.qs_step.specs.Step.{after_step, effects_of}
+use Rattle.qs_step.specs.declared.event.Event.{Event}
+use Rattle.qs_world.specs.Histories.{book_of, opened_from}
+use Rattle.qs_world.specs.Moves.{Move, Source, Step, may_move, moved, step_with, stepped_host, stopped, taken_by}
+use Rattle.qs_world.specs.Posting.{entry_of}
+use Rattle.qs_world.specs.World.{Opening, World}
+use Rattle.qs_refine.proofs.Moving.{up_taken}
+use Rattle.qs_refine.proofs.Posted.{up_all}
+use Rattle.qs_refine.proofs.ShownBegins.{each_begun_shown}
+use Rattle.qs_refine.proofs.ShownMoves.{move_shown}
+use Rattle.qs_refine.proofs.StepAll.{node_stopped}
+use Rattle.qs_lawful.specs.Beside.{HoldsBeside, is_committed_at}
+use Rattle.qs_lawful.specs.NodeFacts.{HasNodeFacts}
+use Rattle.qs_lawful.specs.Parcels.{HoldsChannels, HoldsWays}
+use Rattle.qs_lawful.specs.Scripts.{HoldsScripts}
+use Rattle.qs_lawful.specs.WorldLaws.{StopsWell}
+use Rattle.qs_lawful.specs.Worlds.{HoldsNodeAt, HoldsWorld}
+use Rattle.qs_lawful.proofs.CoherentOpenings.{opens_soundly}
+use Rattle.qs_lawful.proofs.NumberedLogs.{opened_numbered}
+use Rattle.qs_lawful.proofs.ParcelsKept.{channels_moved}
+use Rattle.qs_every_run.specs.Agrees.{MakesStep, nodes_in}
+use Rattle.qs_every_run.specs.Joined.{ChannelsAt, FactsAt, HeldAt, HomesAt, HomesHave, HoldsRunning, Joined, RunningAt, ScriptsAt, WaysAt, book_in}
+use Rattle.qs_every_run.specs.JoinedOwed.{Owed}
+use Rattle.qs_every_run.proofs.JoinedFacts.{steps_facts}
+use Rattle.qs_every_run.proofs.JoinedHeld as held_proofs
+use Rattle.qs_every_run.proofs.JoinedHomes.{homes_after}
+use Rattle.qs_every_run.proofs.JoinedParts.{book_on, channels_later, lawful_on}
+use Rattle.qs_every_run.proofs.JoinedSteps.{step_at, step_entries, step_journal, step_lawful, step_low, step_up}
+
+-- what is known of a world that a move leads to
+pub record Known (o : Opening) (world new : World) : Type 0 where
+  pub size : new.size ≡ world.size
+  pub lawful : IsLawful (book_of o) new.journal
+  pub held : HeldAt o new
+  pub facts : FactsAt new
+  pub running : RunningAt o new
+  pub homes : HomesAt o new
+  pub channels : ChannelsAt o new
+  pub ways : WaysAt o new
+  pub scripts : ScriptsAt o new
+
+module _ (P : Opening → World → Type 0) (owed : Owed P) (o : Opening) (world : World) (j : Joined P o world) where
+  abbrev book : BookValue
+  book = book_in o world
+
+  pub then_joined : (move : Move) → may_move world move ≡ true → Known o world (moved move world) → Joined P o (moved move world)
+  then_joined move may k = record {
+    opens = j.opens;
+    size = k.size ∙ j.size;
+    lawful = k.lawful;
+    shown = move_shown world move may j.shown (each_begun_shown world move may j.shown);
+    held = k.held;
+    facts = k.facts;
+    running = k.running;
+    homes = k.homes;
+    channels = k.channels;
+    ways = k.ways;
+    scripts = k.scripts;
+    places = owed.places o world move tt j may k.lawful;
+  }
+
+  -- ---- a whole step
+
+  module _ (n stamp free : ℕ) (source : Source) (event : Event) (makes : MakesStep world n stamp source event) (may : may_move world (Step n stamp free source) ≡ true) where
+    abbrev step : Move
+    step = Step n stamp free source
+
+    abbrev new : World
+    new = moved step world
+
+    abbrev entries : List Entry
+    entries = step_entries P owed o world j n stamp free source event makes
+
+    journal : new.journal ≡ world.journal ++ entries
+    journal = step_journal P owed o world j n stamp free source event makes
+
+    lawful_then : IsLawful (book_of o) new.journal
+    lawful_then = lawful_on o world new entries journal j.lawful (step_lawful P owed o world j n stamp free source event makes)
+
+    sized : new.size ≡ world.size
+    sized = ap (λ (e : Option Event). (step_with world n stamp free source e).size) makes.comes
+
+    ups : new.channels.up ≡ world.channels.up
+    ups = ap (λ (e : Option Event). (step_with world n stamp free source e).channels.up) makes.comes
+        ∙ (up_all n stamp (effects_of (world.hosts n).node event free).messages (taken_by world n source) ∙ up_taken world n source)
+
+    runs : new.channels.up n ≡ true
+    runs = ap (λ (f : ℕ → Bool). f n) ups ∙ step_up P owed o world j n stamp free source event makes
+
+    own_then : (new.hosts n).node ≡ after_step (world.hosts n).node event free
+    own_then = ap (λ (e : Option Event). ((step_with world n stamp free source e).hosts n).node) makes.comes ∙ picked (n == n) (grind (arith, nat_tests))
+      where
+        picked : (b : Bool) → b ≡ true → (if b then stepped_host stamp (after_step (world.hosts n).node event free) (effects_of (world.hosts n).node event free) (world.hosts n) else world.hosts n).node ≡ after_step (world.hosts n).node event free
+        picked b is = rw is refl
+
+    same : (k : ℕ) → (k == n) ≡ false → (new.hosts k).node ≡ (world.hosts k).node
+    same k far = ap (λ (e : Option Event). ((step_with world n stamp free source e).hosts k).node) makes.comes ∙ picked (k == n) far
+      where
+        picked : (b : Bool) → b ≡ false → (if b then stepped_host stamp (after_step (world.hosts n).node event free) (effects_of (world.hosts n).node event free) (world.hosts n) else world.hosts k).node ≡ (world.hosts k).node
+        picked b is = rw is refl
+
+    held_then : HeldAt o new
+    held_then = subst (λ (b : BookValue). HoldsWorld b new) (sym (book_on o world new entries journal))
+        (subst (λ (w : World). HoldsWorld (book_after book entries) w) (sym (ap (step_with world n stamp free source) makes.comes)) (held_proofs.held_then P owed o world j n stamp free source event makes))
+
+    runs_then : RunningAt o new
+    runs_then k low on = subst (λ (b : BookValue). HoldsRunning b (new.hosts k).node) (sym (book_on o world new entries journal)) (by (k == n) refl)
+      where
+        by : (b : Bool) → (k == n) ≡ b → HoldsRunning (book_after book entries) (new.hosts k).node
+        by true near = subst (λ (i : ℕ). HoldsRunning (book_after book entries) (new.hosts i).node) (sym (eqb-true k n near))
+            (subst (λ (m : NodeValue). HoldsRunning (book_after book entries) m) (sym own_then) (held_proofs.own_running P owed o world j n stamp free source event makes))
+        by false far = subst (λ (m : NodeValue). HoldsRunning (book_after book entries) m) (sym (same k far))
+            (held_proofs.other_running P owed o world j n stamp free source event makes k far (subst (λ (s : ℕ). k < s) sized low) (sym (ap (λ (f : ℕ → Bool). f k) ups) ∙ on))
+
+    low_then : n < new.size
+    low_then = subst (λ (s : ℕ). n < s) (sym sized) (step_low P owed o world j n stamp free source event makes)
+
+    facts_then : FactsAt new
+    facts_then k low = by (k == n) refl
+      where
+        by : (b : Bool) → (k == n) ≡ b → HasNodeFacts (new.hosts k).node
+        by true near = subst (λ (i : ℕ). HasNodeFacts (new.hosts i).node) (sym (eqb-true k n near)) (subst HasNodeFacts (sym own_then)
+            (steps_facts o j.opens book world n stamp free j.scripts j.size (step_low P owed o world j n stamp free source event makes) (step_up P owed o world j n stamp free source event makes) (j.held.nodes n (step_low P owed o world j n stamp free source event makes)).run
+            source event makes.comes (j.facts n (step_low P owed o world j n stamp free source event makes))))
+        by false far = subst HasNodeFacts (sym (same k far)) (j.facts k (subst (λ (s : ℕ). k < s) sized low))
+
+    homes_then : HomesAt o new
+    homes_then = subst (λ (size : ℕ). HomesHave (book_in o new) size (nodes_in new)) (sym sized)
+        (subst (λ (b : BookValue). HomesHave b world.size (nodes_in new)) (sym (book_on o world new entries journal))
+        (homes_after book world.size (nodes_in world) (nodes_in new) n stamp (effects_of (world.hosts n).node event free).entries (step_at P owed o world j n stamp free source event makes) (held_then.nodes n low_then).node same
+        (step_lawful P owed o world j n stamp free source event makes)
+        (subst (λ (b : BookValue). HoldsBeside b (new.hosts n).node) (book_on o world new entries journal) (runs_then n low_then runs).beside) j.homes))
+
+    pub step_joined : Joined P o new
+    step_joined = then_joined step may (record {
+      size = sized;
+      lawful = lawful_then;
+      held = held_then;
+      facts = facts_then;
+      running = runs_then;
+      homes = homes_then;
+      channels = subst (λ (b : BookValue). HoldsChannels b new.size new.channels) (sym (book_on o world new entries journal))
+          (subst (λ (w : World). HoldsChannels (book_after book entries) w.size w.channels) (sym (ap (step_with world n stamp free source) makes.comes)) (held_proofs.channels_then P owed o world j n stamp free source event makes));
+      ways = owed.steps_ways o world step tt j may lawful_then;
+      scripts = owed.steps_scripts o world step tt j may lawful_then;
+    })
+
+  -- ---- a crash, whatever it leaves in the log
+
+  module _ (n stamp : ℕ) (cause : CrashCause) (log : List Record) (move : Move) (may : may_move world move ≡ true) (is : moved move world ≡ stopped world n stamp cause log) (well : StopsWell book (moved move world) n stamp cause) where
+    abbrev after : World
+    after = stopped world n stamp cause log
+
+    crashed : StopsWell book after n stamp cause
+    crashed = subst (λ (w : World). StopsWell book w n stamp cause) is well
+
+    abbrev entry : Entry
+    entry = entry_of n stamp (acts.Crash cause)
+
+    crash_lawful : IsLawful (book_of o) after.journal
+    crash_lawful = lawful_on o world after (entry ∷ []) refl j.lawful crashed.lawful
+
+    crash_homes : HomesAt o after
+    crash_homes tid tx found committed in_run = subst (λ (node : NodeValue). is_committed_at node tid ≡ true) (sym (node_stopped world n stamp cause log tid.home.0))
+        (j.homes tid tx (ap (λ (b : BookValue). find_transaction b tid) (sym (book_on o world after (entry ∷ []) refl)) ∙ found) committed in_run)
+
+    -- of the others that run
+    crash_running : RunningAt o after
+    crash_running k low on = by (k == n) refl on
+      where
+        by : (b : Bool) → (k == n) ≡ b → (if b then false else world.channels.up k) ≡ true → HoldsRunning (book_in o after) (after.hosts k).node
+        by true near off = absurd (cc off)
+        by false far runs = subst (λ (m : NodeValue). HoldsRunning (book_in o after) m) (sym (node_stopped world n stamp cause log k)) (record {
+          beside = owed.others_beside (opened_from o 0 o.size) world.journal (entry ∷ []) (opens_soundly o j.opens) (opened_numbered o 0 o.size) crash_lawful (world.hosts k).node
+              (record { far = λ at. other k n far (sym (at ∙ its.node)); of_step = tt; answers = tt }, tt) ((λ tid label client begins. absurd (cc begins)), tt)
+              (λ state there. held_proofs.runs_at book world k its runs state (subst (λ (i : ℕ). slice_get book.nodes i ≡ Some state) its.node there)) (j.running k low runs).beside;
+          numbered = (j.running k low runs).numbered;
+          young = (j.running k low runs).young;
+        })
+          where
+            its : HoldsNodeAt book world k
+            its = j.held.nodes k low
+
+            other : (a b : ℕ) → (a == b) ≡ false → a ≡ b → ⊥
+            other a b off same = let here : (a == b) ≡ true = grind (arith, nat_tests, same) in let both : true ≡ false = sym here ∙ off in cc (both)
+
+    known : Known o world after
+    known = record {
+      size = refl;
+      lawful = crash_lawful;
+      held = subst (λ (b : BookValue). HoldsWorld b after) (sym (book_on o world after (entry ∷ []) refl)) crashed.holds;
+      facts = λ k low. subst HasNodeFacts (sym (node_stopped world n stamp cause log k)) (j.facts k low);
+      running = crash_running;
+      homes = crash_homes;
+      channels = channels_later o world after (entry ∷ []) j.opens refl crash_lawful world.size after.channels (channels_moved book world.size (channel.Crash n) world.channels tt j.channels);
+      ways = subst (λ (b : BookValue). HoldsWays b after) (sym (book_on o world after (entry ∷ []) refl)) (owed.crashes_ways book world n stamp cause log j.ways);
+      scripts = subst (λ (b : BookValue). HoldsScripts o b after) (sym (book_on o world after (entry ∷ []) refl)) (owed.crashes_scripts o book world n stamp cause log j.scripts);
+    }
+
+    pub crash_joined : Joined P o (moved move world)
+    crash_joined = then_joined move may (subst (λ (w : World). Known o world w) (sym is) known)

@@ -1,0 +1,83 @@
+-- What the reference machine, the agreement machine and the nodes have together of a world that a run leads to.
+use Rattle.std.specs.Prelude.{◌≡◌, ℕ, ◌<◌, true, length, Some, nat_lt}
+use Rattle.qs_base.specs.declared.identifiers.Tid.{Tid}
+use Rattle.qs_engage.specs.Nodes.{listed}
+use Rattle.qs_machine.specs.Book.{BookValue, find_transaction}
+use Rattle.qs_machine.specs.Lawful.{IsLawful, book_after}
+use Rattle.qs_machine.specs.Transaction.{TransactionValue, is_commit}
+use Rattle.qs_step.specs.State.{NodeValue}
+use Rattle.qs_tm.specs.Manager as tm
+use Rattle.qs_tm.specs.declared.participant.Participant.{Participant}
+use Rattle.qs_world.specs.Histories.{book_of}
+use Rattle.qs_world.specs.Openings.{IsOpening}
+use Rattle.qs_world.specs.World.{Opening, World}
+use Rattle.qs_refine.specs.Sound.{is_sound}
+use Rattle.qs_refine.specs.ShownWorlds.{IsShownWorld}
+use Rattle.qs_lawful.specs.Beside.{HoldsBeside, is_committed_at}
+use Rattle.qs_lawful.specs.NodeFacts.{AreApart, AreYoung, HasNodeFacts, HasSoundFacts}
+use Rattle.qs_lawful.specs.Parcels.{HoldsChannels, HoldsWays}
+use Rattle.qs_lawful.specs.Scripts.{HoldsScripts}
+use Rattle.qs_lawful.specs.Worlds.{HoldsWorld}
+use Rattle.qs_every_run.specs.Agrees.{nodes_in}
+
+-- the machine after what the world's journal has
+abbrev pub book_in : Opening → World → BookValue
+book_in o world = book_after (book_of o) world.journal
+
+-- ---- the parts of it that are said of a world alone
+
+abbrev pub HeldAt : Opening → World → Type 0
+HeldAt o world = HoldsWorld (book_in o world) world
+
+-- what holds of each node by itself, whether it runs or not
+abbrev pub FactsAt : World → Type 0
+FactsAt world = (n : ℕ) → n < world.size → HasNodeFacts (world.hosts n).node
+
+-- what does not follow from the invariant of one node (qs_refine's is_sound): a told set lacks a node of the run, and no two requests wait under one number
+pub record IsNumberedNode (node : NodeValue) : Type 0 where
+  pub told : (tid : Tid) (part : Participant) → tm.part_of tid node.manager ≡ Some part → length (listed part.told) < node.setting.nodes
+  pub apart : (tid : Tid) (part : Participant) → tm.part_of tid node.manager ≡ Some part → AreApart part.waiting
+
+abbrev pub SoundHasFacts : Type 0
+SoundHasFacts = (node : NodeValue) → is_sound node ≡ true → IsNumberedNode node → HasSoundFacts node
+
+-- a node that runs: what the machine has beside it, and the rest of what holds of it by itself
+pub record HoldsRunning (book : BookValue) (node : NodeValue) : Type 0 where
+  pub beside : HoldsBeside book node
+  pub numbered : IsNumberedNode node
+  pub young : AreYoung node
+
+abbrev pub RunningAt : Opening → World → Type 0
+RunningAt o world = (n : ℕ) → n < world.size → world.channels.up n ≡ true → HoldsRunning (book_in o world) (world.hosts n).node
+
+-- what the machine has committed, its home has, whether it runs or not
+abbrev pub HomesHave : BookValue → ℕ → (ℕ → NodeValue) → Type 0
+HomesHave book size nodes = (tid : Tid) (tx : TransactionValue) → find_transaction book tid ≡ Some tx → is_commit tx.cell ≡ true → nat_lt tid.home.0 size ≡ true → is_committed_at (nodes tid.home.0) tid ≡ true
+
+abbrev pub HomesAt : Opening → World → Type 0
+HomesAt o world = HomesHave (book_in o world) world.size (nodes_in world)
+
+abbrev pub ChannelsAt : Opening → World → Type 0
+ChannelsAt o world = HoldsChannels (book_in o world) world.size world.channels
+
+abbrev pub WaysAt : Opening → World → Type 0
+WaysAt o world = HoldsWays (book_in o world) world
+
+abbrev pub ScriptsAt : Opening → World → Type 0
+ScriptsAt o world = HoldsScripts o (book_in o world) world
+
+-- ---- all of it; P is what all places hold of each transaction
+
+pub record Joined (P : Opening → World → Type 0) (o : Opening) (world : World) : Type 0 where
+  pub opens : IsOpening o
+  pub size : world.size ≡ o.size
+  pub lawful : IsLawful (book_of o) world.journal
+  pub shown : IsShownWorld world
+  pub held : HeldAt o world
+  pub facts : FactsAt world
+  pub running : RunningAt o world
+  pub homes : HomesAt o world
+  pub channels : ChannelsAt o world
+  pub ways : WaysAt o world
+  pub scripts : ScriptsAt o world
+  pub places : P o world

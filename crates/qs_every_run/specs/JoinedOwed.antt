@@ -1,0 +1,225 @@
+-- What is still to be shown so that every run is lawful: each is a law of its own, of a run's beginning, of what a step is given, or of what a move keeps.
+use Rattle.std.specs.Prelude.{◌≡◌, ℕ, ◌≤◌, ◌<◌, ◌==◌, ◌++◌, ⊤, true, false, List, [], ◌∷◌, None, Some, is_some, slice_get}
+use Rattle.qs_base.specs.declared.identifiers.ClientNo.{ClientNo}
+use Rattle.qs_base.specs.declared.identifiers.Tid.{Tid}
+use Rattle.qs_channels.specs.Channels.{Channels}
+use Rattle.qs_engage.specs.Engage.{peer_of}
+use Rattle.qs_journal.specs.declared.entry.Act.{Act}
+use Rattle.qs_journal.specs.declared.entry.Act.TheVariants as acts
+use Rattle.qs_journal.specs.declared.entry.CrashCause.{CrashCause}
+use Rattle.qs_journal.specs.declared.entry.Entry.{Entry}
+use Rattle.qs_machine.specs.Book.{BookValue}
+use Rattle.qs_laws.specs.Laws.{IsCoherent}
+use Rattle.qs_machine.specs.Lawful.{IsLawful, book_after}
+use Rattle.qs_machine.specs.Nodes as machine
+use Rattle.qs_machine.specs.Opening.{opening}
+use Rattle.qs_machine.specs.declared.opened.Opened.{Opened}
+use Rattle.qs_packet.specs.declared.message.Message.TheVariants as messages
+use Rattle.qs_record.specs.declared.record.Record.{Record}
+use Rattle.qs_restart.specs.Recovery.{recovery}
+use Rattle.qs_step.specs.Opening.{recovered_of}
+use Rattle.qs_step.specs.Settling.{due_tids, is_quiet, may_answer, pass_rule, settle_tid, try}
+use Rattle.qs_step.specs.State.{NodeValue, Work, doings_of}
+use Rattle.qs_step.specs.Step.{after_step, effects_of}
+use Rattle.qs_step.specs.declared.event.Event.{Event}
+use Rattle.qs_step.specs.declared.event.Event.TheVariants as events
+use Rattle.qs_tm.specs.Manager as tm
+use Rattle.qs_tm.specs.Participant.{is_undecided}
+use Rattle.qs_tm.specs.declared.participant.Participant.{Participant}
+use Rattle.qs_world.specs.Histories.{book_of}
+use Rattle.qs_world.specs.Moves.{Cut, Meet, Move, Rise, Source, Step, log_after, may_move, moved, reopened, stopped, waiting_after}
+use Rattle.qs_world.specs.Openings.{IsOpening}
+use Rattle.qs_world.specs.Posting.{entries_of, entry_of, post_all}
+use Rattle.qs_world.specs.World.{Opening, Parcel, World, inc_of, start}
+use Rattle.qs_refine.specs.MoveLaws.{IsSeated}
+use Rattle.qs_lawful.specs.Agreed.{IsSettledAll, StepAgrees}
+use Rattle.qs_lawful.specs.Aside.{AnswersElsewhere, HoldsIssued, IsAside, IsOfStep, KeepsUnanimous}
+use Rattle.qs_lawful.specs.Beside.{HoldsBeside}
+use Rattle.qs_lawful.specs.Entering.{book_at}
+use Rattle.qs_lawful.specs.Given.{AtEach}
+use Rattle.qs_lawful.specs.GivenStep.{MayStep, done_work, first_work}
+use Rattle.qs_lawful.specs.Lasting.{Lasts}
+use Rattle.qs_lawful.specs.LastingLaws.{IsNumbered}
+use Rattle.qs_lawful.specs.Logs.{Every}
+use Rattle.qs_lawful.specs.Parcels.{HoldsChannels, HoldsWays}
+use Rattle.qs_lawful.specs.Said.{HoldsSaid}
+use Rattle.qs_lawful.specs.Scripts.{HoldsScripts}
+use Rattle.qs_lawful.specs.WorldLaws.{StopsWell, rise_entry}
+use Rattle.qs_lawful.specs.Worlds.{HoldsKept, HoldsWorld}
+use Rattle.qs_every_run.specs.Agrees.{MakesStep, nodes_in}
+use Rattle.qs_every_run.specs.Joined.{HeldAt, HoldsRunning, Joined, RunningAt, ScriptsAt, WaysAt, book_in}
+
+-- ---- as a run begins
+
+abbrev pub Opens : (Opening → World → Type 0) → Type 0
+Opens X = (o : Opening) → IsOpening o → X o (start o)
+
+-- ---- a step
+
+-- where a home commits, all places are settled
+abbrev pub CommitsSettled : ℕ → BookValue → Work → Tid → Type 0
+CommitsSettled stamp before work tid = (part : Participant) → tm.part_of tid (try tid pass_rule work).node.manager ≡ Some part → part.outcome ≡ None → part.engage.home ≡ true → may_answer tid part (try tid pass_rule work) ≡ true
+    → is_quiet (doings_of tid (try tid pass_rule work)) ≡ true → IsSettledAll (book_at stamp before (try tid pass_rule work)) tid
+
+abbrev pub EachCommitsSettled : (Opening → World → Type 0) → Type 0
+EachCommitsSettled P = (o : Opening) (world : World) (n stamp free : ℕ) (source : Source) (event : Event) → Joined P o world → MakesStep world n stamp source event
+    → AtEach (CommitsSettled stamp (book_in o world)) settle_tid (done_work (world.hosts n).node event free) (due_tids (done_work (world.hosts n).node event free))
+
+-- what answers for requests of what is decided here answers for some that were sent; it counts for nothing then
+abbrev pub AnswersLate : Event → Work → Type 0
+AnswersLate (events.Received peer (messages.Covered tid up_to)) work = (part : Participant) → tm.part_of tid work.node.manager ≡ Some part → is_undecided part ≡ false → up_to ≤ (peer_of part.engage peer).sent
+AnswersLate (events.Received peer (messages.VotedYes tid up_to told)) work = (part : Participant) → tm.part_of tid work.node.manager ≡ Some part → is_undecided part ≡ false → up_to ≤ (peer_of part.engage peer).sent
+AnswersLate event work = ⊤
+
+abbrev pub EachAnswersLate : (Opening → World → Type 0) → Type 0
+EachAnswersLate P = (o : Opening) (world : World) (n stamp free : ℕ) (source : Source) (event : Event) → Joined P o world → MakesStep world n stamp source event → AnswersLate event (first_work (world.hosts n).node free)
+
+-- from what the protocol gives, a step is given all that it needs
+abbrev pub EachGiven : (Opening → World → Type 0) → Type 0
+EachGiven P = (o : Opening) (world : World) (n stamp free : ℕ) (source : Source) (event : Event) → Joined P o world → MakesStep world n stamp source event
+    → StepAgrees stamp (book_in o world) world.size (nodes_in world) n (world.hosts n).node event free → MayStep stamp (book_in o world) (world.hosts n).node event free
+
+-- a step that is cut off and whose batch is kept, as where it is lost
+abbrev pub EachKeepsItsBatch : (Opening → World → Type 0) → Type 0
+EachKeepsItsBatch P = (o : Opening) (world : World) (n stamp free : ℕ) (source : Source) (cause : CrashCause) → Joined P o world → may_move world (Cut n stamp free source true cause) ≡ true
+    → StopsWell (book_in o world) (moved (Cut n stamp free source true cause) world) n stamp cause
+
+-- ---- a whole step: the world that the machine has after it
+
+abbrev pub entries_in : World → ℕ → ℕ → ℕ → Event → List Entry
+entries_in world n stamp free event = entries_of n stamp (effects_of (world.hosts n).node event free).entries
+
+-- the machine after it
+abbrev pub book_then : Opening → World → ℕ → ℕ → ℕ → Event → BookValue
+book_then o world n stamp free event = book_after (book_in o world) (entries_in world n stamp free event)
+
+abbrev pub AfterStep : (Opening → World → Type 0) → (Opening → World → ℕ → ℕ → ℕ → Event → Type 0) → Type 0
+AfterStep P X = (o : Opening) (world : World) (n stamp free : ℕ) (source : Source) (event : Event) → Joined P o world → MakesStep world n stamp source event → IsLawful (book_in o world) (entries_in world n stamp free event) → X o world n stamp free event
+
+-- what is kept for the clients of its node
+abbrev pub KeptThen : Opening → World → ℕ → ℕ → ℕ → Event → Type 0
+KeptThen o world n stamp free event = HoldsKept (after_step (world.hosts n).node event free).setting.node (inc_of world n) (book_then o world n stamp free event) (after_step (world.hosts n).node event free).kept.saved
+
+-- what its log says of contents and changes, with the records that wait and on the disk
+abbrev pub SaidThen : Opening → World → ℕ → ℕ → ℕ → Event → Type 0
+SaidThen o world n stamp free event = (state : machine.NodeValue) → slice_get (book_then o world n stamp free event).nodes n ≡ Some state
+    → HoldsSaid n (book_then o world n stamp free event) state (recovery (log_after (world.hosts n) (effects_of (world.hosts n).node event free) ++ waiting_after (world.hosts n) (effects_of (world.hosts n).node event free)))
+    × HoldsSaid n (book_then o world n stamp free event) state (recovery (log_after (world.hosts n) (effects_of (world.hosts n).node event free)))
+
+-- it enters no restart, and answers no client that has a command in hand at another node
+abbrev pub EntersAside : Opening → World → ℕ → ℕ → ℕ → Event → Type 0
+EntersAside o world n stamp free event = (k : ℕ) → (k == n) ≡ false → k < world.size → Every (λ (act : Act). IsOfStep act × AnswersElsewhere (world.hosts k).node act) (effects_of (world.hosts n).node event free).entries
+
+-- what begins has an owner
+abbrev pub HasOwner : BookValue → Act → Type 0
+HasOwner book act = (tid : Tid) (label : List ℕ) (client : ClientNo) → act ≡ acts.Begin tid label client → is_some (slice_get book.owners client.0) ≡ true
+
+abbrev pub BeginsOwned : Opening → World → ℕ → ℕ → ℕ → Event → Type 0
+BeginsOwned o world n stamp free event = Every (HasOwner (book_in o world)) (effects_of (world.hosts n).node event free).entries
+
+-- what is said of its own node
+abbrev pub RunningThen : Opening → World → ℕ → ℕ → ℕ → Event → Type 0
+RunningThen o world n stamp free event = HoldsRunning (book_then o world n stamp free event) (after_step (world.hosts n).node event free)
+
+-- what it sends is so, and goes between two nodes of the run
+abbrev pub SentThen : Opening → World → ℕ → ℕ → ℕ → Event → Type 0
+SentThen o world n stamp free event = (c : Channels Parcel) → HoldsChannels (book_in o world) world.size c → HoldsChannels (book_then o world n stamp free event) world.size (post_all n stamp (effects_of (world.hosts n).node event free).messages c)
+
+-- what is unanimous, and open at a home that is down, stays unanimous
+abbrev pub StaysUnanimousThen : Opening → World → ℕ → ℕ → ℕ → Event → Type 0
+StaysUnanimousThen o world n stamp free event = (k : ℕ) → (k == n) ≡ false → k < world.size → world.channels.up k ≡ false → KeepsUnanimous k (book_in o world) (entries_in world n stamp free event)
+
+-- each note that files issued is noted or waited for
+abbrev pub BesideHoldsIssued : Type 0
+BesideHoldsIssued = (book : BookValue) (node : NodeValue) → HoldsBeside book node → HoldsIssued book node
+
+-- what entries of one node in steps leave of what the machine has beside another that runs
+abbrev pub OthersBeside : Type 0
+OthersBeside = (opened : List Opened) (history more : List Entry) → IsCoherent opened → Every IsNumbered opened → IsLawful (opening opened) (history ++ more)
+    → (node : NodeValue) → Every (IsAside node.setting.node.0 node) more → Every (λ (entry : Entry). HasOwner (book_after (opening opened) history) entry.act) more
+    → ((state : machine.NodeValue) → slice_get (book_after (opening opened) history).nodes node.setting.node.0 ≡ Some state → state.up ≡ true)
+    → HoldsBeside (book_after (opening opened) history) node → HoldsBeside (book_after (opening opened) (history ++ more)) node
+
+-- ---- moves whose entries are lawful, by kind
+
+abbrev pub IsStep : Move → Type 0
+IsStep (Step n stamp free source) = ⊤
+IsStep move = ⊥
+
+abbrev pub Keeps : (Opening → World → Type 0) → (Move → Type 0) → (Opening → World → Type 0) → Type 0
+Keeps P kind X = (o : Opening) (world : World) (move : Move) → kind move → Joined P o world → may_move world move ≡ true → IsLawful (book_of o) (moved move world).journal → X o (moved move world)
+
+-- ---- scripts, and what is on its way, through what is no step: over any world
+
+abbrev pub crash_entry : ℕ → ℕ → CrashCause → Entry
+crash_entry n stamp cause = entry_of n stamp (acts.Crash cause)
+
+abbrev pub CrashKeepsScripts : Type 0
+CrashKeepsScripts = (o : Opening) (book : BookValue) (world : World) (n stamp : ℕ) (cause : CrashCause) (log : List Record) → HoldsScripts o book world
+    → HoldsScripts o (book_after book (crash_entry n stamp cause ∷ [])) (stopped world n stamp cause log)
+
+abbrev pub CrashKeepsWays : Type 0
+CrashKeepsWays = (book : BookValue) (world : World) (n stamp : ℕ) (cause : CrashCause) (log : List Record) → HoldsWays book world → HoldsWays (book_after book (crash_entry n stamp cause ∷ [])) (stopped world n stamp cause log)
+
+abbrev pub RiseKeepsScripts : Type 0
+RiseKeepsScripts = (o : Opening) (book : BookValue) (world : World) (n stamp inc : ℕ) → Lasts book → HoldsWorld book world → may_move world (Rise n stamp inc) ≡ true → HoldsScripts o book world
+    → HoldsScripts o (book_after book (rise_entry world n stamp inc ∷ [])) (moved (Rise n stamp inc) world)
+
+abbrev pub RiseKeepsWays : Type 0
+RiseKeepsWays = (book : BookValue) (world : World) (n stamp inc : ℕ) → Lasts book → HoldsWorld book world → IsSeated world → may_move world (Rise n stamp inc) ≡ true → HoldsWays book world
+    → HoldsWays (book_after book (rise_entry world n stamp inc ∷ [])) (moved (Rise n stamp inc) world)
+
+abbrev pub MeetKeepsWays : Type 0
+MeetKeepsWays = (book : BookValue) (world : World) (n stamp m inc : ℕ) → HoldsChannels book world.size world.channels → IsSeated world → may_move world (Meet n stamp m inc) ≡ true → HoldsWays book world
+    → HoldsWays book (moved (Meet n stamp m inc) world)
+
+-- ---- what is said of nodes that run, after a restart of one: of that one, and of the others
+
+abbrev pub rise_book : Opening → World → ℕ → ℕ → ℕ → BookValue
+rise_book o world n stamp inc = book_after (book_in o world) (rise_entry world n stamp inc ∷ [])
+
+abbrev pub EachRisesRunning : (Opening → World → Type 0) → Type 0
+EachRisesRunning P = (o : Opening) (world : World) (n stamp inc : ℕ) → Joined P o world → may_move world (Rise n stamp inc) ≡ true → HoldsRunning (rise_book o world n stamp inc) (reopened inc (recovered_of (world.hosts n).log) (world.hosts n).node)
+
+abbrev pub RiseKeepsBeside : Type 0
+RiseKeepsBeside = (book : BookValue) (world : World) (n stamp inc : ℕ) → Lasts book → HoldsWorld book world → may_move world (Rise n stamp inc) ≡ true
+    → (k : ℕ) → (k == n) ≡ false → k < world.size → world.channels.up k ≡ true → HoldsBeside book (world.hosts k).node → HoldsBeside (book_after book (rise_entry world n stamp inc ∷ [])) (world.hosts k).node
+
+-- ---- all that is owed
+
+pub record Owed (P : Opening → World → Type 0) : Type 0 where
+  -- as a run begins
+  pub opens_held : Opens HeldAt
+  pub opens_running : Opens RunningAt
+  pub opens_ways : Opens WaysAt
+  pub opens_scripts : Opens ScriptsAt
+  pub opens_places : Opens P
+  -- what a step is given
+  pub commits : EachCommitsSettled P
+  pub answers : EachAnswersLate P
+  pub given : EachGiven P
+  -- after a whole step
+  pub issued : BesideHoldsIssued
+  pub steps_kept : AfterStep P KeptThen
+  pub steps_said : AfterStep P SaidThen
+  pub steps_aside : AfterStep P EntersAside
+  pub steps_unanimous : AfterStep P StaysUnanimousThen
+  pub steps_owned : AfterStep P BeginsOwned
+  pub steps_running : AfterStep P RunningThen
+  pub steps_sent : AfterStep P SentThen
+  pub others_beside : OthersBeside
+  pub steps_ways : Keeps P IsStep WaysAt
+  pub steps_scripts : Keeps P IsStep ScriptsAt
+  -- after a crash
+  pub keeps_its_batch : EachKeepsItsBatch P
+  pub crashes_ways : CrashKeepsWays
+  pub crashes_scripts : CrashKeepsScripts
+  -- after a restart
+  pub rises_running : EachRisesRunning P
+  pub rises_beside : RiseKeepsBeside
+  pub rises_ways : RiseKeepsWays
+  pub rises_scripts : RiseKeepsScripts
+  -- after a first meeting
+  pub meets_ways : MeetKeepsWays
+  -- what all places hold of each transaction
+  pub places : Keeps P (λ (move : Move). ⊤) P

@@ -1,0 +1,12 @@
+//! Every run of the world of nodes is lawful, as far as it is owed.
+ghost use Rattle.qs_every_run.specs.JoinedPlaces.{PlacesAt};
+ghost use Rattle.qs_every_run.specs.JoinedRuns.{EachMoveJoined, EachOpensJoined, EachRunJoined, EachRunLawful};
+
+/// From what is still to be shown, which stands in one record: all that the machines and the nodes have together stands as a run begins, over
+/// old logs too that a restart can take up, and after each move; so each run's history is lawful.
+pub fn runs_are_lawful()
+    ensures opens { EachOpensJoined PlacesAt }
+    ensures moves { EachMoveJoined PlacesAt }
+    ensures runs { EachRunJoined PlacesAt }
+    ensures lawful { EachRunLawful PlacesAt }
+{}
