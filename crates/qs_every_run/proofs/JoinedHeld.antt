@@ -8,7 +8,7 @@ use Rattle.qs_journal.specs.declared.entry.Act.{Act}
 use Rattle.qs_journal.specs.declared.entry.Entry.{Entry}
 use Rattle.qs_laws.proofs.InRun.{ran_run}
 use Rattle.qs_laws.proofs.Steps.{after_both}
-use Rattle.qs_machine.specs.Book.{BookValue}
+use Rattle.qs_machine.specs.Book.{BookValue, inc_at}
 use Rattle.qs_machine.specs.Lawful.{IsLawful, book_after}
 use Rattle.qs_machine.specs.Nodes as machine
 use Rattle.qs_packet.specs.declared.message.Message.{Message}
@@ -44,6 +44,7 @@ use Rattle.qs_lawful.proofs.StopsWhole.{back_by, next_by}
 use Rattle.qs_every_run.specs.Agrees.{MakesStep}
 use Rattle.qs_every_run.specs.Joined.{HoldsRunning, Joined, book_in}
 use Rattle.qs_every_run.specs.JoinedOwed.{HasOwner, Owed, book_then, entries_in}
+use Rattle.qs_every_run.proofs.JoinedActs.{no_restart}
 use Rattle.qs_every_run.proofs.JoinedParts.{lawful_both}
 use Rattle.qs_every_run.proofs.JoinedSteps.{step_holds, step_lawful, step_low, step_up}
 
@@ -54,6 +55,10 @@ all_aside k n stamp node (act ∷ acts) far all = (record { far = λ same. other
   where
     other : (a b : ℕ) → (a == b) ≡ false → b ≡ a → ⊥
     other a b off same = let on : (a == b) ≡ true = grind (arith, nat_tests, same) in let both : true ≡ false = sym on ∙ off in cc (both)
+
+both_of : (Q R : Act → Type 0) (acts : List Act) → Every Q acts → Every R acts → Every (λ (act : Act). Q act × R act) acts
+both_of Q R [] q r = tt
+both_of Q R (act ∷ acts) q r = ((q.0, r.0), both_of Q R acts q.1 r.1)
 
 all_entries : (Q : Act → Type 0) (n stamp : ℕ) (acts : List Act) → Every Q acts → Every (λ (entry : Entry). Q entry.act) (entries_of n stamp acts)
 all_entries Q n stamp [] all = tt
@@ -188,10 +193,20 @@ module _ (P : Opening → World → Type 0) (owed : Owed P) (o : Opening) (world
 
   -- ---- the others
 
+  of_steps : Every IsOfStep (effects_of node event free).entries
+  of_steps = no_restart n stamp (effects_of node event free).entries old lawful (inc_of_node now held.state (subst (λ (k : ℕ). slice_get now.nodes k ≡ Some held.state) node_is held.there)
+      ∙ (held.same.inc ∙ (ap (λ (s : Setting). s.inc) setting_is ∙ (j.shown.steady.seated.inc n low ∙ (sym at.inc_is ∙ sym (inc_of_node old at.state at.there))))))
+    where
+      inc_of_node : (b : BookValue) (state : machine.NodeValue) → slice_get b.nodes n ≡ Some state → inc_at b (record { 0 = n }) ≡ state.inc
+      inc_of_node b state there = ap (λ (o : Option machine.NodeValue). elim o [ None ↦ 0 | Some s ↦ s.inc ]) there
+
+  asides : (k : ℕ) → (k == n) ≡ false → k < world.size → Every (IsAside k (world.hosts k).node) entries
+  asides k far k_low = all_aside k n stamp (world.hosts k).node (effects_of node event free).entries far (both_of IsOfStep (AnswersElsewhere (world.hosts k).node) (effects_of node event free).entries of_steps (owed.steps_answers o world n stamp free source event j makes lawful k far k_low))
+
   other : (k : ℕ) → (k == n) ≡ false → k < world.size → HoldsNodeOf now world.size k (inc_of world k) (world.channels.up k) (world.hosts k)
   other k far k_low = subst (λ (b : BookValue). HoldsNodeOf b world.size k (inc_of world k) (world.channels.up k) (world.hosts k)) (after_both world.journal entries (book_of o))
       (keeps_others (opened_from o 0 o.size) world.journal entries (opens_soundly o j.opens) (opened_numbered o 0 o.size) whole world.size k (inc_of world k) (world.channels.up k) (world.hosts k)
-      (all_aside k n stamp (world.hosts k).node (effects_of node event free).entries far (owed.steps_aside o world n stamp free source event j makes lawful k far k_low))
+      (asides k far k_low)
       (λ off. owed.steps_unanimous o world n stamp free source event j makes lawful k far k_low off)
       (record { node = j.held.nodes k k_low; issued = λ on. owed.issued old (world.hosts k).node (j.running k k_low on).beside })).node
 
@@ -204,7 +219,7 @@ module _ (P : Opening → World → Type 0) (owed : Owed P) (o : Opening) (world
   other_running k far k_low on = record {
     beside = subst (λ (b : BookValue). HoldsBeside b (world.hosts k).node) (after_both world.journal entries (book_of o))
         (owed.others_beside (opened_from o 0 o.size) world.journal entries (opens_soundly o j.opens) (opened_numbered o 0 o.size) whole (world.hosts k).node
-        (subst (λ (i : ℕ). Every (IsAside i (world.hosts k).node) entries) (sym its.node) (all_aside k n stamp (world.hosts k).node (effects_of node event free).entries far (owed.steps_aside o world n stamp free source event j makes lawful k far k_low)))
+        (subst (λ (i : ℕ). Every (IsAside i (world.hosts k).node) entries) (sym its.node) (asides k far k_low))
         (all_entries (HasOwner old) n stamp (effects_of node event free).entries (owed.steps_owned o world n stamp free source event j makes lawful))
         (λ state there. runs_at old world k its on state (subst (λ (i : ℕ). slice_get old.nodes i ≡ Some state) its.node there)) (j.running k k_low on).beside);
     numbered = (j.running k k_low on).numbered;

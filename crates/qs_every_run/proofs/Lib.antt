@@ -17,6 +17,7 @@ pub mod JoinedFacts
 pub mod JoinedHomes
 pub mod JoinedSteps
 pub mod JoinedSound
+pub mod JoinedActs
 pub mod JoinedHeld
 pub mod JoinedAfter
 pub mod JoinedMoves

@@ -33,7 +33,7 @@ use Rattle.qs_world.specs.Posting.{entries_of, entry_of, post_all}
 use Rattle.qs_world.specs.World.{Opening, Parcel, World, inc_of, start}
 use Rattle.qs_refine.specs.MoveLaws.{IsSeated}
 use Rattle.qs_lawful.specs.Agreed.{IsSettledAll, StepAgrees}
-use Rattle.qs_lawful.specs.Aside.{AnswersElsewhere, HoldsIssued, IsAside, IsOfStep, KeepsUnanimous}
+use Rattle.qs_lawful.specs.Aside.{AnswersElsewhere, HoldsIssued, IsAside, KeepsUnanimous}
 use Rattle.qs_lawful.specs.Beside.{HoldsBeside}
 use Rattle.qs_lawful.specs.Entering.{book_at}
 use Rattle.qs_lawful.specs.Given.{AtEach}
@@ -106,9 +106,9 @@ SaidThen o world n stamp free event = (state : machine.NodeValue) → slice_get 
     → HoldsSaid n (book_then o world n stamp free event) state (recovery (log_after (world.hosts n) (effects_of (world.hosts n).node event free) ++ waiting_after (world.hosts n) (effects_of (world.hosts n).node event free)))
     × HoldsSaid n (book_then o world n stamp free event) state (recovery (log_after (world.hosts n) (effects_of (world.hosts n).node event free)))
 
--- it enters no restart, and answers no client that has a command in hand at another node
-abbrev pub EntersAside : Opening → World → ℕ → ℕ → ℕ → Event → Type 0
-EntersAside o world n stamp free event = (k : ℕ) → (k == n) ≡ false → k < world.size → Every (λ (act : Act). IsOfStep act × AnswersElsewhere (world.hosts k).node act) (effects_of (world.hosts n).node event free).entries
+-- it answers no client that has a command in hand at another node
+abbrev pub AnswersAside : Opening → World → ℕ → ℕ → ℕ → Event → Type 0
+AnswersAside o world n stamp free event = (k : ℕ) → (k == n) ≡ false → k < world.size → Every (AnswersElsewhere (world.hosts k).node) (effects_of (world.hosts n).node event free).entries
 
 -- what begins has an owner
 abbrev pub HasOwner : BookValue → Act → Type 0
@@ -202,7 +202,7 @@ pub record Owed (P : Opening → World → Type 0) : Type 0 where
   pub issued : BesideHoldsIssued
   pub steps_kept : AfterStep P KeptThen
   pub steps_said : AfterStep P SaidThen
-  pub steps_aside : AfterStep P EntersAside
+  pub steps_answers : AfterStep P AnswersAside
   pub steps_unanimous : AfterStep P StaysUnanimousThen
   pub steps_owned : AfterStep P BeginsOwned
   pub steps_running : AfterStep P RunningThen
