@@ -19,7 +19,7 @@ const SINK_BYTES: usize = 1_048_576;
 const SPARE_BYTES: u64 = 65_536;
 
 /// How many disks a run is given.
-const DISK_COUNT: u64 = 8;
+const DISK_COUNT: usize = 8;
 
 /// The first disk that the last row left, by its seed, and the other disks, which no run uses.
 #[derive(Drop)]
@@ -32,7 +32,7 @@ impl Disks {
     pub fn new(alloc: Global) -> Result<Disks, Error> {
         let mut spare = Vec::new(alloc);
         for other in 1..DISK_COUNT {
-            spare.push(made(MemDisk::new(alloc, SPARE_BYTES, other, &[]))?)?;
+            spare.push(made(MemDisk::new(alloc, SPARE_BYTES, other as u64, &[]))?)?;
         }
         Ok(Disks {
             left: BTreeMap::new(alloc),
@@ -98,6 +98,9 @@ where
     let alloc = rt.alloc();
     let words = made(with_seed(alloc, row, seed))?;
     let mut given = disks.take(alloc, row, seed)?;
+    if given.len() < DISK_COUNT {
+        bail!("a disk is missing");
+    }
     let mut source = made(MemSource::new(
         alloc,
         row.script.as_bytes(),
