@@ -29,7 +29,7 @@ use Rattle.qs_lawful.specs.Holds.{Holds}
 use Rattle.qs_lawful.specs.Parcels.{pending}
 use Rattle.qs_every_run.specs.Placed.{message_of, field_of, Placed}
 use Rattle.qs_every_run.specs.PlacedLaws.{IsFree}
-use Rattle.qs_every_run.specs.StopLaws.{IsApart, StopsPlaced, CutPlaced}
+use Rattle.qs_every_run.specs.StopLaws.{IsApart, StopsPlaced, CutPlaced, StopHolds, CutHolds}
 use Rattle.qs_every_run.proofs.CommitsPlaced.{idle_free, none_decided}
 use Rattle.qs_every_run.proofs.StoppedFields.{placed_then}
 
@@ -154,3 +154,11 @@ cut_placed tid book tx world n stamp cause log w goes is all n_in on found undec
     by : IsDoomed goes.goes.next ⊎ (goes.goes.next.cell ≡ Committed) → IsDoomed goes.goes.next ⊎ Placed tid tx (field_of (stopped world n stamp cause log))
     by (inl doomed) = inl doomed
     by (inr committed) = of_cell w.cell refl committed
+
+-- ---- the reference machine keeps of each transaction what it had
+
+pub stop_holds : StopHolds
+stop_holds tid book world n stamp cause log w goes is all n_in on next h places tx found undecided = stops_placed tid book tx world n stamp cause log w goes is all n_in on found undecided next h (places tx found undecided)
+
+pub cut_holds : CutHolds
+cut_holds tid book world n stamp cause log w goes is all n_in on next h decides places tx found undecided = cut_placed tid book tx world n stamp cause log w goes is all n_in on found undecided next h decides (places tx found undecided)

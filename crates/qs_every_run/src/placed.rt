@@ -1,5 +1,5 @@
 //! A transaction of which all places hold what they should is unanimous as it is committed.
-ghost use Rattle.qs_every_run.specs.StopLaws.{StopsPlaced, CutPlaced};
+ghost use Rattle.qs_every_run.specs.StopLaws.{StopsPlaced, CutPlaced, StopHolds, CutHolds};
 ghost use Rattle.qs_every_run.specs.PlacedLaws.{ReadyFree, FreeAgrees, QuietUnanimous, CommittedFree, CommittedWays, CommittedKeeps, CommittedUnanimous};
 
 /// At a node that is ready no request of it waits, no loan stands and every vote covers what was served; where that is so its present lives agree. Where all nodes
@@ -24,4 +24,6 @@ pub fn commits()
 pub fn stops()
     ensures placed { StopsPlaced }
     ensures cut { CutPlaced }
+    ensures stop_holds { StopHolds }
+    ensures cut_holds { CutHolds }
 {}
