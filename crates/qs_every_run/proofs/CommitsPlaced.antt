@@ -1,10 +1,9 @@
 -- A commit that the agreement machine has decided is unanimous in the reference machine, where the transaction is so placed.
-use Rattle.std.proofs.Common.{◌≡◌, ◌⊎◌, inl, inr, ℕ, ◌+◌, ◌-◌, ◌<◌, ◌==◌, ◌&&◌, ◌||◌, not, nat_lt, Bool, true, false, List, [], ◌∷◌, ◌++◌, drop, length, map, Option, Some, None, unwrap_or, zero, suc, refl, sym, ap, subst, ◌∙◌, arith, if◌then◌else◌}
+use Rattle.std.proofs.Common.{◌≡◌, ◌⊎◌, inl, inr, ℕ, ◌+◌, ◌-◌, ◌<◌, ◌==◌, ◌&&◌, ◌||◌, not, nat_lt, Bool, true, false, List, [], ◌∷◌, ◌++◌, length, map, Option, Some, None, zero, suc, refl, sym, ap, subst, ◌∙◌, arith, if◌then◌else◌}
 use Rattle.std.proofs.lemmas.Bool.{eqb-true}
 use Rattle.std.proofs.lemmas.Bool.Decides.{nat_tests}
 use Rattle.std.specs.List.{flat_map, list_any}
 use Rattle.qs_base.specs.Order.{same_tid}
-use Rattle.qs_base.specs.declared.identifiers.NodeNo.{NodeNo}
 use Rattle.qs_base.specs.declared.identifiers.Outcome.{Outcome}
 use Rattle.qs_base.specs.declared.identifiers.Outcome.TheVariants as outcomes
 use Rattle.qs_base.specs.declared.identifiers.ServerNo.{ServerNo}
@@ -13,36 +12,33 @@ use Rattle.qs_machine.specs.Book.{BookValue, find_transaction}
 use Rattle.qs_machine.specs.Transaction.{TransactionValue, agrees, is_open, is_outcome}
 use Rattle.qs_machine.specs.declared.transaction.Cell.{Cell}
 use Rattle.qs_machine.specs.declared.transaction.Cell.TheVariants as cells
-use Rattle.qs_machine.specs.declared.transaction.Life.{Life}
-use Rattle.qs_machine.specs.declared.transaction.Part.{Part}
 use Rattle.qs_ops.specs.declared.operation.Op.{Op}
 use Rattle.qs_packet.specs.declared.message.Message.{Message}
 use Rattle.qs_packet.specs.declared.message.Message.TheVariants as messages
-use Rattle.qs_step.specs.State.{NodeValue}
+use Rattle.qs_ipc.specs.Ipc as ipc
+use Rattle.qs_engage.specs.Engage.{is_passive}
+use Rattle.qs_step.specs.Settling.{is_busy, is_lent}
+use Rattle.qs_step.specs.State.{NodeValue, doings_of}
 use Rattle.qs_tm.specs.Manager as tm
 use Rattle.qs_tm.specs.Members as rules
 use Rattle.qs_tm.specs.Members.{all_servers}
-use Rattle.qs_tm.specs.Participant.{is_due_at, member_of, needs_pass, new_participant}
+use Rattle.qs_tm.specs.Participant.{all_agree, is_due_at, is_ready, needs_pass, member_of, needs_pass, new_participant}
 use Rattle.qs_tm.specs.declared.participant.Due.TheVariants as dues
 use Rattle.qs_tm.specs.declared.participant.Participant.{Participant}
-use Rattle.qs_world.specs.World.{Parcel, World}
-use Rattle.qs_agree.specs.World as machine
-use Rattle.qs_agree.specs.World.{Committed}
+use Rattle.qs_world.specs.World.{Parcel}
 use Rattle.qs_agree.specs.Doomed.{IsDoomed}
 use Rattle.qs_refine.specs.CommitLaws.{has_request, IsIdle}
-use Rattle.qs_refine.specs.EachMove.{ShowsAll}
 use Rattle.qs_refine.specs.Links.{node_no}
 use Rattle.qs_refine.specs.Messages.{all_said}
 use Rattle.qs_refine.specs.Shows.{scene_of, sight}
-use Rattle.qs_refine.specs.ShownWorlds.{IsShownWorld}
 use Rattle.qs_refine.proofs.CommitIdles.{commit_idle, commit_clear, commit_unmet}
 use Rattle.qs_refine.proofs.ShownMoves.{steady}
-use Rattle.qs_lawful.specs.Face.{face_of, part_in, part_or_new}
+use Rattle.qs_lawful.specs.Face.{face_of, part_or_new}
 use Rattle.qs_lawful.specs.Holds.{Holds, HoldsAt, HoldsTid}
 use Rattle.qs_lawful.specs.Parcels.{is_asking_for, pending, pending_from}
 use Rattle.qs_lawful.proofs.Begins.{new_member}
-use Rattle.qs_every_run.specs.Placed.{Field, message_of, field_of, asked, IsLife, IsPresent, Placed, HoldsPlaced}
-use Rattle.qs_every_run.specs.PlacedLaws.{IsFree, IsQuiet, CommittedFree, CommittedWays, CommittedKeeps, CommittedUnanimous}
+use Rattle.qs_every_run.specs.Placed.{message_of, field_of, asked, Placed}
+use Rattle.qs_every_run.specs.PlacedLaws.{IsFree, IsQuiet, ReadyFree, CommittedFree, CommittedWays, CommittedKeeps, CommittedUnanimous}
 use Rattle.qs_every_run.proofs.FreeLives.{free_agrees}
 use Rattle.qs_every_run.proofs.Quiets.{quiet_unanimous}
 
@@ -83,6 +79,37 @@ idle_free tid node idle = record { idle = idle.waits; unlent = idle.lent; covers
     by None none server low two = ap (λ (o : Option Participant). rules.is_covering (member_of (part_or_new o) server)) none ∙ ap rules.is_covering (new_member false server)
     by (Some part) known server low two = ap (λ (o : Option Participant). rules.is_covering (member_of (part_or_new o) server)) known
         ∙ voted_for (rules.votes_here server) (rules.is_covering (member_of part server)) (none_at (is_due_at dues.Vote part) server all_servers (none_of (Rattle.qs_tm.specs.Participant.has_due dues.Vote part) _ (idle.due part known)).0 (server_in server.0 low)) two
+
+-- a node that is ready is idle
+pub ready_free : ReadyFree
+ready_free tid work part known may = idle_free tid work.node (record { waits = (neither (ipc.waits tid work.node.queues) _ busy).0; lent = (neither (is_lent tid work.node) _ (neither (ipc.waits tid work.node.queues) _ busy).1).0; due = λ other its. due other its })
+  where
+    neither : (a b : Bool) → (a || b) ≡ false → (a ≡ false) × (b ≡ false)
+    neither true b is = absurd (cc is)
+    neither false b is = (refl, is)
+
+    two : (a b : Bool) → (a && b) ≡ true → (a ≡ true) × (b ≡ true)
+    two true b is = (refl, is)
+    two false b is = absurd (cc is)
+
+    off : (a : Bool) → not a ≡ true → a ≡ false
+    off true is = absurd (cc is)
+    off false is = refl
+
+    parts : (is_ready (is_busy tid work.node part) part ≡ true) × ((not (needs_pass part) && not (doings_of tid work).prepared) ≡ true)
+    parts = two (is_ready (is_busy tid work.node part) part) _ may
+
+    ready : (a b c d e : Bool) → ((a && b) && ((not c && d) && e)) ≡ true → c ≡ false
+    ready true true false d e is = refl
+    ready true true true d e is = absurd (cc is)
+    ready true false c d e is = absurd (cc is)
+    ready false b c d e is = absurd (cc is)
+
+    busy : is_busy tid work.node part ≡ false
+    busy = ready part.asked (not part.blocked) (is_busy tid work.node part) (is_passive part.engage) (all_agree part) parts.0
+
+    due : (other : Participant) → tm.part_of tid work.node.manager ≡ Some other → needs_pass other ≡ false
+    due other its = let one : part ≡ other = (let both : Some part ≡ Some other = sym known ∙ its in cc (both)) in subst (λ (p : Participant). needs_pass p ≡ false) one (off (needs_pass part) (two (not (needs_pass part)) _ parts.1).0)
 
 pub committed_free : CommittedFree
 committed_free tid node q w lawful committed face sound undecided = idle_free tid node (commit_idle tid node q w lawful committed face sound undecided)

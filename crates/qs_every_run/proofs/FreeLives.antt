@@ -1,32 +1,28 @@
 -- At a node where nothing of a transaction is open its present lives agree.
-use Rattle.std.proofs.Common.{◌≡◌, ◌⊎◌, inl, inr, ℕ, ◌+◌, ◌<◌, ◌≤◌, ◌==◌, ◌&&◌, ◌||◌, not, nat_lt, Bool, true, false, List, [], ◌∷◌, Option, Some, None, length, suc, is_some, refl, sym, ap, subst, ◌∙◌, arith, if◌then◌else◌}
+use Rattle.std.proofs.Common.{◌≡◌, inl, inr, ℕ, ◌≤◌, ◌==◌, ◌&&◌, ◌||◌, not, nat_lt, Bool, true, false, List, [], ◌∷◌, Option, Some, length, suc, is_some, refl, sym, ap, subst, ◌∙◌, arith, if◌then◌else◌}
 use Rattle.std.proofs.lemmas.Bool.Decides.{nat_tests}
 use Rattle.std.specs.List.{filter, list_any}
 use Rattle.qs_base.specs.Order.{same_tid}
 use Rattle.qs_base.specs.declared.identifiers.Class.{Class}
 use Rattle.qs_base.specs.declared.identifiers.Class.TheVariants as classes
 use Rattle.qs_base.specs.declared.identifiers.ClientNo.{ClientNo}
-use Rattle.qs_base.specs.declared.identifiers.Member.{Member}
 use Rattle.qs_base.specs.declared.identifiers.NodeNo.{NodeNo}
 use Rattle.qs_base.specs.declared.identifiers.ServerNo.{ServerNo}
 use Rattle.qs_base.specs.declared.identifiers.Tid.{Tid}
 use Rattle.qs_kept.specs.Loans.{is_standing_loan}
 use Rattle.qs_kept.specs.declared.kept.Lent.{Lent}
 use Rattle.qs_machine.specs.Book.{BookValue, find_transaction}
-use Rattle.qs_machine.specs.Transaction.{TransactionValue, agrees, agrees_in, borrower, is_commit, is_open, part_of}
+use Rattle.qs_machine.specs.Transaction.{TransactionValue, agrees_in, borrower, is_commit, is_open, part_of}
 use Rattle.qs_machine.specs.declared.transaction.Cell.{Cell}
 use Rattle.qs_machine.specs.declared.transaction.Cell.TheVariants as cells
 use Rattle.qs_machine.specs.declared.transaction.Life.{Life}
 use Rattle.qs_machine.specs.declared.transaction.Part.{Part}
 use Rattle.qs_ops.specs.Members.{class_of, is_two_phase}
 use Rattle.qs_ops.specs.Servers.{client_no, is_client_no, names_no, timers_no, windows_no, scratch_no}
-use Rattle.qs_step.specs.Settling.{is_lent}
 use Rattle.qs_step.specs.State.{NodeValue}
-use Rattle.qs_tm.specs.Members as rules
 use Rattle.qs_tm.specs.Participant.{member_of}
-use Rattle.qs_tm.specs.declared.members.MemberPart.{MemberPart}
 use Rattle.qs_lawful.specs.Face.{Face, at_server, face_of, part_in, is_held, is_given_back, is_loan_here, is_loan_in}
-use Rattle.qs_lawful.specs.Holds.{Holds, HoldsAt, HoldsTid, HoldsMember, HoldsVoter}
+use Rattle.qs_lawful.specs.Holds.{Holds, HoldsAt, HoldsTid, HoldsMember}
 use Rattle.qs_every_run.specs.Placed.{Field, IsLife, IsMember}
 use Rattle.qs_every_run.specs.PlacedLaws.{IsFree, FreeAgrees}
 

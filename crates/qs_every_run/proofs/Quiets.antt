@@ -1,21 +1,20 @@
 -- Where nothing waits at nodes that run, nothing is on its way, and all present lives agree, a transaction that is so placed is unanimous.
-use Rattle.std.proofs.Common.{◌≡◌, ◌⊎◌, inl, inr, ℕ, ◌+◌, ◌<◌, ◌≤◌, ◌==◌, ◌&&◌, ◌||◌, not, Bool, true, false, List, [], ◌∷◌, length, suc, is_some, refl, sym, ap, subst, ◌∙◌, arith, if◌then◌else◌}
+use Rattle.std.proofs.Common.{◌≡◌, ◌⊎◌, inl, inr, ℕ, ◌+◌, ◌≤◌, ◌&&◌, Bool, true, false, List, [], ◌∷◌, length, suc, is_some, refl, sym, ap, ◌∙◌, arith, if◌then◌else◌}
 use Rattle.std.proofs.lemmas.Bool.Decides.{nat_tests}
 use Rattle.std.specs.List.{filter, list_all}
 use Rattle.qs_base.specs.Order.{same_member}
 use Rattle.qs_base.specs.declared.identifiers.ServerNo.{ServerNo}
 use Rattle.qs_base.specs.declared.identifiers.Tid.{Tid}
-use Rattle.qs_ipc.specs.Ipc as ipc
 use Rattle.qs_ipc.specs.Ipc.{queue_at}
 use Rattle.qs_ipc.specs.Queue.{count_of, is_of}
 use Rattle.qs_ipc.specs.declared.delivery.Delivery.{Delivery}
-use Rattle.qs_machine.specs.Transaction.{TransactionValue, agrees, all_served, is_empty, is_served, is_standing, is_unanimous}
+use Rattle.qs_machine.specs.Transaction.{TransactionValue, agrees, all_served, is_empty, is_served, is_standing}
 use Rattle.qs_machine.specs.declared.transaction.Life.{Life}
 use Rattle.qs_machine.specs.declared.transaction.Part.{Part}
 use Rattle.qs_machine.specs.declared.transaction.Request.{Request}
 use Rattle.qs_machine.specs.declared.transaction.RequestNo.{RequestNo}
 use Rattle.qs_refine.proofs.NodeReady.{none_waits}
-use Rattle.qs_lawful.specs.Face.{at_server, is_numbered, waiting_at}
+use Rattle.qs_lawful.specs.Face.{at_server, is_numbered}
 use Rattle.qs_every_run.specs.Placed.{Field, standing, waiting, asked, goes_there, IsPlaced, EachPlaced, IsLife, EachLives, Placed}
 use Rattle.qs_every_run.specs.PlacedLaws.{IsQuiet, QuietUnanimous}
 

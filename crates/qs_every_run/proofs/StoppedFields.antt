@@ -1,5 +1,5 @@
 -- A free node stops: its lives agree, and requests stay placed where none was on its way to it, nor kept back by it, or each of these dooms.
-use Rattle.std.proofs.Common.{◌≡◌, ◌⊎◌, inl, inr, ℕ, ◌+◌, ◌-◌, ◌<◌, ◌≤◌, ◌==◌, ◌&&◌, Bool, true, false, List, [], ◌∷◌, length, map, Some, None, zero, suc, refl, sym, ap, subst, ◌∙◌, arith, if◌then◌else◌}
+use Rattle.std.proofs.Common.{◌≡◌, ◌⊎◌, inl, inr, ℕ, ◌+◌, ◌-◌, ◌<◌, ◌≤◌, ◌==◌, ◌&&◌, Bool, true, false, List, [], ◌∷◌, length, map, Some, zero, suc, refl, sym, ap, subst, ◌∙◌, arith, if◌then◌else◌}
 use Rattle.std.proofs.lemmas.Bool.{eqb-true}
 use Rattle.std.proofs.lemmas.Bool.Decides.{nat_tests}
 use Rattle.std.specs.List.{filter}
@@ -20,22 +20,11 @@ use Rattle.qs_world.specs.Moves.{stopped}
 use Rattle.qs_world.specs.World.{Parcel, World}
 use Rattle.qs_agree.specs.World as machine
 use Rattle.qs_agree.specs.World.{Outcome, Open, Committed, Aborted}
-use Rattle.qs_agree.specs.Carry.{Leads, IsLawful}
-use Rattle.qs_agree.specs.Doomed.{IsDoomed, IsPast, IsLeft, IsKeptBack}
-use Rattle.qs_agree.proofs.Doomed.{doom_stays, abort_dooms, engaged_past_dooms, left_dooms, kept_back_dooms, engaged_is_open}
+use Rattle.qs_agree.specs.Doomed.{IsDoomed}
 use Rattle.qs_refine.specs.CommitLaws.{has_request}
-use Rattle.qs_refine.specs.CutLaws.{StopsAlone}
-use Rattle.qs_refine.specs.EachMove.{ShowsAll}
-use Rattle.qs_refine.specs.Faces.{ShowsFace}
 use Rattle.qs_refine.specs.Links.{link, waiting_link}
 use Rattle.qs_refine.specs.Messages.{all_said}
-use Rattle.qs_refine.specs.NodeFaces.{face_at}
-use Rattle.qs_refine.specs.Places.{place}
-use Rattle.qs_refine.specs.Shows.{scene_of, sight}
 use Rattle.qs_refine.specs.ShownWorlds.{IsShownWorld}
-use Rattle.qs_refine.specs.Sights.{Sight}
-use Rattle.qs_refine.proofs.CommitIdles.{never, requested, off_idle, commit_clear, commit_unmet}
-use Rattle.qs_refine.proofs.Facts.{invariant}
 use Rattle.qs_refine.proofs.NodeReady.{none_waits}
 use Rattle.qs_refine.proofs.ShownMoves.{steady}
 use Rattle.qs_refine.proofs.StepAll.{node_stopped}
@@ -44,8 +33,7 @@ use Rattle.qs_lawful.specs.Holds.{Holds}
 use Rattle.qs_lawful.specs.Parcels.{pending, pending_from}
 use Rattle.qs_every_run.specs.Placed.{Field, message_of, sent_between, kept_between, field_of, standing, waiting, asked, IsPlaced, EachPlaced, IsLife, IsPresent, EachLives, Placed}
 use Rattle.qs_every_run.specs.PlacedLaws.{IsFree}
-use Rattle.qs_every_run.specs.StopLaws.{StopsPlaced}
-use Rattle.qs_every_run.proofs.CommitsPlaced.{NoneIn, none_in, none_then, idle_free, none_decided}
+use Rattle.qs_every_run.proofs.CommitsPlaced.{NoneIn, none_in, none_then}
 use Rattle.qs_every_run.proofs.FreeLives.{free_agrees}
 use Rattle.qs_every_run.proofs.Quiets.{none_counted}
 

@@ -1,30 +1,19 @@
 -- A node stops: who was engaged dooms what it was engaged for; who was not was idle, and its lives agree. What was on its way to it, and what it kept back, dooms too.
-use Rattle.std.proofs.Common.{◌≡◌, ◌⊎◌, inl, inr, ℕ, ◌+◌, ◌-◌, ◌<◌, ◌≤◌, ◌==◌, ◌&&◌, Bool, true, false, List, [], ◌∷◌, length, map, Some, None, zero, suc, refl, sym, ap, subst, ◌∙◌, arith, if◌then◌else◌}
-use Rattle.std.proofs.lemmas.Bool.{eqb-true}
+use Rattle.std.proofs.Common.{◌≡◌, ◌⊎◌, inl, inr, ℕ, ◌+◌, ◌<◌, ◌≤◌, Bool, true, false, List, map, Some, refl, sym, subst, ◌∙◌, arith}
 use Rattle.std.proofs.lemmas.Bool.Decides.{nat_tests}
-use Rattle.std.specs.List.{filter}
-use Rattle.qs_base.specs.declared.identifiers.ServerNo.{ServerNo}
 use Rattle.qs_base.specs.declared.identifiers.Tid.{Tid}
-use Rattle.qs_ipc.specs.Ipc.{queue_at}
-use Rattle.qs_ipc.specs.declared.delivery.Delivery.{Delivery}
 use Rattle.qs_journal.specs.declared.entry.CrashCause.{CrashCause}
 use Rattle.qs_machine.specs.Book.{BookValue, find_transaction}
-use Rattle.qs_machine.specs.Transaction.{TransactionValue, agrees, is_open}
-use Rattle.qs_machine.specs.declared.transaction.Life.{Life}
-use Rattle.qs_machine.specs.declared.transaction.Part.{Part}
-use Rattle.qs_machine.specs.declared.transaction.Request.{Request}
-use Rattle.qs_machine.specs.declared.transaction.RequestNo.{RequestNo}
+use Rattle.qs_machine.specs.Transaction.{TransactionValue, is_open}
 use Rattle.qs_record.specs.declared.record.Record.{Record}
-use Rattle.qs_step.specs.State.{NodeValue}
 use Rattle.qs_world.specs.Moves.{stopped}
-use Rattle.qs_world.specs.World.{Parcel, World}
+use Rattle.qs_world.specs.World.{World}
 use Rattle.qs_agree.specs.World as machine
 use Rattle.qs_agree.specs.World.{Outcome, Open, Committed, Aborted}
-use Rattle.qs_agree.specs.Carry.{Leads, IsLawful}
 use Rattle.qs_agree.specs.Doomed.{IsDoomed, IsPast, IsLeft, IsKeptBack}
 use Rattle.qs_agree.proofs.Doomed.{doom_stays, abort_dooms, engaged_past_dooms, left_dooms, kept_back_dooms, engaged_is_open}
 use Rattle.qs_refine.specs.CommitLaws.{has_request}
-use Rattle.qs_refine.specs.CutLaws.{StopsAlone, CutsOff}
+use Rattle.qs_refine.specs.CutLaws.{StopsAlone}
 use Rattle.qs_refine.specs.EachMove.{ShowsAll}
 use Rattle.qs_refine.specs.Faces.{ShowsFace}
 use Rattle.qs_refine.specs.Links.{link, waiting_link}
@@ -33,19 +22,15 @@ use Rattle.qs_refine.specs.NodeFaces.{face_at}
 use Rattle.qs_refine.specs.Places.{place}
 use Rattle.qs_refine.specs.Shows.{scene_of, sight}
 use Rattle.qs_refine.specs.ShownWorlds.{IsShownWorld}
-use Rattle.qs_refine.specs.Sights.{Sight}
 use Rattle.qs_refine.proofs.CommitIdles.{never, requested, off_idle, commit_clear, commit_unmet}
 use Rattle.qs_refine.proofs.Facts.{invariant}
-use Rattle.qs_refine.proofs.NodeReady.{none_waits}
 use Rattle.qs_refine.proofs.ShownMoves.{steady}
-use Rattle.qs_refine.proofs.StepAll.{node_stopped}
-use Rattle.qs_lawful.specs.Face.{is_numbered}
 use Rattle.qs_lawful.specs.Holds.{Holds}
-use Rattle.qs_lawful.specs.Parcels.{pending, pending_from}
-use Rattle.qs_every_run.specs.Placed.{Field, message_of, sent_between, kept_between, field_of, standing, waiting, asked, IsPlaced, EachPlaced, IsLife, IsPresent, EachLives, Placed}
+use Rattle.qs_lawful.specs.Parcels.{pending}
+use Rattle.qs_every_run.specs.Placed.{message_of, field_of, Placed}
 use Rattle.qs_every_run.specs.PlacedLaws.{IsFree}
-use Rattle.qs_every_run.specs.StopLaws.{IsApart, StopsPlaced, CutPlaced}
-use Rattle.qs_every_run.proofs.CommitsPlaced.{NoneIn, none_in, none_then, idle_free, none_decided}
+use Rattle.qs_every_run.specs.StopLaws.{IsApart, StopsPlaced, CutPlaced, StopHolds, CutHolds}
+use Rattle.qs_every_run.proofs.CommitsPlaced.{idle_free, none_decided}
 use Rattle.qs_every_run.proofs.StoppedFields.{placed_then}
 
 module _ (tid : Tid) (book : BookValue) (tx : TransactionValue) (world : World) (n stamp : ℕ) (cause : CrashCause) (log : List Record) (w : machine.World) (goes : StopsAlone tid world (stopped world n stamp cause log) n w)
@@ -169,3 +154,11 @@ cut_placed tid book tx world n stamp cause log w goes is all n_in on found undec
     by : IsDoomed goes.goes.next ⊎ (goes.goes.next.cell ≡ Committed) → IsDoomed goes.goes.next ⊎ Placed tid tx (field_of (stopped world n stamp cause log))
     by (inl doomed) = inl doomed
     by (inr committed) = of_cell w.cell refl committed
+
+-- ---- the reference machine keeps of each transaction what it had
+
+pub stop_holds : StopHolds
+stop_holds tid book world n stamp cause log w goes is all n_in on next h places tx found undecided = stops_placed tid book tx world n stamp cause log w goes is all n_in on found undecided next h (places tx found undecided)
+
+pub cut_holds : CutHolds
+cut_holds tid book world n stamp cause log w goes is all n_in on next h decides places tx found undecided = cut_placed tid book tx world n stamp cause log w goes is all n_in on found undecided next h decides (places tx found undecided)

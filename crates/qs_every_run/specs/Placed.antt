@@ -4,12 +4,10 @@ use Rattle.std.specs.Prelude.{◌≡◌, ◌⊎◌, ℕ, ◌+◌, ◌-◌, ◌==
 use Rattle.std.specs.List.{filter, flat_map, list_all}
 use Rattle.qs_base.specs.declared.identifiers.Class.TheVariants as classes
 use Rattle.qs_base.specs.declared.identifiers.ClientNo.{ClientNo}
-use Rattle.qs_base.specs.declared.identifiers.NodeNo.{NodeNo}
 use Rattle.qs_base.specs.declared.identifiers.ServerNo.{ServerNo}
 use Rattle.qs_base.specs.declared.identifiers.Tid.{Tid}
 use Rattle.qs_ops.specs.Members.{class_of, is_two_phase}
 use Rattle.qs_ops.specs.Servers.{client_no}
-use Rattle.qs_ops.specs.declared.operation.Op.{Op}
 use Rattle.qs_machine.specs.Book.{BookValue, find_transaction}
 use Rattle.qs_machine.specs.Transaction.{TransactionValue, agrees, is_empty, is_open, is_standing, part_of}
 use Rattle.qs_machine.specs.declared.transaction.Life.{Life}

@@ -8,8 +8,8 @@ use Rattle.qs_machine.specs.Transaction.{TransactionValue, agrees, is_open, is_u
 use Rattle.qs_machine.specs.declared.transaction.Life.{Life}
 use Rattle.qs_machine.specs.declared.transaction.Part.{Part}
 use Rattle.qs_ops.specs.Members.{class_of, is_two_phase}
-use Rattle.qs_step.specs.Settling.{is_lent}
-use Rattle.qs_step.specs.State.{NodeValue}
+use Rattle.qs_step.specs.Settling.{is_lent, may_answer}
+use Rattle.qs_step.specs.State.{NodeValue, Work, part_of}
 use Rattle.qs_tm.specs.Manager as tm
 use Rattle.qs_tm.specs.Members as rules
 use Rattle.qs_tm.specs.Participant.{member_of}
@@ -33,6 +33,10 @@ pub record IsFree (tid : Tid) (node : NodeValue) : Type 0 where
   pub idle : ipc.waits tid node.queues ≡ false
   pub unlent : is_lent tid node ≡ false
   pub covers : (server : ServerNo) → nat_lt server.0 7 ≡ true → is_two_phase (class_of server.0) ≡ true → rules.is_covering (member_of (part_in (face_of node tid)) server) ≡ true
+
+-- so is a node that may answer its superior, or decide as the home
+abbrev pub ReadyFree : Type 0
+ReadyFree = (tid : Tid) (work : Work) (part : Participant) → part_of tid work ≡ Some part → may_answer tid part work ≡ true → IsFree tid work.node
 
 -- its present lives agree
 abbrev pub FreeAgrees : Type 0

@@ -1,11 +1,14 @@
 -- A node stops: a transaction that was so placed is so placed then, or doomed.
-use Rattle.std.specs.Prelude.{◌≡◌, ◌⊎◌, ℕ, ◌<◌, true, false, List, map, Some}
+use Rattle.std.specs.Prelude.{◌≡◌, ◌⊎◌, ℕ, ◌<◌, true, false, List, [], ◌∷◌, map, Some}
 use Rattle.qs_base.specs.declared.identifiers.Tid.{Tid}
+use Rattle.qs_journal.specs.declared.entry.Act.TheVariants as acts
 use Rattle.qs_journal.specs.declared.entry.CrashCause.{CrashCause}
 use Rattle.qs_machine.specs.Book.{BookValue, find_transaction}
+use Rattle.qs_machine.specs.Lawful.{book_after}
 use Rattle.qs_machine.specs.Transaction.{TransactionValue, is_open}
 use Rattle.qs_record.specs.declared.record.Record.{Record}
 use Rattle.qs_world.specs.Moves.{stopped}
+use Rattle.qs_world.specs.Posting.{entry_of}
 use Rattle.qs_world.specs.World.{World}
 use Rattle.qs_agree.specs.World as machine
 use Rattle.qs_agree.specs.Doomed.{IsDoomed}
@@ -17,7 +20,7 @@ use Rattle.qs_refine.specs.Messages.{all_said}
 use Rattle.qs_refine.specs.ShownWorlds.{IsShownWorld}
 use Rattle.qs_lawful.specs.Holds.{Holds}
 use Rattle.qs_lawful.specs.Parcels.{pending}
-use Rattle.qs_every_run.specs.Placed.{message_of, field_of, Placed}
+use Rattle.qs_every_run.specs.Placed.{message_of, field_of, Placed, HoldsPlaced}
 use Rattle.qs_every_run.specs.PlacedLaws.{IsFree}
 
 -- with nothing of a step kept of it
@@ -40,3 +43,19 @@ CutPlaced = (tid : Tid) (book : BookValue) (tx : TransactionValue) (world : Worl
     → IsShownWorld world → ShowsAll tid world w → n < world.size → world.channels.up n ≡ true → find_transaction book tid ≡ Some tx → is_open tx.cell ≡ true → (next : ℕ) → Holds next book (world.hosts n).node
     → (w.cell ≡ Open → goes.goes.next.cell ≡ Committed → IsApart tid world n)
     → IsDoomed w ⊎ Placed tid tx (field_of world) → IsDoomed goes.goes.next ⊎ Placed tid tx (field_of (stopped world n stamp cause log))
+
+-- ---- and the reference machine enters the crash
+
+abbrev pub book_stopped : BookValue → ℕ → ℕ → CrashCause → BookValue
+book_stopped book n stamp cause = book_after book (entry_of n stamp (acts.Crash cause) ∷ [])
+
+abbrev pub StopHolds : Type 0
+StopHolds = (tid : Tid) (book : BookValue) (world : World) (n stamp : ℕ) (cause : CrashCause) (log : List Record) (w : machine.World) (goes : StopsAlone tid world (stopped world n stamp cause log) n w)
+    → IsShownWorld world → ShowsAll tid world w → n < world.size → world.channels.up n ≡ true → (next : ℕ) → Holds next book (world.hosts n).node
+    → HoldsPlaced tid book (field_of world) w → HoldsPlaced tid (book_stopped book n stamp cause) (field_of (stopped world n stamp cause log)) goes.goes.next
+
+abbrev pub CutHolds : Type 0
+CutHolds = (tid : Tid) (book : BookValue) (world : World) (n stamp : ℕ) (cause : CrashCause) (log : List Record) (w : machine.World) (goes : CutsOff tid (stopped world n stamp cause log) w)
+    → IsShownWorld world → ShowsAll tid world w → n < world.size → world.channels.up n ≡ true → (next : ℕ) → Holds next book (world.hosts n).node
+    → (w.cell ≡ Open → goes.goes.next.cell ≡ Committed → IsApart tid world n)
+    → HoldsPlaced tid book (field_of world) w → HoldsPlaced tid (book_stopped book n stamp cause) (field_of (stopped world n stamp cause log)) goes.goes.next

@@ -1,10 +1,11 @@
 //! A transaction of which all places hold what they should is unanimous as it is committed.
-ghost use Rattle.qs_every_run.specs.StopLaws.{StopsPlaced, CutPlaced};
-ghost use Rattle.qs_every_run.specs.PlacedLaws.{FreeAgrees, QuietUnanimous, CommittedFree, CommittedWays, CommittedKeeps, CommittedUnanimous};
+ghost use Rattle.qs_every_run.specs.StopLaws.{StopsPlaced, CutPlaced, StopHolds, CutHolds};
+ghost use Rattle.qs_every_run.specs.PlacedLaws.{ReadyFree, FreeAgrees, QuietUnanimous, CommittedFree, CommittedWays, CommittedKeeps, CommittedUnanimous};
 
-/// At a node where no request of it waits, no loan stands and every vote covers what was served, its present lives agree. Where all nodes
+/// At a node that is ready no request of it waits, no loan stands and every vote covers what was served; where that is so its present lives agree. Where all nodes
 /// are such and nothing is on its way, it is unanimous.
 pub fn quiet()
+    ensures ready { ReadyFree }
     ensures agrees { FreeAgrees }
     ensures unanimous { QuietUnanimous }
 {}
@@ -23,4 +24,6 @@ pub fn commits()
 pub fn stops()
     ensures placed { StopsPlaced }
     ensures cut { CutPlaced }
+    ensures stop_holds { StopHolds }
+    ensures cut_holds { CutHolds }
 {}
