@@ -46,7 +46,7 @@ module _ (P Q : Tid → Bool) (R : NodeNo → Bool) (me : NodeNo) (nodes : ℕ) 
       by (Some loan) = keeps.answer client _ _ (keeps.take client tid work i)
 
   lent_command_walk : (client : ClientNo) (tid : Tid) (command : Command) (work : Work) → Q tid ≡ true → may_command nodes command ≡ true → I work → I (lent_command client tid command work)
-  lent_command_walk client tid commands.Yield work its may i = keeps.answer client answers.Done _ (keeps.doing tid (λ doings. record doings { yielded = true }) _ (keeps.enter _ _ (keeps.yield client tid work i)))
+  lent_command_walk client tid commands.Yield work its may i = keeps.answer client answers.Done _ (keeps.doing tid (λ doings. record doings { yielded = true }) _ (λ doings is. is) (keeps.enter _ _ (keeps.yield client tid work i)))
   lent_command_walk client tid (commands.Request member op) work its may i = request_command_walk client tid member op work its (and_both _ (is_for member.server op) may).1 i
   lent_command_walk client tid commands.Begin work its may i = i
   lent_command_walk client tid commands.Commit work its may i = i
