@@ -28,9 +28,12 @@ use Rattle.qs_lawful.specs.Parcels.{HoldsChannels, HoldsWays}
 use Rattle.qs_lawful.specs.Scripts.{HoldsScripts}
 use Rattle.qs_lawful.specs.WorldLaws.{StopsWell}
 use Rattle.qs_lawful.specs.Worlds.{HoldsNodeAt, HoldsWorld}
+use Rattle.qs_lawful.proofs.AsideBesides.{keeps_others_beside}
 use Rattle.qs_lawful.proofs.CoherentOpenings.{opens_soundly}
 use Rattle.qs_lawful.proofs.NumberedLogs.{opened_numbered}
 use Rattle.qs_lawful.proofs.ParcelsKept.{channels_moved}
+use Rattle.qs_lawful.proofs.ScriptsLike.{crash_scripts}
+use Rattle.qs_lawful.proofs.WaysOn.{crash_ways}
 use Rattle.qs_every_run.specs.Agrees.{MakesStep, nodes_in}
 use Rattle.qs_every_run.specs.Joined.{ChannelsAt, FactsAt, HeldAt, HomesAt, HomesHave, HoldsRunning, Joined, RunningAt, ScriptsAt, WaysAt, book_in}
 use Rattle.qs_every_run.specs.JoinedOwed.{Owed}
@@ -184,7 +187,7 @@ module _ (P : Opening → World → Type 0) (owed : Owed P) (o : Opening) (world
         by : (b : Bool) → (k == n) ≡ b → (if b then false else world.channels.up k) ≡ true → HoldsRunning (book_in o after) (after.hosts k).node
         by true near off = absurd (cc off)
         by false far runs = subst (λ (m : NodeValue). HoldsRunning (book_in o after) m) (sym (node_stopped world n stamp cause log k)) (record {
-          beside = owed.others_beside (opened_from o 0 o.size) world.journal (entry ∷ []) (opens_soundly o j.opens) (opened_numbered o 0 o.size) crash_lawful (world.hosts k).node
+          beside = keeps_others_beside (opened_from o 0 o.size) world.journal (entry ∷ []) (opens_soundly o j.opens) (opened_numbered o 0 o.size) crash_lawful (world.hosts k).node
               (record { far = λ at. other k n far (sym (at ∙ its.node)); of_step = tt; answers = tt }, tt) ((λ tid label client begins. absurd (cc begins)), tt)
               (λ state there. held_proofs.runs_at book world k its runs state (subst (λ (i : ℕ). slice_get book.nodes i ≡ Some state) its.node there)) (j.running k low runs).beside;
           numbered = (j.running k low runs).numbered;
@@ -206,8 +209,8 @@ module _ (P : Opening → World → Type 0) (owed : Owed P) (o : Opening) (world
       running = crash_running;
       homes = crash_homes;
       channels = channels_later o world after (entry ∷ []) j.opens refl crash_lawful world.size after.channels (channels_moved book world.size (channel.Crash n) world.channels tt j.channels);
-      ways = subst (λ (b : BookValue). HoldsWays b after) (sym (book_on o world after (entry ∷ []) refl)) (owed.crashes_ways book world n stamp cause log j.ways);
-      scripts = subst (λ (b : BookValue). HoldsScripts o b after) (sym (book_on o world after (entry ∷ []) refl)) (owed.crashes_scripts o book world n stamp cause log j.scripts);
+      ways = subst (λ (b : BookValue). HoldsWays b after) (sym (book_on o world after (entry ∷ []) refl)) (crash_ways book world n stamp cause log j.ways);
+      scripts = subst (λ (b : BookValue). HoldsScripts o b after) (sym (book_on o world after (entry ∷ []) refl)) (crash_scripts o book world n stamp cause log j.scripts);
     }
 
     pub crash_joined : Joined P o (moved move world)

@@ -33,6 +33,8 @@ use Rattle.qs_lawful.specs.Logged.{HoldsHost, IsTrueEvent}
 use Rattle.qs_lawful.specs.Logs.{Every}
 use Rattle.qs_lawful.specs.Parcels.{HoldsChannels, IsBetween, IsSaid}
 use Rattle.qs_lawful.specs.Worlds.{HoldsNodeAt, HoldsNodeOf, HoldsWorld}
+use Rattle.qs_lawful.proofs.AsideBesides.{keeps_others_beside}
+use Rattle.qs_lawful.proofs.AsideIssued.{issued_held}
 use Rattle.qs_lawful.proofs.AsideWhole.{keeps_others}
 use Rattle.qs_lawful.proofs.CoherentOpenings.{opens_soundly}
 use Rattle.qs_lawful.proofs.GivenByWorld.{message_between, message_comes}
@@ -208,7 +210,7 @@ module _ (P : Opening → World → Type 0) (owed : Owed P) (o : Opening) (world
       (keeps_others (opened_from o 0 o.size) world.journal entries (opens_soundly o j.opens) (opened_numbered o 0 o.size) whole world.size k (inc_of world k) (world.channels.up k) (world.hosts k)
       (asides k far k_low)
       (λ off. owed.steps_unanimous o world n stamp free source event j makes lawful k far k_low off)
-      (record { node = j.held.nodes k k_low; issued = λ on. owed.issued old (world.hosts k).node (j.running k k_low on).beside })).node
+      (record { node = j.held.nodes k k_low; issued = λ on. issued_held old (world.hosts k).node (j.running k k_low on).beside })).node
 
   -- what is said of those that run
 
@@ -218,7 +220,7 @@ module _ (P : Opening → World → Type 0) (owed : Owed P) (o : Opening) (world
   pub other_running : (k : ℕ) → (k == n) ≡ false → k < world.size → world.channels.up k ≡ true → HoldsRunning now (world.hosts k).node
   other_running k far k_low on = record {
     beside = subst (λ (b : BookValue). HoldsBeside b (world.hosts k).node) (after_both world.journal entries (book_of o))
-        (owed.others_beside (opened_from o 0 o.size) world.journal entries (opens_soundly o j.opens) (opened_numbered o 0 o.size) whole (world.hosts k).node
+        (keeps_others_beside (opened_from o 0 o.size) world.journal entries (opens_soundly o j.opens) (opened_numbered o 0 o.size) whole (world.hosts k).node
         (subst (λ (i : ℕ). Every (IsAside i (world.hosts k).node) entries) (sym its.node) (asides k far k_low))
         (all_entries (HasOwner old) n stamp (effects_of node event free).entries (owed.steps_owned o world n stamp free source event j makes lawful))
         (λ state there. runs_at old world k its on state (subst (λ (i : ℕ). slice_get old.nodes i ≡ Some state) its.node there)) (j.running k k_low on).beside);

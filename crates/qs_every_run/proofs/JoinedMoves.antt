@@ -1,7 +1,5 @@
 -- All that stands together of a world stands after each move.
-use Rattle.std.proofs.Common.{◌≡◌, ℕ, ◌<◌, ◌≤◌, ◌==◌, ◌&&◌, not, Bool, true, false, [], ◌∷◌, Option, Some, None, refl, sym, ap, subst, ◌∙◌, arith, nat_lt, nat_le, if◌then◌else◌}
-use Rattle.std.specs.Map.{lookup}
-use Rattle.std.specs.BTreeMap.{is_at}
+use Rattle.std.proofs.Common.{◌≡◌, ℕ, ◌<◌, ◌≤◌, ◌==◌, ◌&&◌, not, Bool, true, false, [], ◌∷◌, Option, Some, None, refl, sym, ap, subst, arith, nat_lt, nat_le, if◌then◌else◌}
 use Rattle.std.proofs.lemmas.Bool.{eqb-true}
 use Rattle.std.proofs.lemmas.Bool.Decides.{nat_tests}
 use Rattle.qs_channels.specs.Channels as channel
@@ -10,11 +8,11 @@ use Rattle.qs_machine.specs.Book.{BookValue}
 use Rattle.qs_machine.specs.Lawful.{IsLawful, book_after}
 use Rattle.qs_restart.specs.Recovery.{recovery}
 use Rattle.qs_step.specs.Opening.{recovered_of}
-use Rattle.qs_step.specs.State.{NodeValue, client_cmp}
+use Rattle.qs_step.specs.State.{NodeValue}
 use Rattle.qs_step.specs.Step.{effects_of}
 use Rattle.qs_step.specs.declared.event.Event.{Event}
 use Rattle.qs_world.specs.Histories.{book_of}
-use Rattle.qs_world.specs.Moves.{Cut, Meet, Move, Rise, Step, Stop, client_count, cut_log, cut_with, event_of, is_in_order, is_later, may_move, moved, reopened, risen_host, step_with}
+use Rattle.qs_world.specs.Moves.{Cut, Meet, Move, Rise, Step, Stop, cut_log, cut_with, event_of, is_in_order, is_later, may_move, moved, reopened, risen_host, step_with}
 use Rattle.qs_world.specs.World.{Opening, World, known_of}
 use Rattle.qs_refine.proofs.SoundParts.{and_both}
 use Rattle.qs_lawful.specs.Beside.{HoldsBeside, is_committed_at}
@@ -22,21 +20,25 @@ use Rattle.qs_lawful.specs.Lasting.{Lasts}
 use Rattle.qs_lawful.specs.Logs.{found_votes}
 use Rattle.qs_lawful.specs.NodeFacts.{HasNodeFacts}
 use Rattle.qs_lawful.specs.Parcels.{HoldsWays}
-use Rattle.qs_lawful.specs.Scripts.{HoldsClient, HoldsScripts}
+use Rattle.qs_lawful.specs.Scripts.{HoldsScripts}
 use Rattle.qs_lawful.specs.WorldLaws.{RisesWell, rise_entry}
 use Rattle.qs_lawful.specs.Worlds.{HoldsWorld}
 use Rattle.qs_lawful.proofs.LastsAlways.{in_runs}
 use Rattle.qs_lawful.proofs.Meeting.{meets}
+use Rattle.qs_lawful.proofs.MetWays.{meet_ways}
 use Rattle.qs_lawful.proofs.ParcelsKept.{channels_moved}
+use Rattle.qs_lawful.proofs.RisenScripts.{rise_scripts}
 use Rattle.qs_lawful.proofs.RisesWhole.{rises_well}
+use Rattle.qs_lawful.proofs.ScriptsLike.{meet_scripts}
 use Rattle.qs_lawful.proofs.StopsWhole.{by_cut, by_stop}
+use Rattle.qs_lawful.proofs.WaysOn.{rise_ways}
 use Rattle.qs_every_run.specs.Agrees.{nodes_in}
-use Rattle.qs_every_run.specs.Joined.{FactsAt, HeldAt, HomesAt, HomesHave, HoldsRunning, Joined, RunningAt, ScriptsAt, book_in}
+use Rattle.qs_every_run.specs.Joined.{FactsAt, HeldAt, HomesAt, HomesHave, HoldsRunning, Joined, RunningAt, book_in}
 use Rattle.qs_every_run.specs.JoinedOwed.{Owed}
 use Rattle.qs_every_run.specs.JoinedRuns.{EachMoveJoined}
 use Rattle.qs_every_run.proofs.JoinedFacts.{rises_facts}
 use Rattle.qs_every_run.proofs.JoinedHomes.{homes_after}
-use Rattle.qs_every_run.proofs.JoinedParts.{book_on, channels_later, lawful_on}
+use Rattle.qs_every_run.proofs.JoinedParts.{book_on, channels_later, lawful_on, seated_sound}
 use Rattle.qs_every_run.proofs.JoinedAfter.{crash_joined, step_joined, then_joined}
 
 module _ (P : Opening → World → Type 0) (owed : Owed P) (o : Opening) (world : World) (j : Joined P o world) where
@@ -122,8 +124,8 @@ module _ (P : Opening → World → Type 0) (owed : Owed P) (o : Opening) (world
       homes = rise_homes;
       channels = channels_later o world risen_world (rise_entry world n stamp inc ∷ []) j.opens refl rise_lawful world.size risen_world.channels
           (channels_moved book world.size (channel.Restart n inc) world.channels (let later : nat_lt (world.channels.inc n) inc ≡ true = tests.1 in grind (arith, nat_tests, later)) j.channels);
-      ways = subst (λ (b : BookValue). HoldsWays b risen_world) (sym rise_book) (owed.rises_ways book world n stamp inc lasts j.held j.shown.steady.seated may j.ways);
-      scripts = subst (λ (b : BookValue). HoldsScripts o b risen_world) (sym rise_book) (owed.rises_scripts o book world n stamp inc lasts j.held may j.scripts);
+      ways = subst (λ (b : BookValue). HoldsWays b risen_world) (sym rise_book) (rise_ways book world n stamp inc lasts j.held (seated_sound world j.shown.steady.seated) may j.ways);
+      scripts = subst (λ (b : BookValue). HoldsScripts o b risen_world) (sym rise_book) (rise_scripts o book world n stamp inc lasts j.held may j.scripts);
     })
 
   -- ---- a first meeting: nothing is entered, and each node stays
@@ -148,18 +150,6 @@ module _ (P : Opening → World → Type 0) (owed : Owed P) (o : Opening) (world
     known_inc : inc ≤ world.channels.inc m
     known_inc = let low : nat_le inc (world.channels.inc m) ≡ true = (and_both (nat_le inc (world.channels.inc m)) _ (and_both (nat_lt 0 inc) _ (and_both (known_of world n m == 0) _ (and_both (not (m == n) && nat_lt m world.size) _ (and_both (is_later world n stamp) _ (and_both (world.channels.up n) _ may).1).1).1).1).1).0 in grind (arith, nat_tests, low)
 
-    met_scripts : ScriptsAt o met_world
-    met_scripts = record { clients = λ k low. client k low; apart = j.scripts.apart }
-      where
-        client : (k : ℕ) → nat_lt k client_count ≡ true → HoldsClient o book met_world k
-        client k low = let c : HoldsClient o book world k = j.scripts.clients k low in record {
-          at = c.at;
-          rest = c.rest;
-          behind = c.behind;
-          fresh = c.fresh;
-          in_hand = λ i in_run runs command has. c.in_hand i in_run runs command (ap (λ (node : NodeValue). lookup (is_at (client_cmp (record { 0 = k }))) node.commands) (sym (met_node i)) ∙ has);
-        }
-
     pub meet_joined : Joined P o met_world
     meet_joined = then_joined P owed o world j (Meet n stamp m inc) may (record {
       size = refl;
@@ -169,8 +159,8 @@ module _ (P : Opening → World → Type 0) (owed : Owed P) (o : Opening) (world
       running = met_running;
       homes = met_homes;
       channels = channels_moved book world.size (channel.Meet n m inc) world.channels known_inc j.channels;
-      ways = owed.meets_ways book world n stamp m inc j.channels j.shown.steady.seated may j.ways;
-      scripts = met_scripts;
+      ways = meet_ways book world n stamp m inc j.channels (seated_sound world j.shown.steady.seated) may j.ways;
+      scripts = meet_scripts o book world n stamp m inc j.scripts;
     })
 
   -- ---- each move

@@ -6,6 +6,8 @@ use Rattle.qs_world.specs.Moves.{Move, moved}
 use Rattle.qs_world.specs.Runs.{Run}
 use Rattle.qs_world.specs.World.{Opening, World, start}
 use Rattle.qs_refine.proofs.EveryRunShown.{every_run_shown}
+use Rattle.qs_lawful.proofs.OpenedScripts.{opens_scripts, opens_ways}
+use Rattle.qs_lawful.proofs.OpenedWorld.{world_held}
 use Rattle.qs_every_run.specs.Joined.{Joined}
 use Rattle.qs_every_run.specs.JoinedOwed.{Owed}
 use Rattle.qs_every_run.specs.JoinedRuns.{EachOpensJoined, EachRunJoined, EachRunLawful}
@@ -19,14 +21,14 @@ each_opens_joined P owed o opens whole = record {
   size = refl;
   lawful = tt;
   shown = every_run_shown (start o) (record { opening = o; opens = opens; whole = whole; moves = []; run = refl });
-  held = owed.opens_held o opens;
+  held = world_held o opens;
   running = owed.opens_running o opens;
   facts = λ n low. opens_facts o opens n low;
   homes = λ tid tx found committed in_run. let low : tid.home.0 < o.size = grind (arith, nat_tests, in_run) in
-      own_has (book_of o) ((start o).hosts tid.home.0).node tid.home.0 ((owed.opens_held o opens).nodes tid.home.0 low).node (owed.opens_running o opens tid.home.0 low refl).beside tid tx found committed (itself tid.home.0);
+      own_has (book_of o) ((start o).hosts tid.home.0).node tid.home.0 ((world_held o opens).nodes tid.home.0 low).node (owed.opens_running o opens tid.home.0 low refl).beside tid tx found committed (itself tid.home.0);
   channels = record { posted = λ n m i j. tt; waits = λ n m. tt; known = λ n m. least ((start o).channels.inc m) };
-  ways = owed.opens_ways o opens;
-  scripts = owed.opens_scripts o opens;
+  ways = opens_ways o opens;
+  scripts = opens_scripts o opens;
   places = owed.opens_places o opens;
 }
   where

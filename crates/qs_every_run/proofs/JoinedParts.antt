@@ -1,5 +1,5 @@
--- What a world's journal, size and channels are after a move, and that channels hold what is so.
-use Rattle.std.proofs.Common.{◌≡◌, ℕ, List, [], ◌∷◌, ◌++◌, sym, ap, subst, ◌∙◌}
+-- What a world's journal, size and channels are after a move, and that channels hold what is so and are sound.
+use Rattle.std.proofs.Common.{◌≡◌, inl, inr, ℕ, ◌+◌, ◌≤◌, List, [], ◌∷◌, ◌++◌, length, length-append, sym, ap, subst, ◌∙◌, arith}
 use Rattle.qs_channels.specs.Channels.{Channels}
 use Rattle.qs_journal.specs.declared.entry.Entry.{Entry}
 use Rattle.qs_machine.specs.Book.{BookValue}
@@ -8,7 +8,9 @@ use Rattle.qs_laws.proofs.Steps.{after_both, lawful_front, lawful_rest}
 use Rattle.qs_world.specs.Histories.{book_of, opened_from}
 use Rattle.qs_world.specs.Openings.{IsOpening}
 use Rattle.qs_world.specs.World.{Opening, Parcel, World}
+use Rattle.qs_refine.specs.MoveLaws.{IsSeated}
 use Rattle.qs_lawful.specs.Parcels.{HoldsChannels}
+use Rattle.qs_lawful.specs.WayLaws.{AreSound}
 use Rattle.qs_lawful.proofs.CoherentOpenings.{opens_soundly}
 use Rattle.qs_lawful.proofs.SaidStays.{channels_stay}
 use Rattle.qs_every_run.specs.Joined.{book_in}
@@ -39,3 +41,18 @@ channels_later o world new more opens same h size c holds = subst (λ (book : Bo
   where
     whole : IsLawful (book_of o) (world.journal ++ more)
     whole = subst (λ (entries : List Entry). IsLawful (book_of o) entries) same h
+
+-- ---- in a world whose nodes sit in their places, channels are sound
+
+pub seated_sound : (world : World) → IsSeated world → AreSound world.channels
+seated_sound world seated = record {
+  by_none = λ n m i j unborn. seated.unborn n m i j (inl unborn);
+  for_none = λ n m i j unborn. seated.unborn n m i j (inr unborn);
+  within = λ n m i j. shorter (world.channels.handed n m i j) (world.channels.posted n m i j) (seated.ordered n m i j).0 (seated.ordered n m i j).1;
+}
+  where
+    least : (a b c : ℕ) → c ≡ a + b → a ≤ c
+    least a b c is = omega (arith, is)
+
+    shorter : (handed posted rest : List Parcel) → posted ≡ handed ++ rest → length handed ≤ length posted
+    shorter handed posted rest is = least (length handed) (length rest) (length posted) (ap length is ∙ length-append handed rest)

@@ -9,17 +9,13 @@ use Rattle.qs_journal.specs.declared.entry.Act.TheVariants as acts
 use Rattle.qs_journal.specs.declared.entry.CrashCause.{CrashCause}
 use Rattle.qs_journal.specs.declared.entry.Entry.{Entry}
 use Rattle.qs_machine.specs.Book.{BookValue}
-use Rattle.qs_laws.specs.Laws.{IsCoherent}
 use Rattle.qs_machine.specs.Lawful.{IsLawful, book_after}
 use Rattle.qs_machine.specs.Nodes as machine
-use Rattle.qs_machine.specs.Opening.{opening}
-use Rattle.qs_machine.specs.declared.opened.Opened.{Opened}
 use Rattle.qs_packet.specs.declared.message.Message.TheVariants as messages
-use Rattle.qs_record.specs.declared.record.Record.{Record}
 use Rattle.qs_restart.specs.Recovery.{recovery}
 use Rattle.qs_step.specs.Opening.{recovered_of}
 use Rattle.qs_step.specs.Settling.{due_tids, is_quiet, may_answer, pass_rule, settle_tid, try}
-use Rattle.qs_step.specs.State.{NodeValue, Work, doings_of}
+use Rattle.qs_step.specs.State.{Work, doings_of}
 use Rattle.qs_step.specs.Step.{after_step, effects_of}
 use Rattle.qs_step.specs.declared.event.Event.{Event}
 use Rattle.qs_step.specs.declared.event.Event.TheVariants as events
@@ -27,27 +23,24 @@ use Rattle.qs_tm.specs.Manager as tm
 use Rattle.qs_tm.specs.Participant.{is_undecided}
 use Rattle.qs_tm.specs.declared.participant.Participant.{Participant}
 use Rattle.qs_world.specs.Histories.{book_of}
-use Rattle.qs_world.specs.Moves.{Cut, Meet, Move, Rise, Source, Step, log_after, may_move, moved, reopened, stopped, waiting_after}
+use Rattle.qs_world.specs.Moves.{Cut, Move, Rise, Source, Step, log_after, may_move, moved, reopened, waiting_after}
 use Rattle.qs_world.specs.Openings.{IsOpening}
-use Rattle.qs_world.specs.Posting.{entries_of, entry_of, post_all}
+use Rattle.qs_world.specs.Posting.{entries_of, post_all}
 use Rattle.qs_world.specs.World.{Opening, Parcel, World, inc_of, start}
-use Rattle.qs_refine.specs.MoveLaws.{IsSeated}
 use Rattle.qs_lawful.specs.Agreed.{IsSettledAll, StepAgrees}
-use Rattle.qs_lawful.specs.Aside.{AnswersElsewhere, HoldsIssued, IsAside, KeepsUnanimous}
+use Rattle.qs_lawful.specs.Aside.{AnswersElsewhere, KeepsUnanimous}
 use Rattle.qs_lawful.specs.Beside.{HoldsBeside}
 use Rattle.qs_lawful.specs.Entering.{book_at}
 use Rattle.qs_lawful.specs.Given.{AtEach}
 use Rattle.qs_lawful.specs.GivenStep.{MayStep, done_work, first_work}
 use Rattle.qs_lawful.specs.Lasting.{Lasts}
-use Rattle.qs_lawful.specs.LastingLaws.{IsNumbered}
 use Rattle.qs_lawful.specs.Logs.{Every}
-use Rattle.qs_lawful.specs.Parcels.{HoldsChannels, HoldsWays}
+use Rattle.qs_lawful.specs.Parcels.{HoldsChannels}
 use Rattle.qs_lawful.specs.Said.{HoldsSaid}
-use Rattle.qs_lawful.specs.Scripts.{HoldsScripts}
 use Rattle.qs_lawful.specs.WorldLaws.{StopsWell, rise_entry}
 use Rattle.qs_lawful.specs.Worlds.{HoldsKept, HoldsWorld}
 use Rattle.qs_every_run.specs.Agrees.{MakesStep, nodes_in}
-use Rattle.qs_every_run.specs.Joined.{HeldAt, HoldsRunning, Joined, RunningAt, ScriptsAt, WaysAt, book_in}
+use Rattle.qs_every_run.specs.Joined.{HoldsRunning, Joined, RunningAt, ScriptsAt, WaysAt, book_in}
 
 -- ---- as a run begins
 
@@ -129,17 +122,6 @@ SentThen o world n stamp free event = (c : Channels Parcel) → HoldsChannels (b
 abbrev pub StaysUnanimousThen : Opening → World → ℕ → ℕ → ℕ → Event → Type 0
 StaysUnanimousThen o world n stamp free event = (k : ℕ) → (k == n) ≡ false → k < world.size → world.channels.up k ≡ false → KeepsUnanimous k (book_in o world) (entries_in world n stamp free event)
 
--- each note that files issued is noted or waited for
-abbrev pub BesideHoldsIssued : Type 0
-BesideHoldsIssued = (book : BookValue) (node : NodeValue) → HoldsBeside book node → HoldsIssued book node
-
--- what entries of one node in steps leave of what the machine has beside another that runs
-abbrev pub OthersBeside : Type 0
-OthersBeside = (opened : List Opened) (history more : List Entry) → IsCoherent opened → Every IsNumbered opened → IsLawful (opening opened) (history ++ more)
-    → (node : NodeValue) → Every (IsAside node.setting.node.0 node) more → Every (λ (entry : Entry). HasOwner (book_after (opening opened) history) entry.act) more
-    → ((state : machine.NodeValue) → slice_get (book_after (opening opened) history).nodes node.setting.node.0 ≡ Some state → state.up ≡ true)
-    → HoldsBeside (book_after (opening opened) history) node → HoldsBeside (book_after (opening opened) (history ++ more)) node
-
 -- ---- moves whose entries are lawful, by kind
 
 abbrev pub IsStep : Move → Type 0
@@ -148,30 +130,6 @@ IsStep move = ⊥
 
 abbrev pub Keeps : (Opening → World → Type 0) → (Move → Type 0) → (Opening → World → Type 0) → Type 0
 Keeps P kind X = (o : Opening) (world : World) (move : Move) → kind move → Joined P o world → may_move world move ≡ true → IsLawful (book_of o) (moved move world).journal → X o (moved move world)
-
--- ---- scripts, and what is on its way, through what is no step: over any world
-
-abbrev pub crash_entry : ℕ → ℕ → CrashCause → Entry
-crash_entry n stamp cause = entry_of n stamp (acts.Crash cause)
-
-abbrev pub CrashKeepsScripts : Type 0
-CrashKeepsScripts = (o : Opening) (book : BookValue) (world : World) (n stamp : ℕ) (cause : CrashCause) (log : List Record) → HoldsScripts o book world
-    → HoldsScripts o (book_after book (crash_entry n stamp cause ∷ [])) (stopped world n stamp cause log)
-
-abbrev pub CrashKeepsWays : Type 0
-CrashKeepsWays = (book : BookValue) (world : World) (n stamp : ℕ) (cause : CrashCause) (log : List Record) → HoldsWays book world → HoldsWays (book_after book (crash_entry n stamp cause ∷ [])) (stopped world n stamp cause log)
-
-abbrev pub RiseKeepsScripts : Type 0
-RiseKeepsScripts = (o : Opening) (book : BookValue) (world : World) (n stamp inc : ℕ) → Lasts book → HoldsWorld book world → may_move world (Rise n stamp inc) ≡ true → HoldsScripts o book world
-    → HoldsScripts o (book_after book (rise_entry world n stamp inc ∷ [])) (moved (Rise n stamp inc) world)
-
-abbrev pub RiseKeepsWays : Type 0
-RiseKeepsWays = (book : BookValue) (world : World) (n stamp inc : ℕ) → Lasts book → HoldsWorld book world → IsSeated world → may_move world (Rise n stamp inc) ≡ true → HoldsWays book world
-    → HoldsWays (book_after book (rise_entry world n stamp inc ∷ [])) (moved (Rise n stamp inc) world)
-
-abbrev pub MeetKeepsWays : Type 0
-MeetKeepsWays = (book : BookValue) (world : World) (n stamp m inc : ℕ) → HoldsChannels book world.size world.channels → IsSeated world → may_move world (Meet n stamp m inc) ≡ true → HoldsWays book world
-    → HoldsWays book (moved (Meet n stamp m inc) world)
 
 -- ---- what is said of nodes that run, after a restart of one: of that one, and of the others
 
@@ -189,17 +147,13 @@ RiseKeepsBeside = (book : BookValue) (world : World) (n stamp inc : ℕ) → Las
 
 pub record Owed (P : Opening → World → Type 0) : Type 0 where
   -- as a run begins
-  pub opens_held : Opens HeldAt
   pub opens_running : Opens RunningAt
-  pub opens_ways : Opens WaysAt
-  pub opens_scripts : Opens ScriptsAt
   pub opens_places : Opens P
   -- what a step is given
   pub commits : EachCommitsSettled P
   pub answers : EachAnswersLate P
   pub given : EachGiven P
   -- after a whole step
-  pub issued : BesideHoldsIssued
   pub steps_kept : AfterStep P KeptThen
   pub steps_said : AfterStep P SaidThen
   pub steps_answers : AfterStep P AnswersAside
@@ -207,19 +161,12 @@ pub record Owed (P : Opening → World → Type 0) : Type 0 where
   pub steps_owned : AfterStep P BeginsOwned
   pub steps_running : AfterStep P RunningThen
   pub steps_sent : AfterStep P SentThen
-  pub others_beside : OthersBeside
   pub steps_ways : Keeps P IsStep WaysAt
   pub steps_scripts : Keeps P IsStep ScriptsAt
   -- after a crash
   pub keeps_its_batch : EachKeepsItsBatch P
-  pub crashes_ways : CrashKeepsWays
-  pub crashes_scripts : CrashKeepsScripts
   -- after a restart
   pub rises_running : EachRisesRunning P
   pub rises_beside : RiseKeepsBeside
-  pub rises_ways : RiseKeepsWays
-  pub rises_scripts : RiseKeepsScripts
-  -- after a first meeting
-  pub meets_ways : MeetKeepsWays
   -- what all places hold of each transaction
   pub places : Keeps P (λ (move : Move). ⊤) P
