@@ -29,16 +29,14 @@ use Rattle.qs_world.specs.Posting.{entries_of, post_all}
 use Rattle.qs_world.specs.World.{Opening, Parcel, World, inc_of, start}
 use Rattle.qs_lawful.specs.Agreed.{IsSettledAll, StepAgrees}
 use Rattle.qs_lawful.specs.Aside.{AnswersElsewhere, KeepsUnanimous}
-use Rattle.qs_lawful.specs.Beside.{HoldsBeside}
 use Rattle.qs_lawful.specs.Entering.{book_at}
 use Rattle.qs_lawful.specs.Given.{AtEach}
 use Rattle.qs_lawful.specs.GivenStep.{MayStep, done_work, first_work}
-use Rattle.qs_lawful.specs.Lasting.{Lasts}
 use Rattle.qs_lawful.specs.Logs.{Every}
 use Rattle.qs_lawful.specs.Parcels.{HoldsChannels}
 use Rattle.qs_lawful.specs.Said.{HoldsSaid}
 use Rattle.qs_lawful.specs.WorldLaws.{StopsWell, rise_entry}
-use Rattle.qs_lawful.specs.Worlds.{HoldsKept, HoldsWorld}
+use Rattle.qs_lawful.specs.Worlds.{HoldsKept}
 use Rattle.qs_every_run.specs.Agrees.{MakesStep, nodes_in}
 use Rattle.qs_every_run.specs.Joined.{HoldsRunning, Joined, RunningAt, ScriptsAt, WaysAt, book_in}
 
@@ -131,17 +129,13 @@ IsStep move = ⊥
 abbrev pub Keeps : (Opening → World → Type 0) → (Move → Type 0) → (Opening → World → Type 0) → Type 0
 Keeps P kind X = (o : Opening) (world : World) (move : Move) → kind move → Joined P o world → may_move world move ≡ true → IsLawful (book_of o) (moved move world).journal → X o (moved move world)
 
--- ---- what is said of nodes that run, after a restart of one: of that one, and of the others
+-- ---- what is said of a node that restarts
 
 abbrev pub rise_book : Opening → World → ℕ → ℕ → ℕ → BookValue
 rise_book o world n stamp inc = book_after (book_in o world) (rise_entry world n stamp inc ∷ [])
 
 abbrev pub EachRisesRunning : (Opening → World → Type 0) → Type 0
 EachRisesRunning P = (o : Opening) (world : World) (n stamp inc : ℕ) → Joined P o world → may_move world (Rise n stamp inc) ≡ true → HoldsRunning (rise_book o world n stamp inc) (reopened inc (recovered_of (world.hosts n).log) (world.hosts n).node)
-
-abbrev pub RiseKeepsBeside : Type 0
-RiseKeepsBeside = (book : BookValue) (world : World) (n stamp inc : ℕ) → Lasts book → HoldsWorld book world → may_move world (Rise n stamp inc) ≡ true
-    → (k : ℕ) → (k == n) ≡ false → k < world.size → world.channels.up k ≡ true → HoldsBeside book (world.hosts k).node → HoldsBeside (book_after book (rise_entry world n stamp inc ∷ [])) (world.hosts k).node
 
 -- ---- all that is owed
 
@@ -167,6 +161,5 @@ pub record Owed (P : Opening → World → Type 0) : Type 0 where
   pub keeps_its_batch : EachKeepsItsBatch P
   -- after a restart
   pub rises_running : EachRisesRunning P
-  pub rises_beside : RiseKeepsBeside
   -- what all places hold of each transaction
   pub places : Keeps P (λ (move : Move). ⊤) P
