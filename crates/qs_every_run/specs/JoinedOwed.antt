@@ -2,7 +2,6 @@
 use Rattle.std.specs.Prelude.{◌≡◌, ℕ, ◌≤◌, ◌<◌, ◌==◌, ◌++◌, ⊤, true, false, List, [], ◌∷◌, None, Some, is_some, slice_get}
 use Rattle.qs_base.specs.declared.identifiers.ClientNo.{ClientNo}
 use Rattle.qs_base.specs.declared.identifiers.Tid.{Tid}
-use Rattle.qs_channels.specs.Channels.{Channels}
 use Rattle.qs_engage.specs.Engage.{peer_of}
 use Rattle.qs_journal.specs.declared.entry.Act.{Act}
 use Rattle.qs_journal.specs.declared.entry.Act.TheVariants as acts
@@ -25,15 +24,15 @@ use Rattle.qs_tm.specs.declared.participant.Participant.{Participant}
 use Rattle.qs_world.specs.Histories.{book_of}
 use Rattle.qs_world.specs.Moves.{Cut, Move, Rise, Source, Step, log_after, may_move, moved, reopened, waiting_after}
 use Rattle.qs_world.specs.Openings.{IsOpening}
-use Rattle.qs_world.specs.Posting.{entries_of, post_all}
-use Rattle.qs_world.specs.World.{Opening, Parcel, World, inc_of, start}
+use Rattle.qs_world.specs.Posting.{entries_of}
+use Rattle.qs_world.specs.World.{Opening, World, inc_of, start}
 use Rattle.qs_lawful.specs.Agreed.{IsSettledAll, StepAgrees}
 use Rattle.qs_lawful.specs.Aside.{AnswersElsewhere, KeepsUnanimous}
+use Rattle.qs_lawful.specs.Amid.{IsSent}
 use Rattle.qs_lawful.specs.Entering.{book_at}
 use Rattle.qs_lawful.specs.Given.{AtEach}
 use Rattle.qs_lawful.specs.GivenStep.{MayStep, done_work, first_work}
 use Rattle.qs_lawful.specs.Logs.{Every}
-use Rattle.qs_lawful.specs.Parcels.{HoldsChannels}
 use Rattle.qs_lawful.specs.Said.{HoldsSaid}
 use Rattle.qs_lawful.specs.WorldLaws.{StopsWell, rise_entry}
 use Rattle.qs_lawful.specs.Worlds.{HoldsKept}
@@ -112,9 +111,9 @@ BeginsOwned o world n stamp free event = Every (HasOwner (book_in o world)) (eff
 abbrev pub RunningThen : Opening → World → ℕ → ℕ → ℕ → Event → Type 0
 RunningThen o world n stamp free event = HoldsRunning (book_then o world n stamp free event) (after_step (world.hosts n).node event free)
 
--- what it sends is so, and goes between two nodes of the run
+-- what it sends is so, and goes to another node of the run
 abbrev pub SentThen : Opening → World → ℕ → ℕ → ℕ → Event → Type 0
-SentThen o world n stamp free event = (c : Channels Parcel) → HoldsChannels (book_in o world) world.size c → HoldsChannels (book_then o world n stamp free event) world.size (post_all n stamp (effects_of (world.hosts n).node event free).messages c)
+SentThen o world n stamp free event = Every (IsSent (book_then o world n stamp free event) (world.hosts n).node.setting) (effects_of (world.hosts n).node event free).messages
 
 -- what is unanimous, and open at a home that is down, stays unanimous
 abbrev pub StaysUnanimousThen : Opening → World → ℕ → ℕ → ℕ → Event → Type 0
