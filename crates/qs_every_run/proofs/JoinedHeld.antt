@@ -1,5 +1,5 @@
 -- After a whole step the machine has the whole world: its own node by the step, the others as the step leaves them.
-use Rattle.std.proofs.Common.{◌≡◌, ℕ, ◌<◌, ◌==◌, Bool, true, false, List, [], ◌∷◌, ◌++◌, Option, Some, None, refl, sym, ap, subst, ◌∙◌, arith, if◌then◌else◌}
+use Rattle.std.proofs.Common.{◌≡◌, ℕ, ◌<◌, ◌==◌, Bool, true, false, List, [], ◌∷◌, ◌++◌, Option, Some, None, refl, sym, ap, subst, ◌∙◌, arith, nat_lt, if◌then◌else◌}
 use Rattle.std.proofs.lemmas.Bool.{eqb-true}
 use Rattle.std.proofs.lemmas.Bool.Decides.{nat_tests}
 use Rattle.std.specs.Prelude.{slice_get}
@@ -16,6 +16,7 @@ use Rattle.qs_packet.specs.declared.message.Message.TheVariants as messages
 use Rattle.qs_step.specs.State.{NodeValue}
 use Rattle.qs_step.specs.Step.{after_step, effects_of}
 use Rattle.qs_step.specs.declared.event.Event.{Event}
+use Rattle.qs_step.specs.declared.event.Sending.{Sending}
 use Rattle.qs_step.specs.declared.event.Event.TheVariants as events
 use Rattle.qs_step.specs.declared.setting.Setting.{Setting}
 use Rattle.qs_world.specs.Histories.{book_of, opened_from}
@@ -26,21 +27,24 @@ use Rattle.qs_refine.proofs.EachMay.{from_client, from_node, from_notice}
 use Rattle.qs_refine.proofs.Moving.{inc_taken, up_taken}
 use Rattle.qs_refine.proofs.Posted.{inc_all, up_all}
 use Rattle.qs_refine.proofs.SteadyFrom.{steady_gives}
+use Rattle.qs_lawful.specs.Amid.{InRun, IsSent}
 use Rattle.qs_lawful.specs.Aside.{AnswersElsewhere, IsAside, IsOfStep}
 use Rattle.qs_lawful.specs.Beside.{HoldsBeside}
 use Rattle.qs_lawful.specs.Holds.{Holds, is_next}
 use Rattle.qs_lawful.specs.Logged.{HoldsHost, IsTrueEvent}
 use Rattle.qs_lawful.specs.Logs.{Every}
-use Rattle.qs_lawful.specs.Parcels.{HoldsChannels, IsBetween, IsSaid}
+use Rattle.qs_lawful.specs.Parcels.{HoldsChannels, IsBetween, IsParcel, IsSaid}
 use Rattle.qs_lawful.specs.Worlds.{HoldsNodeAt, HoldsNodeOf, HoldsWorld}
 use Rattle.qs_lawful.proofs.AsideBesides.{keeps_others_beside}
 use Rattle.qs_lawful.proofs.AsideIssued.{issued_held}
 use Rattle.qs_lawful.proofs.AsideWhole.{keeps_others}
+use Rattle.qs_lawful.proofs.BesideSent.{channels_on, sent_parcel}
 use Rattle.qs_lawful.proofs.CoherentOpenings.{opens_soundly}
 use Rattle.qs_lawful.proofs.GivenByWorld.{message_between, message_comes}
+use Rattle.qs_lawful.proofs.LogFrames.{every_on}
 use Rattle.qs_lawful.proofs.LogLaws.{step_keeps}
 use Rattle.qs_lawful.proofs.NumberedLogs.{opened_numbered}
-use Rattle.qs_lawful.proofs.ParcelsKept.{channels_moved}
+use Rattle.qs_lawful.proofs.ParcelsKept.{channels_moved, channels_posted}
 use Rattle.qs_lawful.proofs.SameSettings.{step_same}
 use Rattle.qs_lawful.proofs.StopsWhole.{back_by, next_by}
 use Rattle.qs_every_run.specs.Agrees.{MakesStep}
@@ -245,7 +249,16 @@ module _ (P : Opening → World → Type 0) (owed : Owed P) (o : Opening) (world
   taken_fits (Noticed m new) comes = channels_moved old world.size (channel.Notice n m new) world.channels (from_notice world n stamp m new event comes).begun j.channels
 
   pub channels_then : HoldsChannels now world.size after.channels
-  channels_then = owed.steps_sent o world n stamp free source event j makes lawful (taken_by world n source) (taken_fits source makes.comes)
+  channels_then = channels_posted now world.size n stamp (effects_of node event free).messages (taken_by world n source)
+      (every_on (IsSent now node.setting) (λ (sending : Sending). IsParcel now world.size n sending.to.0 (record { stamp = stamp; message = sending.message })) (sent_parcel now node.setting stamp world.size n at.node at.run within)
+      (effects_of node event free).messages (owed.steps_sent o world n stamp free source event j makes lawful))
+      (channels_on old run_in entries lawful world.size (taken_by world n source) (taken_fits source makes.comes))
+    where
+      within : nat_lt n world.size ≡ true
+      within = grind (arith, nat_tests, low)
+
+      run_in : InRun old
+      run_in = record { opened = opened_from o 0 o.size; history = world.journal; coherent = opens_soundly o j.opens; lawful = j.lawful; is = refl }
 
   -- ---- all of it
 

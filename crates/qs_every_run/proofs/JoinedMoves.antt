@@ -11,7 +11,7 @@ use Rattle.qs_step.specs.Opening.{recovered_of}
 use Rattle.qs_step.specs.State.{NodeValue}
 use Rattle.qs_step.specs.Step.{effects_of}
 use Rattle.qs_step.specs.declared.event.Event.{Event}
-use Rattle.qs_world.specs.Histories.{book_of}
+use Rattle.qs_world.specs.Histories.{book_of, opened_from}
 use Rattle.qs_world.specs.Moves.{Cut, Meet, Move, Rise, Step, Stop, cut_log, cut_with, event_of, is_in_order, is_later, may_move, moved, reopened, risen_host, step_with}
 use Rattle.qs_world.specs.World.{Opening, World, known_of}
 use Rattle.qs_refine.proofs.SoundParts.{and_both}
@@ -23,6 +23,7 @@ use Rattle.qs_lawful.specs.Parcels.{HoldsWays}
 use Rattle.qs_lawful.specs.Scripts.{HoldsScripts}
 use Rattle.qs_lawful.specs.WorldLaws.{RisesWell, rise_entry}
 use Rattle.qs_lawful.specs.Worlds.{HoldsWorld}
+use Rattle.qs_lawful.proofs.CoherentOpenings.{opens_soundly}
 use Rattle.qs_lawful.proofs.LastsAlways.{in_runs}
 use Rattle.qs_lawful.proofs.Meeting.{meets}
 use Rattle.qs_lawful.proofs.MetWays.{meet_ways}
@@ -39,6 +40,7 @@ use Rattle.qs_every_run.specs.JoinedRuns.{EachMoveJoined}
 use Rattle.qs_every_run.proofs.JoinedFacts.{rises_facts}
 use Rattle.qs_every_run.proofs.JoinedHomes.{homes_after}
 use Rattle.qs_every_run.proofs.JoinedParts.{book_on, channels_later, lawful_on, seated_sound}
+use Rattle.qs_every_run.proofs.RisesBeside.{rise_keeps_beside}
 use Rattle.qs_every_run.proofs.JoinedAfter.{crash_joined, step_joined, then_joined}
 
 module _ (P : Opening → World → Type 0) (owed : Owed P) (o : Opening) (world : World) (j : Joined P o world) where
@@ -91,7 +93,7 @@ module _ (P : Opening → World → Type 0) (owed : Owed P) (o : Opening) (world
         by true near runs = subst (λ (i : ℕ). HoldsRunning (book_after book (rise_entry world n stamp inc ∷ [])) (risen_world.hosts i).node) (sym (eqb-true k n near))
             (subst (λ (m : NodeValue). HoldsRunning (book_after book (rise_entry world n stamp inc ∷ [])) m) (sym rise_own) (owed.rises_running o world n stamp inc j may))
         by false far runs = subst (λ (m : NodeValue). HoldsRunning (book_after book (rise_entry world n stamp inc ∷ [])) m) (sym (rise_same k far)) (record {
-          beside = owed.rises_beside book world n stamp inc lasts j.held may k far low runs (j.running k low runs).beside;
+          beside = rise_keeps_beside (opened_from o 0 o.size) world.journal (opens_soundly o j.opens) j.lawful world n stamp inc lasts j.held may k (world.hosts k).node far (j.held.nodes k low).node (j.running k low runs).beside;
           numbered = (j.running k low runs).numbered;
           young = (j.running k low runs).young;
         })

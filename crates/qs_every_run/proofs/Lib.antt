@@ -20,5 +20,6 @@ pub mod JoinedSound
 pub mod JoinedActs
 pub mod JoinedHeld
 pub mod JoinedAfter
+pub mod RisesBeside
 pub mod JoinedMoves
 pub mod JoinedOver

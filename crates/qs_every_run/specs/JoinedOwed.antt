@@ -2,7 +2,6 @@
 use Rattle.std.specs.Prelude.{◌≡◌, ℕ, ◌≤◌, ◌<◌, ◌==◌, ◌++◌, ⊤, true, false, List, [], ◌∷◌, None, Some, is_some, slice_get}
 use Rattle.qs_base.specs.declared.identifiers.ClientNo.{ClientNo}
 use Rattle.qs_base.specs.declared.identifiers.Tid.{Tid}
-use Rattle.qs_channels.specs.Channels.{Channels}
 use Rattle.qs_engage.specs.Engage.{peer_of}
 use Rattle.qs_journal.specs.declared.entry.Act.{Act}
 use Rattle.qs_journal.specs.declared.entry.Act.TheVariants as acts
@@ -25,20 +24,18 @@ use Rattle.qs_tm.specs.declared.participant.Participant.{Participant}
 use Rattle.qs_world.specs.Histories.{book_of}
 use Rattle.qs_world.specs.Moves.{Cut, Move, Rise, Source, Step, log_after, may_move, moved, reopened, waiting_after}
 use Rattle.qs_world.specs.Openings.{IsOpening}
-use Rattle.qs_world.specs.Posting.{entries_of, post_all}
-use Rattle.qs_world.specs.World.{Opening, Parcel, World, inc_of, start}
+use Rattle.qs_world.specs.Posting.{entries_of}
+use Rattle.qs_world.specs.World.{Opening, World, inc_of, start}
 use Rattle.qs_lawful.specs.Agreed.{IsSettledAll, StepAgrees}
 use Rattle.qs_lawful.specs.Aside.{AnswersElsewhere, KeepsUnanimous}
-use Rattle.qs_lawful.specs.Beside.{HoldsBeside}
+use Rattle.qs_lawful.specs.Amid.{IsSent}
 use Rattle.qs_lawful.specs.Entering.{book_at}
 use Rattle.qs_lawful.specs.Given.{AtEach}
 use Rattle.qs_lawful.specs.GivenStep.{MayStep, done_work, first_work}
-use Rattle.qs_lawful.specs.Lasting.{Lasts}
 use Rattle.qs_lawful.specs.Logs.{Every}
-use Rattle.qs_lawful.specs.Parcels.{HoldsChannels}
 use Rattle.qs_lawful.specs.Said.{HoldsSaid}
 use Rattle.qs_lawful.specs.WorldLaws.{StopsWell, rise_entry}
-use Rattle.qs_lawful.specs.Worlds.{HoldsKept, HoldsWorld}
+use Rattle.qs_lawful.specs.Worlds.{HoldsKept}
 use Rattle.qs_every_run.specs.Agrees.{MakesStep, nodes_in}
 use Rattle.qs_every_run.specs.Joined.{HoldsRunning, Joined, RunningAt, ScriptsAt, WaysAt, book_in}
 
@@ -114,9 +111,9 @@ BeginsOwned o world n stamp free event = Every (HasOwner (book_in o world)) (eff
 abbrev pub RunningThen : Opening → World → ℕ → ℕ → ℕ → Event → Type 0
 RunningThen o world n stamp free event = HoldsRunning (book_then o world n stamp free event) (after_step (world.hosts n).node event free)
 
--- what it sends is so, and goes between two nodes of the run
+-- what it sends is so, and goes to another node of the run
 abbrev pub SentThen : Opening → World → ℕ → ℕ → ℕ → Event → Type 0
-SentThen o world n stamp free event = (c : Channels Parcel) → HoldsChannels (book_in o world) world.size c → HoldsChannels (book_then o world n stamp free event) world.size (post_all n stamp (effects_of (world.hosts n).node event free).messages c)
+SentThen o world n stamp free event = Every (IsSent (book_then o world n stamp free event) (world.hosts n).node.setting) (effects_of (world.hosts n).node event free).messages
 
 -- what is unanimous, and open at a home that is down, stays unanimous
 abbrev pub StaysUnanimousThen : Opening → World → ℕ → ℕ → ℕ → Event → Type 0
@@ -131,17 +128,13 @@ IsStep move = ⊥
 abbrev pub Keeps : (Opening → World → Type 0) → (Move → Type 0) → (Opening → World → Type 0) → Type 0
 Keeps P kind X = (o : Opening) (world : World) (move : Move) → kind move → Joined P o world → may_move world move ≡ true → IsLawful (book_of o) (moved move world).journal → X o (moved move world)
 
--- ---- what is said of nodes that run, after a restart of one: of that one, and of the others
+-- ---- what is said of a node that restarts
 
 abbrev pub rise_book : Opening → World → ℕ → ℕ → ℕ → BookValue
 rise_book o world n stamp inc = book_after (book_in o world) (rise_entry world n stamp inc ∷ [])
 
 abbrev pub EachRisesRunning : (Opening → World → Type 0) → Type 0
 EachRisesRunning P = (o : Opening) (world : World) (n stamp inc : ℕ) → Joined P o world → may_move world (Rise n stamp inc) ≡ true → HoldsRunning (rise_book o world n stamp inc) (reopened inc (recovered_of (world.hosts n).log) (world.hosts n).node)
-
-abbrev pub RiseKeepsBeside : Type 0
-RiseKeepsBeside = (book : BookValue) (world : World) (n stamp inc : ℕ) → Lasts book → HoldsWorld book world → may_move world (Rise n stamp inc) ≡ true
-    → (k : ℕ) → (k == n) ≡ false → k < world.size → world.channels.up k ≡ true → HoldsBeside book (world.hosts k).node → HoldsBeside (book_after book (rise_entry world n stamp inc ∷ [])) (world.hosts k).node
 
 -- ---- all that is owed
 
@@ -167,6 +160,5 @@ pub record Owed (P : Opening → World → Type 0) : Type 0 where
   pub keeps_its_batch : EachKeepsItsBatch P
   -- after a restart
   pub rises_running : EachRisesRunning P
-  pub rises_beside : RiseKeepsBeside
   -- what all places hold of each transaction
   pub places : Keeps P (λ (move : Move). ⊤) P

@@ -6,3 +6,4 @@ pub mod Joined
 pub mod JoinedOwed
 pub mod JoinedPlaces
 pub mod JoinedRuns
+pub mod RiseLaws

@@ -1,6 +1,7 @@
 //! Every run of the world of nodes is lawful, as far as it is owed.
 ghost use Rattle.qs_every_run.specs.JoinedPlaces.{PlacesAt};
 ghost use Rattle.qs_every_run.specs.JoinedRuns.{EachMoveJoined, EachOpensJoined, EachRunJoined, EachRunLawful};
+ghost use Rattle.qs_every_run.specs.RiseLaws.{EachRiseKeepsBeside};
 
 /// From what is still to be shown, which stands in one record: all that the machines and the nodes have together stands as a run begins, over
 /// old logs too that a restart can take up, and after each move; so each run's history is lawful.
@@ -9,4 +10,9 @@ pub fn runs_are_lawful()
     ensures moves { EachMoveJoined PlacesAt }
     ensures runs { EachRunJoined PlacesAt }
     ensures lawful { EachRunLawful PlacesAt }
+{}
+
+/// A restart of one node leaves what the machine has beside each other that runs.
+pub fn restart_leaves_what_stands_beside()
+    ensures { EachRiseKeepsBeside }
 {}

@@ -1,0 +1,20 @@
+-- The law of what a restart of one node leaves of what the machine has beside each other.
+use Rattle.std.specs.Prelude.{◌≡◌, ℕ, ◌==◌, true, false, List, [], ◌∷◌}
+use Rattle.qs_journal.specs.declared.entry.Entry.{Entry}
+use Rattle.qs_laws.specs.Laws.{IsCoherent}
+use Rattle.qs_machine.specs.Lawful.{IsLawful, book_after}
+use Rattle.qs_machine.specs.Opening.{opening}
+use Rattle.qs_machine.specs.declared.opened.Opened.{Opened}
+use Rattle.qs_step.specs.State.{NodeValue}
+use Rattle.qs_world.specs.Moves.{Rise, may_move}
+use Rattle.qs_world.specs.World.{World}
+use Rattle.qs_lawful.specs.Beside.{HoldsBeside}
+use Rattle.qs_lawful.specs.Lasting.{Lasts}
+use Rattle.qs_lawful.specs.WorldLaws.{rise_entry}
+use Rattle.qs_lawful.specs.Worlds.{HoldsWorld}
+
+abbrev pub EachRiseKeepsBeside : Type 0
+EachRiseKeepsBeside = (opened : List Opened) (history : List Entry) → IsCoherent opened → IsLawful (opening opened) history
+    → (world : World) (n stamp inc : ℕ) → Lasts (book_after (opening opened) history) → HoldsWorld (book_after (opening opened) history) world → may_move world (Rise n stamp inc) ≡ true
+    → (k : ℕ) (node : NodeValue) → (k == n) ≡ false → node.setting.node.0 ≡ k → HoldsBeside (book_after (opening opened) history) node
+    → HoldsBeside (book_after (book_after (opening opened) history) (rise_entry world n stamp inc ∷ [])) node
