@@ -16,11 +16,11 @@ use Rattle.qs_every_run.proofs.JoinedHomes.{own_has}
 use Rattle.qs_every_run.proofs.JoinedMoves.{each_move_joined}
 
 pub each_opens_joined : (P : Opening → World → Type 0) → EachOpensJoined P
-each_opens_joined P owed o opens whole = record {
+each_opens_joined P owed o opens = record {
   opens = opens;
   size = refl;
   lawful = tt;
-  shown = every_run_shown (start o) (record { opening = o; opens = opens; whole = whole; moves = []; run = refl });
+  shown = every_run_shown (start o) (record { opening = o; opens = opens; moves = []; run = refl });
   held = world_held o opens;
   running = owed.opens_running o opens;
   facts = λ n low. opens_facts o opens n low;
@@ -43,7 +43,7 @@ over P owed o [] old new j run = subst (λ (w : World). Joined P o w) (sym run) 
 over P owed o (move ∷ moves) old new j run = over P owed o moves (moved move old) new (each_move_joined P owed o old move j run.0) run.1
 
 pub each_run_joined : (P : Opening → World → Type 0) → EachRunJoined P
-each_run_joined P owed o moves new opens whole run = over P owed o moves (start o) new (each_opens_joined P owed o opens whole) run
+each_run_joined P owed o moves new opens run = over P owed o moves (start o) new (each_opens_joined P owed o opens) run
 
 pub each_run_lawful : (P : Opening → World → Type 0) → EachRunLawful P
-each_run_lawful P owed o moves new whole opens run = (each_run_joined P owed o moves new opens whole run).lawful
+each_run_lawful P owed o moves new opens run = (each_run_joined P owed o moves new opens run).lawful

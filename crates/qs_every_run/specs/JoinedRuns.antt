@@ -1,29 +1,23 @@
--- The law of every run, as far as it is owed: from what is still to be shown, each run from logs that a restart can take up whole is lawful.
-use Rattle.std.specs.Prelude.{◌≡◌, ℕ, ◌<◌, true, List}
-use Rattle.qs_restart.specs.Recovery.{recovery}
+-- The law of every run, as far as it is owed: from what is still to be shown, each run is lawful.
+use Rattle.std.specs.Prelude.{◌≡◌, true, List}
 use Rattle.qs_world.specs.Histories.{IsLawfulRun}
 use Rattle.qs_world.specs.Moves.{Move, may_move, moved}
 use Rattle.qs_world.specs.Openings.{IsOpening}
 use Rattle.qs_world.specs.Runs.{Run}
 use Rattle.qs_world.specs.World.{Opening, World, start}
-use Rattle.qs_refine.specs.EveryRun.{is_whole_log}
 use Rattle.qs_every_run.specs.Joined.{Joined}
 use Rattle.qs_every_run.specs.JoinedOwed.{Owed}
 
--- a restart can take up each of the logs
-abbrev pub HasWholeLogs : Opening → Type 0
-HasWholeLogs o = (n : ℕ) → n < o.size → is_whole_log o.size (recovery (o.logs n)) ≡ true
-
 -- all stands together as a run begins, and after each move
 abbrev pub EachOpensJoined : (Opening → World → Type 0) → Type 0
-EachOpensJoined P = Owed P → (o : Opening) → IsOpening o → HasWholeLogs o → Joined P o (start o)
+EachOpensJoined P = Owed P → (o : Opening) → IsOpening o → Joined P o (start o)
 
 abbrev pub EachMoveJoined : (Opening → World → Type 0) → Type 0
 EachMoveJoined P = Owed P → (o : Opening) (world : World) (move : Move) → Joined P o world → may_move world move ≡ true → Joined P o (moved move world)
 
 -- so it does over every run, and the run's history is lawful
 abbrev pub EachRunJoined : (Opening → World → Type 0) → Type 0
-EachRunJoined P = Owed P → (o : Opening) (moves : List Move) (new : World) → IsOpening o → HasWholeLogs o → Run (start o) moves new → Joined P o new
+EachRunJoined P = Owed P → (o : Opening) (moves : List Move) (new : World) → IsOpening o → Run (start o) moves new → Joined P o new
 
 abbrev pub EachRunLawful : (Opening → World → Type 0) → Type 0
-EachRunLawful P = Owed P → (o : Opening) (moves : List Move) (new : World) → HasWholeLogs o → IsLawfulRun o moves new
+EachRunLawful P = Owed P → (o : Opening) (moves : List Move) (new : World) → IsLawfulRun o moves new

@@ -2,8 +2,9 @@
 use Rattle.std.proofs.Common.{◌≤◌, nat_le, arith}
 use Rattle.std.proofs.lemmas.Bool.Decides.{nat_tests}
 use Rattle.qs_restart.specs.Recovery.{recovery}
-use Rattle.qs_world.specs.Openings.{IsOpening}
+use Rattle.qs_world.specs.Openings.{IsOpening, is_whole_log}
 use Rattle.qs_world.specs.World.{Opening, start}
+use Rattle.qs_world.proofs.Below.{each_is}
 use Rattle.qs_refine.specs.EveryRun.{EveryRunShown, EveryRunGoes, EveryRunAgrees, EveryRunTells}
 use Rattle.qs_refine.proofs.Listing.{start_listed}
 use Rattle.qs_refine.proofs.NodesAgree.{nodes_agree, logs_stand}
@@ -18,7 +19,7 @@ small_opening o opens = grind (arith, nat_tests, (and_both (nat_le 1 o.size) (na
 
 pub every_run_shown : EveryRunShown
 every_run_shown world is = run_shown is.moves (start is.opening) world each_begun_shown is.run
-    (record { steady = start_steady is.opening is.opens; listed = start_listed is.opening is.opens (λ n low. whole_taken is.opening.size (recovery (is.opening.logs n)) (small_opening is.opening is.opens) (is.whole n low)); shown = start_all_shown is.opening is.opens })
+    (record { steady = start_steady is.opening is.opens; listed = start_listed is.opening is.opens (λ n low. whole_taken is.opening.size (recovery (is.opening.logs n)) (small_opening is.opening is.opens) (each_is is.opening.size (λ k. is_whole_log is.opening.size (recovery (is.opening.logs k))) is.opens.whole n low)); shown = start_all_shown is.opening is.opens })
 
 pub every_run_goes : EveryRunGoes
 every_run_goes tid moves old new w is run begun shows = shown_run_goes tid moves old new w each_begun_shown run (every_run_shown old is) begun shows

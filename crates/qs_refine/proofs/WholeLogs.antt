@@ -8,8 +8,8 @@ use Rattle.qs_base.specs.declared.identifiers.NodeNo.{NodeNo}
 use Rattle.qs_base.specs.declared.identifiers.Tid.{Tid}
 use Rattle.qs_engage.specs.Nodes.{same_node}
 use Rattle.qs_restart.specs.Recovery.{Untold, is_untold_of}
-use Rattle.qs_world.specs.Openings.{is_in_run}
-use Rattle.qs_refine.specs.EveryRun.{names_run, is_commit_of_other, are_once, WholeTaken}
+use Rattle.qs_world.specs.Openings.{is_in_run, names_run, is_commit_of_other, are_once}
+use Rattle.qs_refine.specs.EveryRun.{WholeTaken}
 use Rattle.qs_refine.specs.Links.{names_node, node_no}
 use Rattle.qs_refine.specs.Lists.{later_list}
 use Rattle.qs_refine.proofs.NodeLists.{joined_named, unlisted}

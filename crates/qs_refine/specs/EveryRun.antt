@@ -1,12 +1,12 @@
 -- The law of every run of the world: each transaction that has begun is shown by a lawful world of the agreement machine; so nodes agree, and nobody is forgotten.
-use Rattle.std.specs.Prelude.{◌≡◌, ◌≢◌, ℕ, ◌<◌, ◌≤◌, Bool, true, not, ◌&&◌, List, [], ◌∷◌}
-use Rattle.std.specs.List.{list_all, list_any}
+use Rattle.std.specs.Prelude.{◌≡◌, ◌≢◌, ℕ, ◌<◌, ◌≤◌, true, List}
+use Rattle.std.specs.List.{list_any}
 use Rattle.qs_base.specs.Order.{same_tid}
 use Rattle.qs_base.specs.declared.identifiers.Outcome.TheVariants as outcomes
 use Rattle.qs_base.specs.declared.identifiers.Tid.{Tid}
-use Rattle.qs_restart.specs.Recovery.{Untold, Recovery, recovery, names_transaction, is_untold_of}
+use Rattle.qs_restart.specs.Recovery.{Recovery, recovery, names_transaction, is_untold_of}
 use Rattle.qs_world.specs.Moves.{Move}
-use Rattle.qs_world.specs.Openings.{IsOpening, is_in_run}
+use Rattle.qs_world.specs.Openings.{IsOpening, is_whole_log}
 use Rattle.qs_world.specs.Runs.{Run}
 use Rattle.qs_world.specs.World.{Opening, World, start}
 use Rattle.qs_agree.specs.World as machine
@@ -19,22 +19,8 @@ use Rattle.qs_refine.specs.Sights.{list_of}
 use Rattle.qs_refine.specs.Sound.{has_doubt}
 use Rattle.qs_refine.specs.WorldLaws.{Knows}
 
--- ---- logs that a restart can take up whole: of a transaction one Commit waits for its End, and it names nodes of the run
+-- ---- whoever is named by a log that a restart can take up whole is taken up
 
-abbrev pub names_run : ℕ → Untold → Bool
-names_run size commit = list_all (is_in_run size) commit.told
-
-abbrev pub is_commit_of_other : Tid → Untold → Bool
-is_commit_of_other tid commit = not (is_untold_of tid commit)
-
-abbrev pub are_once : List Untold → Bool
-are_once [] = true
-are_once (commit ∷ commits) = list_all (is_commit_of_other commit.tid) commits && are_once commits
-
-abbrev pub is_whole_log : ℕ → Recovery → Bool
-is_whole_log size said = list_all (names_run size) said.untold && are_once said.untold
-
--- then whoever is named is taken up
 abbrev pub WholeTaken : Type 0
 WholeTaken = (size : ℕ) (said : Recovery) → size ≤ 16 → is_whole_log size said ≡ true → AreTaken said
 
@@ -43,7 +29,6 @@ WholeTaken = (size : ℕ) (said : Recovery) → size ≤ 16 → is_whole_log siz
 pub record IsReached (world : World) : Type 0 where
   pub opening : Opening
   pub opens : IsOpening opening
-  pub whole : (n : ℕ) → n < opening.size → is_whole_log opening.size (recovery (opening.logs n)) ≡ true
   pub moves : List Move
   pub run : Run (start opening) moves world
 
