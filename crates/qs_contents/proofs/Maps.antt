@@ -34,6 +34,17 @@ equal_from Less is = absurd (cc)
 equal_from Equal is = refl
 equal_from Greater is = absurd (cc)
 
+-- what is written at a key that is there is found at it
+pub lookup-written : {K X : Type 0} (test : K → Bool) (es : List (K × X)) (v w : X) → lookup test es ≡ Some v → lookup test (set_value test es w) ≡ Some w
+lookup-written test [] v w there = absurd (cc)
+lookup-written {K} {X} test (e ∷ es) v w there = by (test e.0) refl there (lookup-written test es v w)
+  where
+    by : (b : Bool) → test e.0 ≡ b → cond b (Some e.1) (lookup test es) ≡ Some v
+        → (lookup test es ≡ Some v → lookup test (set_value test es w) ≡ Some w)
+        → lookup test (cond b ((e.0, w) ∷ es) (e ∷ set_value test es w)) ≡ Some w
+    by true is found rest = ap (λ (b : Bool). cond b (Some w) (lookup test es)) is
+    by false is found rest = ap (λ (b : Bool). cond b (Some e.1) (lookup test (set_value test es w))) is ∙ rest found
+
 module _ {K : Type 0} {R : K → K → Ordering} (o : IsTotalOrder R) (exact : (x y : K) → R x y ≡ Equal → x ≡ y) where
   -- a key is not two that differ
   apart : (q k e : K) (r : Ordering) → R k e ≡ r → is_eq r ≡ false → is_eq (R q e) ≡ true → is_eq (R q k) ≡ true → ⊥

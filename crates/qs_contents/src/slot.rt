@@ -2,6 +2,7 @@
 ghost use Rattle.std.specs.Prelude.{◌≡◌, IfOk, IfSome, OnOk, OnErr, is_some};
 ghost use Rattle.std.specs.Option.{option_copied};
 ghost use Rattle.qs_contents.specs.Texts.{flat, joined, text_bytes};
+ghost use Rattle.qs_ops.specs.Files.{or_else};
 ghost use Rattle.qs_contents.specs.Slots.{new_slot, is_empty_slot, placed, slot_changed, finished, tidied, slot_read, slot_unread, reader_at, edit_at, first_other, is_edit, is_read, seen_at, kept_at, text_at};
 
 use crate::edit::{Change, Edit};
@@ -112,7 +113,7 @@ impl Slot {
     }
 
     /// The least transaction but this one that read the text.
-    pub fn other_reader(&self, me: Tid) -> Option<Tid>
+    fn other_reader(&self, me: Tid) -> Option<Tid>
         ensures { result ≡ first_other is_read me self.now.readers }
     {
         for entry in self.readers.iter() {
@@ -121,6 +122,17 @@ impl Slot {
             }
         }
         None
+    }
+
+    /// Who keeps a change by the transaction back: the least other that is about to change the text, else the
+    /// least other that read it.
+    pub fn holder(&self, me: Tid) -> Option<Tid>
+        ensures { result ≡ or_else (first_other is_edit me self.now.edits) (first_other is_read me self.now.readers) }
+    {
+        match self.other_changer(me) {
+            Some(other) => Some(other),
+            None => self.other_reader(me),
+        }
     }
 
     /// Makes room for changes of the transaction. After a refusal all is as it was.

@@ -4,6 +4,7 @@ ghost use Rattle.std.specs.List.{fold};
 ghost use Rattle.std.specs.List.Sorted.{IsStrictlySortedBy};
 ghost use Rattle.std.specs.Map.{keys_of};
 ghost use Rattle.qs_base.specs.Order.{bytes_cmp};
+ghost use Rattle.qs_ops.specs.Files.{or_else};
 ghost use Rattle.qs_ops.specs.Server.{AreFilesWritten};
 ghost use Rattle.qs_contents.specs.Written.{AddsFiles};
 ghost use Rattle.qs_contents.specs.Texts.{text_bytes};
@@ -94,12 +95,13 @@ impl Slots {
         }
     }
 
-    /// The least transaction but this one that read the text under the name.
-    pub fn other_reader(&self, name: &Bytes, me: Tid) -> Option<Tid>
-        ensures { result ≡ first_other is_read me (slot_or_new self.now name.now).readers }
+    /// Who keeps a change by the transaction to the text under the name back: the least other that is about to
+    /// change it, else the least other that read it.
+    pub fn holder(&self, name: &Bytes, me: Tid) -> Option<Tid>
+        ensures { result ≡ or_else (first_other is_edit me (slot_or_new self.now name.now).edits) (first_other is_read me (slot_or_new self.now name.now).readers) }
     {
         match self.names.get(name) {
-            Some(slot) => slot.other_reader(me),
+            Some(slot) => slot.holder(me),
             None => None,
         }
     }

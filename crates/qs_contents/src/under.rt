@@ -1,6 +1,6 @@
 //! What stands under one name of a map, made, changed or taken out.
 ghost use Rattle.std.specs.Prelude.{◌≡◌, OnOk, OnErr};
-ghost use Rattle.qs_contents.specs.Slots.{placed, finished, tidied, slot_read, at_slot, put_slot, swept, change_by, unread_name};
+ghost use Rattle.qs_contents.specs.Slots.{placed, finished, tidied, slot_read, slot_unread, at_slot, put_slot, slot_or_new, is_empty_slot, swept, change_by, unread_name};
 ghost use Rattle.qs_contents.specs.Sums.{IsCommitted};
 
 use crate::counting::replaced;
@@ -64,10 +64,23 @@ pub fn finish(
 pub fn tidy(names: &mut Names, name: &Bytes, tid: Tid)
     ensures { names.new ≡ swept name.now (at_slot (tidied tid) name.now names.old) }
 {
-    if let Some(slot) = names.get_mut(name) {
-        slot.tidy(tid);
+    if tidy_slot(names, name, tid) {
+        names.remove(name);
     }
-    sweep(names, name);
+}
+
+/// The same with the slot left, and whether nothing stands there then.
+fn tidy_slot(names: &mut Names, name: &Bytes, tid: Tid) -> bool
+    ensures names { names.new ≡ at_slot (tidied tid) name.now names.old }
+    ensures empty { result ≡ is_empty_slot (slot_or_new names.new name.now) }
+{
+    match names.get_mut(name) {
+        Some(slot) => {
+            slot.tidy(tid);
+            slot.is_empty()
+        }
+        None => true,
+    }
 }
 
 /// The transaction read the text. After a refusal all is as it was.
@@ -90,21 +103,21 @@ pub fn read(alloc: Global, names: &mut Names, name: &Bytes, tid: Tid) -> Result<
 pub fn unread(names: &mut Names, name: &Bytes, tid: Tid)
     ensures { names.new ≡ unread_name tid names.old name.now }
 {
-    if let Some(slot) = names.get_mut(name) {
-        slot.unread(tid);
+    if unread_slot(names, name, tid) {
+        names.remove(name);
     }
-    sweep(names, name);
 }
 
-/// Takes the slot of the name out where nothing stands there.
-fn sweep(names: &mut Names, name: &Bytes)
-    ensures { names.new ≡ swept name.now names.old }
+/// The same with the slot left, and whether nothing stands there then.
+fn unread_slot(names: &mut Names, name: &Bytes, tid: Tid) -> bool
+    ensures names { names.new ≡ at_slot (slot_unread tid) name.now names.old }
+    ensures empty { result ≡ is_empty_slot (slot_or_new names.new name.now) }
 {
-    let empty = match names.get(name) {
-        Some(slot) => slot.is_empty(),
+    match names.get_mut(name) {
+        Some(slot) => {
+            slot.unread(tid);
+            slot.is_empty()
+        }
         None => true,
-    };
-    if empty {
-        names.remove(name);
     }
 }

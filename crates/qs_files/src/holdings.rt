@@ -1,6 +1,6 @@
 //! What a file server holds.
 ghost use Rattle.std.specs.Prelude.{◌≡◌, true, is_some, length, map, nat_le, IfOk, IfSome, OnOk, OnErr};
-ghost use Rattle.qs_ops.specs.Table.{no_table, text_at, view_contents, view_bytes, holder_of_name, changes_name, least_other, share_of, has_changes, served, with_vote, released, committed, kept, text_or_empty, reads_name};
+ghost use Rattle.qs_ops.specs.Table.{no_table, text_at, view_contents, view_bytes, holder_of_name, changes_name, least_other, share_of, has_changes, served, with_vote, released, committed, kept, text_or_empty};
 ghost use Rattle.qs_ops.specs.Server.{vote_in_room, AreFilesWritten};
 ghost use Rattle.qs_files.specs.Held.{is_file_op};
 
@@ -106,18 +106,8 @@ impl Holdings {
     pub fn holder(&self, tid: Tid, name: &Bytes) -> Option<Tid>
         ensures { result ≡ holder_of_name self.now tid name.now }
     {
-        match self.other_changer(tid, name) {
-            Some(other) => Some(other),
-            None => self.other_reader(tid, name),
-        }
-    }
-
-    /// The least other transaction that read the name.
-    fn other_reader(&self, tid: Tid, name: &Bytes) -> Option<Tid>
-        ensures { result ≡ least_other (reads_name name.now) tid self.now.shares }
-    {
         self.shares.in_order();
-        self.slots.other_reader(name, tid)
+        self.slots.holder(name, tid)
     }
 
     /// Whether as many operations of the transaction were served as a server serves.

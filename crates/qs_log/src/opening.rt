@@ -1,5 +1,5 @@
 //! A log read from its disk.
-ghost use Rattle.std.specs.Prelude.{◌≡◌, ◌≤◌, ◌<◌, ◌+◌, ◌^◌, ◌⊎◌, ℕ, length, is_ok, IfOk, Ok, Err};
+ghost use Rattle.std.specs.Prelude.{◌≡◌, ◌≤◌, ◌<◌, ◌+◌, ◌^◌, ◌⊎◌, ℕ, length, vec_len, min, is_ok, IfOk, OnOk, Ok, Err};
 ghost use Rattle.qs_base.specs.Causes.{HasCause, Rose};
 ghost use Rattle.qs_batch.specs.Batch.{IsCounted, IsBroken};
 ghost use Rattle.qs_disk.specs.Disk.{IsImage, IsSize, IsStill, Syncs};
@@ -19,6 +19,12 @@ use qs_disk::{Disk, DiskFailed};
 use qs_record::Record;
 use qs_slot::{SlotFault, SlotValue, Slots, open_slots};
 use std::alloc::Global;
+
+/// How many bytes are cleared at once.
+const PIECE: usize = 2048;
+
+/// So many zero bytes.
+const ZEROS: [u8; 2048] = [0; 2048];
 
 // What stands on a disk: its slots, its records, and how many bytes the counted batches take.
 #[derive(Drop)]
@@ -147,9 +153,24 @@ fn read_area<D: Disk>(alloc: Global, disk: &mut D, generation: u32) -> Result<Ve
     Ok(area)
 }
 
-// So many zero bytes.
+// So many zero bytes, a piece at a time: one fill of megabytes is counted as an instruction a byte.
 fn zeros(alloc: Global, count: u64) -> Result<Vec<u8>, NoMemory>
     ensures { IfOk result (λ bytes. length bytes.items ≡ count) }
 {
-    Ok(vec![in alloc; 0; count as usize]?)
+    let count = count as usize;
+    let mut bytes = Vec::with_capacity(alloc, count)?;
+    while bytes.len() < count {
+        add_piece(&mut bytes, count)?;
+    }
+    Ok(bytes)
+}
+
+// One more piece, or what is lacking to so many.
+fn add_piece(bytes: &mut Vec<u8>, count: usize) -> Result<(), NoMemory>
+    requires { vec_len bytes.old < count }
+    ensures { OnOk result (vec_len bytes.new ≡ min count (vec_len bytes.old + 2048)) }
+{
+    let more = PIECE.min(count - bytes.len());
+    bytes.extend_from_slice(&ZEROS[..more])?;
+    Ok(())
 }

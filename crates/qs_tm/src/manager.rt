@@ -5,10 +5,10 @@ ghost use Rattle.qs_tm.specs.declared.manager.BeginFault.TheVariants.{LogFull, L
 ghost use Rattle.qs_tm.specs.Outcomes.{voted_before};
 ghost use Rattle.qs_tm.specs.Manager.{part_of, with_part, begin, begin_fault, next_tid, knows, meet, keep_abort, forget, tick, sent, sent_as, issued, drop_waiting, note_served, requested, engaged_at, served, served_as, voted, ask, refused, add_cause, causes_at, take_causes, counted, is_ready, released, released_to, add_told, told_at, decide, decision, took_outcome, settled, logged, acknowledged, all_acknowledged, take_names, new_names, add_tell, restarted, standing, standing_of, need_past, need_of, take_up, take_up_vote, take_up_commit, is_one, put_tid, tids_of, undecided, due, aged, concerned, concerns, has_undecided, is_open};
 
+use crate::known::Known;
 use crate::participant::{Outstanding, Participant};
 use qs_base::{ClientNo, List, Member, NoMemory, NodeNo, Outcome, ServerNo, Tid};
 use qs_engage::{Engaged, Nodes};
-use qs_map::Map;
 use qs_ops::{Cause, Vote};
 use qs_record::Record;
 use std::alloc::Global;
@@ -91,7 +91,7 @@ pub struct Manager {
     /// How many ticks the node made in it.
     pub ticks: u64,
     /// What is kept of each transaction.
-    pub known: Map<Tid, Participant>,
+    pub known: Known,
     pub alloc: Global,
 }
 
@@ -107,7 +107,7 @@ impl Manager {
             keep,
             begun: 0,
             ticks: 0,
-            known: Map::new(alloc),
+            known: Known::new(alloc),
             alloc,
         }
     }
@@ -579,7 +579,7 @@ impl Manager {
     pub fn due(&self) -> Result<List<Tid>, NoMemory>
         ensures { IfOk result (λ tids. tids ≡ due self.now) }
     {
-        self.tids_of(Which::Due)
+        self.known.due(self.alloc)
     }
 
     /// The transactions that began here, are not decided, and are at least that many ticks old.
@@ -633,7 +633,12 @@ fn is_open_home(part: &Participant) -> bool
     part.engage.home && part.outcome.is_none()
 }
 
-fn put_tid(tids: &mut List<Tid>, which: Which, tid: Tid, part: &Participant) -> Result<(), NoMemory>
+pub(crate) fn put_tid(
+    tids: &mut List<Tid>,
+    which: Which,
+    tid: Tid,
+    part: &Participant,
+) -> Result<(), NoMemory>
     ensures { OnOk result (tids.new ≡ put_tid which tids.old (tid, part.now)) }
 {
     if is_one(which, tid, part) {

@@ -1,0 +1,182 @@
+-- All to which something may be due stay in the span as entries are put, written and removed, and are found in it.
+use Rattle.std.proofs.Common.{◌≡◌, ◌∙◌, refl, ap, sym, subst, true≢false}
+use Rattle.std.specs.Prelude.{Bool, true, false, not, ◌&&◌, ◌||◌, List, [], ◌∷◌, ◌++◌, Option, Some, None, Result, Ok, Err, OnOk, OnErr, fold, cond, if◌then◌else◌}
+use Rattle.std.specs.List.{list_any}
+use Rattle.std.specs.Map.{set_value, remove_entry}
+use Rattle.std.specs.BTreeMap.{insert_entry, is_at}
+use Rattle.std.specs.BTreeMap.Range.{IsLeBy, entries_between}
+use Rattle.std.specs.Ordering.{is_lt, is_le, is_gt, is_eq, ordering_reverse, match_ordering}
+use Rattle.std.specs.declared.cmp.Ordering.{Ordering}
+use Rattle.std.specs.declared.cmp.Ordering.TheVariants.{Less, Equal, Greater}
+use Rattle.std.specs.declared.ops.Bound.TheVariants.{Included}
+use Rattle.std.proofs.lemmas.Cmp.{upto, tied_itself}
+use Rattle.qs_base.specs.Order.{tid_cmp}
+use Rattle.qs_base.specs.declared.identifiers.Tid.{Tid}
+use Rattle.qs_base.proofs.TidOrder.{tid_total, tid_exact}
+use Rattle.qs_tm.specs.Known.{may_be_due, in_span, AreInSpan, IsSpanned}
+use Rattle.qs_tm.specs.Manager.{put_tid}
+use Rattle.qs_tm.specs.declared.manager.Which.TheVariants as whiches
+use Rattle.qs_tm.specs.declared.participant.Participant.{Participant}
+
+-- ---- truth values and orders
+
+and-left : (a b : Bool) → a && b ≡ true → a ≡ true
+and-left true b e = refl
+and-left false b e = e
+
+and-right : (a b : Bool) → a && b ≡ true → b ≡ true
+and-right true b e = e
+and-right false b e = absurd (true≢false (sym e))
+
+both : (a b : Bool) → a ≡ true → b ≡ true → a && b ≡ true
+both true b p q = q
+both false b p q = p
+
+or-left : (a b : Bool) → a || b ≡ false → a ≡ false
+or-left true b e = e
+or-left false b e = refl
+
+or-right : (a b : Bool) → a || b ≡ false → b ≡ false
+or-right true b e = absurd (true≢false e)
+or-right false b e = e
+
+not_so : (a b : Bool) → (a ≡ true → b ≡ true) → b ≡ false → a ≡ false
+not_so true b f e = absurd (true≢false (sym (f refl) ∙ e))
+not_so false b f e = refl
+
+le-is : (r : Ordering) → is_le r ≡ true → is_gt r ≡ false
+le-is Less e = refl
+le-is Equal e = refl
+le-is Greater e = absurd (true≢false (sym e))
+
+is-le : (r : Ordering) → is_gt r ≡ false → is_le r ≡ true
+is-le Less e = refl
+is-le Equal e = refl
+is-le Greater e = absurd (true≢false e)
+
+not-past : (r : Ordering) → not (is_lt r) ≡ true → is_gt (ordering_reverse r) ≡ false
+not-past Less e = absurd (true≢false (sym e))
+not-past Equal e = refl
+not-past Greater e = refl
+
+past-not : (r : Ordering) → is_gt (ordering_reverse r) ≡ false → not (is_lt r) ≡ true
+past-not Less e = absurd (true≢false e)
+past-not Equal e = refl
+past-not Greater e = refl
+
+eq-is : (r : Ordering) → is_eq r ≡ true → r ≡ Equal
+eq-is Less e = absurd (true≢false (sym e))
+eq-is Equal e = refl
+eq-is Greater e = absurd (true≢false (sym e))
+
+-- ---- spans
+
+at-least : (span : Tid × Tid) (tid : Tid) → in_span (Some span) tid ≡ true → is_gt (tid_cmp span.0 tid) ≡ false
+at-least span tid e = le-is (tid_cmp span.0 tid) (and-left (is_le (tid_cmp span.0 tid)) (not (is_lt (tid_cmp span.1 tid))) e)
+
+at-most : (span : Tid × Tid) (tid : Tid) → in_span (Some span) tid ≡ true → is_gt (tid_cmp tid span.1) ≡ false
+at-most span tid e =
+    ap is_gt (tid_total.antisymm tid span.1)
+    ∙ not-past (tid_cmp span.1 tid) (and-right (is_le (tid_cmp span.0 tid)) (not (is_lt (tid_cmp span.1 tid))) e)
+
+pub within : (span : Tid × Tid) (tid : Tid) → is_gt (tid_cmp span.0 tid) ≡ false → is_gt (tid_cmp tid span.1) ≡ false → in_span (Some span) tid ≡ true
+within span tid p r =
+    both (is_le (tid_cmp span.0 tid)) (not (is_lt (tid_cmp span.1 tid)))
+    (is-le (tid_cmp span.0 tid) p)
+    (past-not (tid_cmp span.1 tid) (sym (ap is_gt (tid_total.antisymm tid span.1)) ∙ r))
+
+pub alone : (tid : Tid) → IsLeBy tid_cmp tid tid
+alone tid = ap is_gt (tied_itself tid_total tid)
+
+pub wider : (span more : Tid × Tid) → is_gt (tid_cmp more.0 span.0) ≡ false → is_gt (tid_cmp span.1 more.1) ≡ false
+    → (entries : List (Tid × Participant)) → AreInSpan (Some span) entries → AreInSpan (Some more) entries
+wider span more p r [] a = tt
+wider span more p r (e ∷ es) a = (
+  (λ d. within more e.0
+      (upto tid_total more.0 span.0 e.0 p (at-least span e.0 (a.0 d)))
+      (upto tid_total e.0 span.1 more.1 (at-most span e.0 (a.0 d)) r)),
+  wider span more p r es a.1,
+)
+
+-- ---- where nothing is due
+
+pub of_none : (more : Option (Tid × Tid)) (entries : List (Tid × Participant)) → AreInSpan None entries → AreInSpan more entries
+of_none more [] a = tt
+of_none more (e ∷ es) a = ((λ d. absurd (true≢false (sym (a.0 d)))), of_none more es a.1)
+
+pub none_due : (span : Tid × Tid) (more : Option (Tid × Tid)) (entries : List (Tid × Participant))
+    → list_any (λ (entry : Tid × Participant). may_be_due entry.1) (entries_between tid_cmp (Included span.0) (Included span.1) entries) ≡ false
+    → AreInSpan (Some span) entries → AreInSpan more entries
+none_due span more [] n a = tt
+none_due span more (e ∷ es) n a = by (in_span (Some span) e.0) refl n (λ m. none_due span more es m a.1)
+  where
+    by : (b : Bool) → in_span (Some span) e.0 ≡ b
+        → list_any (λ (entry : Tid × Participant). may_be_due entry.1) (cond b (e ∷ entries_between tid_cmp (Included span.0) (Included span.1) es) (entries_between tid_cmp (Included span.0) (Included span.1) es)) ≡ false
+        → (list_any (λ (entry : Tid × Participant). may_be_due entry.1) (entries_between tid_cmp (Included span.0) (Included span.1) es) ≡ false → AreInSpan more es)
+        → AreInSpan more (e ∷ es)
+    by true is m rest = ((λ d. absurd (true≢false (sym d ∙ or-left (may_be_due e.1) _ m))), rest (or-right (may_be_due e.1) _ m))
+    by false is m rest = ((λ d. absurd (true≢false (sym (a.0 d) ∙ is))), rest m)
+
+skipped : (tids : List Tid) (e : Tid × Participant) → may_be_due e.1 ≡ false → put_tid whiches.Due tids e ≡ tids
+skipped tids e n = ap (λ (b : Bool). if b then tids ++ e.0 ∷ [] else tids) n
+
+pub nothing_due : (tids : List Tid) (entries : List (Tid × Participant)) → AreInSpan None entries → fold (put_tid whiches.Due) tids entries ≡ tids
+nothing_due tids [] a = refl
+nothing_due tids (e ∷ es) a =
+    ap (λ (w : List Tid). fold (put_tid whiches.Due) w es) (skipped tids e (not_so (may_be_due e.1) false a.0 refl))
+    ∙ nothing_due tids es a.1
+
+-- those that are due are those of the span
+pub due_between : (span : Tid × Tid) (tids : List Tid) (entries : List (Tid × Participant)) → AreInSpan (Some span) entries
+    → fold (put_tid whiches.Due) tids (entries_between tid_cmp (Included span.0) (Included span.1) entries) ≡ fold (put_tid whiches.Due) tids entries
+due_between span tids [] a = refl
+due_between span tids (e ∷ es) a = by (in_span (Some span) e.0) refl (λ now. due_between span now es a.1)
+  where
+    by : (b : Bool) → in_span (Some span) e.0 ≡ b
+        → ((now : List Tid) → fold (put_tid whiches.Due) now (entries_between tid_cmp (Included span.0) (Included span.1) es) ≡ fold (put_tid whiches.Due) now es)
+        → fold (put_tid whiches.Due) tids (cond b (e ∷ entries_between tid_cmp (Included span.0) (Included span.1) es) (entries_between tid_cmp (Included span.0) (Included span.1) es))
+        ≡ fold (put_tid whiches.Due) (put_tid whiches.Due tids e) es
+    by true is rest = rest (put_tid whiches.Due tids e)
+    by false is rest =
+        rest tids
+        ∙ ap (λ (w : List Tid). fold (put_tid whiches.Due) w es) (sym (skipped tids e (not_so (may_be_due e.1) (in_span (Some span) e.0) a.0 is)))
+
+-- ---- changes of the entries
+
+pub spanned_put : (span : Option (Tid × Tid)) (tid : Tid) (part : Participant) (entries : List (Tid × Participant))
+    → in_span span tid ≡ true → AreInSpan span entries → AreInSpan span (insert_entry tid_cmp entries tid part)
+spanned_put span tid part [] w a = ((λ d. w), tt)
+spanned_put span tid part (e ∷ es) w a = by (tid_cmp tid e.0) refl (spanned_put span tid part es w a.1)
+  where
+    by : (r : Ordering) → tid_cmp tid e.0 ≡ r → AreInSpan span (insert_entry tid_cmp es tid part)
+        → AreInSpan span (match_ordering r ((tid, part) ∷ e ∷ es) ((e.0, part) ∷ es) (e ∷ insert_entry tid_cmp es tid part))
+    by Less is rest = ((λ d. w), a)
+    by Equal is rest = ((λ d. subst (λ (t : Tid). in_span span t ≡ true) (tid_exact tid e.0 is) w), a.1)
+    by Greater is rest = (a.0, rest)
+
+pub spanned_set : (span : Option (Tid × Tid)) (tid : Tid) (entries : List (Tid × Participant)) (part : Participant)
+    → in_span span tid ≡ true → AreInSpan span entries → AreInSpan span (set_value (is_at (tid_cmp tid)) entries part)
+spanned_set span tid [] part w a = tt
+spanned_set span tid (e ∷ es) part w a = by (is_eq (tid_cmp tid e.0)) refl (spanned_set span tid es part w a.1)
+  where
+    by : (b : Bool) → is_eq (tid_cmp tid e.0) ≡ b → AreInSpan span (set_value (is_at (tid_cmp tid)) es part)
+        → AreInSpan span (cond b ((e.0, part) ∷ es) (e ∷ set_value (is_at (tid_cmp tid)) es part))
+    by true is rest = ((λ d. subst (λ (t : Tid). in_span span t ≡ true) (tid_exact tid e.0 (eq-is (tid_cmp tid e.0) is)) w), a.1)
+    by false is rest = (a.0, rest)
+
+pub spanned_remove : (span : Option (Tid × Tid)) (test : Tid → Bool) (entries : List (Tid × Participant))
+    → AreInSpan span entries → AreInSpan span (remove_entry test entries)
+spanned_remove span test [] a = tt
+spanned_remove span test (e ∷ es) a = by (test e.0) (spanned_remove span test es a.1)
+  where
+    by : (b : Bool) → AreInSpan span (remove_entry test es) → AreInSpan span (cond b es (e ∷ remove_entry test es))
+    by true rest = a.1
+    by false rest = (a.0, rest)
+
+-- after a put that may be refused
+pub spanned_after : {T E : Type 0} (span : Tid × Tid) (tid : Tid) (part : Participant) (old new : List (Tid × Participant)) (result : Result T E)
+    → OnOk result (new ≡ insert_entry tid_cmp old tid part) → OnErr result (new ≡ old)
+    → in_span (Some span) tid ≡ true → IsSpanned (Some span) old → IsSpanned (Some span) new
+spanned_after span tid part old new (Ok x) ok err w s =
+    record { forward = s.forward; due = subst (λ (es : List (Tid × Participant)). AreInSpan (Some span) es) (sym ok) (spanned_put (Some span) tid part old w s.due) }
+spanned_after span tid part old new (Err x) ok err w s = subst (λ (es : List (Tid × Participant)). IsSpanned (Some span) es) (sym err) s
