@@ -181,9 +181,12 @@ nothing_lawful told state script disk opened journal is = record {
 
 -- ---- all rounds were made
 
-module _ {D : Type 0} (told : Type 0) (state : D → DiskState) (own size : D → ℕ) (seed : ℕ) (script : Script) (shown : Bool) (alloc : Global) (disk after : D) (first last : Cast D) (begins : HasBegun told state own alloc script disk first) (start : IsSameStart first.node last.node) (logged : told → EachImage HasLog (state after).now) (left : IsLeftBy told state last.node after) (made : Made) where
+module _ {D : Type 0} (told : Type 0) (state : D → DiskState) (own size : D → ℕ) (seed : ℕ) (script : Script) (shown : Bool) (alloc : Global) (disk after : D) (first last : Cast D) (begins : HasBegun told state own alloc script disk first) (start : IsSameStart first.node last.node) (each : told → EachImage (HasLog last.node.opened) (state after).now) (left : IsLeftBy told state last.node after) (made : Made) where
   held : told → IsHeldIn script (state disk).content last.node.opened
   held is = subst (IsHeldIn script (state disk).content) (sym start.opened) (held_in told state own alloc script disk first begins is)
+
+  pub over_kept : IsLogged told state disk after
+  over_kept is_told = record { script = script; opened = last.node.opened; held = held is_told; each = each is_told }
 
   told_all : (made_journal : List Entry) (made_trace : List Step) → made_journal ≡ journal_of last.node → made_trace ≡ trace_of last.node → Conforms script (machine_over last.node.opened) (journal_of last.node)
       → IsTold told state script disk last.node made_journal made_trace
@@ -211,7 +214,7 @@ module _ {D : Type 0} (told : Type 0) (state : D → DiskState) (own size : D �
     whole = λ e. absurd (end_refuses made.status e f.refusal);
     short = λ node is. absurd (subst IsRefusal is f.refusal);
     refused = λ line clause is. record { node = last.node; ran = ran; left = left; held = held; refused = f.refused line clause is };
-    leaves = refusal_leaves told state disk after made.status f.refusal logged;
+    leaves = refusal_leaves told state disk after made.status f.refusal over_kept;
     silent = λ not_end. f.nothing.output;
     empty = λ untold. f.nothing.nothing;
     built = refusal_built made.status f.refusal;
@@ -234,7 +237,7 @@ module _ {D : Type 0} (told : Type 0) (state : D → DiskState) (own size : D �
     };
     short = λ node is. absurd (subst IsEnd is end);
     refused = λ line clause is. absurd (subst IsEnd is end);
-    leaves = end_leaves told state disk after made.status end logged;
+    leaves = end_leaves told state disk after made.status end over_kept;
     silent = λ not_end. absurd (not_end end);
     empty = λ untold. absurd (untold (subst Tells (sym j.status) (status_tells ending.rounds ending.settled (waiting_of script (journal_of last.node)))));
     built = end_built made.status end;
@@ -262,7 +265,7 @@ module _ {D : Type 0} (told : Type 0) (state : D → DiskState) (own size : D �
       is_told = told_all made.journal made.trace j.passed.entries j.passed.steps j.passed.conforms;
     });
     refused = λ line clause status. absurd (subst IsFaultStatus (sym j.status ∙ status) tt);
-    leaves = subst (λ (status : Status). Leaves told state status disk after) (sym j.status) (inr logged);
+    leaves = subst (λ (status : Status). Leaves told state status disk after) (sym j.status) (inr over_kept);
     silent = λ not_end. j.output;
     empty = λ untold. absurd (untold (subst Tells (sym j.status) tt));
     built = subst IsOfRounds (sym j.status) tt;

@@ -2,7 +2,7 @@
 use Rattle.std.specs.Prelude.{◌≡◌, ◌⊎◌, ◌^◌, ⊤, ℕ, ◌+◌, List, ◌∷◌}
 use Rattle.qs_base.specs.Causes.{Rose}
 use Rattle.qs_base.specs.declared.identifiers.NodeNo.{NodeNo}
-use Rattle.qs_disk.specs.Disk.{DiskState, EachImage}
+use Rattle.qs_disk.specs.Disk.{DiskState, EachImage, Frame}
 use Rattle.qs_disk.specs.Moments.{Keeps}
 use Rattle.qs_incarnation.specs.Incarnation.{IsTouched}
 use Rattle.qs_log.specs.Image.{IsDamaged, IsLog}
@@ -52,12 +52,19 @@ pub record IsDamageOver {D : Type 0} (told : Type 0) (state : D → DiskState) (
 abbrev pub IsOnlyTouched : {D : Type 0} → Type 0 → (D → DiskState) → D → D → Type 0
 IsOnlyTouched told state disk after = told → Keeps (IsTouched (state disk)) (state disk) (state after)
 
--- each image of the disk has a log
+-- each image has a log that goes on from what the log of the content held
+pub record GoesOnFrom (content : List ℕ) (frame : Frame) : Type 0 where
+  pub script : Script
+  pub opened : Opened
+  pub held : IsHeldIn script content opened
+  pub each : EachImage (HasLog opened) frame
+
+-- nothing that the log held is lost
 abbrev pub IsLogged : {D : Type 0} → Type 0 → (D → DiskState) → D → D → Type 0
-IsLogged told state disk after = told → EachImage HasLog (state after).now
+IsLogged told state disk after = told → GoesOnFrom (state disk).content (state after).now
 
 -- a run with this status leaves this: what it was handed in where no disk was opened; that, but for the raise, where its log was
--- not opened; and a log where the node began over it
+-- not opened; and a log that goes on from its own where the node began over it
 abbrev pub Leaves : {D : Type 0} → Type 0 → (D → DiskState) → Status → D → D → Type 0
 Leaves told state (statuses.Damaged node at) disk after = IsOnlyTouched told state disk after
 Leaves told state (statuses.DiskFault node) disk after = IsOnlyTouched told state disk after ⊎ IsLogged told state disk after

@@ -266,8 +266,8 @@ pub fn run<R: Threads + Sync, S: Source, K: Sink, D: Disk>(
     ensures built { asked_by (form_of words.now) ≢ Some Asked.Check → IsOfRun result.status }
 
     // The disks, whatever the status: the first is as it was where it was not opened; where its log was not opened it is
-    // changed at most by the raise of the incarnation, at each moment; and else each image of it has a log. After DiskFault and
-    // NoMemory it is one of these. The others are as they were.
+    // changed at most by the raise of the incarnation, at each moment; and else each image of it has a log that goes on from what
+    // its log held. After DiskFault and NoMemory it is one of these. The others are as they were.
     ensures others { AreBesides disks.old.items disks.new.items }
     ensures left { asked_by (form_of words.now) ≢ Some Asked.Check → OfFirst (Leaves D.told D.state result.status) disks.old.items disks.new.items }
 

@@ -21,6 +21,6 @@ returns-in-Err g c = record {
 -- src/whole.rt:43:1
 pub returns : goal.returns
 returns g c = record {
-  over = over_ran g.D.Disk.told g.D.Disk.state g.D.Disk.fault_count g.D.Disk.byte_count c.args.seed c.args.script.now c.args.shown c.args.alloc c.args.disk c.into_inner-2.result c.in-Ok.actors c.rounds_of-ending.new.actors (search rules) c.rounds_of-ending.ensures.start (λ told. subst (λ disk. EachImage HasLog (g.D.Disk.state disk).now) (sym c.into_inner-2.ensures) (c.into_parts-disk.ensures.logged told)) c.made_of.result
-      c.into_node-node.result c.into_parts-disk.result.1 c.into_parts-disk.result.2 (record { node_is = search rules; entries = search rules; steps = search rules; disk = search rules; stands = λ told. c.into_parts-disk.ensures.stands told }) c.rounds_of-ending.result c.opened-opened.result c.rounds_of-ending.ensures.ending c.rounds_of-ending.ensures.cut c.rounds_of-ending.ensures.named (search rules) c.made_of.ensures;
+  over = over_ran g.D.Disk.told g.D.Disk.state g.D.Disk.fault_count g.D.Disk.byte_count c.args.seed c.args.script.now c.args.shown c.args.alloc c.args.disk c.into_inner-2.result c.in-Ok.actors c.rounds_of-ending.new.actors (search rules) c.rounds_of-ending.ensures.start c.made_of.result
+      c.into_node-node.result c.into_parts-disk.result.1 c.into_parts-disk.result.2 (record { node_is = search rules; entries = search rules; steps = search rules; disk = search rules; stands = λ told. c.into_parts-disk.ensures.stands told; logged = λ told. subst (λ disk. EachImage (HasLog c.into_node-node.result.opened) (g.D.Disk.state disk).now) (sym c.into_inner-2.ensures) (c.into_parts-disk.ensures.logged told) }) c.rounds_of-ending.result c.opened-opened.result c.rounds_of-ending.ensures.ending c.rounds_of-ending.ensures.cut c.rounds_of-ending.ensures.named (search rules) c.made_of.ensures;
 }
