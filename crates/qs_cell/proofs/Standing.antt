@@ -12,20 +12,22 @@ use Rattle.qs_incarnation.specs.Incarnation.{open_limit, IsRaisedLog, IsReopened
 use Rattle.qs_journal.specs.declared.script_line.Point.{Point}
 use Rattle.qs_lanes.specs.declared.ends.NodeEnds.{NodeEnds}
 use Rattle.qs_log.specs.Log.{LogValue, Stands, records_of}
+use Rattle.qs_machine.specs.declared.opened.Opened.{Opened}
 use Rattle.qs_record.specs.declared.record.Record.{Record}
 use Rattle.qs_restart.specs.declared.recovered.Recovered.{Recovered}
 use Rattle.qs_ops.specs.declared.no_server.NoServer.{NoServer}
 use Rattle.qs_step.specs.declared.event.ClientAnswer.{ClientAnswer}
 use Rattle.qs_step.specs.declared.event.Effects.{Effects}
+use Rattle.qs_step.specs.Opening.{recovered_of}
 use Rattle.qs_step.specs.declared.setting.Setting.{Setting}
 use Rattle.qs_world.specs.Histories.{opened_with}
 use Rattle.qs_chronicle.specs.Carried.{Seen}
 use Rattle.qs_chronicle.specs.declared.occasion.Occasion.{Occasion}
-use Rattle.qs_cell.specs.Logged.{IsLogged}
-use Rattle.qs_cell.proofs.Logging.{logged_stands}
+use Rattle.qs_cell.specs.Logged.{GoesOn, IsLogged}
+use Rattle.qs_cell.proofs.Logging.{goes_on_first, logged_stands}
 use Rattle.qs_cell.specs.Cell.{IsOutcome, IfStands, StandsAfter, out_of, disk_after}
 use Rattle.qs_cell.specs.Restart.{IsRestarted, IfUp, restarted_disk, found_in}
-use Rattle.qs_cell.specs.Starts.{IsSound, IsStarted, Begins, setting_in}
+use Rattle.qs_cell.specs.Starts.{IsSound, IsStarted, LogGoesOn, Begins, setting_in}
 use Rattle.qs_cell.specs.State.{Up, IsSeenAs, LogStands, IsAllowed, Restarts, state_of, answers_of, state_after, answer_after, carried_of, disk_of}
 use Rattle.qs_cell.specs.Visits.{Makes}
 use Rattle.qs_cell.specs.declared.running.Outcome.{Outcome}
@@ -81,32 +83,36 @@ makes_of {D} told state own size occasion old outcome new answers is node said m
 }
 
 -- what is seen changes alone
-pub sound_seen : {D : Type 0} (told : Type 0) (state : D → DiskState) (f : Seen → Seen) (old new : NodeState D) → IsSeenAs f old new → IsSound told state old
-    → IsSound told state new
-sound_seen told state f (states.Up old) (states.Up new) is sound = record {
+pub sound_seen : {D : Type 0} (told : Type 0) (state : D → DiskState) (opened : Opened) (f : Seen → Seen) (old new : NodeState D) → IsSeenAs f old new → IsSound told state opened old
+    → IsSound told state opened new
+sound_seen told state opened f (states.Up old) (states.Up new) is sound = record {
   stands = λ yes. subst (λ h. Stands h.log (state h.log.disk.disk)) (sym is.0) (sound.stands yes);
-  logged = λ yes. subst (λ h. IsLogged (state h.log.disk.disk).now) (sym is.0) (sound.logged yes);
+  goes_on = λ yes. subst (λ h. GoesOn opened h.log.forced) (sym is.0) (sound.goes_on yes);
+  logged = λ yes. subst (λ h. IsLogged opened (state h.log.disk.disk).now) (sym is.0) (sound.logged yes);
   allowed = record {
     batch = subst (λ (s : Setting). s.extra ≤ 8) (sym is.1.1) sound.allowed.batch;
     keep = subst (λ (s : Setting). s.keep ≤ 144) (sym is.1.1) sound.allowed.keep;
   };
 }
-sound_seen told state f (states.Down old) (states.Down new) is sound = record {
+sound_seen told state opened f (states.Down old) (states.Down new) is sound = record {
   stands = λ yes. tt;
-  logged = λ yes. subst (λ d. IsLogged (state d.disk).now) (sym is.0) (sound.logged yes);
+  goes_on = λ yes. tt;
+  logged = λ yes. subst (λ d. IsLogged opened (state d.disk).now) (sym is.0) (sound.logged yes);
   allowed = record {
     batch = subst (λ (s : Setting). s.extra ≤ 8) (sym is.1.1.1.1) sound.allowed.batch;
     keep = subst (λ (s : Setting). s.keep ≤ 144) (sym is.1.1.1.1) sound.allowed.keep;
   };
 }
-sound_seen told state f (states.Up old) (states.Down new) is sound = absurd is
-sound_seen told state f (states.Down old) (states.Up new) is sound = absurd is
+sound_seen told state opened f (states.Up old) (states.Down new) is sound = absurd is
+sound_seen told state opened f (states.Down old) (states.Up new) is sound = absurd is
 
 -- and so does what an event leaves
-pub sound_after : {D : Type 0} (told : Type 0) (state : D → DiskState) (old new : NodeState D) → (told → LogStands state new)
-    → (told → IsLogged (state (disk_of new).disk).now) → (carried_of new).setting ≡ (carried_of old).setting → IsSound told state old → IsSound told state new
-sound_after told state old new stands logged setting sound = record {
+pub sound_after : {D : Type 0} (told : Type 0) (state : D → DiskState) (opened : Opened) (old new : NodeState D) → (told → LogStands state new)
+    → (told → LogGoesOn opened new) → (told → IsLogged opened (state (disk_of new).disk).now) → (carried_of new).setting ≡ (carried_of old).setting → IsSound told state opened old
+    → IsSound told state opened new
+sound_after told state opened old new stands goes_on logged setting sound = record {
   stands = stands;
+  goes_on = goes_on;
   logged = logged;
   allowed = record {
     batch = subst (λ (s : Setting). s.extra ≤ 8) (sym setting) sound.allowed.batch;
@@ -143,19 +149,27 @@ started_of {D} told state alloc disk setting ends plan log running found faults 
 
 -- the node that began holds what is asked of each
 pub sound_started : {D : Type 0} (told : Type 0) (state : D → DiskState) (alloc : Global) (setting : Setting) (crashes : List ℕ) (points : List Point)
-    (log : LogValue (FusedValue D)) (running : Up D) → Begins alloc setting crashes points log running → setting.extra ≤ 8 → setting.keep ≤ 144
-    → (told → Stands log (state log.disk.disk)) → IsSound told state (states.Up running)
-sound_started {D} told state alloc setting crashes points log running begins extra keep stands = record {
+    (log : LogValue (FusedValue D)) (running : Up D) (found : Recovered) → Begins alloc setting crashes points log running → found ≡ found_in log → log.waiting ≡ []
+    → setting.extra ≤ 8 → setting.keep ≤ 144 → (told → Stands log (state log.disk.disk)) → IsSound told state (opened_with running.carried.setting found) (states.Up running)
+sound_started {D} told state alloc setting crashes points log running found begins is none extra keep stands = record {
   stands = now;
   allowed = record {
     batch = subst (λ (s : Setting). s.extra ≤ 8) (sym begins.setting) extra;
     keep = subst (λ (s : Setting). s.keep ≤ 144) (sym begins.setting) keep;
   };
-  logged = λ is_told. logged_stands running.host.log (state running.host.log.disk.disk) (now is_told);
+  goes_on = λ is_told. on;
+  logged = λ is_told. logged_stands (opened_with running.carried.setting found) running.host.log (state running.host.log.disk.disk) (now is_told) on;
 }
   where
+    same : log ≡ running.host.log
+    same = sym (ap (λ (h : HostValue (FusedValue D)). h.log) begins.host)
+
     now : told → Stands running.host.log (state running.host.log.disk.disk)
-    now is_told = subst (λ (l : LogValue (FusedValue D)). Stands l (state l.disk.disk)) (sym (ap (λ (h : HostValue (FusedValue D)). h.log) begins.host)) (stands is_told)
+    now is_told = subst (λ (l : LogValue (FusedValue D)). Stands l (state l.disk.disk)) same (stands is_told)
+
+    on : GoesOn (opened_with running.carried.setting found) running.host.log.forced
+    on = subst (λ (l : LogValue (FusedValue D)). GoesOn (opened_with running.carried.setting found) l.forced) same
+        (subst (λ (r : Recovered). GoesOn (opened_with running.carried.setting r) log.forced) (sym is) (goes_on_first running.carried.setting log.forced log.waiting none))
 
 -- ---- a restart
 

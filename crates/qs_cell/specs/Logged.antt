@@ -1,20 +1,35 @@
--- Each image of a node's disk has a log, whatever stopped the node.
-use Rattle.std.specs.Prelude.{ℕ, List}
+-- Each image of a node's disk has a log, whatever stopped the node, and what the log held as the node was started is at its front.
+use Rattle.std.specs.Prelude.{◌≡◌, ℕ, List, ◌++◌}
 use Rattle.qs_disk.specs.Disk.{Frame, EachImage}
 use Rattle.qs_incarnation.specs.Incarnation.{HasOneOf}
 use Rattle.qs_log.specs.Image.{IsLog}
+use Rattle.qs_machine.specs.declared.opened.Opened.{Opened}
 use Rattle.qs_record.specs.declared.record.Record.{Record}
 use Rattle.qs_slot.specs.Slot.{Present}
+use Rattle.qs_step.specs.Opening.{recovered_of}
+use Rattle.qs_step.specs.declared.setting.Setting.{Setting}
+use Rattle.qs_world.specs.Histories.{opened_with}
 
--- the image has a log
-pub record HasLog (image : List ℕ) : Type 0 where
+-- the records go on from those that say what the machine opens with
+pub record GoesOn (opened : Opened) (records : List Record) : Type 0 where
+  pub first : Setting
+  pub old : List Record
+  pub more : List Record
+  pub is : records ≡ old ++ more
+  pub says : opened ≡ opened_with first (recovered_of old)
+
+-- the image has a log whose records go on from these
+pub record HasLog (opened : Opened) (image : List ℕ) : Type 0 where
   pub present : Present
   pub records : List Record
   pub used : ℕ
   pub log : IsLog present records used image
+  pub goes_on : GoesOn opened records
 
 -- each image has a log of these records or of those, as of the last batch or without it
-pub record IsLogged (frame : Frame) : Type 0 where
+pub record IsLogged (opened : Opened) (frame : Frame) : Type 0 where
   pub first : List Record
   pub other : List Record
   pub each : EachImage (HasOneOf first other) frame
+  pub first_on : GoesOn opened first
+  pub other_on : GoesOn opened other

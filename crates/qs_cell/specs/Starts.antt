@@ -18,7 +18,7 @@ use Rattle.qs_step.specs.declared.trace.Step.{Step}
 use Rattle.qs_world.specs.Histories.{opened_with}
 use Rattle.qs_chronicle.specs.Carried.{Seen, seen}
 use Rattle.qs_chronicle.specs.Chronicle.{new_told}
-use Rattle.qs_cell.specs.Logged.{IsLogged}
+use Rattle.qs_cell.specs.Logged.{GoesOn, IsLogged}
 use Rattle.qs_cell.specs.Restart.{inc_of, found_in}
 use Rattle.qs_cell.specs.State.{Up, LogStands, IsAllowed, carried_of, disk_of}
 use Rattle.qs_cell.specs.Visits.{Seat}
@@ -34,11 +34,17 @@ pub record CellValue (D : Type 0) : Type 0 where
   pub opened : Opened  -- what its log held as it was started
   pub faults : ℕ  -- what the disk itself had counted as it was handed in
 
+-- the log of a node that is up goes on from what it was started with
+abbrev pub LogGoesOn : {D : Type 0} → Opened → NodeState D → Type 0
+LogGoesOn opened (states.Up running) = GoesOn opened running.host.log.forced
+LogGoesOn opened (states.Down stopped) = Unit {0}
+
 -- what holds of each
-pub record IsSound {D : Type 0} (told : Type 0) (state : D → DiskState) (node : NodeState D) : Type 0 where
+pub record IsSound {D : Type 0} (told : Type 0) (state : D → DiskState) (opened : Opened) (node : NodeState D) : Type 0 where
   pub stands : told → LogStands state node
   pub allowed : IsAllowed (carried_of node)
-  pub logged : told → IsLogged (state (disk_of node).disk).now
+  pub goes_on : told → LogGoesOn opened node
+  pub logged : told → IsLogged opened (state (disk_of node).disk).now
 
 abbrev pub journal_of : {D : Type 0} → CellValue D → List Entry
 journal_of cell = (carried_of cell.seat.node).chronicle.told.journal

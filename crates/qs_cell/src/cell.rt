@@ -76,7 +76,7 @@ impl<D: Disk> Model for NodeCell<D> {
 
     ghost view = { λ c. record { alloc = c.alloc; seat = record { node = c.state; ends = c.ends.items }; opened = opened_with c.first c.found; faults = c.faults } };
 
-    ghost invariant = { λ c. IsSound D.told D.state c.state };
+    ghost invariant = { λ c. IsSound D.told D.state (opened_with c.first c.found) c.state };
 }
 
 impl<D: Disk> NodeCell<D> {
@@ -347,10 +347,10 @@ impl<D: Disk> NodeCell<D> {
         ensures journal { result.1 ≡ journal_of self }
         ensures trace { result.2 ≡ trace_of self }
 
-        // Each image of the disk has a log, and they have the records of one log or of another; of a node that is up they are
-        // those of its own.
-        ensures logged { D.told → EachImage HasLog (D.state result.0.disk).now }
-        ensures records { D.told → IsLogged (D.state result.0.disk).now }
+        // Each image of the disk has a log that goes on from what the log held as the cell was started, and they have the records
+        // of one log or of another; of a node that is up they are those of its own.
+        ensures logged { D.told → EachImage (HasLog self.opened) (D.state result.0.disk).now }
+        ensures records { D.told → IsLogged self.opened (D.state result.0.disk).now }
         ensures stands { D.told → LogStands D.state self.seat.node }
     {
         self.state.into_parts()

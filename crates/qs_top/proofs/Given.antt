@@ -1,5 +1,5 @@
 -- What a run is once its output was given: from what it came to over the first disk.
-use Rattle.std.proofs.Common.{◌≡◌, ◌⊎◌, inl, inr, ℕ, ◌<◌, Bool, List, [], ◌∷◌, length, Option, Some, None, Ok, refl, sym, ap, subst, ◌∙◌, arith}
+use Rattle.std.proofs.Common.{◌≡◌, ◌≤◌, ◌⊎◌, inl, inr, ℕ, ◌<◌, Bool, List, [], ◌∷◌, length, Option, Some, None, Ok, refl, sym, ap, subst, ◌∙◌, arith, append-nil}
 use Rattle.std.specs.Prelude.{⊤}
 use Rattle.std.specs.Io.KnownBytes.{Appends}
 use Rattle.qs_base.specs.declared.identifiers.NodeNo.{NodeNo}
@@ -18,24 +18,26 @@ use Rattle.qs_statements.specs.declared.status.Status.{Status}
 use Rattle.qs_statements.specs.declared.status.Status.TheVariants as statuses
 use Rattle.qs_step.specs.declared.trace.Step.{Step}
 use Rattle.qs_verdict.specs.Ends.{status_of}
-use Rattle.qs_top.specs.Disks.{OfFirst, IsLogged}
-use Rattle.qs_top.specs.Giving.{IsGiven, IsGivenOf, WasGiven, WasCutOff, WasSilent}
+use Rattle.qs_disk.specs.Moments.{Keeps}
+use Rattle.qs_incarnation.specs.Incarnation.{IsTouched}
+use Rattle.qs_top.specs.Disks.{OfFirst, IsLogged, Leaves}
+use Rattle.qs_top.specs.Giving.{IsNoScript, IsGiven, IsGivenOf, WasGiven, WasCutOff, WasSilent}
 use Rattle.qs_top.specs.Over.{IsOver, IsOutput}
-use Rattle.qs_top.specs.Run.{HasLawful, IsNothing, IsWhole, IsShort, IsRefused, machine_over, output_of}
-use Rattle.qs_top.specs.Statuses.{IsEnd, IsOfRounds, IsPastOpening}
+use Rattle.qs_top.specs.Run.{HasLawful, IsNotBegun, IsWhole, IsShort, IsRefused, machine_over, output_of}
+use Rattle.qs_top.specs.Statuses.{IsEnd, IsOfRounds}
 use Rattle.qs_top.specs.Texts.{ReadWhole, OfScript}
 use Rattle.qs_top.specs.declared.outcome.Run.{Run}
 use Rattle.qs_top.specs.declared.whole.Made.{Made}
-use Rattle.qs_top.proofs.Overs.{end_or, end_past}
+use Rattle.qs_top.proofs.Overs.{end_or, end_logged}
 
 -- ---- the text
 
 pub of_script : {l m : Option (List ℕ)} (script : Script) (P : Script → Type 0) → ReadWhole 1048576 l m (λ text. script_of node_count text ≡ Ok script) → P script → ReadWhole 1048576 l m (OfScript P)
 of_script script P read holds = record { text = read.text; consumed = read.consumed; whole = read.whole; holds = record { script = script; read = read.holds; holds = holds } }
 
-pub map_right : {A B C : Type 0} → (B → C) → A ⊎ B → A ⊎ C
-map_right f (inl a) = inl a
-map_right f (inr b) = inr (f b)
+pub map_both : {A B C E : Type 0} → (A → C) → (B → E) → A ⊎ B → C ⊎ E
+map_both f g (inl a) = inl (f a)
+map_both f g (inr b) = inr (g b)
 
 -- ---- no entry was made
 
@@ -51,6 +53,35 @@ nothing_lawful told state opened journal old new is = record {
   lawful = subst (IsLawful (machine_over opened)) (sym is) tt;
   held = λ some. absurd (none_made journal is some);
 }
+
+-- ---- no disk was opened
+
+-- the first of some disks that are all left alone
+pub first_alone : {D : Type 0} (P : D → D → Type 0) → ((d : D) → P d d) → (disks : List D) → 8 ≤ length disks → OfFirst P disks disks
+first_alone P alone [] some = absurd (none some)
+  where
+    none : 8 ≤ 0 → ⊥
+    none some = omega (arith, some)
+first_alone P alone (d ∷ rest) some = record { first = d; after = d; rest = rest; old_is = refl; new_is = refl; holds = alone d }
+
+touched_alone : (s : DiskState) → Keeps (IsTouched s) s s
+touched_alone s = record { between = []; grows = sym (append-nil s.past); each = tt; here = λ image is. inl is }
+
+-- a run without a script leaves each disk as it was
+pub unread_leaves : {D : Type 0} (told : Type 0) (state : D → DiskState) (status : Status) → IsNoScript status → (d : D) → Leaves told state status d d
+unread_leaves told state (statuses.Script line fault) n d = refl
+unread_leaves told state statuses.ReadFault n d = refl
+unread_leaves told state statuses.NoMemory n d = inl (λ yes. touched_alone (state d))
+unread_leaves told state statuses.Finished n d = absurd n
+unread_leaves told state (statuses.Unfinished rounds waiting) n d = absurd n
+unread_leaves told state statuses.Usage n d = absurd n
+unread_leaves told state statuses.WriteFault n d = absurd n
+unread_leaves told state (statuses.DiskFault node) n d = absurd n
+unread_leaves told state (statuses.Damaged node at) n d = absurd n
+unread_leaves told state (statuses.NoRoom node need room) n d = absurd n
+unread_leaves told state (statuses.Unlawful line clause) n d = absurd n
+unread_leaves told state (statuses.Journal line) n d = absurd n
+unread_leaves told state (statuses.LastGeneration node) n d = absurd n
 
 -- ---- how the output was given
 
@@ -99,6 +130,7 @@ module _ {D K : Type 0} (told : Type 0) (state : D → DiskState) (own size : D 
     node = w.node;
     ending = w.ending;
     ran = w.ran;
+    left = w.left;
     is_told = w.is_told;
     status = (whole_of w).0 ∙ w.status;
     gave = (whole_of w).1;
@@ -122,6 +154,7 @@ module _ {D K : Type 0} (told : Type 0) (state : D → DiskState) (own size : D 
         node = v.node;
         ending = v.ending;
         ran = v.ran;
+        left = v.left;
         is_told = v.is_told;
         status = subst IsEnd v.status e;
         gave = given_part faults given before after made.output made.status run.status (output_of script made.journal shown v.node.opened) gave.output v.gave e fault;
@@ -139,22 +172,27 @@ module _ {D K : Type 0} (told : Type 0) (state : D → DiskState) (own size : D 
       by (inl same) = sym same ∙ is
       by (inr cut) = absurd (other (sym cut.0 ∙ is))
 
-  pub given_short : (node : NodeNo) → run.status ≡ statuses.DiskFault node → IsNothing run.journal run.trace ⊎ IsShort told state own size seed script run.journal run.trace disk end
-  given_short node is = by (over.short node (made_status (statuses.DiskFault node) is (λ same. absurd (cc (same)))))
+  pub given_short : (node : NodeNo) → run.status ≡ statuses.DiskFault node → IsNotBegun told state run.journal run.trace disk end ⊎ IsShort told state own size seed script run.journal run.trace disk end
+  given_short node is = map_both begun_none told_short (over.short node (made_status (statuses.DiskFault node) is (λ same. absurd (cc (same)))))
     where
-      by : IsNothing made.journal made.trace ⊎ IsShort told state own size seed script made.journal made.trace disk end → IsNothing run.journal run.trace ⊎ IsShort told state own size seed script run.journal run.trace disk end
-      by (inl nothing) = inl (record { entries = gave.entries ∙ nothing.entries; steps = gave.steps ∙ nothing.steps })
-      by (inr short) = inr (subst (λ (entries : List Entry). IsShort told state own size seed script entries run.trace disk end) (sym gave.entries) (subst (λ (steps : List Step). IsShort told state own size seed script made.journal steps disk end) (sym gave.steps) short))
+      begun_none : IsNotBegun told state made.journal made.trace disk end → IsNotBegun told state run.journal run.trace disk end
+      begun_none not = record { nothing = record { entries = gave.entries ∙ not.nothing.entries; steps = gave.steps ∙ not.nothing.steps }; touched = not.touched }
+
+      told_short : IsShort told state own size seed script made.journal made.trace disk end → IsShort told state own size seed script run.journal run.trace disk end
+      told_short short = subst (λ (entries : List Entry). IsShort told state own size seed script entries run.trace disk end) (sym gave.entries) (subst (λ (steps : List Step). IsShort told state own size seed script made.journal steps disk end) (sym gave.steps) short)
 
   pub given_refused : (line clause : ℕ) → run.status ≡ statuses.Unlawful line clause → IsRefused told state own size seed script line clause disk end
   given_refused line clause is = over.refused line clause (made_status (statuses.Unlawful line clause) is (λ same. absurd (cc (same))))
 
-  pub given_logged : IsPastOpening run.status → IsLogged told state disk end
-  given_logged past = by status_or
+  pub given_leaves : Leaves told state run.status disk end
+  given_leaves = by status_or
     where
-      by : (run.status ≡ made.status) ⊎ ((run.status ≡ statuses.WriteFault) × ((bytes : List ℕ) × (made.output ≡ Some bytes))) → IsLogged told state disk end
-      by (inl same) = over.logged (subst IsPastOpening same past)
-      by (inr cut) = over.logged (end_past made.status (ends cut.1.0 cut.1.1))
+      leaves_as : (status : Status) → run.status ≡ status → Leaves told state status disk end → Leaves told state run.status disk end
+      leaves_as status is leaves = subst (λ (s : Status). Leaves told state s disk end) (sym is) leaves
+
+      by : (run.status ≡ made.status) ⊎ ((run.status ≡ statuses.WriteFault) × ((bytes : List ℕ) × (made.output ≡ Some bytes))) → Leaves told state run.status disk end
+      by (inl same) = leaves_as made.status same over.leaves
+      by (inr cut) = leaves_as statuses.WriteFault cut.0 (end_logged told state disk end made.status (ends cut.1.0 cut.1.1) over.leaves)
 
   pub given_lawful : (old new rest : List D) → old ≡ disk ∷ rest → new ≡ end ∷ rest → HasLawful told state run.journal old new
   given_lawful old new rest old_is new_is = record {

@@ -25,11 +25,11 @@ use Rattle.qs_step.specs.declared.trace.Step.{Step}
 use Rattle.qs_plans.specs.Waiting.{waiting_of}
 use Rattle.qs_verdict.specs.Ends.{status_of}
 use Rattle.qs_verdict.specs.Verdicts.{IsRefusal}
-use Rattle.qs_top.specs.Disks.{IsHeldIn, IsFaultOver, IsLogged}
+use Rattle.qs_top.specs.Disks.{IsHeldIn, IsFaultOver, IsLogged, Leaves}
 use Rattle.qs_top.specs.Making.{IsFailed, IsJudgedEnd, IsJudgedShort, IsNothingMade, IsPassed, IsPassedEnd, IsPassedShort}
 use Rattle.qs_top.specs.Over.{HasLawfulOver, IsOver}
-use Rattle.qs_top.specs.Run.{HasRun, HasRunShort, IsTold, IsNothing, machine_over, output_of}
-use Rattle.qs_top.specs.Statuses.{IsEnd, IsOfRounds, IsPastOpening, Tells}
+use Rattle.qs_top.specs.Run.{HasRun, HasRunShort, IsLeftBy, IsTold, machine_over, output_of}
+use Rattle.qs_top.specs.Statuses.{IsEnd, IsOfRounds, Tells}
 use Rattle.qs_top.specs.declared.whole.Made.{Made}
 use Rattle.qs_top.proofs.Held.{held_in}
 
@@ -51,20 +51,52 @@ end_or (statuses.Unlawful line clause) = inr (λ e. e)
 end_or (statuses.Journal line) = inr (λ e. e)
 end_or (statuses.LastGeneration node) = inr (λ e. e)
 
-pub end_past : (status : Status) → IsEnd status → IsPastOpening status
-end_past statuses.Finished e = tt
-end_past (statuses.Unfinished rounds waiting) e = tt
-end_past statuses.Usage e = absurd e
-end_past (statuses.Script line fault) e = absurd e
-end_past statuses.ReadFault e = absurd e
-end_past statuses.WriteFault e = absurd e
-end_past (statuses.DiskFault node) e = absurd e
-end_past (statuses.Damaged node at) e = absurd e
-end_past statuses.NoMemory e = absurd e
-end_past (statuses.NoRoom node need room) e = absurd e
-end_past (statuses.Unlawful line clause) e = absurd e
-end_past (statuses.Journal line) e = absurd e
-end_past (statuses.LastGeneration node) e = absurd e
+-- it leaves a log, as the judge's refusal does
+module _ {D : Type 0} (told : Type 0) (state : D → DiskState) (disk after : D) where
+  pub end_leaves : (status : Status) → IsEnd status → IsLogged told state disk after → Leaves told state status disk after
+  end_leaves statuses.Finished e logged = logged
+  end_leaves (statuses.Unfinished rounds waiting) e logged = logged
+  end_leaves statuses.Usage e logged = absurd e
+  end_leaves (statuses.Script line fault) e logged = absurd e
+  end_leaves statuses.ReadFault e logged = absurd e
+  end_leaves statuses.WriteFault e logged = absurd e
+  end_leaves (statuses.DiskFault node) e logged = absurd e
+  end_leaves (statuses.Damaged node at) e logged = absurd e
+  end_leaves statuses.NoMemory e logged = absurd e
+  end_leaves (statuses.NoRoom node need room) e logged = absurd e
+  end_leaves (statuses.Unlawful line clause) e logged = absurd e
+  end_leaves (statuses.Journal line) e logged = absurd e
+  end_leaves (statuses.LastGeneration node) e logged = absurd e
+
+  pub end_logged : (status : Status) → IsEnd status → Leaves told state status disk after → IsLogged told state disk after
+  end_logged statuses.Finished e leaves = leaves
+  end_logged (statuses.Unfinished rounds waiting) e leaves = leaves
+  end_logged statuses.Usage e leaves = absurd e
+  end_logged (statuses.Script line fault) e leaves = absurd e
+  end_logged statuses.ReadFault e leaves = absurd e
+  end_logged statuses.WriteFault e leaves = absurd e
+  end_logged (statuses.DiskFault node) e leaves = absurd e
+  end_logged (statuses.Damaged node at) e leaves = absurd e
+  end_logged statuses.NoMemory e leaves = absurd e
+  end_logged (statuses.NoRoom node need room) e leaves = absurd e
+  end_logged (statuses.Unlawful line clause) e leaves = absurd e
+  end_logged (statuses.Journal line) e leaves = absurd e
+  end_logged (statuses.LastGeneration node) e leaves = absurd e
+
+  refusal_leaves : (status : Status) → IsRefusal status → IsLogged told state disk after → Leaves told state status disk after
+  refusal_leaves (statuses.Unlawful line clause) r logged = logged
+  refusal_leaves statuses.NoMemory r logged = inr logged
+  refusal_leaves statuses.Finished r logged = absurd r
+  refusal_leaves (statuses.Unfinished rounds waiting) r logged = absurd r
+  refusal_leaves statuses.Usage r logged = absurd r
+  refusal_leaves (statuses.Script line fault) r logged = absurd r
+  refusal_leaves statuses.ReadFault r logged = absurd r
+  refusal_leaves statuses.WriteFault r logged = absurd r
+  refusal_leaves (statuses.DiskFault node) r logged = absurd r
+  refusal_leaves (statuses.Damaged node at) r logged = absurd r
+  refusal_leaves (statuses.NoRoom node need room) r logged = absurd r
+  refusal_leaves (statuses.Journal line) r logged = absurd r
+  refusal_leaves (statuses.LastGeneration node) r logged = absurd r
 
 -- what the judge refuses has the status of a run, and tells nothing
 refusal_built : (status : Status) → IsRefusal status → IsOfRounds status
@@ -149,9 +181,12 @@ nothing_lawful told state script disk opened journal is = record {
 
 -- ---- all rounds were made
 
-module _ {D : Type 0} (told : Type 0) (state : D → DiskState) (own size : D → ℕ) (seed : ℕ) (script : Script) (shown : Bool) (alloc : Global) (disk after : D) (first last : Cast D) (begins : HasBegun told state own alloc script disk first) (start : IsSameStart first.node last.node) (logged : told → EachImage HasLog (state after).now) (made : Made) where
+module _ {D : Type 0} (told : Type 0) (state : D → DiskState) (own size : D → ℕ) (seed : ℕ) (script : Script) (shown : Bool) (alloc : Global) (disk after : D) (first last : Cast D) (begins : HasBegun told state own alloc script disk first) (start : IsSameStart first.node last.node) (each : told → EachImage (HasLog last.node.opened) (state after).now) (left : IsLeftBy told state last.node after) (made : Made) where
   held : told → IsHeldIn script (state disk).content last.node.opened
   held is = subst (IsHeldIn script (state disk).content) (sym start.opened) (held_in told state own alloc script disk first begins is)
+
+  pub over_kept : IsLogged told state disk after
+  over_kept is_told = record { script = script; opened = last.node.opened; held = held is_told; each = each is_told }
 
   told_all : (made_journal : List Entry) (made_trace : List Step) → made_journal ≡ journal_of last.node → made_trace ≡ trace_of last.node → Conforms script (machine_over last.node.opened) (journal_of last.node)
       → IsTold told state script disk last.node made_journal made_trace
@@ -178,8 +213,8 @@ module _ {D : Type 0} (told : Type 0) (state : D → DiskState) (own size : D �
     damage = λ node at is. absurd (subst IsRefusal is f.refusal);
     whole = λ e. absurd (end_refuses made.status e f.refusal);
     short = λ node is. absurd (subst IsRefusal is f.refusal);
-    refused = λ line clause is. record { node = last.node; ran = ran; held = held; refused = f.refused line clause is };
-    logged = λ past. logged;
+    refused = λ line clause is. record { node = last.node; ran = ran; left = left; held = held; refused = f.refused line clause is };
+    leaves = refusal_leaves told state disk after made.status f.refusal over_kept;
     silent = λ not_end. f.nothing.output;
     empty = λ untold. f.nothing.nothing;
     built = refusal_built made.status f.refusal;
@@ -195,13 +230,14 @@ module _ {D : Type 0} (told : Type 0) (state : D → DiskState) (own size : D �
       node = last.node;
       ending = ending;
       ran = record { alloc = alloc; first = first; last = last; begins = begins; ends = ends; node_is = refl };
+      left = left;
       is_told = told_all made.journal made.trace j.passed.entries j.passed.steps j.passed.conforms;
       status = j.status ∙ ap (λ (entries : List Entry). status_of ending.rounds ending.settled (waiting_of script entries)) (sym j.passed.entries);
       gave = j.output ∙ ap (λ (entries : List Entry). Some (output_of script entries shown last.node.opened)) (sym j.passed.entries);
     };
     short = λ node is. absurd (subst IsEnd is end);
     refused = λ line clause is. absurd (subst IsEnd is end);
-    logged = λ past. logged;
+    leaves = end_leaves told state disk after made.status end over_kept;
     silent = λ not_end. absurd (not_end end);
     empty = λ untold. absurd (untold (subst Tells (sym j.status) (status_tells ending.rounds ending.settled (waiting_of script (journal_of last.node)))));
     built = end_built made.status end;
@@ -225,10 +261,11 @@ module _ {D : Type 0} (told : Type 0) (state : D → DiskState) (own size : D �
     short = λ other status. inr (record {
       node = last.node;
       ran = record { alloc = alloc; first = first; last = last; begins = begins; ends = cut; node_is = refl };
+      left = left;
       is_told = told_all made.journal made.trace j.passed.entries j.passed.steps j.passed.conforms;
     });
     refused = λ line clause status. absurd (subst IsFaultStatus (sym j.status ∙ status) tt);
-    logged = λ past. logged;
+    leaves = subst (λ (status : Status). Leaves told state status disk after) (sym j.status) (inr over_kept);
     silent = λ not_end. j.output;
     empty = λ untold. absurd (untold (subst Tells (sym j.status) tt));
     built = subst IsOfRounds (sym j.status) tt;

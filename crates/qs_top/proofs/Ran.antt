@@ -1,12 +1,12 @@
 -- What a run over one disk comes to, whatever its rounds and the question what the machine opens with were answered.
-use Rattle.std.proofs.Common.{◌≡◌, ℕ, Bool, List, Result, Ok, Err, IfOk, refl, sym, ap, subst, ◌∙◌}
+use Rattle.std.proofs.Common.{◌≡◌, inr, ℕ, Bool, List, Result, Ok, Err, IfOk, refl, sym, ap, subst, ◌∙◌}
 use Rattle.std.specs.Global.{Global}
 use Rattle.qs_base.specs.Causes.{Rose}
 use Rattle.qs_base.specs.declared.identifiers.NodeNo.{NodeNo}
 use Rattle.qs_base.specs.declared.memory.NoMemory.{NoMemory}
 use Rattle.qs_cell.specs.Logged.{HasLog}
 use Rattle.qs_cell.specs.Starts.{CellValue, journal_of, trace_of}
-use Rattle.qs_cell.specs.State.{disk_of}
+use Rattle.qs_cell.specs.State.{LogStands, disk_of}
 use Rattle.qs_disk.specs.Disk.{DiskState, EachImage}
 use Rattle.qs_journal.specs.declared.entry.Entry.{Entry}
 use Rattle.qs_machine.specs.declared.opened.Opened.{Opened}
@@ -18,22 +18,35 @@ use Rattle.qs_rounds.specs.declared.faults.RoundFault.TheVariants as faults
 use Rattle.qs_rounds.specs.declared.rounds.Ending.{Ending}
 use Rattle.qs_statements.specs.declared.script.Script.{Script}
 use Rattle.qs_step.specs.declared.trace.Step.{Step}
+use Rattle.qs_top.specs.Disks.{IsLogged}
 use Rattle.qs_top.specs.Making.{IsJudgedEnd, IsJudgedShort, IsMadeOf}
 use Rattle.qs_top.specs.Over.{IsOver}
+use Rattle.qs_top.specs.Run.{IsLeftBy}
 use Rattle.qs_top.specs.declared.whole.Made.{Made}
-use Rattle.qs_top.proofs.Overs.{over_end, over_short}
+use Rattle.qs_top.proofs.Overs.{over_end, over_short, over_kept}
 use Rattle.qs_top.proofs.Unopened.{over_refused}
 
 -- the node as the rounds ended, and what is told of it
-pub record IsLeft {D : Type 0} (last : Cast D) (node : CellValue D) (journal : List Entry) (trace : List Step) (after : D) : Type 0 where
+pub record IsLeft {D : Type 0} (told : Type 0) (state : D → DiskState) (last : Cast D) (node : CellValue D) (journal : List Entry) (trace : List Step) (after : D) : Type 0 where
   pub node_is : node ≡ last.node
   pub entries : journal ≡ journal_of node
   pub steps : trace ≡ trace_of node
   pub disk : after ≡ (disk_of node.seat.node).disk
+  pub stands : told → LogStands state node.seat.node
+  pub logged : told → EachImage (HasLog node.opened) (state after).now
 
-module _ {D : Type 0} (told : Type 0) (state : D → DiskState) (own size : D → ℕ) (seed : ℕ) (script : Script) (shown : Bool) (alloc : Global) (disk after : D) (first last : Cast D) (begins : HasBegun told state own alloc script disk first) (start : IsSameStart first.node last.node) (logged : told → EachImage HasLog (state after).now) (made : Made) (node : CellValue D) (journal : List Entry) (trace : List Step) (left : IsLeft last node journal trace after) where
+module _ {D : Type 0} (told : Type 0) (state : D → DiskState) (own size : D → ℕ) (seed : ℕ) (script : Script) (shown : Bool) (alloc : Global) (disk after : D) (first last : Cast D) (begins : HasBegun told state own alloc script disk first) (start : IsSameStart first.node last.node) (made : Made) (node : CellValue D) (journal : List Entry) (trace : List Step) (left : IsLeft told state last node journal trace after) where
   after_is : after ≡ (disk_of last.node.seat.node).disk
   after_is = left.disk ∙ ap (λ (cell : CellValue D). (disk_of cell.seat.node).disk) left.node_is
+
+  left_by : IsLeftBy told state last.node after
+  left_by = record { disk = after_is; stands = λ yes. subst (λ (cell : CellValue D). LogStands state cell.seat.node) left.node_is (left.stands yes) }
+
+  logged : told → EachImage (HasLog last.node.opened) (state after).now
+  logged is_told = subst (λ (cell : CellValue D). EachImage (HasLog cell.opened) (state after).now) left.node_is (left.logged is_told)
+
+  kept : IsLogged told state disk after
+  kept = over_kept told state own size seed script shown alloc disk after first last begins start logged left_by made
 
   journal_is : journal ≡ journal_of last.node
   journal_is = left.entries ∙ ap (λ (cell : CellValue D). journal_of cell) left.node_is
@@ -43,15 +56,15 @@ module _ {D : Type 0} (told : Type 0) (state : D → DiskState) (own size : D �
 
   pub over_ran : (ending : Result Ending RoundFault) (opened : Result Opened NoMemory) → IfOk ending (IsEnding told state own size script seed first last) → ((n : NodeNo) → ending ≡ Err (faults.DiskFault n) → IsCutShort told state own size seed first last)
       → ((n : NodeNo) → ending ≡ Err (faults.DiskFault n) → n ≡ first_node) → IfOk opened (λ found. found ≡ node.opened) → IsMadeOf script shown ending opened journal trace made → IsOver told state own size seed script shown made disk after
-  over_ran (Ok ending) (Ok opened) ends cut named is j = over_end told state own size seed script shown alloc disk after first last begins start logged made ending ends
+  over_ran (Ok ending) (Ok opened) ends cut named is j = over_end told state own size seed script shown alloc disk after first last begins start logged left_by made ending ends
       (subst (λ (steps : List Step). IsJudgedEnd script shown ending last.node.opened (journal_of last.node) steps made) trace_is
       (subst (λ (entries : List Entry). IsJudgedEnd script shown ending last.node.opened entries trace made) journal_is
       (subst (λ (found : Opened). IsJudgedEnd script shown ending found journal trace made) (is ∙ ap (λ (cell : CellValue D). cell.opened) left.node_is) j)))
-  over_ran (Err (faults.DiskFault n)) (Ok opened) ends cut named is j = over_short told state own size seed script shown alloc disk after first last begins start logged made n (named n refl)
+  over_ran (Err (faults.DiskFault n)) (Ok opened) ends cut named is j = over_short told state own size seed script shown alloc disk after first last begins start logged left_by made n (named n refl)
       (subst (λ (d : D). Rose (own disk) (own d)) (sym after_is) (subst (λ (before : ℕ). Rose before (own (disk_of last.node.seat.node).disk)) begins.faults (cut n refl).rose)) (cut n refl)
       (subst (λ (steps : List Step). IsJudgedShort script n last.node.opened (journal_of last.node) steps made) trace_is
       (subst (λ (entries : List Entry). IsJudgedShort script n last.node.opened entries trace made) journal_is
       (subst (λ (found : Opened). IsJudgedShort script n found journal trace made) (is ∙ ap (λ (cell : CellValue D). cell.opened) left.node_is) j)))
-  over_ran (Err faults.NoMemory) (Ok opened) ends cut named is j = over_refused told state own size seed script shown disk after made j.nothing j.status
-  over_ran (Ok ending) (Err fault) ends cut named is j = over_refused told state own size seed script shown disk after made j.nothing j.status
-  over_ran (Err fault) (Err other) ends cut named is j = over_refused told state own size seed script shown disk after made j.nothing j.status
+  over_ran (Err faults.NoMemory) (Ok opened) ends cut named is j = over_refused told state own size seed script shown disk after made j.nothing (inr kept) j.status
+  over_ran (Ok ending) (Err fault) ends cut named is j = over_refused told state own size seed script shown disk after made j.nothing (inr kept) j.status
+  over_ran (Err fault) (Err other) ends cut named is j = over_refused told state own size seed script shown disk after made j.nothing (inr kept) j.status

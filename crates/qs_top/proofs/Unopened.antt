@@ -1,5 +1,5 @@
 -- What a run over one disk comes to whose log was not opened, or for which memory was refused.
-use Rattle.std.proofs.Common.{◌≡◌, inl, ℕ, ◌^◌, Bool, Result, Err, IfErr, refl, sym, ap, subst, ◌∙◌, List, [], None}
+use Rattle.std.proofs.Common.{◌≡◌, ◌⊎◌, inl, ℕ, ◌^◌, Bool, Result, Err, IfErr, refl, sym, ap, subst, ◌∙◌, List, [], None}
 use Rattle.std.specs.Prelude.{⊤}
 use Rattle.qs_base.specs.Causes.{Rose}
 use Rattle.qs_base.specs.declared.identifiers.NodeNo.{NodeNo}
@@ -15,10 +15,10 @@ use Rattle.qs_statements.specs.declared.status.Status.{Status}
 use Rattle.qs_statements.specs.declared.status.Status.TheVariants as statuses
 use Rattle.qs_step.specs.Opening.{recovered_of}
 use Rattle.qs_world.specs.Histories.{opened_with}
-use Rattle.qs_top.specs.Disks.{IsFaultOver, IsDamageOver}
+use Rattle.qs_top.specs.Disks.{IsFaultOver, IsDamageOver, IsLogged, IsOnlyTouched, Leaves}
 use Rattle.qs_top.specs.Making.{IsNothingMade, IsOutOfMemory, not_opened}
 use Rattle.qs_top.specs.Over.{IsOver}
-use Rattle.qs_top.specs.Statuses.{IsEnd, IsOfRounds, IsPastOpening}
+use Rattle.qs_top.specs.Statuses.{IsEnd, IsOfRounds}
 use Rattle.qs_top.specs.declared.whole.Made.{Made}
 use Rattle.qs_top.proofs.Overs.{IsFaultStatus, nothing_lawful, same_node}
 
@@ -43,21 +43,6 @@ unopened_built statuses.WriteFault u = absurd u
 unopened_built (statuses.NoRoom node need room) u = absurd u
 unopened_built (statuses.Journal line) u = absurd u
 unopened_built (statuses.LastGeneration node) u = absurd u
-
-unopened_early : (status : Status) → IsUnopened status → IsPastOpening status → ⊥
-unopened_early (statuses.DiskFault node) u past = past
-unopened_early (statuses.Damaged node at) u past = past
-unopened_early statuses.NoMemory u past = past
-unopened_early (statuses.Unlawful line clause) u past = u
-unopened_early statuses.Finished u past = u
-unopened_early (statuses.Unfinished rounds waiting) u past = u
-unopened_early statuses.Usage u past = u
-unopened_early (statuses.Script line fault) u past = u
-unopened_early statuses.ReadFault u past = u
-unopened_early statuses.WriteFault u past = u
-unopened_early (statuses.NoRoom node need room) u past = u
-unopened_early (statuses.Journal line) u past = u
-unopened_early (statuses.LastGeneration node) u past = u
 
 unopened_ends : (status : Status) → IsUnopened status → IsEnd status → ⊥
 unopened_ends (statuses.DiskFault node) u e = e
@@ -95,33 +80,39 @@ pub nothing_opened : Opened
 nothing_opened = opened_with (setting_of (record { seats = []; quotas = []; audit = None; faults = []; lines = []; count = 0 }) node_count first_node 1) (recovered_of [])
 
 module _ {D : Type 0} (told : Type 0) (state : D → DiskState) (own size : D → ℕ) (seed : ℕ) (script : Script) (shown : Bool) (disk after : D) (made : Made) (nothing : IsNothingMade made) where
-  over_unopened : IsUnopened made.status → ((node : NodeNo) → made.status ≡ statuses.DiskFault node → IsFaultOver own node disk after) → ((node : NodeNo) (at : ℕ) → made.status ≡ statuses.Damaged node at → IsDamageOver told state node at disk after)
+  over_unopened : IsUnopened made.status → Leaves told state made.status disk after → ((node : NodeNo) → made.status ≡ statuses.DiskFault node → IsOnlyTouched told state disk after) → ((node : NodeNo) → made.status ≡ statuses.DiskFault node → IsFaultOver own node disk after) → ((node : NodeNo) (at : ℕ) → made.status ≡ statuses.Damaged node at → IsDamageOver told state node at disk after)
       → IsOver told state own size seed script shown made disk after
-  over_unopened unopened fault damage = record {
+  over_unopened unopened leaves touched fault damage = record {
     lawful = nothing_lawful told state script disk nothing_opened made.journal nothing.nothing.entries;
     fault = fault;
     damage = damage;
     whole = λ e. absurd (unopened_ends made.status unopened e);
-    short = λ node is. inl nothing.nothing;
+    short = λ node is. inl (record { nothing = nothing.nothing; touched = touched node is });
     refused = λ line clause is. absurd (subst IsUnopened is unopened);
-    logged = λ past. absurd (unopened_early made.status unopened past);
+    leaves = leaves;
     silent = λ not_end. nothing.output;
     empty = λ untold. nothing.nothing;
     built = unopened_built made.status unopened;
   }
 
+  leaves_as : (status : Status) → made.status ≡ status → Leaves told state status disk after → Leaves told state made.status disk after
+  leaves_as status is leaves = subst (λ (s : Status). Leaves told state s disk after) (sym is) leaves
+
   -- memory was refused
-  pub over_refused : made.status ≡ statuses.NoMemory → IsOver told state own size seed script shown made disk after
-  over_refused is = over_unopened (subst IsUnopened (sym is) tt) (λ node fault. absurd (subst IsRefusedMemory (sym is ∙ fault) tt)) (λ node at damage. absurd (subst IsRefusedMemory (sym is ∙ damage) tt))
+  pub over_refused : IsOnlyTouched told state disk after ⊎ IsLogged told state disk after → made.status ≡ statuses.NoMemory → IsOver told state own size seed script shown made disk after
+  over_refused left is = over_unopened (subst IsUnopened (sym is) tt) (leaves_as statuses.NoMemory is left)
+      (λ node fault. absurd (subst IsRefusedMemory (sym is ∙ fault) tt))
+      (λ node fault. absurd (subst IsRefusedMemory (sym is ∙ fault) tt))
+      (λ node at damage. absurd (subst IsRefusedMemory (sym is ∙ damage) tt))
 
   -- the log was not opened
-  pub over_closed : (why : OpenFault) → made.status ≡ not_opened why → (told → (at : ℕ) → why ≡ faults.Damaged at → IsDamaged (2 ^ 61) (state disk).content at) → (why ≡ faults.DiskFailed → Rose (own disk) (own after))
+  pub over_closed : (why : OpenFault) → made.status ≡ not_opened why → IsOnlyTouched told state disk after → (told → (at : ℕ) → why ≡ faults.Damaged at → IsDamaged (2 ^ 61) (state disk).content at) → (why ≡ faults.DiskFailed → Rose (own disk) (own after))
       → IsOver told state own size seed script shown made disk after
-  over_closed faults.NoMemory is damaged failed = over_refused is
-  over_closed faults.DiskFailed is damaged failed = over_unopened (subst IsUnopened (sym is) tt)
+  over_closed faults.NoMemory is touched damaged failed = over_refused (inl touched) is
+  over_closed faults.DiskFailed is touched damaged failed = over_unopened (subst IsUnopened (sym is) tt) (leaves_as (statuses.DiskFault first_node) is (inl touched)) (λ node fault. touched)
       (λ node fault. record { node_is = sym (same_node (sym is ∙ fault)); rose = failed refl })
       (λ node at damage. absurd (subst IsFaultStatus (sym is ∙ damage) tt))
-  over_closed (faults.Damaged at) is damaged failed = over_unopened (subst IsUnopened (sym is) tt)
+  over_closed (faults.Damaged at) is touched damaged failed = over_unopened (subst IsUnopened (sym is) tt) (leaves_as (statuses.Damaged first_node at) is touched) (λ node fault. touched)
       (λ node fault. absurd (subst IsDamageStatus (sym is ∙ fault) tt))
       (λ node place damage. by (sym is ∙ damage))
     where

@@ -2,7 +2,9 @@
 use Rattle.std.specs.Prelude.{◌≡◌, ◌⊎◌, ◌^◌, ⊤, ℕ, ◌+◌, List, ◌∷◌}
 use Rattle.qs_base.specs.Causes.{Rose}
 use Rattle.qs_base.specs.declared.identifiers.NodeNo.{NodeNo}
-use Rattle.qs_disk.specs.Disk.{DiskState, EachImage}
+use Rattle.qs_disk.specs.Disk.{DiskState, EachImage, Frame}
+use Rattle.qs_disk.specs.Moments.{Keeps}
+use Rattle.qs_incarnation.specs.Incarnation.{IsTouched}
 use Rattle.qs_log.specs.Image.{IsDamaged, IsLog}
 use Rattle.qs_machine.specs.declared.opened.Opened.{Opened}
 use Rattle.qs_plans.specs.Plan.{setting_of}
@@ -10,6 +12,8 @@ use Rattle.qs_record.specs.declared.record.Record.{Record}
 use Rattle.qs_rounds.specs.Seats.{node_count, first_node}
 use Rattle.qs_slot.specs.Slot.{Present}
 use Rattle.qs_statements.specs.declared.script.Script.{Script}
+use Rattle.qs_statements.specs.declared.status.Status.{Status}
+use Rattle.qs_statements.specs.declared.status.Status.TheVariants as statuses
 use Rattle.qs_step.specs.Opening.{recovered_of}
 use Rattle.qs_world.specs.Histories.{opened_with}
 use Rattle.qs_cell.specs.Logged.{HasLog}
@@ -41,9 +45,35 @@ pub record IsDamageOver {D : Type 0} (told : Type 0) (state : D → DiskState) (
   pub node_is : node ≡ first_node
   pub shown : told → IsDamaged (2 ^ 61) (state disk).content at
 
--- each image of the disk has a log
+-- ---- what is left on the disk
+
+-- it was changed at most by the raise of its log's incarnation: at each moment each image is one of before, or the content of
+-- before, or has the log of that
+abbrev pub IsOnlyTouched : {D : Type 0} → Type 0 → (D → DiskState) → D → D → Type 0
+IsOnlyTouched told state disk after = told → Keeps (IsTouched (state disk)) (state disk) (state after)
+
+-- each image has a log that goes on from what the log of the content held
+pub record GoesOnFrom (content : List ℕ) (frame : Frame) : Type 0 where
+  pub script : Script
+  pub opened : Opened
+  pub held : IsHeldIn script content opened
+  pub each : EachImage (HasLog opened) frame
+
+-- nothing that the log held is lost
 abbrev pub IsLogged : {D : Type 0} → Type 0 → (D → DiskState) → D → D → Type 0
-IsLogged told state disk after = told → EachImage HasLog (state after).now
+IsLogged told state disk after = told → GoesOnFrom (state disk).content (state after).now
+
+-- a run with this status leaves this: what it was handed in where no disk was opened; that, but for the raise, where its log was
+-- not opened; and a log that goes on from its own where the node began over it
+abbrev pub Leaves : {D : Type 0} → Type 0 → (D → DiskState) → Status → D → D → Type 0
+Leaves told state (statuses.Damaged node at) disk after = IsOnlyTouched told state disk after
+Leaves told state (statuses.DiskFault node) disk after = IsOnlyTouched told state disk after ⊎ IsLogged told state disk after
+Leaves told state statuses.NoMemory disk after = IsOnlyTouched told state disk after ⊎ IsLogged told state disk after
+Leaves told state statuses.Finished disk after = IsLogged told state disk after
+Leaves told state (statuses.Unfinished rounds waiting) disk after = IsLogged told state disk after
+Leaves told state statuses.WriteFault disk after = IsLogged told state disk after
+Leaves told state (statuses.Unlawful line clause) disk after = IsLogged told state disk after
+Leaves told state status disk after = after ≡ disk
 
 -- the disks are as they were, but for the first of them at most
 abbrev pub AreBesides : {D : Type 0} → List D → List D → Type 0

@@ -2,6 +2,7 @@
 use Rattle.std.specs.Prelude.{◌≡◌, ◌⊎◌, ◌<◌, ℕ, Bool, List, [], ◌∷◌, length}
 use Rattle.std.specs.Global.{Global}
 use Rattle.qs_cell.specs.Starts.{CellValue, journal_of, trace_of}
+use Rattle.qs_cell.specs.State.{LogStands, disk_of}
 use Rattle.qs_conformance.specs.Conforming.{Conforms}
 use Rattle.qs_disk.specs.Disk.{DiskState}
 use Rattle.qs_journal.specs.declared.entry.Entry.{Entry}
@@ -20,7 +21,7 @@ use Rattle.qs_step.specs.declared.trace.Step.{Step}
 use Rattle.qs_text.specs.Output.{out_of}
 use Rattle.qs_verdict.specs.Ends.{status_of}
 use Rattle.qs_verdict.specs.Verdicts.{IsRefusedAt}
-use Rattle.qs_top.specs.Disks.{OfFirst, IsHeldIn}
+use Rattle.qs_top.specs.Disks.{OfFirst, IsHeldIn, IsOnlyTouched}
 
 -- ---- the rounds
 
@@ -41,6 +42,11 @@ pub record HasRunShort {D : Type 0} (told : Type 0) (state : D → DiskState) (o
   pub begins : HasBegun told state own alloc script disk first
   pub ends : IsCutShort told state own size seed first last
   pub node_is : last.node ≡ node
+
+-- it leaves this disk, on which the log of a node that is up stands
+pub record IsLeftBy {D : Type 0} (told : Type 0) (state : D → DiskState) (node : CellValue D) (after : D) : Type 0 where
+  pub disk : after ≡ (disk_of node.seat.node).disk
+  pub stands : told → LogStands state node.seat.node
 
 -- ---- the journal
 
@@ -76,6 +82,7 @@ pub record IsWhole {D : Type 0} (told : Type 0) (state : D → DiskState) (own s
   pub node : CellValue D
   pub ending : Ending
   pub ran : HasRun told state own size seed script disk node ending
+  pub left : IsLeftBy told state node after
   pub is_told : IsTold told state script disk node journal trace
   pub status : Has (status_of ending.rounds ending.settled (waiting_of script journal))
   pub gave : Gave (output_of script journal shown node.opened)
@@ -84,11 +91,18 @@ pub record IsWhole {D : Type 0} (told : Type 0) (state : D → DiskState) (own s
 pub record IsShort {D : Type 0} (told : Type 0) (state : D → DiskState) (own size : D → ℕ) (seed : ℕ) (script : Script) (journal : List Entry) (trace : List Step) (disk after : D) : Type 0 where
   pub node : CellValue D
   pub ran : HasRunShort told state own size seed script disk node
+  pub left : IsLeftBy told state node after
   pub is_told : IsTold told state script disk node journal trace
+
+-- the node did not begin: nothing is told
+pub record IsNotBegun {D : Type 0} (told : Type 0) (state : D → DiskState) (journal : List Entry) (trace : List Step) (disk after : D) : Type 0 where
+  pub nothing : IsNothing journal trace
+  pub touched : IsOnlyTouched told state disk after
 
 -- the judge refused the node's journal, at this line for this clause
 pub record IsRefused {D : Type 0} (told : Type 0) (state : D → DiskState) (own size : D → ℕ) (seed : ℕ) (script : Script) (line clause : ℕ) (disk after : D) : Type 0 where
   pub node : CellValue D
   pub ran : ((ending : Ending) × HasRun told state own size seed script disk node ending) ⊎ HasRunShort told state own size seed script disk node
+  pub left : IsLeftBy told state node after
   pub held : told → IsHeldIn script (state disk).content node.opened
   pub refused : IsRefusedAt script (machine_over node.opened) (journal_of node) line clause

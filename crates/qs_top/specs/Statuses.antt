@@ -7,13 +7,6 @@ use Rattle.qs_statements.specs.declared.status.Status.TheVariants as statuses
 abbrev pub IfNot : Type 0 → Type 0 → Type 0
 IfNot A B = (A → ⊥) → B
 
--- those that come before a disk is opened; want of memory may come later
-abbrev pub IsEarly : Status → Type 0
-IsEarly statuses.Usage = ⊤
-IsEarly (statuses.Script line fault) = ⊤
-IsEarly statuses.ReadFault = ⊤
-IsEarly _ = ⊥
-
 -- those of a run that came to its end
 abbrev pub IsEnd : Status → Type 0
 IsEnd statuses.Finished = ⊤

@@ -11,11 +11,11 @@ ghost use Rattle.qs_script.specs.Words.{form_of};
 ghost use Rattle.qs_script.specs.declared.reading.ScriptFailed.TheVariants.{Fault};
 ghost use Rattle.qs_statements.specs.declared.status.ScriptFault.{ScriptFault};
 ghost use Rattle.qs_top.specs.Asking.{asked_by};
-ghost use Rattle.qs_top.specs.Disks.{OfFirst, IsFaultOver, IsDamageOver, IsLogged, AreBesides};
+ghost use Rattle.qs_top.specs.Disks.{OfFirst, IsFaultOver, IsDamageOver, Leaves, AreBesides};
 ghost use Rattle.qs_top.specs.Giving.{IsGiven, IsGivenOf, IsNoScript};
 ghost use Rattle.qs_top.specs.Over.{IsOver};
-ghost use Rattle.qs_top.specs.Run.{HasLawful, IsNothing, IsWhole, IsShort, IsRefused};
-ghost use Rattle.qs_top.specs.Statuses.{IfNot, IsEarly, IsEnd, IsPastScript, IsPastOpening, IsOfRun, Gives, Tells};
+ghost use Rattle.qs_top.specs.Run.{HasLawful, IsNothing, IsNotBegun, IsWhole, IsShort, IsRefused};
+ghost use Rattle.qs_top.specs.Statuses.{IfNot, IsEnd, IsPastScript, IsOfRun, Gives, Tells};
 ghost use Rattle.qs_top.specs.Texts.{ReadWhole, OfScript};
 ghost use Rattle.qs_top.specs.Verdict.{IsUnlawfulText, IsVerdict, IsOfCheck};
 
@@ -163,7 +163,8 @@ fn run_source<S: Source, K: Sink, D: Disk>(
         → ReadWhole 1048576 (S.left source.old) (S.left source.new) (OfScript (λ script. OfFirst
         (IsWhole D.told D.state D.fault_count D.byte_count seed script shown IsEnd (GivesPart (K.given sink.old) (K.given sink.new)) result.journal result.trace)
         disks.old.items disks.new.items)) }
-    ensures cut_short { (node : NodeNo) → result.status ≡ Status.DiskFault node → IsNothing result.journal result.trace
+    ensures cut_short { (node : NodeNo) → result.status ≡ Status.DiskFault node
+        → OfFirst (IsNotBegun D.told D.state result.journal result.trace) disks.old.items disks.new.items
         ⊎ ReadWhole 1048576 (S.left source.old) (S.left source.new) (OfScript (λ script. OfFirst
         (IsShort D.told D.state D.fault_count D.byte_count seed script result.journal result.trace) disks.old.items disks.new.items)) }
     ensures refused { (line clause : ℕ) → result.status ≡ Status.Unlawful line clause
@@ -173,10 +174,8 @@ fn run_source<S: Source, K: Sink, D: Disk>(
     ensures empty { IfNot (Tells result.status) (IsNothing result.journal result.trace) }
     ensures bound { TakesAtMost 1048577 (S.left source.old) (S.left source.new) }
     ensures built { IsOfRun result.status }
-    ensures early { IsEarly result.status → disks.new.items ≡ disks.old.items }
     ensures others { AreBesides disks.old.items disks.new.items }
-    ensures logged { IsPastOpening result.status
-        → OfFirst (IsLogged D.told D.state) disks.old.items disks.new.items }
+    ensures left { OfFirst (Leaves D.told D.state result.status) disks.old.items disks.new.items }
 {
     let script = match script_from(alloc, source) {
         Ok(script) => script,
@@ -233,8 +232,9 @@ pub fn run<R: Threads + Sync, S: Source, K: Sink, D: Disk>(
     ensures past_script { (seed : ℕ) (shown : Bool) → asked_by (form_of words.now) ≡ Some (Asked.Serial seed shown) → IsPastScript result.status
         → ReadWhole 1048576 (S.left source.old) (S.left source.new) (OfScript (λ script. ⊤)) }
 
-    // A run that ended made its rounds, the journal is its node's and conforms to the script, the status is that of the journal
-    // and of how the rounds ended, and the output was given whole; at a write fault a part of it was.
+    // A run that ended made its rounds, the journal is its node's and conforms to the script, the first disk is the one that
+    // the node leaves, the status is that of the journal and of how the rounds ended, and the output was given whole; at a write
+    // fault a part of it was.
     ensures ended { (seed : ℕ) (shown : Bool) → asked_by (form_of words.now) ≡ Some (Asked.Serial seed shown) → IsEnd result.status
         → ReadWhole 1048576 (S.left source.old) (S.left source.new) (OfScript (λ script. OfFirst
         (IsWhole D.told D.state D.fault_count D.byte_count seed script shown (λ status. result.status ≡ status) (Appends (K.given sink.old) (K.given sink.new)) result.journal result.trace)
@@ -244,10 +244,11 @@ pub fn run<R: Threads + Sync, S: Source, K: Sink, D: Disk>(
         (IsWhole D.told D.state D.fault_count D.byte_count seed script shown IsEnd (GivesPart (K.given sink.old) (K.given sink.new)) result.journal result.trace)
         disks.old.items disks.new.items)) }
 
-    // Where its disk failed as the node was started again, the journal is what the node had made, and conforms. Where the judge
-    // refuses what a node made, the line and the clause are told.
+    // Where its disk failed as the node was started again, the journal is what the node had made, and conforms, and the disk is
+    // the one that the node leaves. Where the judge refuses what a node made, the line and the clause are told.
     ensures cut_short { (seed : ℕ) (shown : Bool) → asked_by (form_of words.now) ≡ Some (Asked.Serial seed shown)
-        → (node : NodeNo) → result.status ≡ Status.DiskFault node → IsNothing result.journal result.trace
+        → (node : NodeNo) → result.status ≡ Status.DiskFault node
+        → OfFirst (IsNotBegun D.told D.state result.journal result.trace) disks.old.items disks.new.items
         ⊎ ReadWhole 1048576 (S.left source.old) (S.left source.new) (OfScript (λ script. OfFirst
         (IsShort D.told D.state D.fault_count D.byte_count seed script result.journal result.trace) disks.old.items disks.new.items)) }
     ensures refused { (seed : ℕ) (shown : Bool) → asked_by (form_of words.now) ≡ Some (Asked.Serial seed shown)
@@ -264,12 +265,11 @@ pub fn run<R: Threads + Sync, S: Source, K: Sink, D: Disk>(
     ensures bound { asked_by (form_of words.now) ≢ Some Asked.Check → TakesAtMost 1048577 (S.left source.old) (S.left source.new) }
     ensures built { asked_by (form_of words.now) ≢ Some Asked.Check → IsOfRun result.status }
 
-    // The disks: as they were before the log is opened. Afterwards each image of the first has a log, and the others are as
-    // they were.
-    ensures early { IsEarly result.status → disks.new.items ≡ disks.old.items }
+    // The disks, whatever the status: the first is as it was where it was not opened; where its log was not opened it is
+    // changed at most by the raise of the incarnation, at each moment; and else each image of it has a log that goes on from what
+    // its log held. After DiskFault and NoMemory it is one of these. The others are as they were.
     ensures others { AreBesides disks.old.items disks.new.items }
-    ensures logged { asked_by (form_of words.now) ≢ Some Asked.Check → IsPastOpening result.status
-        → OfFirst (IsLogged D.told D.state) disks.old.items disks.new.items }
+    ensures left { asked_by (form_of words.now) ≢ Some Asked.Check → OfFirst (Leaves D.told D.state result.status) disks.old.items disks.new.items }
 
     // Of a check: the text that was read is a history, and the verdict on it is what was given; no disk is opened.
     ensures unlawful { asked_by (form_of words.now) ≡ Some Asked.Check → (line clause : ℕ) → result.status ≡ Status.Unlawful line clause

@@ -1,4 +1,7 @@
-use Rattle.qs_top.proofs.Given.{map_right, of_script, nothing_lawful, given_lawful, given_ended, given_cut_off, given_short, given_refused, given_logged}
+use Rattle.std.proofs.Common.{subst, sym}
+use Rattle.qs_top.specs.Disks.{Leaves}
+use Rattle.qs_top.specs.Giving.{IsNoScript}
+use Rattle.qs_top.proofs.Given.{map_both, of_script, nothing_lawful, first_alone, unread_leaves, given_lawful, given_ended, given_cut_off, given_short, given_refused, given_leaves}
 use Rattle.qs_top.proofs.Unopened.{nothing_opened}
 use Rattle.qs_top.proofs.running.run_source.Goals as goal
 
@@ -29,7 +32,10 @@ returns-clause-cut_off g c =
 pub returns-clause-cut_short : goal.returns-clause-cut_short
 returns-clause-cut_short g c =
     let first = c.run_first-made.ensures.over in
-    λ node is. map_right (λ short. of_script c.in-Ok.script _ c.in-Ok.ensures.read (record { first = first.first; after = first.after; rest = first.rest; old_is = first.old_is; new_is = first.new_is; holds = short })) (given_short g.D.Disk.told g.D.Disk.state g.D.Disk.fault_count g.D.Disk.byte_count c.args.seed c.in-Ok.script c.args.shown g.K.Sink.faults g.K.Sink.given c.args.sink.now c.give.new.sink c.run_first-made.result c.give.result first.first first.after first.holds c.give.ensures node is)
+    λ node is. map_both
+    (λ not. record { first = first.first; after = first.after; rest = first.rest; old_is = first.old_is; new_is = first.new_is; holds = not })
+    (λ short. of_script c.in-Ok.script _ c.in-Ok.ensures.read (record { first = first.first; after = first.after; rest = first.rest; old_is = first.old_is; new_is = first.new_is; holds = short }))
+    (given_short g.D.Disk.told g.D.Disk.state g.D.Disk.fault_count g.D.Disk.byte_count c.args.seed c.in-Ok.script c.args.shown g.K.Sink.faults g.K.Sink.given c.args.sink.now c.give.new.sink c.run_first-made.result c.give.result first.first first.after first.holds c.give.ensures node is)
 
 -- src/running.rt:137:1
 pub returns-clause-refused : goal.returns-clause-refused
@@ -37,8 +43,13 @@ returns-clause-refused g c =
     let first = c.run_first-made.ensures.over in
     λ line clause is. of_script c.in-Ok.script _ c.in-Ok.ensures.read (record { first = first.first; after = first.after; rest = first.rest; old_is = first.old_is; new_is = first.new_is; holds = given_refused g.D.Disk.told g.D.Disk.state g.D.Disk.fault_count g.D.Disk.byte_count c.args.seed c.in-Ok.script c.args.shown g.K.Sink.faults g.K.Sink.given c.args.sink.now c.give.new.sink c.run_first-made.result c.give.result first.first first.after first.holds c.give.ensures line clause is })
 
+-- src/running.rt:183:24
+pub returns-in-Err-clause-left : goal.returns-in-Err-clause-left
+returns-in-Err-clause-left g c = first_alone (Leaves g.D.Disk.told g.D.Disk.state c.ended.result.status)
+    (unread_leaves g.D.Disk.told g.D.Disk.state c.ended.result.status (subst IsNoScript (sym c.ended.ensures.status) c.in-Err.ensures.none)) c.args.disks.now.items c.requires.disks
+
 -- src/running.rt:137:1
-pub returns-clause-logged : goal.returns-clause-logged
-returns-clause-logged g c =
+pub returns-clause-left : goal.returns-clause-left
+returns-clause-left g c =
     let first = c.run_first-made.ensures.over in
-    λ past. record { first = first.first; after = first.after; rest = first.rest; old_is = first.old_is; new_is = first.new_is; holds = given_logged g.D.Disk.told g.D.Disk.state g.D.Disk.fault_count g.D.Disk.byte_count c.args.seed c.in-Ok.script c.args.shown g.K.Sink.faults g.K.Sink.given c.args.sink.now c.give.new.sink c.run_first-made.result c.give.result first.first first.after first.holds c.give.ensures past }
+    record { first = first.first; after = first.after; rest = first.rest; old_is = first.old_is; new_is = first.new_is; holds = given_leaves g.D.Disk.told g.D.Disk.state g.D.Disk.fault_count g.D.Disk.byte_count c.args.seed c.in-Ok.script c.args.shown g.K.Sink.faults g.K.Sink.given c.args.sink.now c.give.new.sink c.run_first-made.result c.give.result first.first first.after first.holds c.give.ensures }

@@ -3,14 +3,17 @@ use Rattle.qs_cell.specs.State.{StartsAgain}
 use Rattle.qs_cell.specs.Visits.{Grows, entries_in}
 use Rattle.qs_cell.proofs.Founding.{starts_founded}
 use Rattle.qs_cell.proofs.Growing.{start_grows}
-use Rattle.qs_cell.proofs.Logging.{logged_again}
+use Rattle.qs_cell.proofs.Logging.{logged_again, restart_on}
+use Rattle.qs_world.specs.Histories.{opened_with}
 use Rattle.qs_cell.proofs.cell.NodeCell.restart.Goals as goal
 
 pub invariant_of-self : goal.invariant_of-self
 invariant_of-self g c = record {
   stands = c.replace_with-answer.ensures.1.0;
   allowed = c.replace_with-answer.ensures.1.1;
-  logged = logged_again g.D.Disk.told g.D.Disk.state g.D.Disk.fault_count c.self.inside.alloc c.self.inside.state c.replace_with-answer.new.dest
+  goes_on = restart_on g.D.Disk.told g.D.Disk.state g.D.Disk.fault_count c.self.inside.alloc (opened_with c.self.inside.first c.self.inside.found) c.self.inside.state c.replace_with-answer.new.dest
+      c.replace_with-answer.result c.replace_with-answer.ensures.0 c.self.invariant.logged c.self.invariant.goes_on;
+  logged = logged_again g.D.Disk.told g.D.Disk.state g.D.Disk.fault_count c.self.inside.alloc (opened_with c.self.inside.first c.self.inside.found) c.self.inside.state c.replace_with-answer.new.dest
       c.replace_with-answer.result c.replace_with-answer.ensures.0 c.self.invariant.logged;
 }
 
