@@ -228,7 +228,6 @@ module _ (P : Opening → World → Type 0) (owed : Owed P) (o : Opening) (world
         (subst (λ (i : ℕ). Every (IsAside i (world.hosts k).node) entries) (sym its.node) (asides k far k_low))
         (all_entries (HasOwner old) n stamp (effects_of node event free).entries (owed.steps_owned o world n stamp free source event j makes lawful))
         (λ state there. runs_at old world k its on state (subst (λ (i : ℕ). slice_get old.nodes i ≡ Some state) its.node there)) (j.running k k_low on).beside);
-    numbered = (j.running k k_low on).numbered;
     young = (j.running k k_low on).young;
   }
     where

@@ -17,6 +17,7 @@ pub mod JoinedFacts
 pub mod JoinedHomes
 pub mod JoinedSteps
 pub mod JoinedSound
+pub mod ToldFewer
 pub mod JoinedActs
 pub mod JoinedHeld
 pub mod JoinedAfter

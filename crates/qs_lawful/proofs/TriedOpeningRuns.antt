@@ -10,7 +10,7 @@ use Rattle.qs_lawful.specs.TriedOpenings.{old}
 use Rattle.qs_lawful.specs.TriedWorlds.{all_ok, downs_ok, worlds_ok}
 
 pub opens : (alloc : Global) → IsOpening (old alloc)
-opens alloc = record { size = refl; settings = refl; scripts = refl; labels = refl; logs = refl; votes = refl; unended = refl }
+opens alloc = record { size = refl; settings = refl; scripts = refl; labels = refl; logs = refl; votes = refl; unended = refl; whole = refl }
 
 pub first : (alloc : Global) → all_ok (old alloc) (start (old alloc)) ≡ true
 unfolding all_nodes all_servers digits
