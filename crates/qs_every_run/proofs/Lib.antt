@@ -15,6 +15,10 @@ pub mod AgreesPasses
 pub mod JoinedParts
 pub mod JoinedFacts
 pub mod JoinedHomes
+pub mod BareTaken
+pub mod RecordsStand
+pub mod FreshBeside
+pub mod OpensRunning
 pub mod JoinedSteps
 pub mod JoinedSound
 pub mod ToldFewer

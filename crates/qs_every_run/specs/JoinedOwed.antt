@@ -128,7 +128,6 @@ EachRisesRunning P = (o : Opening) (world : World) (n stamp inc : ℕ) → Joine
 
 pub record Owed (P : Opening → World → Type 0) : Type 0 where
   -- as a run begins
-  pub opens_running : Opens RunningAt
   pub opens_places : Opens P
   -- what a step is given
   pub commits : EachCommitsSettled P

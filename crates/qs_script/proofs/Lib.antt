@@ -1,5 +1,3 @@
-pub mod FitsLemmas
-pub mod KeptLemmas
 pub mod LabelLemmas
 pub mod OpenLemmas
 pub mod ReadingLemmas

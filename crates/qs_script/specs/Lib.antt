@@ -1,11 +1,8 @@
 pub mod Answers
 pub mod Clashes
-pub mod Fits
 pub mod Indexes
 pub mod Journal
-pub mod Kept
 pub mod Labels
-pub mod Plain
 pub mod Rules
 pub mod Script
 pub mod StatusLine

@@ -13,6 +13,5 @@ pub use journal::journal_text;
 pub use output::out_text;
 pub use qs_script::{
     FaultLine, Form, Planned, Quota, Script, ScriptFailed, ScriptFault, Seat, Status, Waiting,
-    WordsFault, lawful_text, numbers_have_one_spelling, other_entries_are_refused,
-    read_plain_script, read_script, read_words, status_line,
+    WordsFault, lawful_text, numbers_have_one_spelling, read_script, read_words, status_line,
 };
