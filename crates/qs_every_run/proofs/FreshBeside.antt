@@ -239,9 +239,5 @@ module _ (alloc : Global) (setting : Setting) (saved : Kept) (book : BookValue) 
   pub running_held : HoldsRunning book begins
   running_held = record {
     beside = beside_held;
-    numbered = record {
-      told = λ tid part is. subst (λ (count : ℕ). count < setting.nodes) (sym none_listed ∙ ap (λ ns. length (listed ns)) (sym (bare.parts tid part is).told)) w.some;
-      apart = λ tid part is. subst AreApart (sym (bare.parts tid part is).waiting) tt;
-    };
     young = λ tid part is home undecided. absurd (decided tid part is home undecided);
   }

@@ -23,6 +23,7 @@ use Rattle.qs_refine.proofs.ShownBegins.{each_begun_shown}
 use Rattle.qs_refine.proofs.ShownMoves.{move_shown}
 use Rattle.qs_refine.proofs.StepAll.{node_stopped}
 use Rattle.qs_lawful.specs.Beside.{HoldsBeside, is_committed_at}
+use Rattle.qs_lawful.specs.BesideStep.{AreCommitted}
 use Rattle.qs_lawful.specs.NodeFacts.{HasNodeFacts}
 use Rattle.qs_lawful.specs.Parcels.{HoldsChannels, HoldsWays}
 use Rattle.qs_lawful.specs.Scripts.{HoldsScripts}
@@ -35,13 +36,14 @@ use Rattle.qs_lawful.proofs.ParcelsKept.{channels_moved}
 use Rattle.qs_lawful.proofs.ScriptsLike.{crash_scripts}
 use Rattle.qs_lawful.proofs.WaysOn.{crash_ways}
 use Rattle.qs_every_run.specs.Agrees.{MakesStep, nodes_in}
-use Rattle.qs_every_run.specs.Joined.{ChannelsAt, FactsAt, HeldAt, HomesAt, HomesHave, HoldsRunning, Joined, RunningAt, ScriptsAt, WaysAt, book_in}
+use Rattle.qs_every_run.specs.Joined.{ChannelsAt, FactsAt, HeldAt, HomesAt, HomesHave, HoldsRunning, Joined, LoggedAt, RunningAt, ScriptsAt, WaysAt, book_in}
 use Rattle.qs_every_run.specs.JoinedOwed.{Owed}
 use Rattle.qs_every_run.proofs.JoinedFacts.{steps_facts}
 use Rattle.qs_every_run.proofs.JoinedHeld as held_proofs
 use Rattle.qs_every_run.proofs.JoinedHomes.{homes_after}
+use Rattle.qs_every_run.proofs.JoinedLogged.{logged_later}
 use Rattle.qs_every_run.proofs.JoinedParts.{book_on, channels_later, lawful_on}
-use Rattle.qs_every_run.proofs.JoinedSteps.{step_at, step_entries, step_journal, step_lawful, step_low, step_up}
+use Rattle.qs_every_run.proofs.JoinedSteps.{step_at, step_entries, step_journal, step_kept, step_lawful, step_low, step_up}
 
 -- what is known of a world that a move leads to
 pub record Known (o : Opening) (world new : World) : Type 0 where
@@ -50,6 +52,7 @@ pub record Known (o : Opening) (world new : World) : Type 0 where
   pub held : HeldAt o new
   pub facts : FactsAt new
   pub running : RunningAt o new
+  pub logged : LoggedAt o new
   pub homes : HomesAt o new
   pub channels : ChannelsAt o new
   pub ways : WaysAt o new
@@ -68,6 +71,7 @@ module _ (P : Opening → World → Type 0) (owed : Owed P) (o : Opening) (world
     held = k.held;
     facts = k.facts;
     running = k.running;
+    logged = k.logged;
     homes = k.homes;
     channels = k.channels;
     ways = k.ways;
@@ -128,6 +132,15 @@ module _ (P : Opening → World → Type 0) (owed : Owed P) (o : Opening) (world
         by false far = subst (λ (m : NodeValue). HoldsRunning (book_after book entries) m) (sym (same k far))
             (held_proofs.other_running P owed o world j n stamp free source event makes k far (subst (λ (s : ℕ). k < s) sized low) (sym (ap (λ (f : ℕ → Bool). f k) ups) ∙ on))
 
+    logged_then : LoggedAt o new
+    logged_then k low on = subst (λ (b : BookValue). AreCommitted b (new.hosts k).node) (sym (book_on o world new entries journal)) (by (k == n) refl)
+      where
+        by : (b : Bool) → (k == n) ≡ b → AreCommitted (book_after book entries) (new.hosts k).node
+        by true near = subst (λ (i : ℕ). AreCommitted (book_after book entries) (new.hosts i).node) (sym (eqb-true k n near))
+            (subst (λ (m : NodeValue). AreCommitted (book_after book entries) m) (sym own_then) (step_kept P owed o world j n stamp free source event makes).logged)
+        by false far = subst (λ (m : NodeValue). AreCommitted (book_after book entries) m) (sym (same k far)) (logged_later P o world j entries (step_lawful P owed o world j n stamp free source event makes) (world.hosts k).node
+            (j.logged k (subst (λ (s : ℕ). k < s) sized low) (sym (ap (λ (f : ℕ → Bool). f k) ups) ∙ on)))
+
     low_then : n < new.size
     low_then = subst (λ (s : ℕ). n < s) (sym sized) (step_low P owed o world j n stamp free source event makes)
 
@@ -154,6 +167,7 @@ module _ (P : Opening → World → Type 0) (owed : Owed P) (o : Opening) (world
       held = held_then;
       facts = facts_then;
       running = runs_then;
+      logged = logged_then;
       homes = homes_then;
       channels = subst (λ (b : BookValue). HoldsChannels b new.size new.channels) (sym (book_on o world new entries journal))
           (subst (λ (w : World). HoldsChannels (book_after book entries) w.size w.channels) (sym (ap (step_with world n stamp free source) makes.comes)) (held_proofs.channels_then P owed o world j n stamp free source event makes));
@@ -199,6 +213,14 @@ module _ (P : Opening → World → Type 0) (owed : Owed P) (o : Opening) (world
             other : (a b : ℕ) → (a == b) ≡ false → a ≡ b → ⊥
             other a b off same = let here : (a == b) ≡ true = grind (arith, nat_tests, same) in let both : true ≡ false = sym here ∙ off in cc (both)
 
+    crash_logged : LoggedAt o after
+    crash_logged k low on = by (k == n) refl on
+      where
+        by : (b : Bool) → (k == n) ≡ b → (if b then false else world.channels.up k) ≡ true → AreCommitted (book_in o after) (after.hosts k).node
+        by true near off = absurd (cc off)
+        by false far runs = subst (λ (m : NodeValue). AreCommitted (book_in o after) m) (sym (node_stopped world n stamp cause log k))
+            (subst (λ (b : BookValue). AreCommitted b (world.hosts k).node) (sym (book_on o world after (entry ∷ []) refl)) (logged_later P o world j (entry ∷ []) crashed.lawful (world.hosts k).node (j.logged k low runs)))
+
     known : Known o world after
     known = record {
       size = refl;
@@ -206,6 +228,7 @@ module _ (P : Opening → World → Type 0) (owed : Owed P) (o : Opening) (world
       held = subst (λ (b : BookValue). HoldsWorld b after) (sym (book_on o world after (entry ∷ []) refl)) crashed.holds;
       facts = λ k low. subst HasNodeFacts (sym (node_stopped world n stamp cause log k)) (j.facts k low);
       running = crash_running;
+      logged = crash_logged;
       homes = crash_homes;
       channels = channels_later o world after (entry ∷ []) j.opens refl crash_lawful world.size after.channels (channels_moved book world.size (channel.Crash n) world.channels tt j.channels);
       ways = subst (λ (b : BookValue). HoldsWays b after) (sym (book_on o world after (entry ∷ []) refl)) (crash_ways book world n stamp cause log j.ways);

@@ -1,11 +1,12 @@
 -- All that stands together of a world stands after each move.
-use Rattle.std.proofs.Common.{◌≡◌, ℕ, ◌<◌, ◌≤◌, ◌==◌, ◌&&◌, not, Bool, true, false, [], ◌∷◌, Option, Some, None, refl, sym, ap, subst, arith, nat_lt, nat_le, if◌then◌else◌}
+use Rattle.std.proofs.Common.{◌≡◌, ℕ, ◌<◌, ◌≤◌, ◌==◌, ◌&&◌, not, Bool, true, false, List, [], ◌∷◌, Option, Some, None, refl, sym, ap, subst, ◌∙◌, arith, nat_lt, nat_le, if◌then◌else◌}
 use Rattle.std.proofs.lemmas.Bool.{eqb-true}
 use Rattle.std.proofs.lemmas.Bool.Decides.{nat_tests}
 use Rattle.qs_channels.specs.Channels as channel
 use Rattle.qs_journal.specs.declared.entry.Act.TheVariants as acts
 use Rattle.qs_machine.specs.Book.{BookValue}
 use Rattle.qs_machine.specs.Lawful.{IsLawful, book_after}
+use Rattle.qs_record.specs.declared.record.Record.{Record}
 use Rattle.qs_restart.specs.Recovery.{recovery}
 use Rattle.qs_step.specs.Opening.{recovered_of}
 use Rattle.qs_step.specs.State.{NodeValue}
@@ -22,6 +23,7 @@ use Rattle.qs_lawful.specs.NodeFacts.{HasNodeFacts}
 use Rattle.qs_lawful.specs.Parcels.{HoldsWays}
 use Rattle.qs_lawful.specs.Scripts.{HoldsScripts}
 use Rattle.qs_lawful.specs.WorldLaws.{RisesWell, rise_entry}
+use Rattle.qs_lawful.specs.BesideStep.{AreCommitted}
 use Rattle.qs_lawful.specs.Worlds.{HoldsWorld}
 use Rattle.qs_lawful.proofs.CoherentOpenings.{opens_soundly}
 use Rattle.qs_lawful.proofs.LastsAlways.{in_runs}
@@ -34,11 +36,12 @@ use Rattle.qs_lawful.proofs.ScriptsLike.{meet_scripts}
 use Rattle.qs_lawful.proofs.StopsWhole.{by_cut, by_stop}
 use Rattle.qs_lawful.proofs.WaysOn.{rise_ways}
 use Rattle.qs_every_run.specs.Agrees.{nodes_in}
-use Rattle.qs_every_run.specs.Joined.{FactsAt, HeldAt, HomesAt, HomesHave, HoldsRunning, Joined, RunningAt, book_in}
+use Rattle.qs_every_run.specs.Joined.{FactsAt, HeldAt, HomesAt, HomesHave, HoldsRunning, Joined, LoggedAt, RunningAt, book_in}
 use Rattle.qs_every_run.specs.JoinedOwed.{Owed}
 use Rattle.qs_every_run.specs.JoinedRuns.{EachMoveJoined}
 use Rattle.qs_every_run.proofs.JoinedFacts.{rises_facts}
 use Rattle.qs_every_run.proofs.JoinedHomes.{homes_after}
+use Rattle.qs_every_run.proofs.JoinedLogged.{logged_by_log, logged_later}
 use Rattle.qs_every_run.proofs.JoinedParts.{book_on, channels_later, lawful_on, seated_sound}
 use Rattle.qs_every_run.proofs.RisesBeside.{rise_keeps_beside}
 use Rattle.qs_every_run.proofs.JoinedAfter.{crash_joined, step_joined, then_joined}
@@ -86,6 +89,13 @@ module _ (P : Opening → World → Type 0) (owed : Owed P) (o : Opening) (world
         picked : (b : Bool) → b ≡ true → (if b then risen_host stamp inc (recovered_of (world.hosts n).log) (world.hosts n) else world.hosts n).node ≡ reopened inc (recovered_of (world.hosts n).log) (world.hosts n).node
         picked b is = rw is refl
 
+    rise_log : (risen_world.hosts n).log ≡ (world.hosts n).log
+    rise_log = picked (n == n)
+      where
+        picked : (b : Bool) → (if b then risen_host stamp inc (recovered_of (world.hosts n).log) (world.hosts n) else world.hosts n).log ≡ (world.hosts n).log
+        picked true = refl
+        picked false = refl
+
     rise_running : RunningAt o risen_world
     rise_running k low on = subst (λ (b : BookValue). HoldsRunning b (risen_world.hosts k).node) (sym rise_book) (by (k == n) refl on)
       where
@@ -102,6 +112,22 @@ module _ (P : Opening → World → Type 0) (owed : Owed P) (o : Opening) (world
       where
         picked : (b : Bool) → b ≡ true → (if b then true else world.channels.up n) ≡ true
         picked b so = rw so refl
+
+    -- its log's Commits are the machine's as it begins
+    rise_logged : LoggedAt o risen_world
+    rise_logged k low on = subst (λ (b : BookValue). AreCommitted b (risen_world.hosts k).node) (sym rise_book) (by (k == n) refl on)
+      where
+        then_book : BookValue
+        then_book = book_after book (rise_entry world n stamp inc ∷ [])
+
+        own : AreCommitted then_book (risen_world.hosts n).node
+        own = subst (λ (b : BookValue). AreCommitted b (risen_world.hosts n).node) rise_book
+            (logged_by_log (book_in o risen_world) n (rise_held.nodes n n_low).state (risen_world.hosts n) (in_runs o risen_world.journal j.opens rise_lawful) ((rise_held.nodes n n_low).runs rise_up)
+            (ap (λ (m : NodeValue). m.committed) rise_own ∙ ap (λ (log : List Record). (recovery log).committed) (sym rise_log)))
+
+        by : (b : Bool) → (k == n) ≡ b → (if b then true else world.channels.up k) ≡ true → AreCommitted then_book (risen_world.hosts k).node
+        by true near runs = subst (λ (i : ℕ). AreCommitted then_book (risen_world.hosts i).node) (sym (eqb-true k n near)) own
+        by false far runs = subst (λ (m : NodeValue). AreCommitted then_book m) (sym (rise_same k far)) (logged_later P o world j (rise_entry world n stamp inc ∷ []) rises.lawful (world.hosts k).node (j.logged k low runs))
 
     rise_facts : FactsAt risen_world
     rise_facts k low = by (k == n) refl
@@ -122,6 +148,7 @@ module _ (P : Opening → World → Type 0) (owed : Owed P) (o : Opening) (world
       held = rise_held;
       facts = rise_facts;
       running = rise_running;
+      logged = rise_logged;
       homes = rise_homes;
       channels = channels_later o world risen_world (rise_entry world n stamp inc ∷ []) j.opens refl rise_lawful world.size risen_world.channels
           (channels_moved book world.size (channel.Restart n inc) world.channels (let later : nat_lt (world.channels.inc n) inc ≡ true = tests.1 in grind (arith, nat_tests, later)) j.channels);
@@ -158,6 +185,7 @@ module _ (P : Opening → World → Type 0) (owed : Owed P) (o : Opening) (world
       held = meets book world n stamp m inc j.held may;
       facts = λ k low. subst HasNodeFacts (sym (met_node k)) (j.facts k low);
       running = met_running;
+      logged = λ k low runs. subst (λ (node : NodeValue). AreCommitted book node) (sym (met_node k)) (j.logged k low runs);
       homes = met_homes;
       channels = channels_moved book world.size (channel.Meet n m inc) world.channels known_inc j.channels;
       ways = meet_ways book world n stamp m inc j.channels (seated_sound world j.shown.steady.seated) may j.ways;

@@ -19,12 +19,15 @@ use Rattle.qs_lawful.specs.Given.{AtEach}
 use Rattle.qs_lawful.specs.GivenStep.{done_work}
 use Rattle.qs_lawful.specs.Holds.{Holds}
 use Rattle.qs_lawful.specs.Worlds.{HoldsNodeAt}
+use Rattle.qs_lawful.specs.StepKeeps.{KeptThen}
+use Rattle.qs_lawful.proofs.StepKept as keeping
 use Rattle.qs_lawful.proofs.WholeStep.{by_whole_step}
 use Rattle.qs_every_run.specs.Agrees.{MakesStep, PassesUndone, nodes_in}
 use Rattle.qs_every_run.specs.Joined.{Joined, book_in}
 use Rattle.qs_every_run.specs.JoinedOwed.{CommitsSettled, Owed}
 use Rattle.qs_every_run.proofs.AgreesPasses.{passes_agree, stages_sound, waits_agree}
 use Rattle.qs_every_run.proofs.AgreesWhole.{event_agrees}
+use Rattle.qs_every_run.proofs.JoinedGiven.{given, step_on}
 use Rattle.qs_every_run.proofs.JoinedSound.{sound_gives}
 
 -- ---- what the protocol gives, put together
@@ -73,7 +76,7 @@ module _ (P : Opening → World → Type 0) (owed : Owed P) (o : Opening) (world
 
   both : (k : ℕ) → node.setting.node.0 ≡ k → IsLawful (book_in o world) (entries_of k stamp (effects_of node event free).entries) × Holds stamp (book_after (book_in o world) (entries_of k stamp (effects_of node event free).entries)) (after_step node event free)
   both k same = subst (λ (i : ℕ). IsLawful (book_in o world) (entries_of i stamp (effects_of node event free).entries) × Holds stamp (book_after (book_in o world) (entries_of i stamp (effects_of node event free).entries)) (after_step node event free)) same
-      (by_whole_step stamp (book_in o world) node event free holds (owed.given o world n stamp free source event j makes agreed))
+      (by_whole_step stamp (book_in o world) node event free holds (given P owed o world j n stamp free source event makes holds agreed))
 
   pub step_lawful : IsLawful (book_in o world) step_entries
   step_lawful = (both n at.node).0
@@ -83,3 +86,11 @@ module _ (P : Opening → World → Type 0) (owed : Owed P) (o : Opening) (world
 
   pub step_journal : (moved (Step n stamp free source) world).journal ≡ world.journal ++ step_entries
   step_journal = ap (λ (e : Option Event). (step_with world n stamp free source e).journal) makes.comes
+
+  -- and all of this but what the log says of contents holds of the node after it
+  pub step_kept : KeptThen stamp (book_after (book_in o world) step_entries) world.size (nodes_in world) n (after_step node event free)
+  step_kept = kept n at.node
+    where
+      kept : (k : ℕ) → node.setting.node.0 ≡ k → KeptThen stamp (book_after (book_in o world) (entries_of k stamp (effects_of node event free).entries)) world.size (nodes_in world) n (after_step node event free)
+      kept k same = subst (λ (i : ℕ). KeptThen stamp (book_after (book_in o world) (entries_of i stamp (effects_of node event free).entries)) world.size (nodes_in world) n (after_step node event free)) same
+          (keeping.step_kept stamp (book_in o world) world.size (nodes_in world) n node event free (step_on P owed o world j n stamp free source event makes holds agreed) j.held.size).kept

@@ -19,6 +19,9 @@ pub mod BareTaken
 pub mod RecordsStand
 pub mod FreshBeside
 pub mod OpensRunning
+pub mod CountsServed
+pub mod JoinedGiven
+pub mod JoinedLogged
 pub mod JoinedSteps
 pub mod JoinedSound
 pub mod ToldFewer

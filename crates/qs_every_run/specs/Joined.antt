@@ -10,6 +10,7 @@ use Rattle.qs_world.specs.Openings.{IsOpening}
 use Rattle.qs_world.specs.World.{Opening, World}
 use Rattle.qs_refine.specs.ShownWorlds.{IsShownWorld}
 use Rattle.qs_lawful.specs.Beside.{HoldsBeside, is_committed_at}
+use Rattle.qs_lawful.specs.BesideStep.{AreCommitted}
 use Rattle.qs_lawful.specs.NodeFacts.{AreYoung, HasNodeFacts}
 use Rattle.qs_lawful.specs.Parcels.{HoldsChannels, HoldsWays}
 use Rattle.qs_lawful.specs.Scripts.{HoldsScripts}
@@ -37,6 +38,10 @@ pub record HoldsRunning (book : BookValue) (node : NodeValue) : Type 0 where
 abbrev pub RunningAt : Opening → World → Type 0
 RunningAt o world = (n : ℕ) → n < world.size → world.channels.up n ≡ true → HoldsRunning (book_in o world) (world.hosts n).node
 
+-- the Commits that its log had as it opened are the machine's
+abbrev pub LoggedAt : Opening → World → Type 0
+LoggedAt o world = (n : ℕ) → n < world.size → world.channels.up n ≡ true → AreCommitted (book_in o world) (world.hosts n).node
+
 -- what the machine has committed, its home has, whether it runs or not
 abbrev pub HomesHave : BookValue → ℕ → (ℕ → NodeValue) → Type 0
 HomesHave book size nodes = (tid : Tid) (tx : TransactionValue) → find_transaction book tid ≡ Some tx → is_commit tx.cell ≡ true → nat_lt tid.home.0 size ≡ true → is_committed_at (nodes tid.home.0) tid ≡ true
@@ -63,6 +68,7 @@ pub record Joined (P : Opening → World → Type 0) (o : Opening) (world : Worl
   pub held : HeldAt o world
   pub facts : FactsAt world
   pub running : RunningAt o world
+  pub logged : LoggedAt o world
   pub homes : HomesAt o world
   pub channels : ChannelsAt o world
   pub ways : WaysAt o world

@@ -23,17 +23,17 @@ use Rattle.qs_world.specs.Moves.{Cut, Move, Rise, Source, Step, log_after, may_m
 use Rattle.qs_world.specs.Openings.{IsOpening}
 use Rattle.qs_world.specs.Posting.{entries_of}
 use Rattle.qs_world.specs.World.{Opening, World, inc_of, start}
-use Rattle.qs_lawful.specs.Agreed.{StepAgrees}
 use Rattle.qs_lawful.specs.Aside.{AnswersElsewhere, KeepsUnanimous}
 use Rattle.qs_lawful.specs.Amid.{IsSent}
+use Rattle.qs_lawful.specs.BesideStep.{HappensSo, HasCountRoom}
 use Rattle.qs_lawful.specs.Entering.{book_at}
 use Rattle.qs_lawful.specs.Given.{AtEach}
-use Rattle.qs_lawful.specs.GivenStep.{MayStep, done_work}
+use Rattle.qs_lawful.specs.GivenStep.{done_work, first_work}
 use Rattle.qs_lawful.specs.Logs.{Every}
 use Rattle.qs_lawful.specs.Said.{HoldsSaid}
 use Rattle.qs_lawful.specs.WorldLaws.{StopsWell, rise_entry}
 use Rattle.qs_lawful.specs.Worlds.{HoldsKept}
-use Rattle.qs_every_run.specs.Agrees.{MakesStep, nodes_in}
+use Rattle.qs_every_run.specs.Agrees.{MakesStep}
 use Rattle.qs_every_run.specs.Joined.{HoldsRunning, Joined, RunningAt, ScriptsAt, WaysAt, book_in}
 
 -- ---- as a run begins
@@ -52,10 +52,14 @@ abbrev pub EachCommitsSettled : (Opening → World → Type 0) → Type 0
 EachCommitsSettled P = (o : Opening) (world : World) (n stamp free : ℕ) (source : Source) (event : Event) → Joined P o world → MakesStep world n stamp source event
     → AtEach (CommitsSettled stamp (book_in o world)) settle_tid (done_work (world.hosts n).node event free) (due_tids (done_work (world.hosts n).node event free))
 
--- from what the protocol gives, a step is given all that it needs
-abbrev pub EachGiven : (Opening → World → Type 0) → Type 0
-EachGiven P = (o : Opening) (world : World) (n stamp free : ℕ) (source : Source) (event : Event) → Joined P o world → MakesStep world n stamp source event
-    → StepAgrees stamp (book_in o world) world.size (nodes_in world) n (world.hosts n).node event free → MayStep stamp (book_in o world) (world.hosts n).node event free
+-- what comes is so: what a node owes that restarted the machine finds gone, and ticks have room
+abbrev pub EachComesSo : (Opening → World → Type 0) → Type 0
+EachComesSo P = (o : Opening) (world : World) (n stamp free : ℕ) (source : Source) (event : Event) → Joined P o world → MakesStep world n stamp source event → HappensSo stamp (book_in o world) event (first_work (world.hosts n).node free)
+
+-- where a vote pass is due, the count of changes has room
+abbrev pub EachCountsRoom : (Opening → World → Type 0) → Type 0
+EachCountsRoom P = (o : Opening) (world : World) (n stamp free : ℕ) (source : Source) (event : Event) → Joined P o world → MakesStep world n stamp source event
+    → AtEach HasCountRoom settle_tid (done_work (world.hosts n).node event free) (due_tids (done_work (world.hosts n).node event free))
 
 -- a step that is cut off and whose batch is kept, as where it is lost
 abbrev pub EachKeepsItsBatch : (Opening → World → Type 0) → Type 0
@@ -131,7 +135,8 @@ pub record Owed (P : Opening → World → Type 0) : Type 0 where
   pub opens_places : Opens P
   -- what a step is given
   pub commits : EachCommitsSettled P
-  pub given : EachGiven P
+  pub comes_so : EachComesSo P
+  pub rooms : EachCountsRoom P
   -- after a whole step
   pub steps_kept : AfterStep P KeptThen
   pub steps_said : AfterStep P SaidThen

@@ -57,7 +57,7 @@ module _ (stamp : ℕ) (before : BookValue) (run : InRun before) (size : ℕ) (n
 
   pub keeps_beside : KeepsBeside stamp before size nodes n
   keeps_beside = record {
-    passes = λ work tid so s held. on_by work (try tid pass_rule work) (goes_where stamp before run tid (pass_rule tid) work (λ part known none. goes_pass_rule stamp before run tid work s.held part known (λ due. so.may part known due) so.room)) s held;
+    passes = λ work tid so s held. on_by work (try tid pass_rule work) (goes_where stamp before run tid (pass_rule tid) work (λ part known none. goes_pass_rule stamp before run tid work s.held part known (λ due. so.may part known due) (λ due. so.room part known due))) s held;
     readies = λ work tid s held. on_by work (try tid ready_rule work) (goes_where stamp before run tid (ready_rule tid) work (λ part known none. goes_ready stamp before run tid part work (λ home. unkept stamp before work s.held s.by.facts tid part known home none))) s held;
     refuses = λ work tid s held. on_by work (try tid refuse_rule work) (goes_where stamp before run tid (refuse_rule tid) work (λ part known none. goes_refuse stamp before run tid part work known none)) s held;
     forgets = λ work tid s held. on_by work (try tid forget_rule work) (goes_where stamp before run tid (forget_rule tid) work (λ part known none. goes_forgets stamp before run tid part work known none s.by.facts)) s held;
@@ -79,7 +79,7 @@ module _ (stamp : ℕ) (before : BookValue) (run : InRun before) (size : ℕ) (n
         let s1 : Stands stamp before size nodes n one = s_passed stamp before size nodes n stages work tid s agreed room in
         let s3 : Stands stamp before size nodes n three = s_refused stamp before size nodes n stages work tid s agreed room in
         goes_then stamp before run work one (settle_tid work tid)
-        (goes_where stamp before run tid (pass_rule tid) work (λ part known none. goes_pass_rule stamp before run tid work s.held part known (λ due. may_pass stamp before size nodes n work s.by tid part known (agreed.passes part known due)) room))
+        (goes_where stamp before run tid (pass_rule tid) work (λ part known none. goes_pass_rule stamp before run tid work s.held part known (λ due. may_pass stamp before size nodes n work s.by tid part known (agreed.passes part known due)) (λ due. room part known due)))
         (goes_then stamp before run one two (settle_tid work tid)
         (goes_where stamp before run tid (ready_rule tid) one (λ part known none. goes_ready stamp before run tid part one (λ home. unkept stamp before one s1.held s1.by.facts tid part known home none)))
         (goes_then stamp before run two three (settle_tid work tid)

@@ -151,5 +151,5 @@ pub fn channels_hold_what_is_so()
 
 /// Whatever event comes to a node of a world, it comes as it is given, by what the world holds of scripts and channels.
 pub fn world_gives_events()
-    ensures { (o : Opening) (book : BookValue) (world : World) (n stamp free : ℕ) → IsOpening o → WorldGives o book world n free → (source : Source) (event : Event) → event_of world n stamp source ≡ Some event → ComesTo book event (work_on (world.hosts n).node free) }
+    ensures { (o : Opening) (book : BookValue) (world : World) (n stamp free : ℕ) → IsOpening o → (source : Source) → WorldGives o book world n free source → (event : Event) → event_of world n stamp source ≡ Some event → ComesTo book event (work_on (world.hosts n).node free) }
 {}
