@@ -1,6 +1,5 @@
 -- What a step asks of a node beside the reference machine follows from the invariant of one node, but for numbers and told sets.
-use Rattle.std.proofs.Common.{◌≡◌, ℕ, ◌<◌, ◌≤◌, ◌==◌, ◌&&◌, ◌||◌, not, Bool, true, false, List, length, Option, Some, None, is_none, is_some, refl, sym, ap, subst, ◌∙◌, arith, nat_lt, if◌then◌else◌}
-use Rattle.std.specs.List.{list_all}
+use Rattle.std.proofs.Common.{◌≡◌, ℕ, ◌<◌, ◌≤◌, ◌==◌, ◌&&◌, ◌||◌, not, Bool, true, false, length, Option, Some, None, is_none, is_some, refl, ap, ◌∙◌, arith, nat_lt, if◌then◌else◌}
 use Rattle.std.proofs.lemmas.Bool.{eqb-true}
 use Rattle.std.proofs.lemmas.Bool.Decides.{nat_tests}
 use Rattle.std.proofs.lemmas.List.{get_or_past}
@@ -17,7 +16,7 @@ use Rattle.qs_tm.specs.Manager as tm
 use Rattle.qs_tm.specs.Outcomes.{is_abort}
 use Rattle.qs_tm.specs.Participant.{is_undecided, needs_pass}
 use Rattle.qs_tm.specs.declared.participant.Participant.{Participant}
-use Rattle.qs_refine.specs.Sound.{is_engaged, is_idle, is_sound, is_sound_peer, where_so}
+use Rattle.qs_refine.specs.Sound.{is_idle, is_sound, is_sound_peer, where_so}
 use Rattle.qs_refine.proofs.NodeSets.{all_named}
 use Rattle.qs_refine.proofs.SoundCount.{all_at}
 use Rattle.qs_refine.proofs.SoundHolds.{known_sound}

@@ -1,5 +1,5 @@
 -- What is still to be shown so that every run is lawful: each is a law of its own, of a run's beginning, of what a step is given, or of what a move keeps.
-use Rattle.std.specs.Prelude.{◌≡◌, ℕ, ◌≤◌, ◌<◌, ◌==◌, ◌++◌, ⊤, true, false, List, [], ◌∷◌, None, Some, is_some, slice_get}
+use Rattle.std.specs.Prelude.{◌≡◌, ℕ, ◌≤◌, ◌<◌, ◌==◌, ◌++◌, ⊤, true, false, List, None, Some, is_some, slice_get}
 use Rattle.qs_base.specs.declared.identifiers.ClientNo.{ClientNo}
 use Rattle.qs_base.specs.declared.identifiers.Tid.{Tid}
 use Rattle.qs_engage.specs.Engage.{peer_of}
@@ -12,7 +12,6 @@ use Rattle.qs_machine.specs.Lawful.{IsLawful, book_after}
 use Rattle.qs_machine.specs.Nodes as machine
 use Rattle.qs_packet.specs.declared.message.Message.TheVariants as messages
 use Rattle.qs_restart.specs.Recovery.{recovery}
-use Rattle.qs_step.specs.Opening.{recovered_of}
 use Rattle.qs_step.specs.Settling.{due_tids, is_quiet, may_answer, pass_rule, settle_tid, try}
 use Rattle.qs_step.specs.State.{Work, doings_of}
 use Rattle.qs_step.specs.Step.{after_step, effects_of}
@@ -22,22 +21,23 @@ use Rattle.qs_tm.specs.Manager as tm
 use Rattle.qs_tm.specs.Participant.{is_undecided}
 use Rattle.qs_tm.specs.declared.participant.Participant.{Participant}
 use Rattle.qs_world.specs.Histories.{book_of}
-use Rattle.qs_world.specs.Moves.{Cut, Move, Rise, Source, Step, log_after, may_move, moved, reopened, waiting_after}
+use Rattle.qs_world.specs.Moves.{Cut, Move, Source, Step, log_after, may_move, moved, waiting_after}
 use Rattle.qs_world.specs.Openings.{IsOpening}
 use Rattle.qs_world.specs.Posting.{entries_of}
 use Rattle.qs_world.specs.World.{Opening, World, inc_of, start}
 use Rattle.qs_lawful.specs.Agreed.{IsSettledAll, StepAgrees}
 use Rattle.qs_lawful.specs.Aside.{AnswersElsewhere, KeepsUnanimous}
 use Rattle.qs_lawful.specs.Amid.{IsSent}
+use Rattle.qs_lawful.specs.Beside.{HoldsBeside}
 use Rattle.qs_lawful.specs.Entering.{book_at}
 use Rattle.qs_lawful.specs.Given.{AtEach}
 use Rattle.qs_lawful.specs.GivenStep.{MayStep, done_work, first_work}
 use Rattle.qs_lawful.specs.Logs.{Every}
 use Rattle.qs_lawful.specs.Said.{HoldsSaid}
-use Rattle.qs_lawful.specs.WorldLaws.{StopsWell, rise_entry}
+use Rattle.qs_lawful.specs.WorldLaws.{StopsWell}
 use Rattle.qs_lawful.specs.Worlds.{HoldsKept}
 use Rattle.qs_every_run.specs.Agrees.{MakesStep, nodes_in}
-use Rattle.qs_every_run.specs.Joined.{HoldsRunning, Joined, RunningAt, ScriptsAt, WaysAt, book_in}
+use Rattle.qs_every_run.specs.Joined.{IsNumberedNode, Joined, ScriptsAt, WaysAt, book_in}
 
 -- ---- as a run begins
 
@@ -107,9 +107,12 @@ HasOwner book act = (tid : Tid) (label : List ℕ) (client : ClientNo) → act �
 abbrev pub BeginsOwned : Opening → World → ℕ → ℕ → ℕ → Event → Type 0
 BeginsOwned o world n stamp free event = Every (HasOwner (book_in o world)) (effects_of (world.hosts n).node event free).entries
 
--- what is said of its own node
-abbrev pub RunningThen : Opening → World → ℕ → ℕ → ℕ → Event → Type 0
-RunningThen o world n stamp free event = HoldsRunning (book_then o world n stamp free event) (after_step (world.hosts n).node event free)
+-- what the machine has beside its own node, and what holds of that by itself
+abbrev pub BesideThen : Opening → World → ℕ → ℕ → ℕ → Event → Type 0
+BesideThen o world n stamp free event = HoldsBeside (book_then o world n stamp free event) (after_step (world.hosts n).node event free)
+
+abbrev pub NumberedThen : Opening → World → ℕ → ℕ → ℕ → Event → Type 0
+NumberedThen o world n stamp free event = IsNumberedNode (after_step (world.hosts n).node event free)
 
 -- what it sends is so, and goes to another node of the run
 abbrev pub SentThen : Opening → World → ℕ → ℕ → ℕ → Event → Type 0
@@ -128,14 +131,6 @@ IsStep move = ⊥
 abbrev pub Keeps : (Opening → World → Type 0) → (Move → Type 0) → (Opening → World → Type 0) → Type 0
 Keeps P kind X = (o : Opening) (world : World) (move : Move) → kind move → Joined P o world → may_move world move ≡ true → IsLawful (book_of o) (moved move world).journal → X o (moved move world)
 
--- ---- what is said of a node that restarts
-
-abbrev pub rise_book : Opening → World → ℕ → ℕ → ℕ → BookValue
-rise_book o world n stamp inc = book_after (book_in o world) (rise_entry world n stamp inc ∷ [])
-
-abbrev pub EachRisesRunning : (Opening → World → Type 0) → Type 0
-EachRisesRunning P = (o : Opening) (world : World) (n stamp inc : ℕ) → Joined P o world → may_move world (Rise n stamp inc) ≡ true → HoldsRunning (rise_book o world n stamp inc) (reopened inc (recovered_of (world.hosts n).log) (world.hosts n).node)
-
 -- ---- all that is owed
 
 pub record Owed (P : Opening → World → Type 0) : Type 0 where
@@ -151,13 +146,12 @@ pub record Owed (P : Opening → World → Type 0) : Type 0 where
   pub steps_answers : AfterStep P AnswersAside
   pub steps_unanimous : AfterStep P StaysUnanimousThen
   pub steps_owned : AfterStep P BeginsOwned
-  pub steps_running : AfterStep P RunningThen
+  pub steps_beside : AfterStep P BesideThen
+  pub steps_numbered : AfterStep P NumberedThen
   pub steps_sent : AfterStep P SentThen
   pub steps_ways : Keeps P IsStep WaysAt
   pub steps_scripts : Keeps P IsStep ScriptsAt
   -- after a crash
   pub keeps_its_batch : EachKeepsItsBatch P
-  -- after a restart
-  pub rises_running : EachRisesRunning P
   -- what all places hold of each transaction
   pub places : Keeps P (λ (move : Move). ⊤) P
