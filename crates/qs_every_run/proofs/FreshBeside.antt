@@ -1,11 +1,9 @@
 -- As an incarnation begins, the machine has beside its node all that it is to have: nothing was issued in it, what the node knows is what its log left open, and of what began here the outcome is kept.
-use Rattle.std.proofs.Common.{◌≡◌, ◌⊎◌, inl, inr, ℕ, ◌<◌, ◌≤◌, ◌-◌, ◌==◌, ◌&&◌, ◌||◌, ◌^◌, not, Bool, true, false, List, [], ◌∷◌, ◌++◌, length, Option, Some, None, refl, sym, ap, subst, ◌∙◌, arith, is_some, nat_lt}
+use Rattle.std.proofs.Common.{◌≡◌, inl, inr, ℕ, ◌<◌, ◌==◌, ◌&&◌, ◌||◌, ◌^◌, not, Bool, true, false, List, ◌++◌, length, Option, Some, None, refl, sym, ap, subst, ◌∙◌, arith, is_some, nat_lt}
 use Rattle.std.proofs.lemmas.Bool.Decides.{nat_tests}
 use Rattle.std.specs.Global.{Global}
 use Rattle.std.specs.Prelude.{slice_get}
 use Rattle.qs_base.specs.declared.identifiers.NodeNo.{NodeNo}
-use Rattle.qs_base.specs.declared.identifiers.Outcome.{Outcome}
-use Rattle.qs_base.specs.declared.identifiers.Outcome.TheVariants as outcomes
 use Rattle.qs_base.specs.declared.identifiers.ServerNo.{ServerNo}
 use Rattle.qs_base.specs.declared.identifiers.Tid.{Tid}
 use Rattle.qs_engage.specs.Nodes.{all_nodes, listed, no_nodes, same_node}
@@ -13,13 +11,12 @@ use Rattle.qs_kept.specs.declared.kept.Kept.{Kept}
 use Rattle.qs_machine.specs.Book.{BookValue, cell_of_transaction, find_transaction}
 use Rattle.qs_machine.specs.Clauses.{note_text}
 use Rattle.qs_machine.specs.Nodes as machine
-use Rattle.qs_machine.specs.Restart.{is_among, member_at}
-use Rattle.qs_machine.specs.Transaction.{TransactionValue, is_abort, is_commit, is_covering, is_open, part_of}
+use Rattle.qs_machine.specs.Restart.{member_at}
+use Rattle.qs_machine.specs.Transaction.{TransactionValue, is_abort, is_commit, is_open, part_of}
 use Rattle.qs_machine.specs.declared.transaction.Cell.{Cell}
 use Rattle.qs_machine.specs.declared.transaction.Cell.TheVariants as cells
 use Rattle.qs_ops.specs.Members.{class_of, is_two_phase}
 use Rattle.qs_ops.specs.Server.{ServerValue}
-use Rattle.qs_ops.specs.declared.answer.Cause.{Cause}
 use Rattle.qs_restart.specs.Recovery.{Prepared, Recovery, in_doubt, untold}
 use Rattle.qs_step.specs.Answering.{was_committed}
 use Rattle.qs_step.specs.Opening.{new_manager}
@@ -29,21 +26,20 @@ use Rattle.qs_tm.specs.Manager as tm
 use Rattle.qs_tm.specs.Members as rules
 use Rattle.qs_tm.specs.Participant.{member_of}
 use Rattle.qs_tm.specs.declared.members.MemberPart.{MemberPart}
-use Rattle.qs_tm.specs.declared.participant.Outstanding.{Outstanding}
 use Rattle.qs_tm.specs.declared.participant.Participant.{Participant}
 use Rattle.qs_lawful.specs.Beside.{HasOwner, HoldsBeside, HoldsEnded, HoldsPart, HoldsReader, HoldsReads, HoldsStranger, HoldsTidBeside, IsTrueCause, has_issued}
 use Rattle.qs_lawful.specs.Doubtful.{doubt_at, member_as, share_as}
-use Rattle.qs_lawful.specs.Face.{at_server, face_of, part_or_new}
+use Rattle.qs_lawful.specs.Face.{at_server, part_or_new}
 use Rattle.qs_lawful.specs.Holds.{HoldsMember, is_kept}
 use Rattle.qs_lawful.specs.Lasting.{Lasts}
 use Rattle.qs_lawful.specs.Logged.{HoldsLogged}
 use Rattle.qs_lawful.specs.Logs.{Every}
-use Rattle.qs_lawful.specs.NodeFacts.{AreApart, HasNodeFacts}
+use Rattle.qs_lawful.specs.NodeFacts.{HasNodeFacts}
 use Rattle.qs_lawful.proofs.FreshFace.{Fresh, FreshAt, IsDoubt, IsOldLoan, known_as, node, tables, tid_held}
 use Rattle.qs_lawful.proofs.Reopened as reopened
 use Rattle.qs_lawful.proofs.Reopened.{IsReopened}
 use Rattle.qs_lawful.proofs.TakenUp.{all_alike, outcome_before}
-use Rattle.qs_lawful.proofs.Truths.{clash, node_is, number_is}
+use Rattle.qs_lawful.proofs.Truths.{clash}
 use Rattle.qs_every_run.specs.Joined.{HoldsRunning}
 use Rattle.qs_every_run.proofs.BareTaken.{IsBare, IsBareManager, all_bare}
 use Rattle.qs_every_run.proofs.RecordsStand.{records_stand}
@@ -52,15 +48,10 @@ use Rattle.qs_every_run.proofs.RecordsStand.{records_stand}
 pub record BeginsWell (book : BookValue) (state : machine.NodeValue) (node : NodeValue) : Type 0 where
   pub there : slice_get book.nodes node.setting.node.0 ≡ Some state
   pub inc : state.inc ≡ node.setting.inc
-  pub some : 0 < node.setting.nodes
   pub owners : (tid : Tid) (tx : TransactionValue) → find_transaction book tid ≡ Some tx → HasOwner book tx
   pub unissued : (tid : Tid) (tx : TransactionValue) (text : List ℕ) → find_transaction book tid ≡ Some tx → has_issued tx node.setting.node node.setting.inc text ≡ false
   pub committed : (tid : Tid) (tx : TransactionValue) → tid.home ≡ node.setting.node → find_transaction book tid ≡ Some tx → is_commit tx.cell ≡ true → was_committed tid node ≡ true
   pub lasts : Lasts book
-
-none_listed : length (listed no_nodes) ≡ 0
-unfolding all_nodes
-none_listed = refl
 
 -- a vote that was taken up is none that only read
 taken_read : (server : ServerNo) (v : Prepared) → is_two_phase (class_of server.0) ≡ true → rules.has_read server (member_as (Some v)) ≡ true → ⊥

@@ -19,12 +19,14 @@ use Rattle.qs_lawful.specs.Worlds.{HoldsNodeAt}
 use Rattle.qs_lawful.proofs.BesideWhole.{may_step_on}
 use Rattle.qs_lawful.proofs.CoherentOpenings.{opens_soundly}
 use Rattle.qs_lawful.proofs.GivenEvents.{event_comes}
+use Rattle.qs_lawful.proofs.LastsAlways.{in_runs}
 use Rattle.qs_every_run.specs.Agrees.{MakesStep, nodes_in}
 use Rattle.qs_every_run.specs.Joined.{HoldsRunning, Joined, book_in}
 use Rattle.qs_every_run.specs.JoinedOwed.{Owed}
 use Rattle.qs_every_run.proofs.AgreesEach.{steady}
 use Rattle.qs_every_run.proofs.AgreesPasses.{stages_sound}
 use Rattle.qs_every_run.proofs.CountsServed.{room_before, room_first}
+use Rattle.qs_every_run.proofs.JoinedLogged.{logged_so}
 
 module _ (P : Opening → World → Type 0) (owed : Owed P) (o : Opening) (world : World) (j : Joined P o world) (n stamp free : ℕ) (source : Source) (event : Event) (makes : MakesStep world n stamp source event)
     (holds : Holds stamp (book_in o world) (world.hosts n).node) (agreed : StepAgrees stamp (book_in o world) world.size (nodes_in world) n (world.hosts n).node event free) where
@@ -71,7 +73,7 @@ module _ (P : Opening → World → Type 0) (owed : Owed P) (o : Opening) (world
     in_run = record { opened = opened_from o 0 o.size; history = world.journal; coherent = opens_soundly o j.opens; lawful = j.lawful; is = refl };
     beside = running.beside;
     holds = holds;
-    logged = j.logged n its.low its.runs;
+    logged = logged_so (book_in o world) n at.state (world.hosts n) (in_runs o world.journal j.opens j.lawful) (at.runs its.runs) (j.logged n its.low);
     comes = comes;
     room = λ served. room_first world j.shown n free its.low (subst (λ (s : Source). may_serve node s ≡ true) (serves source refl makes.comes served) its.serves) stamp (book_in o world) (stages_sound world n stamp free source event j.shown makes).first;
     so = owed.comes_so o world n stamp free source event j makes;

@@ -52,7 +52,8 @@ use Rattle.qs_every_run.specs.Joined.{HoldsRunning, Joined, book_in}
 use Rattle.qs_every_run.specs.JoinedOwed.{HasOwner, Owed, book_then, entries_in}
 use Rattle.qs_every_run.proofs.JoinedActs.{no_restart}
 use Rattle.qs_every_run.proofs.JoinedParts.{lawful_both}
-use Rattle.qs_every_run.proofs.JoinedSteps.{step_holds, step_lawful, step_low, step_up}
+use Rattle.qs_every_run.proofs.StaysWorlds.{steps_young}
+use Rattle.qs_every_run.proofs.JoinedSteps.{step_holds, step_kept, step_lawful, step_low, step_up}
 
 -- each entry of a step is aside of another node
 all_aside : (k n stamp : ℕ) (node : NodeValue) (acts : List Act) → (k == n) ≡ false → Every (λ (act : Act). IsOfStep act × AnswersElsewhere node act) acts → Every (IsAside k node) (entries_of n stamp acts)
@@ -219,7 +220,10 @@ module _ (P : Opening → World → Type 0) (owed : Owed P) (o : Opening) (world
   -- what is said of those that run
 
   pub own_running : HoldsRunning now (after_step node event free)
-  own_running = owed.steps_running o world n stamp free source event j makes lawful
+  own_running = record {
+    beside = (step_kept P owed o world j n stamp free source event makes).beside;
+    young = steps_young world n stamp free source event j.shown makes (j.facts n low) (j.running n low up).beside.clock.room (j.running n low up).young;
+  }
 
   pub other_running : (k : ℕ) → (k == n) ≡ false → k < world.size → world.channels.up k ≡ true → HoldsRunning now (world.hosts k).node
   other_running k far k_low on = record {

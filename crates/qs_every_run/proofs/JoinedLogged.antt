@@ -1,27 +1,20 @@
--- The Commits that a node's log had as it opened are the machine's: as an incarnation begins, and for good.
+-- The Commits that a node's log had as it opened are the machine's.
 use Rattle.std.proofs.Common.{◌≡◌, ◌⊎◌, inl, inr, ℕ, ◌<◌, ◌==◌, ◌||◌, Bool, true, false, List, [], ◌∷◌, Some, refl, sym, ap, subst, ◌∙◌}
 use Rattle.std.specs.List.{list_any}
 use Rattle.std.specs.Prelude.{slice_get}
 use Rattle.qs_base.proofs.Same.{same_tid-true}
 use Rattle.qs_base.specs.Order.{same_tid}
 use Rattle.qs_base.specs.declared.identifiers.Tid.{Tid}
-use Rattle.qs_journal.specs.declared.entry.Entry.{Entry}
 use Rattle.qs_machine.specs.Book.{BookValue}
-use Rattle.qs_machine.specs.Lawful.{IsLawful, book_after}
 use Rattle.qs_machine.specs.Nodes as machine
 use Rattle.qs_restart.specs.Recovery.{recovery}
-use Rattle.qs_step.specs.State.{NodeValue}
-use Rattle.qs_world.specs.Histories.{opened_from}
-use Rattle.qs_world.specs.World.{Host, Opening, World}
-use Rattle.qs_lawful.specs.Amid.{InRun}
+use Rattle.qs_world.specs.World.{Host}
 use Rattle.qs_lawful.specs.BesideStep.{AreCommitted}
 use Rattle.qs_lawful.specs.Lasting.{Lasts}
 use Rattle.qs_lawful.specs.Logged.{HasCommitted, HoldsLogged, IsCommitMade}
 use Rattle.qs_lawful.specs.Logs.{Every}
 use Rattle.qs_lawful.specs.Worlds.{HoldsUp}
-use Rattle.qs_lawful.proofs.BesideWhole.{logged_still}
-use Rattle.qs_lawful.proofs.CoherentOpenings.{opens_soundly}
-use Rattle.qs_every_run.specs.Joined.{Joined, book_in}
+use Rattle.qs_every_run.specs.Joined.{IsLogged}
 
 -- each Commit of the log is the machine's
 every_made : (book : BookValue) (n : ℕ) (state : machine.NodeValue) → Lasts book → slice_get book.nodes n ≡ Some state → (tids : List Tid) → Every (IsCommitMade book state) tids → (tid : Tid) → list_any (same_tid tid) tids ≡ true → HasCommitted book tid
@@ -36,10 +29,6 @@ every_made book n state lasts there (t ∷ tids) made tid is = by (same_tid tid 
     by true same here rest = subst (HasCommitted book) (sym (same_tid-true tid t same)) (of made.0)
     by false other later rest = rest later
 
--- a node that has what its log on the disk says
-pub logged_by_log : (book : BookValue) (n : ℕ) (state : machine.NodeValue) (host : Host) → Lasts book → HoldsUp n book state host → host.node.committed ≡ (recovery host.log).committed → AreCommitted book host.node
-logged_by_log book n state host lasts up same tid is = every_made book n up.log.state lasts up.log.there (recovery host.log).committed up.log.on_disk.commits tid (ap (list_any (same_tid tid)) (sym same) ∙ is)
-
--- and it is so for good
-pub logged_later : (P : Opening → World → Type 0) (o : Opening) (world : World) → Joined P o world → (more : List Entry) → IsLawful (book_in o world) more → (node : NodeValue) → AreCommitted (book_in o world) node → AreCommitted (book_after (book_in o world) more) node
-logged_later P o world j more lawful node logged = logged_still (book_in o world) (record { opened = opened_from o 0 o.size; history = world.journal; coherent = opens_soundly o j.opens; lawful = j.lawful; is = refl }) more lawful node node refl logged
+-- so is each that the log had as its node opened, since the log has it for good
+pub logged_so : (book : BookValue) (n : ℕ) (state : machine.NodeValue) (host : Host) → Lasts book → HoldsUp n book state host → IsLogged host.node host.log → AreCommitted book host.node
+logged_so book n state host lasts up logged tid is = every_made book n up.log.state lasts up.log.there (recovery host.log).committed up.log.on_disk.commits tid (logged tid is)

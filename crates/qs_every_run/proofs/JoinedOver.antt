@@ -6,7 +6,6 @@ use Rattle.qs_world.specs.Moves.{Move, moved}
 use Rattle.qs_world.specs.Runs.{Run}
 use Rattle.qs_world.specs.World.{Opening, World, start}
 use Rattle.qs_refine.proofs.EveryRunShown.{every_run_shown}
-use Rattle.qs_lawful.proofs.LastsAlways.{in_runs}
 use Rattle.qs_lawful.proofs.OpenedScripts.{opens_scripts, opens_ways}
 use Rattle.qs_lawful.proofs.OpenedWorld.{world_held}
 use Rattle.qs_every_run.specs.Joined.{Joined}
@@ -14,9 +13,8 @@ use Rattle.qs_every_run.specs.JoinedOwed.{Owed}
 use Rattle.qs_every_run.specs.JoinedRuns.{EachOpensJoined, EachRunJoined, EachRunLawful}
 use Rattle.qs_every_run.proofs.JoinedFacts.{opens_facts}
 use Rattle.qs_every_run.proofs.JoinedHomes.{own_has}
-use Rattle.qs_every_run.proofs.JoinedLogged.{logged_by_log}
 use Rattle.qs_every_run.proofs.JoinedMoves.{each_move_joined}
-use Rattle.qs_every_run.proofs.OpensRunning.{opens_running}
+use Rattle.qs_every_run.proofs.OpensRunning.{opens_owned, opens_running}
 
 pub each_opens_joined : (P : Opening → World → Type 0) → EachOpensJoined P
 each_opens_joined P owed o opens = record {
@@ -26,10 +24,11 @@ each_opens_joined P owed o opens = record {
   shown = every_run_shown (start o) (record { opening = o; opens = opens; moves = []; run = refl });
   held = world_held o opens;
   running = opens_running o opens;
-  logged = λ n low up. logged_by_log (book_of o) n ((world_held o opens).nodes n low).state ((start o).hosts n) (in_runs o [] opens tt) (((world_held o opens).nodes n low).runs up) refl;
   facts = λ n low. opens_facts o opens n low;
   homes = λ tid tx found committed in_run. let low : tid.home.0 < o.size = grind (arith, nat_tests, in_run) in
       own_has (book_of o) ((start o).hosts tid.home.0).node tid.home.0 ((world_held o opens).nodes tid.home.0 low).node (opens_running o opens tid.home.0 low refl).beside tid tx found committed (itself tid.home.0);
+  owners = opens_owned o opens;
+  logged = λ n low tid among. among;
   channels = record { posted = λ n m i j. tt; waits = λ n m. tt; known = λ n m. least ((start o).channels.inc m) };
   ways = opens_ways o opens;
   scripts = opens_scripts o opens;

@@ -15,6 +15,10 @@ pub mod AgreesPasses
 pub mod JoinedParts
 pub mod JoinedFacts
 pub mod JoinedHomes
+pub mod StaysWalk
+pub mod YoungTick
+pub mod StaysSteps
+pub mod StaysWorlds
 pub mod BareTaken
 pub mod RecordsStand
 pub mod FreshBeside
@@ -29,5 +33,6 @@ pub mod JoinedActs
 pub mod JoinedHeld
 pub mod JoinedAfter
 pub mod RisesBeside
+pub mod RisesRunning
 pub mod JoinedMoves
 pub mod JoinedOver

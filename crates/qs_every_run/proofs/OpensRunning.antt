@@ -1,19 +1,17 @@
 -- As a run begins the machine has beside each node all that it is to have, over old logs too: it opened with what the logs hold, and nothing else.
-use Rattle.std.proofs.Common.{◌≡◌, ℕ, ◌<◌, ◌+◌, ◌||◌, Bool, true, false, List, [], ◌∷◌, length, map, Option, Some, None, zero, suc, fold, refl, sym, ap, subst, ◌∙◌, arith, is_some, nat_lt, if◌then◌else◌}
+use Rattle.std.proofs.Common.{◌≡◌, ℕ, ◌<◌, ◌+◌, Bool, true, false, length, Option, Some, None, fold, refl, sym, ap, subst, ◌∙◌, arith, is_some, nat_lt, if◌then◌else◌}
 use Rattle.std.proofs.lemmas.Bool.Decides.{nat_tests}
 use Rattle.std.specs.List.{list_any}
 use Rattle.std.specs.Prelude.{slice_get}
-use Rattle.qs_base.specs.Order.{same_tid}
 use Rattle.qs_base.specs.declared.identifiers.NodeNo.{NodeNo}
 use Rattle.qs_base.specs.declared.identifiers.Tid.{Tid}
 use Rattle.qs_kept.specs.Keeping.{no_kept}
 use Rattle.qs_laws.proofs.Openings.{first_book, opening_names}
 use Rattle.qs_machine.specs.Book.{BookValue, find_transaction}
 use Rattle.qs_machine.specs.Nodes as machine
-use Rattle.qs_machine.specs.Opening.{has_commit, opened_node, opened_transaction}
+use Rattle.qs_machine.specs.Opening.{has_commit}
 use Rattle.qs_machine.specs.Restart.{is_among}
 use Rattle.qs_machine.specs.Transaction.{TransactionValue, is_commit, opened_as}
-use Rattle.qs_machine.specs.declared.opened.Opened.{Opened}
 use Rattle.qs_machine.specs.declared.opened.Pending.{Pending}
 use Rattle.qs_machine.specs.declared.transaction.Cell.TheVariants as cells
 use Rattle.qs_ops.specs.declared.answer.Cause.TheVariants as causes
@@ -22,14 +20,13 @@ use Rattle.qs_step.specs.Answering.{was_committed}
 use Rattle.qs_step.specs.Opening.{recovered_of}
 use Rattle.qs_step.specs.State.{NodeValue}
 use Rattle.qs_step.specs.declared.setting.Setting.{Setting}
-use Rattle.qs_world.specs.Histories.{book_of, opened_from, opened_with}
+use Rattle.qs_world.specs.Histories.{book_of, opened_with}
 use Rattle.qs_world.specs.Openings.{IsOpening}
 use Rattle.qs_world.specs.World.{Opening, start}
 use Rattle.qs_lawful.specs.Beside.{HasOwner, has_issued}
 use Rattle.qs_lawful.specs.Logged.{HoldsLogged}
 use Rattle.qs_lawful.specs.Worlds.{HoldsNodeOf}
-use Rattle.qs_lawful.proofs.FreshFace.{Fresh}
-use Rattle.qs_lawful.proofs.LastsOpening.{IsEmptyYet, opening_empty}
+use Rattle.qs_lawful.proofs.LastsOpening.{opening_empty}
 use Rattle.qs_lawful.proofs.OpenedBook.{IsNamedAs, Reads, Stands, last_pending, logs_read}
 use Rattle.qs_lawful.proofs.OpenedCommits.{none_commits}
 use Rattle.qs_lawful.proofs.OpenedFresh.{coherent, lasts, log, one, opened, state, state_there}
@@ -120,15 +117,11 @@ module _ (o : Opening) (opens : IsOpening o) where
     begins_well = record {
       there = ap (slice_get now.nodes) its.node ∙ state_there o opens n low;
       inc = refl;
-      some = some setting.nodes o.size n its.run low;
       owners = opens_owned;
       unissued = λ tid tx text found. ap (λ rs. has_issued (record tx { requests = rs }) setting.node setting.inc text) (opening_empty (opened o opens) tid tx found).requests;
       committed = λ tid tx home found is. has tid tx found home is;
       lasts = lasts o opens;
     }
-      where
-        some : (a b k : ℕ) → a ≡ b → k < b → 0 < a
-        some a b k e p = grind (arith, e, p)
 
     opened_running : HoldsRunning now ((start o).hosts n).node
     opened_running = running_held o.alloc setting no_kept now (log o opens n low) (state o opens n low) (fresh_own o opens n low own) (no_loans o opens n low own) begins_well logged (opens_facts o opens n low)

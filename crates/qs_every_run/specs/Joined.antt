@@ -1,16 +1,18 @@
 -- What the reference machine, the agreement machine and the nodes have together of a world that a run leads to.
-use Rattle.std.specs.Prelude.{◌≡◌, ℕ, ◌<◌, true, Some, nat_lt}
+use Rattle.std.specs.Prelude.{◌≡◌, ℕ, ◌<◌, true, List, Some, nat_lt}
 use Rattle.qs_base.specs.declared.identifiers.Tid.{Tid}
 use Rattle.qs_machine.specs.Book.{BookValue, find_transaction}
 use Rattle.qs_machine.specs.Lawful.{IsLawful, book_after}
+use Rattle.qs_machine.specs.Restart.{is_among}
 use Rattle.qs_machine.specs.Transaction.{TransactionValue, is_commit}
+use Rattle.qs_record.specs.declared.record.Record.{Record}
+use Rattle.qs_restart.specs.Recovery.{recovery}
 use Rattle.qs_step.specs.State.{NodeValue}
 use Rattle.qs_world.specs.Histories.{book_of}
 use Rattle.qs_world.specs.Openings.{IsOpening}
 use Rattle.qs_world.specs.World.{Opening, World}
 use Rattle.qs_refine.specs.ShownWorlds.{IsShownWorld}
-use Rattle.qs_lawful.specs.Beside.{HoldsBeside, is_committed_at}
-use Rattle.qs_lawful.specs.BesideStep.{AreCommitted}
+use Rattle.qs_lawful.specs.Beside.{HasOwner, HoldsBeside, is_committed_at}
 use Rattle.qs_lawful.specs.NodeFacts.{AreYoung, HasNodeFacts}
 use Rattle.qs_lawful.specs.Parcels.{HoldsChannels, HoldsWays}
 use Rattle.qs_lawful.specs.Scripts.{HoldsScripts}
@@ -38,16 +40,23 @@ pub record HoldsRunning (book : BookValue) (node : NodeValue) : Type 0 where
 abbrev pub RunningAt : Opening → World → Type 0
 RunningAt o world = (n : ℕ) → n < world.size → world.channels.up n ≡ true → HoldsRunning (book_in o world) (world.hosts n).node
 
--- the Commits that its log had as it opened are the machine's
-abbrev pub LoggedAt : Opening → World → Type 0
-LoggedAt o world = (n : ℕ) → n < world.size → world.channels.up n ≡ true → AreCommitted (book_in o world) (world.hosts n).node
-
 -- what the machine has committed, its home has, whether it runs or not
 abbrev pub HomesHave : BookValue → ℕ → (ℕ → NodeValue) → Type 0
 HomesHave book size nodes = (tid : Tid) (tx : TransactionValue) → find_transaction book tid ≡ Some tx → is_commit tx.cell ≡ true → nat_lt tid.home.0 size ≡ true → is_committed_at (nodes tid.home.0) tid ≡ true
 
 abbrev pub HomesAt : Opening → World → Type 0
 HomesAt o world = HomesHave (book_in o world) world.size (nodes_in world)
+
+-- what the machine has is of clients of the run
+abbrev pub OwnersAt : Opening → World → Type 0
+OwnersAt o world = (tid : Tid) (tx : TransactionValue) → find_transaction (book_in o world) tid ≡ Some tx → HasOwner (book_in o world) tx
+
+-- the Commits that the log of a node had as it opened, its log has for good
+abbrev pub IsLogged : NodeValue → List Record → Type 0
+IsLogged node log = (tid : Tid) → is_among node.committed tid ≡ true → is_among (recovery log).committed tid ≡ true
+
+abbrev pub LoggedAt : World → Type 0
+LoggedAt world = (n : ℕ) → n < world.size → IsLogged (world.hosts n).node (world.hosts n).log
 
 abbrev pub ChannelsAt : Opening → World → Type 0
 ChannelsAt o world = HoldsChannels (book_in o world) world.size world.channels
@@ -68,8 +77,9 @@ pub record Joined (P : Opening → World → Type 0) (o : Opening) (world : Worl
   pub held : HeldAt o world
   pub facts : FactsAt world
   pub running : RunningAt o world
-  pub logged : LoggedAt o world
   pub homes : HomesAt o world
+  pub owners : OwnersAt o world
+  pub logged : LoggedAt world
   pub channels : ChannelsAt o world
   pub ways : WaysAt o world
   pub scripts : ScriptsAt o world

@@ -11,7 +11,6 @@ use Rattle.qs_machine.specs.Lawful.{IsLawful, book_after}
 use Rattle.qs_machine.specs.Nodes as machine
 use Rattle.qs_machine.specs.Transaction.{TransactionValue, is_unanimous}
 use Rattle.qs_restart.specs.Recovery.{recovery}
-use Rattle.qs_step.specs.Opening.{recovered_of}
 use Rattle.qs_step.specs.Settling.{due_tids, is_quiet, may_answer, pass_rule, settle_tid, try}
 use Rattle.qs_step.specs.State.{Work, doings_of}
 use Rattle.qs_step.specs.Step.{after_step, effects_of}
@@ -19,7 +18,7 @@ use Rattle.qs_step.specs.declared.event.Event.{Event}
 use Rattle.qs_tm.specs.Manager as tm
 use Rattle.qs_tm.specs.declared.participant.Participant.{Participant}
 use Rattle.qs_world.specs.Histories.{book_of}
-use Rattle.qs_world.specs.Moves.{Cut, Move, Rise, Source, Step, log_after, may_move, moved, reopened, waiting_after}
+use Rattle.qs_world.specs.Moves.{Cut, Move, Source, Step, log_after, may_move, moved, waiting_after}
 use Rattle.qs_world.specs.Openings.{IsOpening}
 use Rattle.qs_world.specs.Posting.{entries_of}
 use Rattle.qs_world.specs.World.{Opening, World, inc_of, start}
@@ -31,10 +30,10 @@ use Rattle.qs_lawful.specs.Given.{AtEach}
 use Rattle.qs_lawful.specs.GivenStep.{done_work, first_work}
 use Rattle.qs_lawful.specs.Logs.{Every}
 use Rattle.qs_lawful.specs.Said.{HoldsSaid}
-use Rattle.qs_lawful.specs.WorldLaws.{StopsWell, rise_entry}
+use Rattle.qs_lawful.specs.WorldLaws.{StopsWell}
 use Rattle.qs_lawful.specs.Worlds.{HoldsKept}
 use Rattle.qs_every_run.specs.Agrees.{MakesStep}
-use Rattle.qs_every_run.specs.Joined.{HoldsRunning, Joined, RunningAt, ScriptsAt, WaysAt, book_in}
+use Rattle.qs_every_run.specs.Joined.{Joined, ScriptsAt, WaysAt, book_in}
 
 -- ---- as a run begins
 
@@ -99,10 +98,6 @@ HasOwner book act = (tid : Tid) (label : List ℕ) (client : ClientNo) → act �
 abbrev pub BeginsOwned : Opening → World → ℕ → ℕ → ℕ → Event → Type 0
 BeginsOwned o world n stamp free event = Every (HasOwner (book_in o world)) (effects_of (world.hosts n).node event free).entries
 
--- what is said of its own node
-abbrev pub RunningThen : Opening → World → ℕ → ℕ → ℕ → Event → Type 0
-RunningThen o world n stamp free event = HoldsRunning (book_then o world n stamp free event) (after_step (world.hosts n).node event free)
-
 -- what it sends is so, and goes to another node of the run
 abbrev pub SentThen : Opening → World → ℕ → ℕ → ℕ → Event → Type 0
 SentThen o world n stamp free event = Every (IsSent (book_then o world n stamp free event) (world.hosts n).node.setting) (effects_of (world.hosts n).node event free).messages
@@ -120,14 +115,6 @@ IsStep move = ⊥
 abbrev pub Keeps : (Opening → World → Type 0) → (Move → Type 0) → (Opening → World → Type 0) → Type 0
 Keeps P kind X = (o : Opening) (world : World) (move : Move) → kind move → Joined P o world → may_move world move ≡ true → IsLawful (book_of o) (moved move world).journal → X o (moved move world)
 
--- ---- what is said of a node that restarts
-
-abbrev pub rise_book : Opening → World → ℕ → ℕ → ℕ → BookValue
-rise_book o world n stamp inc = book_after (book_in o world) (rise_entry world n stamp inc ∷ [])
-
-abbrev pub EachRisesRunning : (Opening → World → Type 0) → Type 0
-EachRisesRunning P = (o : Opening) (world : World) (n stamp inc : ℕ) → Joined P o world → may_move world (Rise n stamp inc) ≡ true → HoldsRunning (rise_book o world n stamp inc) (reopened inc (recovered_of (world.hosts n).log) (world.hosts n).node)
-
 -- ---- all that is owed
 
 pub record Owed (P : Opening → World → Type 0) : Type 0 where
@@ -143,13 +130,10 @@ pub record Owed (P : Opening → World → Type 0) : Type 0 where
   pub steps_answers : AfterStep P AnswersAside
   pub steps_unanimous : AfterStep P StaysUnanimousThen
   pub steps_owned : AfterStep P BeginsOwned
-  pub steps_running : AfterStep P RunningThen
   pub steps_sent : AfterStep P SentThen
   pub steps_ways : Keeps P IsStep WaysAt
   pub steps_scripts : Keeps P IsStep ScriptsAt
   -- after a crash
   pub keeps_its_batch : EachKeepsItsBatch P
-  -- after a restart
-  pub rises_running : EachRisesRunning P
   -- what all places hold of each transaction
   pub places : Keeps P (λ (move : Move). ⊤) P

@@ -7,3 +7,5 @@ pub mod JoinedOwed
 pub mod JoinedPlaces
 pub mod JoinedRuns
 pub mod RiseLaws
+pub mod Stays
+pub mod StaysLaws

@@ -106,16 +106,17 @@ module _ (P Q : Tid → Bool) (R : NodeNo → Bool) (me : NodeNo) (nodes : ℕ) 
   kept_then_logged None tid outcome cause work = refl
   kept_then_logged (Some rec) tid outcome cause work = refl
 
-  pub decide_walk : (tid : Tid) (outcome : Outcome) (cause : Option Cause) (work : Work) → is_homed P me tid ≡ true → (outcome ≡ outcomes.Commit → tm.told_of tid false is_undecided work.node.manager ≡ true) → I work → I (decide tid outcome cause work)
-  decide_walk tid outcome cause work homed open_now i = sends_walk P Q R me nodes I reads keeps (tm.decision tid outcome work.node.manager).tell (messages.Tell tid outcome) _ (λ node. homed)
+  -- once the node and its owner know the outcome
+  pub decided_walk : (tid : Tid) (outcome : Outcome) (cause : Option Cause) (work : Work) → is_homed P me tid ≡ true → I (keep_outcome tid outcome cause (with_manager (tm.decide tid outcome) work)) → I (decide tid outcome cause work)
+  decided_walk tid outcome cause work homed kept = sends_walk P Q R me nodes I reads keeps (tm.decision tid outcome work.node.manager).tell (messages.Tell tid outcome) _ (λ node. homed)
       (notices_walk tid outcome _ (keeps.enter (acts.Decide tid outcome cause) _ logged))
     where
-      kept : I (keep_outcome tid outcome cause (with_manager (tm.decide tid outcome) work))
-      kept = keeps.decide tid outcome cause work homed open_now i
-
       logged : I (keep_outcome tid outcome cause (log_if (tm.decision tid outcome work.node.manager).rec (with_manager (tm.decide tid outcome) work)))
       logged = subst I (kept_then_logged (tm.decision tid outcome work.node.manager).rec tid outcome cause (with_manager (tm.decide tid outcome) work))
           (log_if_walk (tm.decision tid outcome work.node.manager).rec _ (λ rec is. decided_fits tid outcome rec homed (part_of tid work) is) (λ rec is. decided_may tid outcome cause rec work (part_of tid work) refl is) kept)
+
+  pub decide_walk : (tid : Tid) (outcome : Outcome) (cause : Option Cause) (work : Work) → is_homed P me tid ≡ true → (outcome ≡ outcomes.Commit → tm.told_of tid false is_undecided work.node.manager ≡ true) → I work → I (decide tid outcome cause work)
+  decide_walk tid outcome cause work homed open_now i = decided_walk tid outcome cause work homed (keeps.decide tid outcome cause work homed open_now i)
 
   pub decide_commit_walk : (tid : Tid) (work : Work) → is_homed P me tid ≡ true → tm.told_of tid false is_undecided work.node.manager ≡ true → I work → I (decide_commit tid work)
   decide_commit_walk tid work homed open_now i = by (tm.need_past tid work.room work.node.manager)
