@@ -1,5 +1,5 @@
 -- All that stands together of a world stands after a whole step, and after a crash: what the machines and the nodes are known to keep, and what is owed.
-use Rattle.std.proofs.Common.{◌≡◌, ℕ, ◌<◌, ◌==◌, Bool, true, false, List, [], ◌∷◌, ◌++◌, Option, Some, refl, sym, ap, subst, ◌∙◌, arith, if◌then◌else◌}
+use Rattle.std.proofs.Common.{◌≡◌, ℕ, ◌≤◌, ◌<◌, ◌==◌, Bool, true, false, List, [], ◌∷◌, ◌++◌, Option, Some, refl, sym, ap, subst, ◌∙◌, arith, if◌then◌else◌}
 use Rattle.std.specs.Prelude.{slice_get}
 use Rattle.std.proofs.lemmas.Bool.{eqb-true}
 use Rattle.std.proofs.lemmas.List.Sums.{fold-append}
@@ -20,7 +20,7 @@ use Rattle.qs_step.specs.Step.{after_step, effects_of}
 use Rattle.qs_step.specs.declared.event.Effects.{Effects}
 use Rattle.qs_step.specs.declared.event.Event.{Event}
 use Rattle.qs_world.specs.Histories.{book_of, opened_from}
-use Rattle.qs_world.specs.Moves.{Move, Source, Step, log_after, may_move, moved, step_with, stepped_host, stopped, stopped_host, taken_by}
+use Rattle.qs_world.specs.Moves.{Move, Source, Step, is_in_order, log_after, may_move, moved, step_with, stepped_host, stopped, stopped_host, taken_by}
 use Rattle.qs_world.specs.Posting.{entry_of}
 use Rattle.qs_world.specs.World.{Host, Opening, World}
 use Rattle.qs_refine.proofs.Moving.{up_taken}
@@ -42,12 +42,13 @@ use Rattle.qs_lawful.proofs.ParcelsKept.{channels_moved}
 use Rattle.qs_lawful.proofs.ScriptsLike.{crash_scripts}
 use Rattle.qs_lawful.proofs.WaysOn.{crash_ways}
 use Rattle.qs_every_run.specs.Agrees.{MakesStep, nodes_in}
-use Rattle.qs_every_run.specs.Joined.{ChannelsAt, FactsAt, HeldAt, HomesAt, HomesHave, HoldsRunning, Joined, LoggedAt, OwnersAt, RunningAt, ScriptsAt, WaysAt, book_in}
+use Rattle.qs_every_run.specs.Joined.{ChannelsAt, FactsAt, HeldAt, HomesAt, HomesHave, HoldsRunning, Joined, ClocksAt, LoggedAt, OwnersAt, RunningAt, ScriptsAt, WaysAt, book_in}
 use Rattle.qs_every_run.specs.JoinedOwed.{Owed}
 use Rattle.qs_every_run.proofs.JoinedFacts.{steps_facts}
 use Rattle.qs_every_run.proofs.JoinedHeld as held_proofs
 use Rattle.qs_every_run.proofs.JoinedHomes.{homes_after}
 use Rattle.qs_every_run.proofs.JoinedParts.{book_on, channels_later, lawful_on}
+use Rattle.qs_every_run.proofs.JoinedClocks.{by_order, in_order_stamp, step_on_time}
 use Rattle.qs_every_run.proofs.StaysWorlds.{steps_keep_logged}
 use Rattle.qs_every_run.proofs.JoinedSteps.{step_at, step_entries, step_journal, step_lawful, step_low, step_up}
 
@@ -69,6 +70,7 @@ pub record Known (o : Opening) (world new : World) : Type 0 where
   pub homes : HomesAt o new
   pub owners : OwnersAt o new
   pub logged : LoggedAt new
+  pub clocks : ClocksAt new
   pub channels : ChannelsAt o new
   pub ways : WaysAt o new
   pub scripts : ScriptsAt o new
@@ -89,6 +91,7 @@ module _ (P : Opening → World → Type 0) (owed : Owed P) (o : Opening) (world
     homes = k.homes;
     owners = k.owners;
     logged = k.logged;
+    clocks = k.clocks;
     channels = k.channels;
     ways = k.ways;
     scripts = k.scripts;
@@ -189,6 +192,26 @@ module _ (P : Opening → World → Type 0) (owed : Owed P) (o : Opening) (world
             (subst (λ (m : NodeValue). is_among m.committed tid ≡ true) own_then (subst (λ (i : ℕ). is_among (new.hosts i).node.committed tid ≡ true) (eqb-true k n near) among))))))
         by false far = subst (λ (rs : List Record). is_among (recovery rs).committed tid ≡ true) (sym (same_log k far)) (j.logged k (subst (λ (s : ℕ). k < s) sized low) tid (subst (λ (m : NodeValue). is_among m.committed tid ≡ true) (same k far) among))
 
+    clocks_then : ClocksAt new
+    clocks_then k low = by (k == n) refl
+      where
+        stamps : (m : ℕ) → m ≡ n → (new.hosts m).stamp ≡ stamp
+        stamps m same = ap (λ (e : Option Event). ((step_with world n stamp free source e).hosts m).stamp) makes.comes ∙ picked (m == n) (grind (arith, nat_tests, same))
+          where
+            picked : (b : Bool) → b ≡ true → (if b then stepped_host stamp (after_step (world.hosts n).node event free) (effects_of (world.hosts n).node event free) (world.hosts n) else world.hosts m).stamp ≡ stamp
+            picked b is = rw is refl
+
+        same_stamp : (k == n) ≡ false → (new.hosts k).stamp ≡ (world.hosts k).stamp
+        same_stamp far = ap (λ (e : Option Event). ((step_with world n stamp free source e).hosts k).stamp) makes.comes ∙ picked (k == n) far
+          where
+            picked : (b : Bool) → b ≡ false → (if b then stepped_host stamp (after_step (world.hosts n).node event free) (effects_of (world.hosts n).node event free) (world.hosts n) else world.hosts k).stamp ≡ (world.hosts k).stamp
+            picked b is = rw is refl
+
+        by : (b : Bool) → (k == n) ≡ b → (new.hosts k).node.manager.ticks ≤ (new.hosts k).stamp
+        by true near = subst (λ (t : ℕ). (new.hosts k).node.manager.ticks ≤ t) (sym (stamps k (eqb-true k n near))) (subst (λ (i : ℕ). (new.hosts i).node.manager.ticks ≤ stamp) (sym (eqb-true k n near)) (subst (λ (m : NodeValue). m.manager.ticks ≤ stamp) (sym own_then)
+            (step_on_time P o world j n stamp free source event makes)))
+        by false far = subst (λ (t : ℕ). (new.hosts k).node.manager.ticks ≤ t) (sym (same_stamp far)) (subst (λ (m : NodeValue). m.manager.ticks ≤ (world.hosts k).stamp) (sym (same k far)) (j.clocks k (subst (λ (s : ℕ). k < s) sized low)))
+
     pub step_joined : Joined P o new
     step_joined = then_joined step may (record {
       size = sized;
@@ -199,6 +222,7 @@ module _ (P : Opening → World → Type 0) (owed : Owed P) (o : Opening) (world
       homes = homes_then;
       owners = (runs_then n low_then runs).beside.owners;
       logged = logged_then;
+      clocks = clocks_then;
       channels = subst (λ (b : BookValue). HoldsChannels b new.size new.channels) (sym (book_on o world new entries journal))
           (subst (λ (w : World). HoldsChannels (book_after book entries) w.size w.channels) (sym (ap (step_with world n stamp free source) makes.comes)) (held_proofs.channels_then P owed o world j n stamp free source event makes));
       ways = owed.steps_ways o world step tt j may lawful_then;
@@ -208,7 +232,7 @@ module _ (P : Opening → World → Type 0) (owed : Owed P) (o : Opening) (world
   -- ---- a crash, whatever it leaves in the log
 
   module _ (n stamp : ℕ) (cause : CrashCause) (log : List Record) (move : Move) (may : may_move world move ≡ true) (is : moved move world ≡ stopped world n stamp cause log) (longer : (tid : Tid) → is_among (recovery (world.hosts n).log).committed tid ≡ true → is_among (recovery log).committed tid ≡ true)
-      (well : StopsWell book (moved move world) n stamp cause) where
+      (ordered : is_in_order world n stamp ≡ true) (well : StopsWell book (moved move world) n stamp cause) where
     abbrev after : World
     after = stopped world n stamp cause log
 
@@ -258,6 +282,13 @@ module _ (P : Opening → World → Type 0) (owed : Owed P) (o : Opening) (world
         by true near = longer tid (had n (sym (eqb-true k n near)))
         by false far = had k refl
 
+    crash_clocks : ClocksAt after
+    crash_clocks k low = subst (λ (m : NodeValue). m.manager.ticks ≤ (after.hosts k).stamp) (sym (node_stopped world n stamp cause log k)) (by (k == n) refl)
+      where
+        by : (b : Bool) → (k == n) ≡ b → (world.hosts k).node.manager.ticks ≤ (if b then stopped_host stamp log (world.hosts n) else world.hosts k).stamp
+        by true near = subst (λ (i : ℕ). (world.hosts i).node.manager.ticks ≤ stamp) (sym (eqb-true k n near)) (by_order (world.hosts n).node.manager.ticks (world.hosts n).stamp stamp (j.clocks n (subst (λ (i : ℕ). i < world.size) (eqb-true k n near) low)) (in_order_stamp world n stamp ordered))
+        by false far = j.clocks k low
+
     known : Known o world after
     known = record {
       size = refl;
@@ -268,6 +299,7 @@ module _ (P : Opening → World → Type 0) (owed : Owed P) (o : Opening) (world
       homes = crash_homes;
       owners = crash_owners;
       logged = crash_logged;
+      clocks = crash_clocks;
       channels = channels_later o world after (entry ∷ []) j.opens refl crash_lawful world.size after.channels (channels_moved book world.size (channel.Crash n) world.channels tt j.channels);
       ways = subst (λ (b : BookValue). HoldsWays b after) (sym (book_on o world after (entry ∷ []) refl)) (crash_ways book world n stamp cause log j.ways);
       scripts = subst (λ (b : BookValue). HoldsScripts o b after) (sym (book_on o world after (entry ∷ []) refl)) (crash_scripts o book world n stamp cause log j.scripts);

@@ -26,6 +26,7 @@ pub mod OpensRunning
 pub mod JoinedSteps
 pub mod JoinedSound
 pub mod JoinedActs
+pub mod JoinedClocks
 pub mod JoinedHeld
 pub mod JoinedAfter
 pub mod RisesBeside
