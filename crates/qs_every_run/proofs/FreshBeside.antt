@@ -34,7 +34,7 @@ use Rattle.qs_lawful.specs.Holds.{HoldsMember, is_kept}
 use Rattle.qs_lawful.specs.Lasting.{Lasts}
 use Rattle.qs_lawful.specs.Logged.{HoldsLogged}
 use Rattle.qs_lawful.specs.Logs.{Every}
-use Rattle.qs_lawful.specs.NodeFacts.{AreApart, HasNodeFacts}
+use Rattle.qs_lawful.specs.NodeFacts.{HasNodeFacts}
 use Rattle.qs_lawful.proofs.FreshFace.{Fresh, FreshAt, IsDoubt, IsOldLoan, known_as, node, tables, tid_held}
 use Rattle.qs_lawful.proofs.Reopened as reopened
 use Rattle.qs_lawful.proofs.Reopened.{IsReopened}
@@ -235,9 +235,5 @@ module _ (alloc : Global) (setting : Setting) (saved : Kept) (book : BookValue) 
   pub running_held : HoldsRunning book begins
   running_held = record {
     beside = beside_held;
-    numbered = record {
-      told = λ tid part is. subst (λ (count : ℕ). count < setting.nodes) (sym none_listed ∙ ap (λ ns. length (listed ns)) (sym (bare.parts tid part is).told)) w.some;
-      apart = λ tid part is. subst AreApart (sym (bare.parts tid part is).waiting) tt;
-    };
     young = λ tid part is home undecided. absurd (decided tid part is home undecided);
   }

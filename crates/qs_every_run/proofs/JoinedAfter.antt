@@ -259,7 +259,6 @@ module _ (P : Opening → World → Type 0) (owed : Owed P) (o : Opening) (world
           beside = keeps_others_beside (opened_from o 0 o.size) world.journal (entry ∷ []) (opens_soundly o j.opens) (opened_numbered o 0 o.size) crash_lawful (world.hosts k).node
               (record { far = λ at. other k n far (sym (at ∙ its.node)); of_step = tt; answers = tt }, tt) ((λ tid label client begins. absurd (cc begins)), tt)
               (λ state there. held_proofs.runs_at book world k its runs state (subst (λ (i : ℕ). slice_get book.nodes i ≡ Some state) its.node there)) (j.running k low runs).beside;
-          numbered = (j.running k low runs).numbered;
           young = (j.running k low runs).young;
         })
           where

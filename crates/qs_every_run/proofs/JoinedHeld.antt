@@ -53,7 +53,7 @@ use Rattle.qs_every_run.specs.JoinedOwed.{HasOwner, Owed, book_then, entries_in}
 use Rattle.qs_every_run.proofs.JoinedActs.{no_restart}
 use Rattle.qs_every_run.proofs.JoinedParts.{lawful_both}
 use Rattle.qs_every_run.proofs.StaysWorlds.{steps_young}
-use Rattle.qs_every_run.proofs.JoinedSteps.{step_holds, step_lawful, step_low, step_up}
+use Rattle.qs_every_run.proofs.JoinedSteps.{step_kept, step_holds, step_lawful, step_low, step_up}
 
 -- each entry of a step is aside of another node
 all_aside : (k n stamp : ℕ) (node : NodeValue) (acts : List Act) → (k == n) ≡ false → Every (λ (act : Act). IsOfStep act × AnswersElsewhere node act) acts → Every (IsAside k node) (entries_of n stamp acts)
@@ -221,8 +221,7 @@ module _ (P : Opening → World → Type 0) (owed : Owed P) (o : Opening) (world
 
   pub own_running : HoldsRunning now (after_step node event free)
   own_running = record {
-    beside = owed.steps_beside o world n stamp free source event j makes lawful;
-    numbered = owed.steps_numbered o world n stamp free source event j makes lawful;
+    beside = (step_kept P owed o world j n stamp free source event makes).beside;
     young = steps_young world n stamp free source event j.shown makes (j.facts n low) (j.running n low up).beside.clock.room (j.running n low up).young;
   }
 
@@ -233,7 +232,6 @@ module _ (P : Opening → World → Type 0) (owed : Owed P) (o : Opening) (world
         (subst (λ (i : ℕ). Every (IsAside i (world.hosts k).node) entries) (sym its.node) (asides k far k_low))
         (all_entries (HasOwner old) n stamp (effects_of node event free).entries (owed.steps_owned o world n stamp free source event j makes lawful))
         (λ state there. runs_at old world k its on state (subst (λ (i : ℕ). slice_get old.nodes i ≡ Some state) its.node there)) (j.running k k_low on).beside);
-    numbered = (j.running k k_low on).numbered;
     young = (j.running k k_low on).young;
   }
     where

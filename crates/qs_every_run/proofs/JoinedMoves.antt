@@ -98,7 +98,6 @@ module _ (P : Opening → World → Type 0) (owed : Owed P) (o : Opening) (world
             (subst (λ (m : NodeValue). HoldsRunning (book_after book (rise_entry world n stamp inc ∷ [])) m) (sym rise_own) (rises_running P o world n stamp inc j may))
         by false far runs = subst (λ (m : NodeValue). HoldsRunning (book_after book (rise_entry world n stamp inc ∷ [])) m) (sym (rise_same k far)) (record {
           beside = rise_keeps_beside (opened_from o 0 o.size) world.journal (opens_soundly o j.opens) j.lawful world n stamp inc lasts j.held may k (world.hosts k).node far (j.held.nodes k low).node (j.running k low runs).beside;
-          numbered = (j.running k low runs).numbered;
           young = (j.running k low runs).young;
         })
 

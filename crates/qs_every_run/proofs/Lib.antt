@@ -23,8 +23,12 @@ pub mod BareTaken
 pub mod RecordsStand
 pub mod FreshBeside
 pub mod OpensRunning
+pub mod CountsServed
+pub mod JoinedGiven
+pub mod JoinedLogged
 pub mod JoinedSteps
 pub mod JoinedSound
+pub mod ToldFewer
 pub mod JoinedActs
 pub mod JoinedClocks
 pub mod JoinedHeld

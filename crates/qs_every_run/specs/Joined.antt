@@ -1,7 +1,6 @@
 -- What the reference machine, the agreement machine and the nodes have together of a world that a run leads to.
-use Rattle.std.specs.Prelude.{◌≡◌, ℕ, ◌≤◌, ◌<◌, true, List, length, Some, nat_lt}
+use Rattle.std.specs.Prelude.{◌≡◌, ℕ, ◌≤◌, ◌<◌, true, List, Some, nat_lt}
 use Rattle.qs_base.specs.declared.identifiers.Tid.{Tid}
-use Rattle.qs_engage.specs.Nodes.{listed}
 use Rattle.qs_machine.specs.Book.{BookValue, find_transaction}
 use Rattle.qs_machine.specs.Lawful.{IsLawful, book_after}
 use Rattle.qs_machine.specs.Restart.{is_among}
@@ -9,15 +8,12 @@ use Rattle.qs_machine.specs.Transaction.{TransactionValue, is_commit}
 use Rattle.qs_record.specs.declared.record.Record.{Record}
 use Rattle.qs_restart.specs.Recovery.{recovery}
 use Rattle.qs_step.specs.State.{NodeValue}
-use Rattle.qs_tm.specs.Manager as tm
-use Rattle.qs_tm.specs.declared.participant.Participant.{Participant}
 use Rattle.qs_world.specs.Histories.{book_of}
 use Rattle.qs_world.specs.Openings.{IsOpening}
 use Rattle.qs_world.specs.World.{Opening, World}
-use Rattle.qs_refine.specs.Sound.{is_sound}
 use Rattle.qs_refine.specs.ShownWorlds.{IsShownWorld}
 use Rattle.qs_lawful.specs.Beside.{HasOwner, HoldsBeside, is_committed_at}
-use Rattle.qs_lawful.specs.NodeFacts.{AreApart, AreYoung, HasNodeFacts, HasSoundFacts}
+use Rattle.qs_lawful.specs.NodeFacts.{AreYoung, HasNodeFacts}
 use Rattle.qs_lawful.specs.Parcels.{HoldsChannels, HoldsWays}
 use Rattle.qs_lawful.specs.Scripts.{HoldsScripts}
 use Rattle.qs_lawful.specs.Worlds.{HoldsWorld}
@@ -36,18 +32,9 @@ HeldAt o world = HoldsWorld (book_in o world) world
 abbrev pub FactsAt : World → Type 0
 FactsAt world = (n : ℕ) → n < world.size → HasNodeFacts (world.hosts n).node
 
--- what does not follow from the invariant of one node (qs_refine's is_sound): a told set lacks a node of the run, and no two requests wait under one number
-pub record IsNumberedNode (node : NodeValue) : Type 0 where
-  pub told : (tid : Tid) (part : Participant) → tm.part_of tid node.manager ≡ Some part → length (listed part.told) < node.setting.nodes
-  pub apart : (tid : Tid) (part : Participant) → tm.part_of tid node.manager ≡ Some part → AreApart part.waiting
-
-abbrev pub SoundHasFacts : Type 0
-SoundHasFacts = (node : NodeValue) → is_sound node ≡ true → IsNumberedNode node → HasSoundFacts node
-
--- a node that runs: what the machine has beside it, and the rest of what holds of it by itself
+-- a node that runs: what the machine has beside it, and that what began at it is young
 pub record HoldsRunning (book : BookValue) (node : NodeValue) : Type 0 where
   pub beside : HoldsBeside book node
-  pub numbered : IsNumberedNode node
   pub young : AreYoung node
 
 abbrev pub RunningAt : Opening → World → Type 0

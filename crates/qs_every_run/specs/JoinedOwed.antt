@@ -1,16 +1,16 @@
 -- What is still to be shown so that every run is lawful: each is a law of its own, of a run's beginning, of what a step is given, or of what a move keeps.
-use Rattle.std.specs.Prelude.{◌≡◌, ℕ, ◌≤◌, ◌<◌, ◌==◌, ◌++◌, ⊤, true, false, List, None, Some, is_some, slice_get}
+use Rattle.std.specs.Prelude.{◌≡◌, ℕ, ◌<◌, ◌==◌, ◌++◌, ⊤, true, false, List, None, Some, is_some, slice_get}
 use Rattle.qs_base.specs.declared.identifiers.ClientNo.{ClientNo}
+use Rattle.qs_base.specs.declared.identifiers.NodeNo.{NodeNo}
 use Rattle.qs_base.specs.declared.identifiers.Tid.{Tid}
-use Rattle.qs_engage.specs.Engage.{peer_of}
 use Rattle.qs_journal.specs.declared.entry.Act.{Act}
 use Rattle.qs_journal.specs.declared.entry.Act.TheVariants as acts
 use Rattle.qs_journal.specs.declared.entry.CrashCause.{CrashCause}
 use Rattle.qs_journal.specs.declared.entry.Entry.{Entry}
-use Rattle.qs_machine.specs.Book.{BookValue}
+use Rattle.qs_machine.specs.Book.{BookValue, find_transaction}
 use Rattle.qs_machine.specs.Lawful.{IsLawful, book_after}
 use Rattle.qs_machine.specs.Nodes as machine
-use Rattle.qs_packet.specs.declared.message.Message.TheVariants as messages
+use Rattle.qs_machine.specs.Transaction.{TransactionValue, is_unanimous}
 use Rattle.qs_restart.specs.Recovery.{recovery}
 use Rattle.qs_step.specs.Settling.{due_tids, is_quiet, may_answer, pass_rule, settle_tid, try}
 use Rattle.qs_step.specs.State.{Work, doings_of}
@@ -18,26 +18,24 @@ use Rattle.qs_step.specs.Step.{after_step, effects_of}
 use Rattle.qs_step.specs.declared.event.Event.{Event}
 use Rattle.qs_step.specs.declared.event.Event.TheVariants as events
 use Rattle.qs_tm.specs.Manager as tm
-use Rattle.qs_tm.specs.Participant.{is_undecided}
 use Rattle.qs_tm.specs.declared.participant.Participant.{Participant}
 use Rattle.qs_world.specs.Histories.{book_of}
 use Rattle.qs_world.specs.Moves.{Cut, Move, Source, Step, log_after, may_move, moved, waiting_after}
 use Rattle.qs_world.specs.Openings.{IsOpening}
 use Rattle.qs_world.specs.Posting.{entries_of}
 use Rattle.qs_world.specs.World.{Opening, World, inc_of, start}
-use Rattle.qs_lawful.specs.Agreed.{IsSettledAll, StepAgrees}
 use Rattle.qs_lawful.specs.Aside.{AnswersElsewhere, KeepsUnanimous}
 use Rattle.qs_lawful.specs.Amid.{IsSent}
-use Rattle.qs_lawful.specs.Beside.{HoldsBeside}
+use Rattle.qs_lawful.specs.BesideStep.{HappensSo, HasCountRoom}
 use Rattle.qs_lawful.specs.Entering.{book_at}
 use Rattle.qs_lawful.specs.Given.{AtEach}
-use Rattle.qs_lawful.specs.GivenStep.{MayStep, done_work, first_work}
+use Rattle.qs_lawful.specs.GivenStep.{done_work, first_work}
 use Rattle.qs_lawful.specs.Logs.{Every}
 use Rattle.qs_lawful.specs.Said.{HoldsSaid}
 use Rattle.qs_lawful.specs.WorldLaws.{StopsWell}
 use Rattle.qs_lawful.specs.Worlds.{HoldsKept}
-use Rattle.qs_every_run.specs.Agrees.{MakesStep, nodes_in}
-use Rattle.qs_every_run.specs.Joined.{IsNumberedNode, Joined, ScriptsAt, WaysAt, book_in}
+use Rattle.qs_every_run.specs.Agrees.{MakesStep}
+use Rattle.qs_every_run.specs.Joined.{Joined, ScriptsAt, WaysAt, book_in}
 
 -- ---- as a run begins
 
@@ -46,28 +44,24 @@ Opens X = (o : Opening) → IsOpening o → X o (start o)
 
 -- ---- a step
 
--- where a home commits, all places are settled
+-- what a home commits is unanimous in the reference machine
 abbrev pub CommitsSettled : ℕ → BookValue → Work → Tid → Type 0
 CommitsSettled stamp before work tid = (part : Participant) → tm.part_of tid (try tid pass_rule work).node.manager ≡ Some part → part.outcome ≡ None → part.engage.home ≡ true → may_answer tid part (try tid pass_rule work) ≡ true
-    → is_quiet (doings_of tid (try tid pass_rule work)) ≡ true → IsSettledAll (book_at stamp before (try tid pass_rule work)) tid
+    → is_quiet (doings_of tid (try tid pass_rule work)) ≡ true → (tx : TransactionValue) → find_transaction (book_at stamp before (try tid pass_rule work)) tid ≡ Some tx → is_unanimous tx ≡ true
 
 abbrev pub EachCommitsSettled : (Opening → World → Type 0) → Type 0
 EachCommitsSettled P = (o : Opening) (world : World) (n stamp free : ℕ) (source : Source) (event : Event) → Joined P o world → MakesStep world n stamp source event
     → AtEach (CommitsSettled stamp (book_in o world)) settle_tid (done_work (world.hosts n).node event free) (due_tids (done_work (world.hosts n).node event free))
 
--- what answers for requests of what is decided here answers for some that were sent; it counts for nothing then
-abbrev pub AnswersLate : Event → Work → Type 0
-AnswersLate (events.Received peer (messages.Covered tid up_to)) work = (part : Participant) → tm.part_of tid work.node.manager ≡ Some part → is_undecided part ≡ false → up_to ≤ (peer_of part.engage peer).sent
-AnswersLate (events.Received peer (messages.VotedYes tid up_to told)) work = (part : Participant) → tm.part_of tid work.node.manager ≡ Some part → is_undecided part ≡ false → up_to ≤ (peer_of part.engage peer).sent
-AnswersLate event work = ⊤
+-- what a node owes that restarted the machine finds gone
+abbrev pub EachFindsGone : (Opening → World → Type 0) → Type 0
+EachFindsGone P = (o : Opening) (world : World) (n stamp free : ℕ) (source : Source) (peer : NodeNo) (old new : ℕ) → Joined P o world → MakesStep world n stamp source (events.PeerRestarted peer old new)
+    → HappensSo stamp (book_in o world) (events.PeerRestarted peer old new) (first_work (world.hosts n).node free)
 
-abbrev pub EachAnswersLate : (Opening → World → Type 0) → Type 0
-EachAnswersLate P = (o : Opening) (world : World) (n stamp free : ℕ) (source : Source) (event : Event) → Joined P o world → MakesStep world n stamp source event → AnswersLate event (first_work (world.hosts n).node free)
-
--- from what the protocol gives, a step is given all that it needs
-abbrev pub EachGiven : (Opening → World → Type 0) → Type 0
-EachGiven P = (o : Opening) (world : World) (n stamp free : ℕ) (source : Source) (event : Event) → Joined P o world → MakesStep world n stamp source event
-    → StepAgrees stamp (book_in o world) world.size (nodes_in world) n (world.hosts n).node event free → MayStep stamp (book_in o world) (world.hosts n).node event free
+-- where a vote pass is due, the count of changes has room
+abbrev pub EachCountsRoom : (Opening → World → Type 0) → Type 0
+EachCountsRoom P = (o : Opening) (world : World) (n stamp free : ℕ) (source : Source) (event : Event) → Joined P o world → MakesStep world n stamp source event
+    → AtEach HasCountRoom settle_tid (done_work (world.hosts n).node event free) (due_tids (done_work (world.hosts n).node event free))
 
 -- a step that is cut off and whose batch is kept, as where it is lost
 abbrev pub EachKeepsItsBatch : (Opening → World → Type 0) → Type 0
@@ -107,13 +101,6 @@ HasOwner book act = (tid : Tid) (label : List ℕ) (client : ClientNo) → act �
 abbrev pub BeginsOwned : Opening → World → ℕ → ℕ → ℕ → Event → Type 0
 BeginsOwned o world n stamp free event = Every (HasOwner (book_in o world)) (effects_of (world.hosts n).node event free).entries
 
--- what the machine has beside its own node, and what holds of that by itself
-abbrev pub BesideThen : Opening → World → ℕ → ℕ → ℕ → Event → Type 0
-BesideThen o world n stamp free event = HoldsBeside (book_then o world n stamp free event) (after_step (world.hosts n).node event free)
-
-abbrev pub NumberedThen : Opening → World → ℕ → ℕ → ℕ → Event → Type 0
-NumberedThen o world n stamp free event = IsNumberedNode (after_step (world.hosts n).node event free)
-
 -- what it sends is so, and goes to another node of the run
 abbrev pub SentThen : Opening → World → ℕ → ℕ → ℕ → Event → Type 0
 SentThen o world n stamp free event = Every (IsSent (book_then o world n stamp free event) (world.hosts n).node.setting) (effects_of (world.hosts n).node event free).messages
@@ -138,16 +125,14 @@ pub record Owed (P : Opening → World → Type 0) : Type 0 where
   pub opens_places : Opens P
   -- what a step is given
   pub commits : EachCommitsSettled P
-  pub answers : EachAnswersLate P
-  pub given : EachGiven P
+  pub finds_gone : EachFindsGone P
+  pub rooms : EachCountsRoom P
   -- after a whole step
   pub steps_kept : AfterStep P KeptThen
   pub steps_said : AfterStep P SaidThen
   pub steps_answers : AfterStep P AnswersAside
   pub steps_unanimous : AfterStep P StaysUnanimousThen
   pub steps_owned : AfterStep P BeginsOwned
-  pub steps_beside : AfterStep P BesideThen
-  pub steps_numbered : AfterStep P NumberedThen
   pub steps_sent : AfterStep P SentThen
   pub steps_ways : Keeps P IsStep WaysAt
   pub steps_scripts : Keeps P IsStep ScriptsAt
