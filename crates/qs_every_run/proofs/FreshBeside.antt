@@ -6,7 +6,7 @@ use Rattle.std.specs.Prelude.{slice_get}
 use Rattle.qs_base.specs.declared.identifiers.NodeNo.{NodeNo}
 use Rattle.qs_base.specs.declared.identifiers.ServerNo.{ServerNo}
 use Rattle.qs_base.specs.declared.identifiers.Tid.{Tid}
-use Rattle.qs_engage.specs.Nodes.{all_nodes, listed, no_nodes, same_node}
+use Rattle.qs_engage.specs.Nodes.{same_node}
 use Rattle.qs_kept.specs.declared.kept.Kept.{Kept}
 use Rattle.qs_machine.specs.Book.{BookValue, cell_of_transaction, find_transaction}
 use Rattle.qs_machine.specs.Clauses.{note_text}
@@ -48,15 +48,10 @@ use Rattle.qs_every_run.proofs.RecordsStand.{records_stand}
 pub record BeginsWell (book : BookValue) (state : machine.NodeValue) (node : NodeValue) : Type 0 where
   pub there : slice_get book.nodes node.setting.node.0 ≡ Some state
   pub inc : state.inc ≡ node.setting.inc
-  pub some : 0 < node.setting.nodes
   pub owners : (tid : Tid) (tx : TransactionValue) → find_transaction book tid ≡ Some tx → HasOwner book tx
   pub unissued : (tid : Tid) (tx : TransactionValue) (text : List ℕ) → find_transaction book tid ≡ Some tx → has_issued tx node.setting.node node.setting.inc text ≡ false
   pub committed : (tid : Tid) (tx : TransactionValue) → tid.home ≡ node.setting.node → find_transaction book tid ≡ Some tx → is_commit tx.cell ≡ true → was_committed tid node ≡ true
   pub lasts : Lasts book
-
-none_listed : length (listed no_nodes) ≡ 0
-unfolding all_nodes
-none_listed = refl
 
 -- a vote that was taken up is none that only read
 taken_read : (server : ServerNo) (v : Prepared) → is_two_phase (class_of server.0) ≡ true → rules.has_read server (member_as (Some v)) ≡ true → ⊥

@@ -53,7 +53,7 @@ use Rattle.qs_every_run.specs.JoinedOwed.{HasOwner, Owed, book_then, entries_in}
 use Rattle.qs_every_run.proofs.JoinedActs.{no_restart}
 use Rattle.qs_every_run.proofs.JoinedParts.{lawful_both}
 use Rattle.qs_every_run.proofs.StaysWorlds.{steps_young}
-use Rattle.qs_every_run.proofs.JoinedSteps.{step_kept, step_holds, step_lawful, step_low, step_up}
+use Rattle.qs_every_run.proofs.JoinedSteps.{step_holds, step_kept, step_lawful, step_low, step_sent, step_up}
 
 -- each entry of a step is aside of another node
 all_aside : (k n stamp : ℕ) (node : NodeValue) (acts : List Act) → (k == n) ≡ false → Every (λ (act : Act). IsOfStep act × AnswersElsewhere node act) acts → Every (IsAside k node) (entries_of n stamp acts)
@@ -254,7 +254,7 @@ module _ (P : Opening → World → Type 0) (owed : Owed P) (o : Opening) (world
   pub channels_then : HoldsChannels now world.size after.channels
   channels_then = channels_posted now world.size n stamp (effects_of node event free).messages (taken_by world n source)
       (every_on (IsSent now node.setting) (λ (sending : Sending). IsParcel now world.size n sending.to.0 (record { stamp = stamp; message = sending.message })) (sent_parcel now node.setting stamp world.size n at.node at.run within)
-      (effects_of node event free).messages (owed.steps_sent o world n stamp free source event j makes lawful))
+      (effects_of node event free).messages (step_sent P owed o world j n stamp free source event makes))
       (channels_on old run_in entries lawful world.size (taken_by world n source) (taken_fits source makes.comes))
     where
       within : nat_lt n world.size ≡ true

@@ -15,11 +15,14 @@ use Rattle.qs_refine.specs.Sound.{is_sound}
 use Rattle.qs_refine.proofs.MoveGoes.{StepMay, step_may}
 use Rattle.qs_refine.proofs.SoundParts.{and_both}
 use Rattle.qs_lawful.specs.Agreed.{AgreementGives, StepAgrees}
+use Rattle.qs_lawful.specs.Amid.{IsSent}
 use Rattle.qs_lawful.specs.Given.{AtEach}
 use Rattle.qs_lawful.specs.GivenStep.{done_work}
 use Rattle.qs_lawful.specs.Holds.{Holds}
+use Rattle.qs_lawful.specs.Logs.{Every}
 use Rattle.qs_lawful.specs.Worlds.{HoldsNodeAt}
 use Rattle.qs_lawful.specs.StepKeeps.{KeptThen}
+use Rattle.qs_lawful.proofs.BesideSent.{sent_after}
 use Rattle.qs_lawful.proofs.StepKept as keeping
 use Rattle.qs_lawful.proofs.WholeStep.{by_whole_step}
 use Rattle.qs_every_run.specs.Agrees.{MakesStep, PassesUndone, nodes_in}
@@ -94,3 +97,11 @@ module _ (P : Opening → World → Type 0) (owed : Owed P) (o : Opening) (world
       kept : (k : ℕ) → node.setting.node.0 ≡ k → KeptThen stamp (book_after (book_in o world) (entries_of k stamp (effects_of node event free).entries)) world.size (nodes_in world) n (after_step node event free)
       kept k same = subst (λ (i : ℕ). KeptThen stamp (book_after (book_in o world) (entries_of i stamp (effects_of node event free).entries)) world.size (nodes_in world) n (after_step node event free)) same
           (keeping.step_kept stamp (book_in o world) world.size (nodes_in world) n node event free (step_on P owed o world j n stamp free source event makes holds agreed) j.held.size).kept
+
+  -- what it sends is so, and goes to another node of the run
+  pub step_sent : Every (IsSent (book_after (book_in o world) step_entries) node.setting) (effects_of node event free).messages
+  step_sent = sent n at.node
+    where
+      sent : (k : ℕ) → node.setting.node.0 ≡ k → Every (IsSent (book_after (book_in o world) (entries_of k stamp (effects_of node event free).entries)) node.setting) (effects_of node event free).messages
+      sent k same = subst (λ (i : ℕ). Every (IsSent (book_after (book_in o world) (entries_of i stamp (effects_of node event free).entries)) node.setting) (effects_of node event free).messages) same
+          (sent_after stamp (book_in o world) world.size (nodes_in world) n node event free (step_on P owed o world j n stamp free source event makes holds agreed))

@@ -117,15 +117,11 @@ module _ (o : Opening) (opens : IsOpening o) where
     begins_well = record {
       there = ap (slice_get now.nodes) its.node ∙ state_there o opens n low;
       inc = refl;
-      some = some setting.nodes o.size n its.run low;
       owners = opens_owned;
       unissued = λ tid tx text found. ap (λ rs. has_issued (record tx { requests = rs }) setting.node setting.inc text) (opening_empty (opened o opens) tid tx found).requests;
       committed = λ tid tx home found is. has tid tx found home is;
       lasts = lasts o opens;
     }
-      where
-        some : (a b k : ℕ) → a ≡ b → k < b → 0 < a
-        some a b k e p = grind (arith, e, p)
 
     opened_running : HoldsRunning now ((start o).hosts n).node
     opened_running = running_held o.alloc setting no_kept now (log o opens n low) (state o opens n low) (fresh_own o opens n low own) (no_loans o opens n low own) begins_well logged (opens_facts o opens n low)

@@ -225,16 +225,12 @@ module _ (P : Opening → World → Type 0) (o : Opening) (world : World) (j : J
   begins_well = record {
     there = ap (slice_get now.nodes) its.node ∙ its.there;
     inc = its.inc_is;
-    some = some begins.setting.nodes world.size n its.run low;
     owners = owners_kept before setting.node stamp setting.inc log (rises.at before world n stamp inc lasts j.held may).state (rises.r before world n stamp inc lasts j.held may) j.owners;
     unissued = unissued;
     committed = λ tid later home found is. has tid later home found is;
     lasts = lasts_now;
   }
     where
-      some : (a b k : ℕ) → a ≡ b → k < b → 0 < a
-      some a b k e p = grind (arith, e, p)
-
       unissued : (tid : Tid) (later : TransactionValue) (text : List ℕ) → find_transaction now tid ≡ Some later → has_issued later setting.node setting.inc text ≡ false
       unissued tid later text found =
           let w = was before setting.node stamp setting.inc log (rises.at before world n stamp inc lasts j.held may).state (rises.r before world n stamp inc lasts j.held may) tid later found in

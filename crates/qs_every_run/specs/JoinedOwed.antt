@@ -25,7 +25,6 @@ use Rattle.qs_world.specs.Openings.{IsOpening}
 use Rattle.qs_world.specs.Posting.{entries_of}
 use Rattle.qs_world.specs.World.{Opening, World, inc_of, start}
 use Rattle.qs_lawful.specs.Aside.{AnswersElsewhere, KeepsUnanimous}
-use Rattle.qs_lawful.specs.Amid.{IsSent}
 use Rattle.qs_lawful.specs.BesideStep.{HappensSo, HasCountRoom}
 use Rattle.qs_lawful.specs.Entering.{book_at}
 use Rattle.qs_lawful.specs.Given.{AtEach}
@@ -101,10 +100,6 @@ HasOwner book act = (tid : Tid) (label : List ℕ) (client : ClientNo) → act �
 abbrev pub BeginsOwned : Opening → World → ℕ → ℕ → ℕ → Event → Type 0
 BeginsOwned o world n stamp free event = Every (HasOwner (book_in o world)) (effects_of (world.hosts n).node event free).entries
 
--- what it sends is so, and goes to another node of the run
-abbrev pub SentThen : Opening → World → ℕ → ℕ → ℕ → Event → Type 0
-SentThen o world n stamp free event = Every (IsSent (book_then o world n stamp free event) (world.hosts n).node.setting) (effects_of (world.hosts n).node event free).messages
-
 -- what is unanimous, and open at a home that is down, stays unanimous
 abbrev pub StaysUnanimousThen : Opening → World → ℕ → ℕ → ℕ → Event → Type 0
 StaysUnanimousThen o world n stamp free event = (k : ℕ) → (k == n) ≡ false → k < world.size → world.channels.up k ≡ false → KeepsUnanimous k (book_in o world) (entries_in world n stamp free event)
@@ -133,7 +128,6 @@ pub record Owed (P : Opening → World → Type 0) : Type 0 where
   pub steps_answers : AfterStep P AnswersAside
   pub steps_unanimous : AfterStep P StaysUnanimousThen
   pub steps_owned : AfterStep P BeginsOwned
-  pub steps_sent : AfterStep P SentThen
   pub steps_ways : Keeps P IsStep WaysAt
   pub steps_scripts : Keeps P IsStep ScriptsAt
   -- after a crash
