@@ -45,7 +45,8 @@ use Rattle.qs_every_run.proofs.JoinedParts.{book_on, channels_later, lawful_on, 
 use Rattle.qs_every_run.proofs.RisesBeside.{rise_keeps_beside}
 use Rattle.qs_every_run.proofs.JoinedClocks.{by_order, in_order_stamp, opens_on_time}
 use Rattle.qs_every_run.proofs.RisesRunning.{rises_running}
-use Rattle.qs_every_run.proofs.JoinedAfter.{crash_joined, log_goes_on, step_joined, then_joined}
+use Rattle.qs_every_run.proofs.JoinedAfter.{log_goes_on, step_joined, then_joined}
+use Rattle.qs_every_run.proofs.JoinedCrash.{crash_joined}
 
 module _ (P : Opening → World → Type 0) (owed : Owed P) (o : Opening) (world : World) (j : Joined P o world) where
   abbrev book : BookValue
