@@ -1,53 +1,39 @@
--- All that stands together of a world stands after a whole step, and after a crash: what the machines and the nodes are known to keep, and what is owed.
-use Rattle.std.proofs.Common.{◌≡◌, ℕ, ◌<◌, ◌==◌, Bool, true, false, List, [], ◌∷◌, ◌++◌, Option, Some, refl, sym, ap, subst, ◌∙◌, arith, if◌then◌else◌}
-use Rattle.std.specs.Prelude.{slice_get}
+-- All that stands together of a world stands after a whole step: what the machines and the nodes are known to keep, and what is owed.
+use Rattle.std.proofs.Common.{◌≡◌, ℕ, ◌≤◌, ◌<◌, ◌==◌, Bool, true, false, List, ◌++◌, Option, refl, sym, ap, subst, ◌∙◌, arith, if◌then◌else◌}
 use Rattle.std.proofs.lemmas.Bool.{eqb-true}
 use Rattle.std.proofs.lemmas.List.Sums.{fold-append}
 use Rattle.std.proofs.lemmas.Bool.Decides.{nat_tests}
-use Rattle.qs_channels.specs.Channels as channel
-use Rattle.qs_journal.specs.declared.entry.Act.TheVariants as acts
-use Rattle.qs_journal.specs.declared.entry.CrashCause.{CrashCause}
 use Rattle.qs_journal.specs.declared.entry.Entry.{Entry}
 use Rattle.qs_base.specs.declared.identifiers.Tid.{Tid}
-use Rattle.qs_machine.specs.Book.{BookValue, find_transaction}
+use Rattle.qs_machine.specs.Book.{BookValue}
 use Rattle.qs_machine.specs.Lawful.{IsLawful, book_after}
 use Rattle.qs_machine.specs.Restart.{is_among}
-use Rattle.qs_machine.specs.Transaction.{TransactionValue}
 use Rattle.qs_record.specs.declared.record.Record.{Record}
 use Rattle.qs_restart.specs.Recovery.{Recovery, found_record, nothing_said, recovery}
 use Rattle.qs_step.specs.State.{NodeValue}
 use Rattle.qs_step.specs.Step.{after_step, effects_of}
 use Rattle.qs_step.specs.declared.event.Effects.{Effects}
 use Rattle.qs_step.specs.declared.event.Event.{Event}
-use Rattle.qs_world.specs.Histories.{book_of, opened_from}
-use Rattle.qs_world.specs.Moves.{Move, Source, Step, log_after, may_move, moved, step_with, stepped_host, stopped, stopped_host, taken_by}
-use Rattle.qs_world.specs.Posting.{entry_of}
+use Rattle.qs_world.specs.Histories.{book_of}
+use Rattle.qs_world.specs.Moves.{Move, Source, Step, log_after, may_move, moved, step_with, stepped_host, taken_by}
 use Rattle.qs_world.specs.World.{Host, Opening, World}
 use Rattle.qs_refine.proofs.Moving.{up_taken}
 use Rattle.qs_refine.proofs.Posted.{up_all}
 use Rattle.qs_refine.proofs.ShownBegins.{each_begun_shown}
 use Rattle.qs_refine.proofs.ShownMoves.{move_shown}
-use Rattle.qs_refine.proofs.StepAll.{node_stopped}
-use Rattle.qs_lawful.specs.Beside.{HasOwner, HoldsBeside, is_committed_at}
+use Rattle.qs_lawful.specs.Beside.{HoldsBeside}
 use Rattle.qs_lawful.specs.NodeFacts.{HasNodeFacts}
-use Rattle.qs_lawful.specs.Parcels.{HoldsChannels, HoldsWays}
-use Rattle.qs_lawful.specs.Scripts.{HoldsScripts}
-use Rattle.qs_lawful.specs.WorldLaws.{StopsWell}
-use Rattle.qs_lawful.specs.Worlds.{HoldsNodeAt, HoldsWorld}
-use Rattle.qs_lawful.proofs.AsideBesides.{keeps_others_beside}
-use Rattle.qs_lawful.proofs.CoherentOpenings.{opens_soundly}
-use Rattle.qs_lawful.proofs.NumberedLogs.{opened_numbered}
+use Rattle.qs_lawful.specs.Parcels.{HoldsChannels}
+use Rattle.qs_lawful.specs.Worlds.{HoldsWorld}
 use Rattle.qs_lawful.proofs.OpenedCommits.{stays_among}
-use Rattle.qs_lawful.proofs.ParcelsKept.{channels_moved}
-use Rattle.qs_lawful.proofs.ScriptsLike.{crash_scripts}
-use Rattle.qs_lawful.proofs.WaysOn.{crash_ways}
 use Rattle.qs_every_run.specs.Agrees.{MakesStep, nodes_in}
-use Rattle.qs_every_run.specs.Joined.{ChannelsAt, FactsAt, HeldAt, HomesAt, HomesHave, HoldsRunning, Joined, LoggedAt, OwnersAt, RunningAt, ScriptsAt, WaysAt, book_in}
+use Rattle.qs_every_run.specs.Joined.{ChannelsAt, FactsAt, HeldAt, HomesAt, HomesHave, HoldsRunning, Joined, ClocksAt, LoggedAt, OwnersAt, RunningAt, ScriptsAt, WaysAt, book_in}
 use Rattle.qs_every_run.specs.JoinedOwed.{Owed}
 use Rattle.qs_every_run.proofs.JoinedFacts.{steps_facts}
 use Rattle.qs_every_run.proofs.JoinedHeld as held_proofs
 use Rattle.qs_every_run.proofs.JoinedHomes.{homes_after}
-use Rattle.qs_every_run.proofs.JoinedParts.{book_on, channels_later, lawful_on}
+use Rattle.qs_every_run.proofs.JoinedParts.{book_on, lawful_on}
+use Rattle.qs_every_run.proofs.JoinedClocks.{step_on_time}
 use Rattle.qs_every_run.proofs.StaysWorlds.{steps_keep_logged}
 use Rattle.qs_every_run.proofs.JoinedSteps.{step_at, step_entries, step_journal, step_lawful, step_low, step_up}
 
@@ -69,6 +55,7 @@ pub record Known (o : Opening) (world new : World) : Type 0 where
   pub homes : HomesAt o new
   pub owners : OwnersAt o new
   pub logged : LoggedAt new
+  pub clocks : ClocksAt new
   pub channels : ChannelsAt o new
   pub ways : WaysAt o new
   pub scripts : ScriptsAt o new
@@ -89,6 +76,7 @@ module _ (P : Opening → World → Type 0) (owed : Owed P) (o : Opening) (world
     homes = k.homes;
     owners = k.owners;
     logged = k.logged;
+    clocks = k.clocks;
     channels = k.channels;
     ways = k.ways;
     scripts = k.scripts;
@@ -189,6 +177,26 @@ module _ (P : Opening → World → Type 0) (owed : Owed P) (o : Opening) (world
             (subst (λ (m : NodeValue). is_among m.committed tid ≡ true) own_then (subst (λ (i : ℕ). is_among (new.hosts i).node.committed tid ≡ true) (eqb-true k n near) among))))))
         by false far = subst (λ (rs : List Record). is_among (recovery rs).committed tid ≡ true) (sym (same_log k far)) (j.logged k (subst (λ (s : ℕ). k < s) sized low) tid (subst (λ (m : NodeValue). is_among m.committed tid ≡ true) (same k far) among))
 
+    clocks_then : ClocksAt new
+    clocks_then k low = by (k == n) refl
+      where
+        stamps : (m : ℕ) → m ≡ n → (new.hosts m).stamp ≡ stamp
+        stamps m same = ap (λ (e : Option Event). ((step_with world n stamp free source e).hosts m).stamp) makes.comes ∙ picked (m == n) (grind (arith, nat_tests, same))
+          where
+            picked : (b : Bool) → b ≡ true → (if b then stepped_host stamp (after_step (world.hosts n).node event free) (effects_of (world.hosts n).node event free) (world.hosts n) else world.hosts m).stamp ≡ stamp
+            picked b is = rw is refl
+
+        same_stamp : (k == n) ≡ false → (new.hosts k).stamp ≡ (world.hosts k).stamp
+        same_stamp far = ap (λ (e : Option Event). ((step_with world n stamp free source e).hosts k).stamp) makes.comes ∙ picked (k == n) far
+          where
+            picked : (b : Bool) → b ≡ false → (if b then stepped_host stamp (after_step (world.hosts n).node event free) (effects_of (world.hosts n).node event free) (world.hosts n) else world.hosts k).stamp ≡ (world.hosts k).stamp
+            picked b is = rw is refl
+
+        by : (b : Bool) → (k == n) ≡ b → (new.hosts k).node.manager.ticks ≤ (new.hosts k).stamp
+        by true near = subst (λ (t : ℕ). (new.hosts k).node.manager.ticks ≤ t) (sym (stamps k (eqb-true k n near))) (subst (λ (i : ℕ). (new.hosts i).node.manager.ticks ≤ stamp) (sym (eqb-true k n near)) (subst (λ (m : NodeValue). m.manager.ticks ≤ stamp) (sym own_then)
+            (step_on_time P o world j n stamp free source event makes)))
+        by false far = subst (λ (t : ℕ). (new.hosts k).node.manager.ticks ≤ t) (sym (same_stamp far)) (subst (λ (m : NodeValue). m.manager.ticks ≤ (world.hosts k).stamp) (sym (same k far)) (j.clocks k (subst (λ (s : ℕ). k < s) sized low)))
+
     pub step_joined : Joined P o new
     step_joined = then_joined step may (record {
       size = sized;
@@ -199,78 +207,9 @@ module _ (P : Opening → World → Type 0) (owed : Owed P) (o : Opening) (world
       homes = homes_then;
       owners = (runs_then n low_then runs).beside.owners;
       logged = logged_then;
+      clocks = clocks_then;
       channels = subst (λ (b : BookValue). HoldsChannels b new.size new.channels) (sym (book_on o world new entries journal))
           (subst (λ (w : World). HoldsChannels (book_after book entries) w.size w.channels) (sym (ap (step_with world n stamp free source) makes.comes)) (held_proofs.channels_then P owed o world j n stamp free source event makes));
       ways = owed.steps_ways o world step tt j may lawful_then;
       scripts = owed.steps_scripts o world step tt j may lawful_then;
     })
-
-  -- ---- a crash, whatever it leaves in the log
-
-  module _ (n stamp : ℕ) (cause : CrashCause) (log : List Record) (move : Move) (may : may_move world move ≡ true) (is : moved move world ≡ stopped world n stamp cause log) (longer : (tid : Tid) → is_among (recovery (world.hosts n).log).committed tid ≡ true → is_among (recovery log).committed tid ≡ true)
-      (well : StopsWell book (moved move world) n stamp cause) where
-    abbrev after : World
-    after = stopped world n stamp cause log
-
-    crashed : StopsWell book after n stamp cause
-    crashed = subst (λ (w : World). StopsWell book w n stamp cause) is well
-
-    abbrev entry : Entry
-    entry = entry_of n stamp (acts.Crash cause)
-
-    crash_lawful : IsLawful (book_of o) after.journal
-    crash_lawful = lawful_on o world after (entry ∷ []) refl j.lawful crashed.lawful
-
-    crash_homes : HomesAt o after
-    crash_homes tid tx found committed in_run = subst (λ (node : NodeValue). is_committed_at node tid ≡ true) (sym (node_stopped world n stamp cause log tid.home.0))
-        (j.homes tid tx (ap (λ (b : BookValue). find_transaction b tid) (sym (book_on o world after (entry ∷ []) refl)) ∙ found) committed in_run)
-
-    -- of the others that run
-    crash_running : RunningAt o after
-    crash_running k low on = by (k == n) refl on
-      where
-        by : (b : Bool) → (k == n) ≡ b → (if b then false else world.channels.up k) ≡ true → HoldsRunning (book_in o after) (after.hosts k).node
-        by true near off = absurd (cc off)
-        by false far runs = subst (λ (m : NodeValue). HoldsRunning (book_in o after) m) (sym (node_stopped world n stamp cause log k)) (record {
-          beside = keeps_others_beside (opened_from o 0 o.size) world.journal (entry ∷ []) (opens_soundly o j.opens) (opened_numbered o 0 o.size) crash_lawful (world.hosts k).node
-              (record { far = λ at. other k n far (sym (at ∙ its.node)); of_step = tt; answers = tt }, tt) ((λ tid label client begins. absurd (cc begins)), tt)
-              (λ state there. held_proofs.runs_at book world k its runs state (subst (λ (i : ℕ). slice_get book.nodes i ≡ Some state) its.node there)) (j.running k low runs).beside;
-          young = (j.running k low runs).young;
-        })
-          where
-            its : HoldsNodeAt book world k
-            its = j.held.nodes k low
-
-            other : (a b : ℕ) → (a == b) ≡ false → a ≡ b → ⊥
-            other a b off same = let here : (a == b) ≡ true = grind (arith, nat_tests, same) in let both : true ≡ false = sym here ∙ off in cc (both)
-
-    crash_owners : OwnersAt o after
-    crash_owners = subst (λ (b : BookValue). (tid : Tid) (tx : TransactionValue) → find_transaction b tid ≡ Some tx → HasOwner b tx) (sym (book_on o world after (entry ∷ []) refl)) (λ tid tx found. j.owners tid tx found)
-
-    crash_logged : LoggedAt after
-    crash_logged k low tid among = by (k == n) refl
-      where
-        had : (i : ℕ) → i ≡ k → is_among (recovery (world.hosts i).log).committed tid ≡ true
-        had i same = j.logged i (subst (λ (x : ℕ). x < world.size) (sym same) low) tid (subst (λ (x : ℕ). is_among (world.hosts x).node.committed tid ≡ true) (sym same) (subst (λ (m : NodeValue). is_among m.committed tid ≡ true) (node_stopped world n stamp cause log k) among))
-
-        by : (b : Bool) → (k == n) ≡ b → is_among (recovery (if b then stopped_host stamp log (world.hosts n) else world.hosts k).log).committed tid ≡ true
-        by true near = longer tid (had n (sym (eqb-true k n near)))
-        by false far = had k refl
-
-    known : Known o world after
-    known = record {
-      size = refl;
-      lawful = crash_lawful;
-      held = subst (λ (b : BookValue). HoldsWorld b after) (sym (book_on o world after (entry ∷ []) refl)) crashed.holds;
-      facts = λ k low. subst HasNodeFacts (sym (node_stopped world n stamp cause log k)) (j.facts k low);
-      running = crash_running;
-      homes = crash_homes;
-      owners = crash_owners;
-      logged = crash_logged;
-      channels = channels_later o world after (entry ∷ []) j.opens refl crash_lawful world.size after.channels (channels_moved book world.size (channel.Crash n) world.channels tt j.channels);
-      ways = subst (λ (b : BookValue). HoldsWays b after) (sym (book_on o world after (entry ∷ []) refl)) (crash_ways book world n stamp cause log j.ways);
-      scripts = subst (λ (b : BookValue). HoldsScripts o b after) (sym (book_on o world after (entry ∷ []) refl)) (crash_scripts o book world n stamp cause log j.scripts);
-    }
-
-    pub crash_joined : Joined P o (moved move world)
-    crash_joined = then_joined move may (subst (λ (w : World). Known o world w) (sym is) known)

@@ -1,6 +1,7 @@
 -- All stands together as a run begins, and over the run; so the run's history is lawful.
 use Rattle.std.proofs.Common.{◌≡◌, ℕ, ◌<◌, ◌≤◌, ◌==◌, true, List, [], ◌∷◌, refl, sym, subst, arith}
 use Rattle.std.proofs.lemmas.Bool.Decides.{nat_tests}
+use Rattle.qs_step.specs.Opening.{recovered_of}
 use Rattle.qs_world.specs.Histories.{book_of}
 use Rattle.qs_world.specs.Moves.{Move, moved}
 use Rattle.qs_world.specs.Runs.{Run}
@@ -12,6 +13,7 @@ use Rattle.qs_every_run.specs.Joined.{Joined}
 use Rattle.qs_every_run.specs.JoinedOwed.{Owed}
 use Rattle.qs_every_run.specs.JoinedRuns.{EachOpensJoined, EachRunJoined, EachRunLawful}
 use Rattle.qs_every_run.proofs.JoinedFacts.{opens_facts}
+use Rattle.qs_every_run.proofs.JoinedClocks.{opens_on_time}
 use Rattle.qs_every_run.proofs.JoinedHomes.{own_has}
 use Rattle.qs_every_run.proofs.JoinedMoves.{each_move_joined}
 use Rattle.qs_every_run.proofs.OpensRunning.{opens_owned, opens_running}
@@ -29,6 +31,7 @@ each_opens_joined P owed o opens = record {
       own_has (book_of o) ((start o).hosts tid.home.0).node tid.home.0 ((world_held o opens).nodes tid.home.0 low).node (opens_running o opens tid.home.0 low refl).beside tid tx found committed (itself tid.home.0);
   owners = opens_owned o opens;
   logged = λ n low tid among. among;
+  clocks = λ n low. none ((start o).hosts n).node.manager.ticks (opens_on_time o.alloc (o.settings n) (recovered_of (o.logs n)));
   channels = record { posted = λ n m i j. tt; waits = λ n m. tt; known = λ n m. least ((start o).channels.inc m) };
   ways = opens_ways o opens;
   scripts = opens_scripts o opens;
@@ -37,6 +40,9 @@ each_opens_joined P owed o opens = record {
   where
     itself : (k : ℕ) → (k == k) ≡ true
     itself k = grind (arith, nat_tests)
+
+    none : (t : ℕ) → t ≡ 0 → t ≤ 0
+    none t is = grind (arith, is)
 
     least : (k : ℕ) → 0 ≤ k
     least k = grind (arith)

@@ -24,14 +24,16 @@ pub mod RecordsStand
 pub mod FreshBeside
 pub mod OpensRunning
 pub mod CountsServed
-pub mod JoinedGiven
+pub mod JoinedClocks
 pub mod JoinedLogged
+pub mod JoinedGiven
 pub mod JoinedSteps
 pub mod JoinedSound
 pub mod ToldFewer
 pub mod JoinedActs
 pub mod JoinedHeld
 pub mod JoinedAfter
+pub mod JoinedCrash
 pub mod RisesBeside
 pub mod RisesRunning
 pub mod JoinedMoves

@@ -1,5 +1,5 @@
 -- What the reference machine, the agreement machine and the nodes have together of a world that a run leads to.
-use Rattle.std.specs.Prelude.{◌≡◌, ℕ, ◌<◌, true, List, Some, nat_lt}
+use Rattle.std.specs.Prelude.{◌≡◌, ℕ, ◌≤◌, ◌<◌, true, List, Some, nat_lt}
 use Rattle.qs_base.specs.declared.identifiers.Tid.{Tid}
 use Rattle.qs_machine.specs.Book.{BookValue, find_transaction}
 use Rattle.qs_machine.specs.Lawful.{IsLawful, book_after}
@@ -58,6 +58,10 @@ IsLogged node log = (tid : Tid) → is_among node.committed tid ≡ true → is_
 abbrev pub LoggedAt : World → Type 0
 LoggedAt world = (n : ℕ) → n < world.size → IsLogged (world.hosts n).node (world.hosts n).log
 
+-- each tick of a node has a stamp of its own, so its clock shows its stamp at most
+abbrev pub ClocksAt : World → Type 0
+ClocksAt world = (n : ℕ) → n < world.size → (world.hosts n).node.manager.ticks ≤ (world.hosts n).stamp
+
 abbrev pub ChannelsAt : Opening → World → Type 0
 ChannelsAt o world = HoldsChannels (book_in o world) world.size world.channels
 
@@ -80,6 +84,7 @@ pub record Joined (P : Opening → World → Type 0) (o : Opening) (world : Worl
   pub homes : HomesAt o world
   pub owners : OwnersAt o world
   pub logged : LoggedAt world
+  pub clocks : ClocksAt world
   pub channels : ChannelsAt o world
   pub ways : WaysAt o world
   pub scripts : ScriptsAt o world

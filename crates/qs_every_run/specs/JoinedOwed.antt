@@ -1,6 +1,7 @@
 -- What is still to be shown so that every run is lawful: each is a law of its own, of a run's beginning, of what a step is given, or of what a move keeps.
 use Rattle.std.specs.Prelude.{◌≡◌, ℕ, ◌<◌, ◌==◌, ◌++◌, ⊤, true, false, List, None, Some, is_some, slice_get}
 use Rattle.qs_base.specs.declared.identifiers.ClientNo.{ClientNo}
+use Rattle.qs_base.specs.declared.identifiers.NodeNo.{NodeNo}
 use Rattle.qs_base.specs.declared.identifiers.Tid.{Tid}
 use Rattle.qs_journal.specs.declared.entry.Act.{Act}
 use Rattle.qs_journal.specs.declared.entry.Act.TheVariants as acts
@@ -15,6 +16,7 @@ use Rattle.qs_step.specs.Settling.{due_tids, is_quiet, may_answer, pass_rule, se
 use Rattle.qs_step.specs.State.{Work, doings_of}
 use Rattle.qs_step.specs.Step.{after_step, effects_of}
 use Rattle.qs_step.specs.declared.event.Event.{Event}
+use Rattle.qs_step.specs.declared.event.Event.TheVariants as events
 use Rattle.qs_tm.specs.Manager as tm
 use Rattle.qs_tm.specs.declared.participant.Participant.{Participant}
 use Rattle.qs_world.specs.Histories.{book_of}
@@ -50,9 +52,10 @@ abbrev pub EachCommitsSettled : (Opening → World → Type 0) → Type 0
 EachCommitsSettled P = (o : Opening) (world : World) (n stamp free : ℕ) (source : Source) (event : Event) → Joined P o world → MakesStep world n stamp source event
     → AtEach (CommitsSettled stamp (book_in o world)) settle_tid (done_work (world.hosts n).node event free) (due_tids (done_work (world.hosts n).node event free))
 
--- what comes is so: what a node owes that restarted the machine finds gone, and ticks have room
-abbrev pub EachComesSo : (Opening → World → Type 0) → Type 0
-EachComesSo P = (o : Opening) (world : World) (n stamp free : ℕ) (source : Source) (event : Event) → Joined P o world → MakesStep world n stamp source event → HappensSo stamp (book_in o world) event (first_work (world.hosts n).node free)
+-- what a node owes that restarted the machine finds gone
+abbrev pub EachFindsGone : (Opening → World → Type 0) → Type 0
+EachFindsGone P = (o : Opening) (world : World) (n stamp free : ℕ) (source : Source) (peer : NodeNo) (old new : ℕ) → Joined P o world → MakesStep world n stamp source (events.PeerRestarted peer old new)
+    → HappensSo stamp (book_in o world) (events.PeerRestarted peer old new) (first_work (world.hosts n).node free)
 
 -- where a vote pass is due, the count of changes has room
 abbrev pub EachCountsRoom : (Opening → World → Type 0) → Type 0
@@ -117,7 +120,7 @@ pub record Owed (P : Opening → World → Type 0) : Type 0 where
   pub opens_places : Opens P
   -- what a step is given
   pub commits : EachCommitsSettled P
-  pub comes_so : EachComesSo P
+  pub finds_gone : EachFindsGone P
   pub rooms : EachCountsRoom P
   -- after a whole step
   pub steps_kept : AfterStep P KeptThen

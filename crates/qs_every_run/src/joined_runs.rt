@@ -4,7 +4,7 @@ ghost use Rattle.qs_every_run.specs.JoinedRuns.{EachMoveJoined, EachOpensJoined,
 ghost use Rattle.qs_every_run.specs.Joined.{RunningAt};
 ghost use Rattle.qs_every_run.specs.JoinedOwed.{Opens};
 ghost use Rattle.qs_every_run.specs.RiseLaws.{EachRiseKeepsBeside, EachRisesRunning};
-ghost use Rattle.qs_every_run.specs.StaysLaws.{StepsKeepLogged, StepsYoung};
+ghost use Rattle.qs_every_run.specs.StaysLaws.{StepsKeepLogged, StepsTickOnce, StepsYoung};
 
 /// From what is still to be shown, which stands in one record: all that the machines and the nodes have together stands as a run begins, over
 /// old logs too that a restart can take up, and after each move; so each run's history is lawful.
@@ -27,8 +27,9 @@ pub fn restart_leaves_what_stands_beside()
 {}
 
 /// A whole step of a node leaves what its home has not decided younger than the age limit: what becomes that old at a tick it aborts in that
-/// step. And it leaves the Commits that the log had as the node opened.
+/// step. Its clock moves by one tick at most; and it leaves the Commits that the log had as the node opened.
 pub fn steps_leave_the_young()
     ensures young { StepsYoung }
+    ensures ticks { StepsTickOnce }
     ensures logged { StepsKeepLogged }
 {}
