@@ -59,8 +59,8 @@ module _ (P : Opening → World → Type 0) (owed : Owed P) (o : Opening) (world
   abbrev book : BookValue
   book = book_in o world
 
-  pub then_joined : (move : Move) → may_move world move ≡ true → Known o world (moved move world) → Joined P o (moved move world)
-  then_joined move may k = record {
+  pub then_joined : (move : Move) → may_move world move ≡ true → Known o world (moved move world) → P o (moved move world) → Joined P o (moved move world)
+  then_joined move may k places = record {
     opens = j.opens;
     size = k.size ∙ j.size;
     lawful = k.lawful;
@@ -72,7 +72,7 @@ module _ (P : Opening → World → Type 0) (owed : Owed P) (o : Opening) (world
     channels = k.channels;
     ways = k.ways;
     scripts = k.scripts;
-    places = owed.places o world move tt j may k.lawful;
+    places = places;
   }
 
   -- ---- a whole step
@@ -159,7 +159,7 @@ module _ (P : Opening → World → Type 0) (owed : Owed P) (o : Opening) (world
           (subst (λ (w : World). HoldsChannels (book_after book entries) w.size w.channels) (sym (ap (step_with world n stamp free source) makes.comes)) (held_proofs.channels_then P owed o world j n stamp free source event makes));
       ways = owed.steps_ways o world step tt j may lawful_then;
       scripts = owed.steps_scripts o world step tt j may lawful_then;
-    })
+    }) (owed.places o world step tt j may lawful_then)
 
   -- ---- a crash, whatever it leaves in the log
 
@@ -213,5 +213,8 @@ module _ (P : Opening → World → Type 0) (owed : Owed P) (o : Opening) (world
       scripts = subst (λ (b : BookValue). HoldsScripts o b after) (sym (book_on o world after (entry ∷ []) refl)) (crash_scripts o book world n stamp cause log j.scripts);
     }
 
-    pub crash_joined : Joined P o (moved move world)
-    crash_joined = then_joined move may (subst (λ (w : World). Known o world w) (sym is) known)
+    pub crash_joined : (IsLawful (book_of o) (moved move world).journal → P o (moved move world)) → Joined P o (moved move world)
+    crash_joined places = then_joined move may so (places so.lawful)
+      where
+        so : Known o world (moved move world)
+        so = subst (λ (w : World). Known o world w) (sym is) known

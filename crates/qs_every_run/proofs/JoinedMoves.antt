@@ -35,7 +35,7 @@ use Rattle.qs_lawful.proofs.StopsWhole.{by_cut, by_stop}
 use Rattle.qs_lawful.proofs.WaysOn.{rise_ways}
 use Rattle.qs_every_run.specs.Agrees.{nodes_in}
 use Rattle.qs_every_run.specs.Joined.{FactsAt, HeldAt, HomesAt, HomesHave, HoldsRunning, Joined, RunningAt, book_in}
-use Rattle.qs_every_run.specs.JoinedOwed.{Owed}
+use Rattle.qs_every_run.specs.JoinedOwed.{EachCutUnanimous, IsBetweenSteps, Keeps, Owed}
 use Rattle.qs_every_run.specs.JoinedRuns.{EachMoveJoined}
 use Rattle.qs_every_run.proofs.JoinedFacts.{rises_facts}
 use Rattle.qs_every_run.proofs.JoinedHomes.{homes_after}
@@ -43,7 +43,7 @@ use Rattle.qs_every_run.proofs.JoinedParts.{book_on, channels_later, lawful_on, 
 use Rattle.qs_every_run.proofs.RisesBeside.{rise_keeps_beside}
 use Rattle.qs_every_run.proofs.JoinedAfter.{crash_joined, step_joined, then_joined}
 
-module _ (P : Opening → World → Type 0) (owed : Owed P) (o : Opening) (world : World) (j : Joined P o world) where
+module _ (P : Opening → World → Type 0) (between : Keeps P IsBetweenSteps P) (owed : Owed P) (o : Opening) (world : World) (j : Joined P o world) where
   abbrev book : BookValue
   book = book_in o world
 
@@ -128,7 +128,7 @@ module _ (P : Opening → World → Type 0) (owed : Owed P) (o : Opening) (world
           (channels_moved book world.size (channel.Restart n inc) world.channels (let later : nat_lt (world.channels.inc n) inc ≡ true = tests.1 in grind (arith, nat_tests, later)) j.channels);
       ways = subst (λ (b : BookValue). HoldsWays b risen_world) (sym rise_book) (rise_ways book world n stamp inc lasts j.held (seated_sound world j.shown.steady.seated) may j.ways);
       scripts = subst (λ (b : BookValue). HoldsScripts o b risen_world) (sym rise_book) (rise_scripts o book world n stamp inc lasts j.held may j.scripts);
-    })
+    }) (between o world (Rise n stamp inc) tt j may rise_lawful)
 
   -- ---- a first meeting: nothing is entered, and each node stays
 
@@ -163,7 +163,7 @@ module _ (P : Opening → World → Type 0) (owed : Owed P) (o : Opening) (world
       channels = channels_moved book world.size (channel.Meet n m inc) world.channels known_inc j.channels;
       ways = meet_ways book world n stamp m inc j.channels (seated_sound world j.shown.steady.seated) may j.ways;
       scripts = meet_scripts o book world n stamp m inc j.scripts;
-    })
+    }) (between o world (Meet n stamp m inc) tt j may j.lawful)
 
   -- ---- each move
 
@@ -177,11 +177,11 @@ module _ (P : Opening → World → Type 0) (owed : Owed P) (o : Opening) (world
     where
       by : (e : Option Event) → event_of world n stamp source ≡ e → (b : Bool) → may_move world (Cut n stamp free source b cause) ≡ true → Joined P o (moved (Cut n stamp free source b cause) world)
       by None none b may_b = subst (λ (e : Option Event). Joined P o (cut_with world n stamp free b cause e)) (sym none) j
-      by (Some event) comes true may_b = crash_joined P owed o world j n stamp cause (cut_log (world.hosts n) true (effects_of (world.hosts n).node event free)) (Cut n stamp free source true cause) may_b (ap (cut_with world n stamp free true cause) comes) (owed.keeps_its_batch o world n stamp free source cause j may_b)
-      by (Some event) comes false may_b = crash_joined P owed o world j n stamp cause (cut_log (world.hosts n) false (effects_of (world.hosts n).node event free)) (Cut n stamp free source false cause) may_b (ap (cut_with world n stamp free false cause) comes) (by_cut book world n stamp free source cause lasts j.held may_b)
-  move_joined (Stop n stamp cause) may = crash_joined P owed o world j n stamp cause (world.hosts n).log (Stop n stamp cause) may refl (by_stop book world n stamp cause lasts j.held may)
+      by (Some event) comes true may_b = crash_joined P owed o world j n stamp cause (cut_log (world.hosts n) true (effects_of (world.hosts n).node event free)) (Cut n stamp free source true cause) may_b (ap (cut_with world n stamp free true cause) comes) (owed.keeps_its_batch o world n stamp free source cause j may_b) (between o world (Cut n stamp free source true cause) tt j may_b)
+      by (Some event) comes false may_b = crash_joined P owed o world j n stamp cause (cut_log (world.hosts n) false (effects_of (world.hosts n).node event free)) (Cut n stamp free source false cause) may_b (ap (cut_with world n stamp free false cause) comes) (by_cut book world n stamp free source cause lasts j.held may_b) (between o world (Cut n stamp free source false cause) tt j may_b)
+  move_joined (Stop n stamp cause) may = crash_joined P owed o world j n stamp cause (world.hosts n).log (Stop n stamp cause) may refl (by_stop book world n stamp cause lasts j.held may) (between o world (Stop n stamp cause) tt j may)
   move_joined (Rise n stamp inc) may = rise_joined n stamp inc may
   move_joined (Meet n stamp m inc) may = meet_joined n stamp m inc may
 
-pub each_move_joined : (P : Opening → World → Type 0) → EachMoveJoined P
-each_move_joined P owed o world move j may = move_joined P owed o world j move may
+pub each_move_joined : (P : Opening → World → Type 0) → (EachCutUnanimous P → Keeps P IsBetweenSteps P) → EachMoveJoined P
+each_move_joined P between owed o world move j may = move_joined P (between owed.cuts_unanimous) owed o world j move may

@@ -9,14 +9,14 @@ use Rattle.qs_refine.proofs.EveryRunShown.{every_run_shown}
 use Rattle.qs_lawful.proofs.OpenedScripts.{opens_scripts, opens_ways}
 use Rattle.qs_lawful.proofs.OpenedWorld.{world_held}
 use Rattle.qs_every_run.specs.Joined.{Joined}
-use Rattle.qs_every_run.specs.JoinedOwed.{Owed}
+use Rattle.qs_every_run.specs.JoinedOwed.{EachCutUnanimous, IsBetweenSteps, Keeps, Opens, Owed}
 use Rattle.qs_every_run.specs.JoinedRuns.{EachOpensJoined, EachRunJoined, EachRunLawful}
 use Rattle.qs_every_run.proofs.JoinedFacts.{opens_facts}
 use Rattle.qs_every_run.proofs.JoinedHomes.{own_has}
 use Rattle.qs_every_run.proofs.JoinedMoves.{each_move_joined}
 
-pub each_opens_joined : (P : Opening → World → Type 0) → EachOpensJoined P
-each_opens_joined P owed o opens = record {
+pub each_opens_joined : (P : Opening → World → Type 0) → Opens P → EachOpensJoined P
+each_opens_joined P places owed o opens = record {
   opens = opens;
   size = refl;
   lawful = tt;
@@ -29,7 +29,7 @@ each_opens_joined P owed o opens = record {
   channels = record { posted = λ n m i j. tt; waits = λ n m. tt; known = λ n m. least ((start o).channels.inc m) };
   ways = opens_ways o opens;
   scripts = opens_scripts o opens;
-  places = owed.opens_places o opens;
+  places = places o opens;
 }
   where
     itself : (k : ℕ) → (k == k) ≡ true
@@ -38,12 +38,13 @@ each_opens_joined P owed o opens = record {
     least : (k : ℕ) → 0 ≤ k
     least k = grind (arith)
 
-over : (P : Opening → World → Type 0) → Owed P → (o : Opening) (moves : List Move) (old new : World) → Joined P o old → Run old moves new → Joined P o new
-over P owed o [] old new j run = subst (λ (w : World). Joined P o w) (sym run) j
-over P owed o (move ∷ moves) old new j run = over P owed o moves (moved move old) new (each_move_joined P owed o old move j run.0) run.1
+module _ (P : Opening → World → Type 0) (places : Opens P) (between : EachCutUnanimous P → Keeps P IsBetweenSteps P) where
+  over : Owed P → (o : Opening) (moves : List Move) (old new : World) → Joined P o old → Run old moves new → Joined P o new
+  over owed o [] old new j run = subst (λ (w : World). Joined P o w) (sym run) j
+  over owed o (move ∷ moves) old new j run = over owed o moves (moved move old) new (each_move_joined P between owed o old move j run.0) run.1
 
-pub each_run_joined : (P : Opening → World → Type 0) → EachRunJoined P
-each_run_joined P owed o moves new opens run = over P owed o moves (start o) new (each_opens_joined P owed o opens) run
+  pub each_run_joined : EachRunJoined P
+  each_run_joined owed o moves new opens run = over owed o moves (start o) new (each_opens_joined P places owed o opens) run
 
-pub each_run_lawful : (P : Opening → World → Type 0) → EachRunLawful P
-each_run_lawful P owed o moves new opens run = (each_run_joined P owed o moves new opens run).lawful
+  pub each_run_lawful : EachRunLawful P
+  each_run_lawful owed o moves new opens run = (each_run_joined owed o moves new opens run).lawful

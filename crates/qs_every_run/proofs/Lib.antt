@@ -2,6 +2,7 @@ pub mod FreeLives
 pub mod Quiets
 pub mod CommitsPlaced
 pub mod StoppedFields
+pub mod UnanimousPlaced
 pub mod StopsPlaced
 pub mod AgreesStage
 pub mod AgreesOpen
@@ -23,3 +24,13 @@ pub mod JoinedAfter
 pub mod RisesBeside
 pub mod JoinedMoves
 pub mod JoinedOver
+pub mod Entries
+pub mod PlacedTx
+pub mod PlacesBegin
+pub mod PlacesStop
+pub mod RestartPlaced
+pub mod RisenFields
+pub mod PlacesRise
+pub mod MetFields
+pub mod PlacesMeet
+pub mod PlacesKept

@@ -1,5 +1,5 @@
 -- What is still to be shown so that every run is lawful: each is a law of its own, of a run's beginning, of what a step is given, or of what a move keeps.
-use Rattle.std.specs.Prelude.{◌≡◌, ℕ, ◌≤◌, ◌<◌, ◌==◌, ◌++◌, ⊤, true, false, List, [], ◌∷◌, None, Some, is_some, slice_get}
+use Rattle.std.specs.Prelude.{◌≡◌, ℕ, ◌≤◌, ◌<◌, ◌==◌, ◌++◌, ⊤, Bool, true, false, List, [], ◌∷◌, None, Some, is_some, slice_get}
 use Rattle.qs_base.specs.declared.identifiers.ClientNo.{ClientNo}
 use Rattle.qs_base.specs.declared.identifiers.Tid.{Tid}
 use Rattle.qs_engage.specs.Engage.{peer_of}
@@ -7,9 +7,10 @@ use Rattle.qs_journal.specs.declared.entry.Act.{Act}
 use Rattle.qs_journal.specs.declared.entry.Act.TheVariants as acts
 use Rattle.qs_journal.specs.declared.entry.CrashCause.{CrashCause}
 use Rattle.qs_journal.specs.declared.entry.Entry.{Entry}
-use Rattle.qs_machine.specs.Book.{BookValue}
+use Rattle.qs_machine.specs.Book.{BookValue, find_transaction}
 use Rattle.qs_machine.specs.Lawful.{IsLawful, book_after}
 use Rattle.qs_machine.specs.Nodes as machine
+use Rattle.qs_machine.specs.Transaction.{TransactionValue, is_open, is_unanimous}
 use Rattle.qs_packet.specs.declared.message.Message.TheVariants as messages
 use Rattle.qs_restart.specs.Recovery.{recovery}
 use Rattle.qs_step.specs.Opening.{recovered_of}
@@ -22,10 +23,15 @@ use Rattle.qs_tm.specs.Manager as tm
 use Rattle.qs_tm.specs.Participant.{is_undecided}
 use Rattle.qs_tm.specs.declared.participant.Participant.{Participant}
 use Rattle.qs_world.specs.Histories.{book_of}
-use Rattle.qs_world.specs.Moves.{Cut, Move, Rise, Source, Step, log_after, may_move, moved, reopened, waiting_after}
+use Rattle.qs_world.specs.Moves.{Cut, Move, Rise, Source, Step, cut_log, event_of, log_after, may_move, moved, reopened, stopped, waiting_after}
 use Rattle.qs_world.specs.Openings.{IsOpening}
 use Rattle.qs_world.specs.Posting.{entries_of}
 use Rattle.qs_world.specs.World.{Opening, World, inc_of, start}
+use Rattle.qs_agree.specs.World as agreement
+use Rattle.qs_agree.specs.World.{Open, Committed}
+use Rattle.qs_refine.specs.Begun.{has_begun}
+use Rattle.qs_refine.specs.CutLaws.{CutsOff}
+use Rattle.qs_refine.specs.EachMove.{ShowsAll}
 use Rattle.qs_lawful.specs.Agreed.{IsSettledAll, StepAgrees}
 use Rattle.qs_lawful.specs.Aside.{AnswersElsewhere, KeepsUnanimous}
 use Rattle.qs_lawful.specs.Amid.{IsSent}
@@ -73,6 +79,15 @@ EachGiven P = (o : Opening) (world : World) (n stamp free : ℕ) (source : Sourc
 abbrev pub EachKeepsItsBatch : (Opening → World → Type 0) → Type 0
 EachKeepsItsBatch P = (o : Opening) (world : World) (n stamp free : ℕ) (source : Source) (cause : CrashCause) → Joined P o world → may_move world (Cut n stamp free source true cause) ≡ true
     → StopsWell (book_in o world) (moved (Cut n stamp free source true cause) world) n stamp cause
+
+-- what a home decided in a step that is cut off, with a record of it on the disk, was unanimous before: it decides in no step that asked, served, voted or took a loan back
+abbrev pub CutsUnanimous : Opening → World → ℕ → ℕ → ℕ → Bool → CrashCause → Event → Type 0
+CutsUnanimous o world n stamp free is_kept cause event = (tid : Tid) (w : agreement.World) (goes : CutsOff tid (stopped world n stamp cause (cut_log (world.hosts n) is_kept (effects_of (world.hosts n).node event free))) w) → has_begun world tid ≡ true → ShowsAll tid world w
+    → w.cell ≡ Open → goes.goes.next.cell ≡ Committed → (tx : TransactionValue) → find_transaction (book_in o world) tid ≡ Some tx → is_open tx.cell ≡ true → is_unanimous tx ≡ true
+
+abbrev pub EachCutUnanimous : (Opening → World → Type 0) → Type 0
+EachCutUnanimous P = (o : Opening) (world : World) (n stamp free : ℕ) (source : Source) (is_kept : Bool) (cause : CrashCause) (event : Event) → Joined P o world → may_move world (Cut n stamp free source is_kept cause) ≡ true → event_of world n stamp source ≡ Some event
+    → CutsUnanimous o world n stamp free is_kept cause event
 
 -- ---- a whole step: the world that the machine has after it
 
@@ -125,6 +140,11 @@ abbrev pub IsStep : Move → Type 0
 IsStep (Step n stamp free source) = ⊤
 IsStep move = ⊥
 
+-- a crash, a restart or a first meeting
+abbrev pub IsBetweenSteps : Move → Type 0
+IsBetweenSteps (Step n stamp free source) = ⊥
+IsBetweenSteps move = ⊤
+
 abbrev pub Keeps : (Opening → World → Type 0) → (Move → Type 0) → (Opening → World → Type 0) → Type 0
 Keeps P kind X = (o : Opening) (world : World) (move : Move) → kind move → Joined P o world → may_move world move ≡ true → IsLawful (book_of o) (moved move world).journal → X o (moved move world)
 
@@ -141,7 +161,6 @@ EachRisesRunning P = (o : Opening) (world : World) (n stamp inc : ℕ) → Joine
 pub record Owed (P : Opening → World → Type 0) : Type 0 where
   -- as a run begins
   pub opens_running : Opens RunningAt
-  pub opens_places : Opens P
   -- what a step is given
   pub commits : EachCommitsSettled P
   pub answers : EachAnswersLate P
@@ -156,9 +175,10 @@ pub record Owed (P : Opening → World → Type 0) : Type 0 where
   pub steps_sent : AfterStep P SentThen
   pub steps_ways : Keeps P IsStep WaysAt
   pub steps_scripts : Keeps P IsStep ScriptsAt
+  -- what all places hold of each transaction
+  pub places : Keeps P IsStep P
   -- after a crash
   pub keeps_its_batch : EachKeepsItsBatch P
+  pub cuts_unanimous : EachCutUnanimous P
   -- after a restart
   pub rises_running : EachRisesRunning P
-  -- what all places hold of each transaction
-  pub places : Keeps P (λ (move : Move). ⊤) P

@@ -7,3 +7,4 @@ pub mod JoinedOwed
 pub mod JoinedPlaces
 pub mod JoinedRuns
 pub mod RiseLaws
+pub mod PlacesLaws

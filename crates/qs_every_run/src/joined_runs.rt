@@ -1,5 +1,6 @@
 //! Every run of the world of nodes is lawful, as far as it is owed.
 ghost use Rattle.qs_every_run.specs.JoinedPlaces.{PlacesAt};
+ghost use Rattle.qs_every_run.specs.PlacesLaws.{KeepsPlaces, OpensPlaces};
 ghost use Rattle.qs_every_run.specs.JoinedRuns.{EachMoveJoined, EachOpensJoined, EachRunJoined, EachRunLawful};
 ghost use Rattle.qs_every_run.specs.RiseLaws.{EachRiseKeepsBeside};
 
@@ -15,4 +16,11 @@ pub fn runs_are_lawful()
 /// A restart of one node leaves what the machine has beside each other that runs.
 pub fn restart_leaves_what_stands_beside()
     ensures { EachRiseKeepsBeside }
+{}
+
+/// What all places hold of each transaction stands as a run begins, and after a crash, a restart and a first meeting; a step that was cut off
+/// decided nothing that was not unanimous before it.
+pub fn places_go_on()
+    ensures opens { OpensPlaces }
+    ensures keeps { KeepsPlaces }
 {}

@@ -301,6 +301,7 @@ pub mod PreparedHeld
 pub mod PreparedSteps
 pub mod CutsAlone
 pub mod CutsKept
+pub mod MeetsAlone
 pub mod CommitIdles
 pub mod PassedOver
 pub mod ToCome
