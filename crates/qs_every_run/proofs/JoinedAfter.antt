@@ -1,5 +1,7 @@
 -- All that stands together of a world stands after a whole step, and after a crash: what the machines and the nodes are known to keep, and what is owed.
 use Rattle.std.proofs.Common.{◌≡◌, ℕ, ◌<◌, ◌==◌, Bool, true, false, List, [], ◌∷◌, ◌++◌, Option, Some, refl, sym, ap, subst, ◌∙◌, arith, if◌then◌else◌}
+use Rattle.std.specs.BTreeMap.{is_at}
+use Rattle.std.specs.Map.{lookup}
 use Rattle.std.specs.Prelude.{slice_get}
 use Rattle.std.proofs.lemmas.Bool.{eqb-true}
 use Rattle.std.proofs.lemmas.Bool.Decides.{nat_tests}
@@ -10,13 +12,13 @@ use Rattle.qs_journal.specs.declared.entry.Entry.{Entry}
 use Rattle.qs_machine.specs.Book.{BookValue, find_transaction}
 use Rattle.qs_machine.specs.Lawful.{IsLawful, book_after}
 use Rattle.qs_record.specs.declared.record.Record.{Record}
-use Rattle.qs_step.specs.State.{NodeValue}
+use Rattle.qs_step.specs.State.{NodeValue, client_cmp}
 use Rattle.qs_step.specs.Step.{after_step, effects_of}
 use Rattle.qs_step.specs.declared.event.Event.{Event}
 use Rattle.qs_world.specs.Histories.{book_of, opened_from}
 use Rattle.qs_world.specs.Moves.{Move, Source, Step, may_move, moved, step_with, stepped_host, stopped, taken_by}
 use Rattle.qs_world.specs.Posting.{entry_of}
-use Rattle.qs_world.specs.World.{Opening, World}
+use Rattle.qs_world.specs.World.{Client, Opening, World}
 use Rattle.qs_refine.proofs.Moving.{up_taken}
 use Rattle.qs_refine.proofs.Posted.{up_all}
 use Rattle.qs_refine.proofs.ShownBegins.{each_begun_shown}
@@ -35,12 +37,13 @@ use Rattle.qs_lawful.proofs.ParcelsKept.{channels_moved}
 use Rattle.qs_lawful.proofs.ScriptsLike.{crash_scripts}
 use Rattle.qs_lawful.proofs.WaysOn.{crash_ways}
 use Rattle.qs_every_run.specs.Agrees.{MakesStep, nodes_in}
-use Rattle.qs_every_run.specs.Joined.{ChannelsAt, FactsAt, HeldAt, HomesAt, HomesHave, HoldsRunning, Joined, RunningAt, ScriptsAt, WaysAt, book_in}
+use Rattle.qs_every_run.specs.Joined.{ChannelsAt, ClientsAt, FactsAt, HeldAt, HomesAt, HomesHave, HoldsRunning, Joined, RunningAt, ScriptsAt, WaysAt, book_in}
 use Rattle.qs_every_run.specs.JoinedOwed.{Owed}
 use Rattle.qs_every_run.proofs.JoinedFacts.{steps_facts}
 use Rattle.qs_every_run.proofs.JoinedHeld as held_proofs
 use Rattle.qs_every_run.proofs.JoinedHomes.{homes_after}
 use Rattle.qs_every_run.proofs.JoinedParts.{book_on, channels_later, lawful_on}
+use Rattle.qs_every_run.proofs.ClientsGo.{clients_then, scripts_then}
 use Rattle.qs_every_run.proofs.JoinedSteps.{step_at, step_entries, step_journal, step_lawful, step_low, step_up}
 
 -- what is known of a world that a move leads to
@@ -53,6 +56,7 @@ pub record Known (o : Opening) (world new : World) : Type 0 where
   pub homes : HomesAt o new
   pub channels : ChannelsAt o new
   pub ways : WaysAt o new
+  pub clients : ClientsAt new
   pub scripts : ScriptsAt o new
 
 module _ (P : Opening → World → Type 0) (owed : Owed P) (o : Opening) (world : World) (j : Joined P o world) where
@@ -71,6 +75,7 @@ module _ (P : Opening → World → Type 0) (owed : Owed P) (o : Opening) (world
     homes = k.homes;
     channels = k.channels;
     ways = k.ways;
+    clients = k.clients;
     scripts = k.scripts;
     places = places;
   }
@@ -158,7 +163,8 @@ module _ (P : Opening → World → Type 0) (owed : Owed P) (o : Opening) (world
       channels = subst (λ (b : BookValue). HoldsChannels b new.size new.channels) (sym (book_on o world new entries journal))
           (subst (λ (w : World). HoldsChannels (book_after book entries) w.size w.channels) (sym (ap (step_with world n stamp free source) makes.comes)) (held_proofs.channels_then P owed o world j n stamp free source event makes));
       ways = owed.steps_ways o world step tt j may lawful_then;
-      scripts = owed.steps_scripts o world step tt j may lawful_then;
+      clients = clients_then P o world j n stamp free source event makes;
+      scripts = subst (λ (b : BookValue). HoldsScripts o b new) (sym (book_on o world new entries journal)) (scripts_then P o world j n stamp free source event makes);
     }) (owed.places o world step tt j may lawful_then)
 
   -- ---- a crash, whatever it leaves in the log
@@ -200,6 +206,10 @@ module _ (P : Opening → World → Type 0) (owed : Owed P) (o : Opening) (world
             other : (a b : ℕ) → (a == b) ≡ false → a ≡ b → ⊥
             other a b off same = let here : (a == b) ≡ true = grind (arith, nat_tests, same) in let both : true ≡ false = sym here ∙ off in cc (both)
 
+    still : (b : Bool) (client : Client) → (if b then record client { is_handed = false } else client).at ≡ client.at
+    still true client = refl
+    still false client = refl
+
     known : Known o world after
     known = record {
       size = refl;
@@ -210,6 +220,8 @@ module _ (P : Opening → World → Type 0) (owed : Owed P) (o : Opening) (world
       homes = crash_homes;
       channels = channels_later o world after (entry ∷ []) j.opens refl crash_lawful world.size after.channels (channels_moved book world.size (channel.Crash n) world.channels tt j.channels);
       ways = subst (λ (b : BookValue). HoldsWays b after) (sym (book_on o world after (entry ∷ []) refl)) (crash_ways book world n stamp cause log j.ways);
+      clients = λ k low client command there. let i = j.clients k low client command (subst (λ (m : NodeValue). lookup (is_at (client_cmp client)) m.commands ≡ Some command) (node_stopped world n stamp cause log k) there) in
+          record { small = i.small; at = still ((world.clients client.0).at == n) (world.clients client.0) ∙ i.at };
       scripts = subst (λ (b : BookValue). HoldsScripts o b after) (sym (book_on o world after (entry ∷ []) refl)) (crash_scripts o book world n stamp cause log j.scripts);
     }
 

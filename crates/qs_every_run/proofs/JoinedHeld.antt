@@ -8,7 +8,7 @@ use Rattle.qs_journal.specs.declared.entry.Act.{Act}
 use Rattle.qs_journal.specs.declared.entry.Entry.{Entry}
 use Rattle.qs_laws.proofs.InRun.{ran_run}
 use Rattle.qs_laws.proofs.Steps.{after_both}
-use Rattle.qs_machine.specs.Book.{BookValue, inc_at}
+use Rattle.qs_machine.specs.Book.{BookValue}
 use Rattle.qs_machine.specs.Lawful.{IsLawful, book_after}
 use Rattle.qs_machine.specs.Nodes as machine
 use Rattle.qs_packet.specs.declared.message.Message.{Message}
@@ -50,7 +50,7 @@ use Rattle.qs_lawful.proofs.StopsWhole.{back_by, next_by}
 use Rattle.qs_every_run.specs.Agrees.{MakesStep}
 use Rattle.qs_every_run.specs.Joined.{HoldsRunning, Joined, book_in}
 use Rattle.qs_every_run.specs.JoinedOwed.{HasOwner, Owed, book_then, entries_in}
-use Rattle.qs_every_run.proofs.JoinedActs.{no_restart}
+use Rattle.qs_every_run.proofs.ClientsGo.{answers_aside, begins_owned, of_steps}
 use Rattle.qs_every_run.proofs.JoinedParts.{lawful_both}
 use Rattle.qs_every_run.proofs.JoinedSteps.{step_holds, step_lawful, step_low, step_up}
 
@@ -199,15 +199,8 @@ module _ (P : Opening → World → Type 0) (owed : Owed P) (o : Opening) (world
 
   -- ---- the others
 
-  of_steps : Every IsOfStep (effects_of node event free).entries
-  of_steps = no_restart n stamp (effects_of node event free).entries old lawful (inc_of_node now held.state (subst (λ (k : ℕ). slice_get now.nodes k ≡ Some held.state) node_is held.there)
-      ∙ (held.same.inc ∙ (ap (λ (s : Setting). s.inc) setting_is ∙ (j.shown.steady.seated.inc n low ∙ (sym at.inc_is ∙ sym (inc_of_node old at.state at.there))))))
-    where
-      inc_of_node : (b : BookValue) (state : machine.NodeValue) → slice_get b.nodes n ≡ Some state → inc_at b (record { 0 = n }) ≡ state.inc
-      inc_of_node b state there = ap (λ (o : Option machine.NodeValue). elim o [ None ↦ 0 | Some s ↦ s.inc ]) there
-
   asides : (k : ℕ) → (k == n) ≡ false → k < world.size → Every (IsAside k (world.hosts k).node) entries
-  asides k far k_low = all_aside k n stamp (world.hosts k).node (effects_of node event free).entries far (both_of IsOfStep (AnswersElsewhere (world.hosts k).node) (effects_of node event free).entries of_steps (owed.steps_answers o world n stamp free source event j makes lawful k far k_low))
+  asides k far k_low = all_aside k n stamp (world.hosts k).node (effects_of node event free).entries far (both_of IsOfStep (AnswersElsewhere (world.hosts k).node) (effects_of node event free).entries (of_steps P o world j n stamp free source event makes) (answers_aside P o world j n stamp free source event makes k far k_low))
 
   other : (k : ℕ) → (k == n) ≡ false → k < world.size → HoldsNodeOf now world.size k (inc_of world k) (world.channels.up k) (world.hosts k)
   other k far k_low = subst (λ (b : BookValue). HoldsNodeOf b world.size k (inc_of world k) (world.channels.up k) (world.hosts k)) (after_both world.journal entries (book_of o))
@@ -226,7 +219,7 @@ module _ (P : Opening → World → Type 0) (owed : Owed P) (o : Opening) (world
     beside = subst (λ (b : BookValue). HoldsBeside b (world.hosts k).node) (after_both world.journal entries (book_of o))
         (keeps_others_beside (opened_from o 0 o.size) world.journal entries (opens_soundly o j.opens) (opened_numbered o 0 o.size) whole (world.hosts k).node
         (subst (λ (i : ℕ). Every (IsAside i (world.hosts k).node) entries) (sym its.node) (asides k far k_low))
-        (all_entries (HasOwner old) n stamp (effects_of node event free).entries (owed.steps_owned o world n stamp free source event j makes lawful))
+        (all_entries (HasOwner old) n stamp (effects_of node event free).entries (begins_owned P o world j n stamp free source event makes))
         (λ state there. runs_at old world k its on state (subst (λ (i : ℕ). slice_get old.nodes i ≡ Some state) its.node there)) (j.running k k_low on).beside);
     numbered = (j.running k k_low on).numbered;
     young = (j.running k k_low on).young;

@@ -1,14 +1,16 @@
 -- All that stands together of a world stands after each move.
-use Rattle.std.proofs.Common.{◌≡◌, ℕ, ◌<◌, ◌≤◌, ◌==◌, ◌&&◌, not, Bool, true, false, [], ◌∷◌, Option, Some, None, refl, sym, ap, subst, arith, nat_lt, nat_le, if◌then◌else◌}
+use Rattle.std.proofs.Common.{◌≡◌, ℕ, ◌<◌, ◌≤◌, ◌==◌, ◌&&◌, not, Bool, true, false, [], ◌∷◌, Option, Some, None, refl, sym, ap, subst, ◌∙◌, arith, nat_lt, nat_le, if◌then◌else◌}
 use Rattle.std.proofs.lemmas.Bool.{eqb-true}
 use Rattle.std.proofs.lemmas.Bool.Decides.{nat_tests}
+use Rattle.std.specs.BTreeMap.{is_at}
+use Rattle.std.specs.Map.{lookup}
 use Rattle.qs_channels.specs.Channels as channel
 use Rattle.qs_journal.specs.declared.entry.Act.TheVariants as acts
 use Rattle.qs_machine.specs.Book.{BookValue}
 use Rattle.qs_machine.specs.Lawful.{IsLawful, book_after}
 use Rattle.qs_restart.specs.Recovery.{recovery}
 use Rattle.qs_step.specs.Opening.{recovered_of}
-use Rattle.qs_step.specs.State.{NodeValue}
+use Rattle.qs_step.specs.State.{NodeValue, client_cmp}
 use Rattle.qs_step.specs.Step.{effects_of}
 use Rattle.qs_step.specs.declared.event.Event.{Event}
 use Rattle.qs_world.specs.Histories.{book_of, opened_from}
@@ -34,7 +36,7 @@ use Rattle.qs_lawful.proofs.ScriptsLike.{meet_scripts}
 use Rattle.qs_lawful.proofs.StopsWhole.{by_cut, by_stop}
 use Rattle.qs_lawful.proofs.WaysOn.{rise_ways}
 use Rattle.qs_every_run.specs.Agrees.{nodes_in}
-use Rattle.qs_every_run.specs.Joined.{FactsAt, HeldAt, HomesAt, HomesHave, HoldsRunning, Joined, RunningAt, book_in}
+use Rattle.qs_every_run.specs.Joined.{ClientsAt, FactsAt, HeldAt, HomesAt, HomesHave, HoldsRunning, IsOwnClient, Joined, RunningAt, book_in}
 use Rattle.qs_every_run.specs.JoinedOwed.{EachCutUnanimous, IsBetweenSteps, Keeps, Owed}
 use Rattle.qs_every_run.specs.JoinedRuns.{EachMoveJoined}
 use Rattle.qs_every_run.proofs.JoinedFacts.{rises_facts}
@@ -116,6 +118,14 @@ module _ (P : Opening → World → Type 0) (between : Keeps P IsBetweenSteps P)
         (homes_after book world.size (nodes_in world) (nodes_in risen_world) n stamp (acts.Restart inc (found_votes (recovery (world.hosts n).log)) (recovery (world.hosts n).log).committed ∷ []) (j.held.nodes n n_low).node (rise_held.nodes n n_low).node rise_same
         rises.lawful (subst (λ (b : BookValue). HoldsBeside b (risen_world.hosts n).node) rise_book (rise_running n n_low rise_up).beside) j.homes)
 
+    -- it has nothing in hand
+    rise_clients : ClientsAt risen_world
+    rise_clients k low client command there = by (k == n) refl
+      where
+        by : (b : Bool) → (k == n) ≡ b → IsOwnClient risen_world k client
+        by true near = absurd (cc (subst (λ (m : NodeValue). lookup (is_at (client_cmp client)) m.commands ≡ Some command) (ap (λ (i : ℕ). (risen_world.hosts i).node) (eqb-true k n near) ∙ rise_own) there))
+        by false far = let i = j.clients k low client command (subst (λ (m : NodeValue). lookup (is_at (client_cmp client)) m.commands ≡ Some command) (rise_same k far) there) in record { small = i.small; at = i.at }
+
     pub rise_joined : Joined P o risen_world
     rise_joined = then_joined P owed o world j (Rise n stamp inc) may (record {
       size = refl;
@@ -127,6 +137,7 @@ module _ (P : Opening → World → Type 0) (between : Keeps P IsBetweenSteps P)
       channels = channels_later o world risen_world (rise_entry world n stamp inc ∷ []) j.opens refl rise_lawful world.size risen_world.channels
           (channels_moved book world.size (channel.Restart n inc) world.channels (let later : nat_lt (world.channels.inc n) inc ≡ true = tests.1 in grind (arith, nat_tests, later)) j.channels);
       ways = subst (λ (b : BookValue). HoldsWays b risen_world) (sym rise_book) (rise_ways book world n stamp inc lasts j.held (seated_sound world j.shown.steady.seated) may j.ways);
+      clients = rise_clients;
       scripts = subst (λ (b : BookValue). HoldsScripts o b risen_world) (sym rise_book) (rise_scripts o book world n stamp inc lasts j.held may j.scripts);
     }) (between o world (Rise n stamp inc) tt j may rise_lawful)
 
@@ -162,6 +173,7 @@ module _ (P : Opening → World → Type 0) (between : Keeps P IsBetweenSteps P)
       homes = met_homes;
       channels = channels_moved book world.size (channel.Meet n m inc) world.channels known_inc j.channels;
       ways = meet_ways book world n stamp m inc j.channels (seated_sound world j.shown.steady.seated) may j.ways;
+      clients = λ k low client command there. let i = j.clients k low client command (subst (λ (m : NodeValue). lookup (is_at (client_cmp client)) m.commands ≡ Some command) (met_node k) there) in record { small = i.small; at = i.at };
       scripts = meet_scripts o book world n stamp m inc j.scripts;
     }) (between o world (Meet n stamp m inc) tt j may j.lawful)
 

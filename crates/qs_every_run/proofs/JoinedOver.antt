@@ -28,6 +28,7 @@ each_opens_joined P places owed o opens = record {
       own_has (book_of o) ((start o).hosts tid.home.0).node tid.home.0 ((world_held o opens).nodes tid.home.0 low).node (owed.opens_running o opens tid.home.0 low refl).beside tid tx found committed (itself tid.home.0);
   channels = record { posted = λ n m i j. tt; waits = λ n m. tt; known = λ n m. least ((start o).channels.inc m) };
   ways = opens_ways o opens;
+  clients = λ n low client command there. absurd (cc there);
   scripts = opens_scripts o opens;
   places = places o opens;
 }

@@ -33,7 +33,7 @@ use Rattle.qs_refine.specs.Begun.{has_begun}
 use Rattle.qs_refine.specs.CutLaws.{CutsOff}
 use Rattle.qs_refine.specs.EachMove.{ShowsAll}
 use Rattle.qs_lawful.specs.Agreed.{IsSettledAll, StepAgrees}
-use Rattle.qs_lawful.specs.Aside.{AnswersElsewhere, KeepsUnanimous}
+use Rattle.qs_lawful.specs.Aside.{KeepsUnanimous}
 use Rattle.qs_lawful.specs.Amid.{IsSent}
 use Rattle.qs_lawful.specs.Entering.{book_at}
 use Rattle.qs_lawful.specs.Given.{AtEach}
@@ -43,7 +43,7 @@ use Rattle.qs_lawful.specs.Said.{HoldsSaid}
 use Rattle.qs_lawful.specs.WorldLaws.{StopsWell, rise_entry}
 use Rattle.qs_lawful.specs.Worlds.{HoldsKept}
 use Rattle.qs_every_run.specs.Agrees.{MakesStep, nodes_in}
-use Rattle.qs_every_run.specs.Joined.{HoldsRunning, Joined, RunningAt, ScriptsAt, WaysAt, book_in}
+use Rattle.qs_every_run.specs.Joined.{HoldsRunning, Joined, RunningAt, WaysAt, book_in}
 
 -- ---- as a run begins
 
@@ -111,16 +111,9 @@ SaidThen o world n stamp free event = (state : machine.NodeValue) → slice_get 
     → HoldsSaid n (book_then o world n stamp free event) state (recovery (log_after (world.hosts n) (effects_of (world.hosts n).node event free) ++ waiting_after (world.hosts n) (effects_of (world.hosts n).node event free)))
     × HoldsSaid n (book_then o world n stamp free event) state (recovery (log_after (world.hosts n) (effects_of (world.hosts n).node event free)))
 
--- it answers no client that has a command in hand at another node
-abbrev pub AnswersAside : Opening → World → ℕ → ℕ → ℕ → Event → Type 0
-AnswersAside o world n stamp free event = (k : ℕ) → (k == n) ≡ false → k < world.size → Every (AnswersElsewhere (world.hosts k).node) (effects_of (world.hosts n).node event free).entries
-
 -- what begins has an owner
 abbrev pub HasOwner : BookValue → Act → Type 0
 HasOwner book act = (tid : Tid) (label : List ℕ) (client : ClientNo) → act ≡ acts.Begin tid label client → is_some (slice_get book.owners client.0) ≡ true
-
-abbrev pub BeginsOwned : Opening → World → ℕ → ℕ → ℕ → Event → Type 0
-BeginsOwned o world n stamp free event = Every (HasOwner (book_in o world)) (effects_of (world.hosts n).node event free).entries
 
 -- what is said of its own node
 abbrev pub RunningThen : Opening → World → ℕ → ℕ → ℕ → Event → Type 0
@@ -168,13 +161,10 @@ pub record Owed (P : Opening → World → Type 0) : Type 0 where
   -- after a whole step
   pub steps_kept : AfterStep P KeptThen
   pub steps_said : AfterStep P SaidThen
-  pub steps_answers : AfterStep P AnswersAside
   pub steps_unanimous : AfterStep P StaysUnanimousThen
-  pub steps_owned : AfterStep P BeginsOwned
   pub steps_running : AfterStep P RunningThen
   pub steps_sent : AfterStep P SentThen
   pub steps_ways : Keeps P IsStep WaysAt
-  pub steps_scripts : Keeps P IsStep ScriptsAt
   -- what all places hold of each transaction
   pub places : Keeps P IsStep P
   -- after a crash

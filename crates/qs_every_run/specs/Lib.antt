@@ -3,8 +3,11 @@ pub mod PlacedLaws
 pub mod StopLaws
 pub mod Agrees
 pub mod Joined
+pub mod Traces
+pub mod Answering
 pub mod JoinedOwed
 pub mod JoinedPlaces
+pub mod ClientLaws
 pub mod JoinedRuns
 pub mod RiseLaws
 pub mod PlacesLaws

@@ -1,4 +1,5 @@
 //! Every run of the world of nodes is lawful, as far as it is owed.
+ghost use Rattle.qs_every_run.specs.ClientLaws.{AnswersAside, BeginsOwned, InStep, KeepsClients, KeepsScripts};
 ghost use Rattle.qs_every_run.specs.JoinedPlaces.{PlacesAt};
 ghost use Rattle.qs_every_run.specs.PlacesLaws.{KeepsPlaces, OpensPlaces};
 ghost use Rattle.qs_every_run.specs.JoinedRuns.{EachMoveJoined, EachOpensJoined, EachRunJoined, EachRunLawful};
@@ -23,4 +24,13 @@ pub fn restart_leaves_what_stands_beside()
 pub fn places_go_on()
     ensures opens { OpensPlaces }
     ensures keeps { KeepsPlaces }
+{}
+
+/// A step of a node and its clients: each transaction that begins has an owner, no client is answered that has a command in hand at another node,
+/// what is in hand is of clients of the node, and the machine has the scripts of all clients after it.
+pub fn steps_keep_scripts()
+    ensures owned { InStep PlacesAt BeginsOwned }
+    ensures aside { InStep PlacesAt AnswersAside }
+    ensures clients { InStep PlacesAt KeepsClients }
+    ensures scripts { InStep PlacesAt KeepsScripts }
 {}
