@@ -38,7 +38,7 @@ use Rattle.qs_lawful.proofs.ScriptsLike.{crash_scripts}
 use Rattle.qs_lawful.proofs.WaysOn.{crash_ways}
 use Rattle.qs_every_run.specs.Agrees.{MakesStep, nodes_in}
 use Rattle.qs_every_run.specs.Joined.{ChannelsAt, ClientsAt, FactsAt, HeldAt, HomesAt, HomesHave, HoldsRunning, Joined, RunningAt, ScriptsAt, WaysAt, book_in}
-use Rattle.qs_every_run.specs.JoinedOwed.{Owed}
+use Rattle.qs_every_run.specs.JoinedOwed.{AfterStep, Owed, StaysUnanimousThen}
 use Rattle.qs_every_run.proofs.JoinedFacts.{steps_facts}
 use Rattle.qs_every_run.proofs.JoinedHeld as held_proofs
 use Rattle.qs_every_run.proofs.JoinedHomes.{homes_after}
@@ -59,7 +59,7 @@ pub record Known (o : Opening) (world new : World) : Type 0 where
   pub clients : ClientsAt new
   pub scripts : ScriptsAt o new
 
-module _ (P : Opening → World → Type 0) (owed : Owed P) (o : Opening) (world : World) (j : Joined P o world) where
+module _ (P : Opening → World → Type 0) (owed : Owed P) (unanimous : AfterStep P StaysUnanimousThen) (o : Opening) (world : World) (j : Joined P o world) where
   abbrev book : BookValue
   book = book_in o world
 
@@ -122,16 +122,16 @@ module _ (P : Opening → World → Type 0) (owed : Owed P) (o : Opening) (world
 
     held_then : HeldAt o new
     held_then = subst (λ (b : BookValue). HoldsWorld b new) (sym (book_on o world new entries journal))
-        (subst (λ (w : World). HoldsWorld (book_after book entries) w) (sym (ap (step_with world n stamp free source) makes.comes)) (held_proofs.held_then P owed o world j n stamp free source event makes))
+        (subst (λ (w : World). HoldsWorld (book_after book entries) w) (sym (ap (step_with world n stamp free source) makes.comes)) (held_proofs.held_then P owed unanimous o world j n stamp free source event makes))
 
     runs_then : RunningAt o new
     runs_then k low on = subst (λ (b : BookValue). HoldsRunning b (new.hosts k).node) (sym (book_on o world new entries journal)) (by (k == n) refl)
       where
         by : (b : Bool) → (k == n) ≡ b → HoldsRunning (book_after book entries) (new.hosts k).node
         by true near = subst (λ (i : ℕ). HoldsRunning (book_after book entries) (new.hosts i).node) (sym (eqb-true k n near))
-            (subst (λ (m : NodeValue). HoldsRunning (book_after book entries) m) (sym own_then) (held_proofs.own_running P owed o world j n stamp free source event makes))
+            (subst (λ (m : NodeValue). HoldsRunning (book_after book entries) m) (sym own_then) (held_proofs.own_running P owed unanimous o world j n stamp free source event makes))
         by false far = subst (λ (m : NodeValue). HoldsRunning (book_after book entries) m) (sym (same k far))
-            (held_proofs.other_running P owed o world j n stamp free source event makes k far (subst (λ (s : ℕ). k < s) sized low) (sym (ap (λ (f : ℕ → Bool). f k) ups) ∙ on))
+            (held_proofs.other_running P owed unanimous o world j n stamp free source event makes k far (subst (λ (s : ℕ). k < s) sized low) (sym (ap (λ (f : ℕ → Bool). f k) ups) ∙ on))
 
     low_then : n < new.size
     low_then = subst (λ (s : ℕ). n < s) (sym sized) (step_low P owed o world j n stamp free source event makes)
@@ -161,7 +161,7 @@ module _ (P : Opening → World → Type 0) (owed : Owed P) (o : Opening) (world
       running = runs_then;
       homes = homes_then;
       channels = subst (λ (b : BookValue). HoldsChannels b new.size new.channels) (sym (book_on o world new entries journal))
-          (subst (λ (w : World). HoldsChannels (book_after book entries) w.size w.channels) (sym (ap (step_with world n stamp free source) makes.comes)) (held_proofs.channels_then P owed o world j n stamp free source event makes));
+          (subst (λ (w : World). HoldsChannels (book_after book entries) w.size w.channels) (sym (ap (step_with world n stamp free source) makes.comes)) (held_proofs.channels_then P owed unanimous o world j n stamp free source event makes));
       ways = owed.steps_ways o world step tt j may lawful_then;
       clients = clients_then P o world j n stamp free source event makes;
       scripts = subst (λ (b : BookValue). HoldsScripts o b new) (sym (book_on o world new entries journal)) (scripts_then P o world j n stamp free source event makes);

@@ -13,6 +13,7 @@ use Rattle.qs_machine.specs.Lawful.{IsLawful, book_after}
 use Rattle.qs_machine.specs.Nodes as machine
 use Rattle.qs_packet.specs.declared.message.Message.{Message}
 use Rattle.qs_packet.specs.declared.message.Message.TheVariants as messages
+use Rattle.qs_restart.specs.Recovery.{recovery}
 use Rattle.qs_step.specs.State.{NodeValue}
 use Rattle.qs_step.specs.Step.{after_step, effects_of}
 use Rattle.qs_step.specs.declared.event.Event.{Event}
@@ -28,7 +29,7 @@ use Rattle.qs_refine.proofs.Moving.{inc_taken, up_taken}
 use Rattle.qs_refine.proofs.Posted.{inc_all, up_all}
 use Rattle.qs_refine.proofs.SteadyFrom.{steady_gives}
 use Rattle.qs_lawful.specs.Amid.{InRun, IsSent}
-use Rattle.qs_lawful.specs.Aside.{AnswersElsewhere, IsAside, IsOfStep}
+use Rattle.qs_lawful.specs.Aside.{AnswersElsewhere, IsAside, IsOfStep, StaysUnanimous}
 use Rattle.qs_lawful.specs.Beside.{HoldsBeside}
 use Rattle.qs_lawful.specs.Holds.{Holds, is_next}
 use Rattle.qs_lawful.specs.Logged.{HoldsHost, IsTrueEvent}
@@ -49,7 +50,7 @@ use Rattle.qs_lawful.proofs.SameSettings.{step_same}
 use Rattle.qs_lawful.proofs.StopsWhole.{back_by, next_by}
 use Rattle.qs_every_run.specs.Agrees.{MakesStep}
 use Rattle.qs_every_run.specs.Joined.{HoldsRunning, Joined, book_in}
-use Rattle.qs_every_run.specs.JoinedOwed.{HasOwner, Owed, book_then, entries_in}
+use Rattle.qs_every_run.specs.JoinedOwed.{AfterStep, HasOwner, Owed, StaysUnanimousThen, book_then, entries_in}
 use Rattle.qs_every_run.proofs.ClientsGo.{answers_aside, begins_owned, of_steps}
 use Rattle.qs_every_run.proofs.JoinedParts.{lawful_both}
 use Rattle.qs_every_run.proofs.JoinedSteps.{step_holds, step_lawful, step_low, step_up}
@@ -92,7 +93,7 @@ holds_next stamp s book node h next = record {
   waits = h.waits;
 }
 
-module _ (P : Opening → World → Type 0) (owed : Owed P) (o : Opening) (world : World) (j : Joined P o world) (n stamp free : ℕ) (source : Source) (event : Event) (makes : MakesStep world n stamp source event) where
+module _ (P : Opening → World → Type 0) (owed : Owed P) (unanimous : AfterStep P StaysUnanimousThen) (o : Opening) (world : World) (j : Joined P o world) (n stamp free : ℕ) (source : Source) (event : Event) (makes : MakesStep world n stamp source event) where
   abbrev node : NodeValue
   node = (world.hosts n).node
 
@@ -206,7 +207,7 @@ module _ (P : Opening → World → Type 0) (owed : Owed P) (o : Opening) (world
   other k far k_low = subst (λ (b : BookValue). HoldsNodeOf b world.size k (inc_of world k) (world.channels.up k) (world.hosts k)) (after_both world.journal entries (book_of o))
       (keeps_others (opened_from o 0 o.size) world.journal entries (opens_soundly o j.opens) (opened_numbered o 0 o.size) whole world.size k (inc_of world k) (world.channels.up k) (world.hosts k)
       (asides k far k_low)
-      (λ off. owed.steps_unanimous o world n stamp free source event j makes lawful k far k_low off)
+      (λ off. subst (λ (b : BookValue). StaysUnanimous k (recovery (world.hosts k).log) old b) (sym (after_both world.journal entries (book_of o))) (unanimous o world n stamp free source event j makes lawful k far k_low off))
       (record { node = j.held.nodes k k_low; issued = λ on. issued_held old (world.hosts k).node (j.running k k_low on).beside })).node
 
   -- what is said of those that run

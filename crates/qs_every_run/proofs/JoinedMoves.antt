@@ -37,15 +37,16 @@ use Rattle.qs_lawful.proofs.StopsWhole.{by_cut, by_stop}
 use Rattle.qs_lawful.proofs.WaysOn.{rise_ways}
 use Rattle.qs_every_run.specs.Agrees.{nodes_in}
 use Rattle.qs_every_run.specs.Joined.{ClientsAt, FactsAt, HeldAt, HomesAt, HomesHave, HoldsRunning, IsOwnClient, Joined, RunningAt, book_in}
-use Rattle.qs_every_run.specs.JoinedOwed.{EachCutUnanimous, IsBetweenSteps, Keeps, Owed}
+use Rattle.qs_every_run.specs.JoinedOwed.{AfterStep, IsBetweenSteps, Keeps, Owed, StaysUnanimousThen}
 use Rattle.qs_every_run.specs.JoinedRuns.{EachMoveJoined}
+use Rattle.qs_every_run.specs.PlacesLaws.{GoesOn}
 use Rattle.qs_every_run.proofs.JoinedFacts.{rises_facts}
 use Rattle.qs_every_run.proofs.JoinedHomes.{homes_after}
 use Rattle.qs_every_run.proofs.JoinedParts.{book_on, channels_later, lawful_on, seated_sound}
 use Rattle.qs_every_run.proofs.RisesBeside.{rise_keeps_beside}
 use Rattle.qs_every_run.proofs.JoinedAfter.{crash_joined, step_joined, then_joined}
 
-module _ (P : Opening → World → Type 0) (between : Keeps P IsBetweenSteps P) (owed : Owed P) (o : Opening) (world : World) (j : Joined P o world) where
+module _ (P : Opening → World → Type 0) (between : Keeps P IsBetweenSteps P) (owed : Owed P) (unanimous : AfterStep P StaysUnanimousThen) (o : Opening) (world : World) (j : Joined P o world) where
   abbrev book : BookValue
   book = book_in o world
 
@@ -127,7 +128,7 @@ module _ (P : Opening → World → Type 0) (between : Keeps P IsBetweenSteps P)
         by false far = let i = j.clients k low client command (subst (λ (m : NodeValue). lookup (is_at (client_cmp client)) m.commands ≡ Some command) (rise_same k far) there) in record { small = i.small; at = i.at }
 
     pub rise_joined : Joined P o risen_world
-    rise_joined = then_joined P owed o world j (Rise n stamp inc) may (record {
+    rise_joined = then_joined P owed unanimous o world j (Rise n stamp inc) may (record {
       size = refl;
       lawful = rise_lawful;
       held = rise_held;
@@ -164,7 +165,7 @@ module _ (P : Opening → World → Type 0) (between : Keeps P IsBetweenSteps P)
     known_inc = let low : nat_le inc (world.channels.inc m) ≡ true = (and_both (nat_le inc (world.channels.inc m)) _ (and_both (nat_lt 0 inc) _ (and_both (known_of world n m == 0) _ (and_both (not (m == n) && nat_lt m world.size) _ (and_both (is_later world n stamp) _ (and_both (world.channels.up n) _ may).1).1).1).1).1).0 in grind (arith, nat_tests, low)
 
     pub meet_joined : Joined P o met_world
-    meet_joined = then_joined P owed o world j (Meet n stamp m inc) may (record {
+    meet_joined = then_joined P owed unanimous o world j (Meet n stamp m inc) may (record {
       size = refl;
       lawful = j.lawful;
       held = meets book world n stamp m inc j.held may;
@@ -184,16 +185,16 @@ module _ (P : Opening → World → Type 0) (between : Keeps P IsBetweenSteps P)
     where
       by : (e : Option Event) → event_of world n stamp source ≡ e → Joined P o (moved (Step n stamp free source) world)
       by None none = subst (λ (e : Option Event). Joined P o (step_with world n stamp free source e)) (sym none) j
-      by (Some event) comes = step_joined P owed o world j n stamp free source event (record { may = may; comes = comes }) may
+      by (Some event) comes = step_joined P owed unanimous o world j n stamp free source event (record { may = may; comes = comes }) may
   move_joined (Cut n stamp free source is_kept cause) may = by (event_of world n stamp source) refl is_kept may
     where
       by : (e : Option Event) → event_of world n stamp source ≡ e → (b : Bool) → may_move world (Cut n stamp free source b cause) ≡ true → Joined P o (moved (Cut n stamp free source b cause) world)
       by None none b may_b = subst (λ (e : Option Event). Joined P o (cut_with world n stamp free b cause e)) (sym none) j
-      by (Some event) comes true may_b = crash_joined P owed o world j n stamp cause (cut_log (world.hosts n) true (effects_of (world.hosts n).node event free)) (Cut n stamp free source true cause) may_b (ap (cut_with world n stamp free true cause) comes) (owed.keeps_its_batch o world n stamp free source cause j may_b) (between o world (Cut n stamp free source true cause) tt j may_b)
-      by (Some event) comes false may_b = crash_joined P owed o world j n stamp cause (cut_log (world.hosts n) false (effects_of (world.hosts n).node event free)) (Cut n stamp free source false cause) may_b (ap (cut_with world n stamp free false cause) comes) (by_cut book world n stamp free source cause lasts j.held may_b) (between o world (Cut n stamp free source false cause) tt j may_b)
-  move_joined (Stop n stamp cause) may = crash_joined P owed o world j n stamp cause (world.hosts n).log (Stop n stamp cause) may refl (by_stop book world n stamp cause lasts j.held may) (between o world (Stop n stamp cause) tt j may)
+      by (Some event) comes true may_b = crash_joined P owed unanimous o world j n stamp cause (cut_log (world.hosts n) true (effects_of (world.hosts n).node event free)) (Cut n stamp free source true cause) may_b (ap (cut_with world n stamp free true cause) comes) (owed.keeps_its_batch o world n stamp free source cause j may_b) (between o world (Cut n stamp free source true cause) tt j may_b)
+      by (Some event) comes false may_b = crash_joined P owed unanimous o world j n stamp cause (cut_log (world.hosts n) false (effects_of (world.hosts n).node event free)) (Cut n stamp free source false cause) may_b (ap (cut_with world n stamp free false cause) comes) (by_cut book world n stamp free source cause lasts j.held may_b) (between o world (Cut n stamp free source false cause) tt j may_b)
+  move_joined (Stop n stamp cause) may = crash_joined P owed unanimous o world j n stamp cause (world.hosts n).log (Stop n stamp cause) may refl (by_stop book world n stamp cause lasts j.held may) (between o world (Stop n stamp cause) tt j may)
   move_joined (Rise n stamp inc) may = rise_joined n stamp inc may
   move_joined (Meet n stamp m inc) may = meet_joined n stamp m inc may
 
-pub each_move_joined : (P : Opening → World → Type 0) → (EachCutUnanimous P → Keeps P IsBetweenSteps P) → EachMoveJoined P
-each_move_joined P between owed o world move j may = move_joined P (between owed.cuts_unanimous) owed o world j move may
+pub each_move_joined : (P : Opening → World → Type 0) → GoesOn P → EachMoveJoined P
+each_move_joined P goes owed o world move j may = move_joined P (goes.between owed.cuts_unanimous) owed (goes.unanimous owed) o world j move may

@@ -9,14 +9,15 @@ use Rattle.qs_refine.proofs.EveryRunShown.{every_run_shown}
 use Rattle.qs_lawful.proofs.OpenedScripts.{opens_scripts, opens_ways}
 use Rattle.qs_lawful.proofs.OpenedWorld.{world_held}
 use Rattle.qs_every_run.specs.Joined.{Joined}
-use Rattle.qs_every_run.specs.JoinedOwed.{EachCutUnanimous, IsBetweenSteps, Keeps, Opens, Owed}
+use Rattle.qs_every_run.specs.JoinedOwed.{Owed}
 use Rattle.qs_every_run.specs.JoinedRuns.{EachOpensJoined, EachRunJoined, EachRunLawful}
+use Rattle.qs_every_run.specs.PlacesLaws.{GoesOn}
 use Rattle.qs_every_run.proofs.JoinedFacts.{opens_facts}
 use Rattle.qs_every_run.proofs.JoinedHomes.{own_has}
 use Rattle.qs_every_run.proofs.JoinedMoves.{each_move_joined}
 
-pub each_opens_joined : (P : Opening → World → Type 0) → Opens P → EachOpensJoined P
-each_opens_joined P places owed o opens = record {
+pub each_opens_joined : (P : Opening → World → Type 0) → GoesOn P → EachOpensJoined P
+each_opens_joined P goes owed o opens = record {
   opens = opens;
   size = refl;
   lawful = tt;
@@ -30,7 +31,7 @@ each_opens_joined P places owed o opens = record {
   ways = opens_ways o opens;
   clients = λ n low client command there. absurd (cc there);
   scripts = opens_scripts o opens;
-  places = places o opens;
+  places = goes.opens o opens;
 }
   where
     itself : (k : ℕ) → (k == k) ≡ true
@@ -39,13 +40,13 @@ each_opens_joined P places owed o opens = record {
     least : (k : ℕ) → 0 ≤ k
     least k = grind (arith)
 
-module _ (P : Opening → World → Type 0) (places : Opens P) (between : EachCutUnanimous P → Keeps P IsBetweenSteps P) where
+module _ (P : Opening → World → Type 0) (goes : GoesOn P) where
   over : Owed P → (o : Opening) (moves : List Move) (old new : World) → Joined P o old → Run old moves new → Joined P o new
   over owed o [] old new j run = subst (λ (w : World). Joined P o w) (sym run) j
-  over owed o (move ∷ moves) old new j run = over owed o moves (moved move old) new (each_move_joined P between owed o old move j run.0) run.1
+  over owed o (move ∷ moves) old new j run = over owed o moves (moved move old) new (each_move_joined P goes owed o old move j run.0) run.1
 
   pub each_run_joined : EachRunJoined P
-  each_run_joined owed o moves new opens run = over owed o moves (start o) new (each_opens_joined P places owed o opens) run
+  each_run_joined owed o moves new opens run = over owed o moves (start o) new (each_opens_joined P goes owed o opens) run
 
   pub each_run_lawful : EachRunLawful P
   each_run_lawful owed o moves new opens run = (each_run_joined owed o moves new opens run).lawful

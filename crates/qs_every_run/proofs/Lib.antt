@@ -43,3 +43,5 @@ pub mod PlacesRise
 pub mod MetFields
 pub mod PlacesMeet
 pub mod PlacesKept
+pub mod StepUnanimous
+pub mod PlacesGo

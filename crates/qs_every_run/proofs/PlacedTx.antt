@@ -87,7 +87,12 @@ placed_in tid tx field p = record { numbers = p.numbers; members = p.members; ea
 
 pub placed_of : (tid : Tid) (tx : TransactionValue) (field : Field) → is_empty tx.refusals ≡ true → is_empty tx.crossed ≡ true → PlacedIn tid field tx.requests tx.parts → Placed tid tx field
 placed_of tid tx field unrefused uncrossed p = record {
-  numbers = p.numbers; members = p.members; requests = each_placed tid field tx.requests p.each; lives = lives_bare tx field p.members p.bare; unrefused = unrefused; uncrossed = uncrossed;
+  numbers = p.numbers;
+  members = p.members;
+  requests = each_placed tid field tx.requests p.each;
+  lives = lives_bare tx field p.members p.bare;
+  unrefused = unrefused;
+  uncrossed = uncrossed;
 }
 
 -- ---- the same nodes, with as much room for requests

@@ -33,7 +33,7 @@ use Rattle.qs_refine.specs.Begun.{has_begun}
 use Rattle.qs_refine.specs.CutLaws.{CutsOff}
 use Rattle.qs_refine.specs.EachMove.{ShowsAll}
 use Rattle.qs_lawful.specs.Agreed.{IsSettledAll, StepAgrees}
-use Rattle.qs_lawful.specs.Aside.{KeepsUnanimous}
+use Rattle.qs_lawful.specs.Aside.{StaysUnanimous}
 use Rattle.qs_lawful.specs.Amid.{IsSent}
 use Rattle.qs_lawful.specs.Entering.{book_at}
 use Rattle.qs_lawful.specs.Given.{AtEach}
@@ -123,9 +123,9 @@ RunningThen o world n stamp free event = HoldsRunning (book_then o world n stamp
 abbrev pub SentThen : Opening → World → ℕ → ℕ → ℕ → Event → Type 0
 SentThen o world n stamp free event = Every (IsSent (book_then o world n stamp free event) (world.hosts n).node.setting) (effects_of (world.hosts n).node event free).messages
 
--- what is unanimous, and open at a home that is down, stays unanimous
+-- what the log of a home that is down has committed, and is open and unanimous, stays unanimous
 abbrev pub StaysUnanimousThen : Opening → World → ℕ → ℕ → ℕ → Event → Type 0
-StaysUnanimousThen o world n stamp free event = (k : ℕ) → (k == n) ≡ false → k < world.size → world.channels.up k ≡ false → KeepsUnanimous k (book_in o world) (entries_in world n stamp free event)
+StaysUnanimousThen o world n stamp free event = (k : ℕ) → (k == n) ≡ false → k < world.size → world.channels.up k ≡ false → StaysUnanimous k (recovery (world.hosts k).log) (book_in o world) (book_then o world n stamp free event)
 
 -- ---- moves whose entries are lawful, by kind
 
@@ -161,7 +161,6 @@ pub record Owed (P : Opening → World → Type 0) : Type 0 where
   -- after a whole step
   pub steps_kept : AfterStep P KeptThen
   pub steps_said : AfterStep P SaidThen
-  pub steps_unanimous : AfterStep P StaysUnanimousThen
   pub steps_running : AfterStep P RunningThen
   pub steps_sent : AfterStep P SentThen
   pub steps_ways : Keeps P IsStep WaysAt

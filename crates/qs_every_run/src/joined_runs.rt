@@ -1,7 +1,7 @@
 //! Every run of the world of nodes is lawful, as far as it is owed.
 ghost use Rattle.qs_every_run.specs.ClientLaws.{AnswersAside, BeginsOwned, InStep, KeepsClients, KeepsScripts};
 ghost use Rattle.qs_every_run.specs.JoinedPlaces.{PlacesAt};
-ghost use Rattle.qs_every_run.specs.PlacesLaws.{KeepsPlaces, OpensPlaces};
+ghost use Rattle.qs_every_run.specs.PlacesLaws.{PlacesGoOn};
 ghost use Rattle.qs_every_run.specs.JoinedRuns.{EachMoveJoined, EachOpensJoined, EachRunJoined, EachRunLawful};
 ghost use Rattle.qs_every_run.specs.RiseLaws.{EachRiseKeepsBeside};
 
@@ -19,11 +19,11 @@ pub fn restart_leaves_what_stands_beside()
     ensures { EachRiseKeepsBeside }
 {}
 
-/// What all places hold of each transaction stands as a run begins, and after a crash, a restart and a first meeting; a step that was cut off
-/// decided nothing that was not unanimous before it.
+/// What all places hold of each transaction stands as a run begins, and after a crash, a restart and a first meeting, if a step that was cut off
+/// decided nothing that was not unanimous before it. And what the log of a home that is down has committed stays unanimous through a step of
+/// another node.
 pub fn places_go_on()
-    ensures opens { OpensPlaces }
-    ensures keeps { KeepsPlaces }
+    ensures { PlacesGoOn }
 {}
 
 /// A step of a node and its clients: each transaction that begins has an owner, no client is answered that has a command in hand at another node,
