@@ -4,27 +4,33 @@ use Rattle.std.specs.BTreeMap.{is_at}
 use Rattle.std.specs.Map.{lookup}
 use Rattle.std.specs.Prelude.{slice_get}
 use Rattle.std.proofs.lemmas.Bool.{eqb-true}
+use Rattle.std.proofs.lemmas.List.Sums.{fold-append}
 use Rattle.std.proofs.lemmas.Bool.Decides.{nat_tests}
 use Rattle.qs_channels.specs.Channels as channel
 use Rattle.qs_journal.specs.declared.entry.Act.TheVariants as acts
 use Rattle.qs_journal.specs.declared.entry.CrashCause.{CrashCause}
 use Rattle.qs_journal.specs.declared.entry.Entry.{Entry}
+use Rattle.qs_base.specs.declared.identifiers.Tid.{Tid}
 use Rattle.qs_machine.specs.Book.{BookValue, find_transaction}
 use Rattle.qs_machine.specs.Lawful.{IsLawful, book_after}
+use Rattle.qs_machine.specs.Restart.{is_among}
+use Rattle.qs_machine.specs.Transaction.{TransactionValue}
 use Rattle.qs_record.specs.declared.record.Record.{Record}
+use Rattle.qs_restart.specs.Recovery.{Recovery, found_record, nothing_said, recovery}
 use Rattle.qs_step.specs.State.{NodeValue, client_cmp}
 use Rattle.qs_step.specs.Step.{after_step, effects_of}
+use Rattle.qs_step.specs.declared.event.Effects.{Effects}
 use Rattle.qs_step.specs.declared.event.Event.{Event}
 use Rattle.qs_world.specs.Histories.{book_of, opened_from}
-use Rattle.qs_world.specs.Moves.{Move, Source, Step, may_move, moved, step_with, stepped_host, stopped, taken_by}
+use Rattle.qs_world.specs.Moves.{Move, Source, Step, log_after, may_move, moved, step_with, stepped_host, stopped, stopped_host, taken_by}
 use Rattle.qs_world.specs.Posting.{entry_of}
-use Rattle.qs_world.specs.World.{Client, Opening, World}
+use Rattle.qs_world.specs.World.{Client, Host, Opening, World}
 use Rattle.qs_refine.proofs.Moving.{up_taken}
 use Rattle.qs_refine.proofs.Posted.{up_all}
 use Rattle.qs_refine.proofs.ShownBegins.{each_begun_shown}
 use Rattle.qs_refine.proofs.ShownMoves.{move_shown}
 use Rattle.qs_refine.proofs.StepAll.{node_stopped}
-use Rattle.qs_lawful.specs.Beside.{HoldsBeside, is_committed_at}
+use Rattle.qs_lawful.specs.Beside.{HasOwner, HoldsBeside, is_committed_at}
 use Rattle.qs_lawful.specs.NodeFacts.{HasNodeFacts}
 use Rattle.qs_lawful.specs.Parcels.{HoldsChannels, HoldsWays}
 use Rattle.qs_lawful.specs.Scripts.{HoldsScripts}
@@ -33,18 +39,28 @@ use Rattle.qs_lawful.specs.Worlds.{HoldsNodeAt, HoldsWorld}
 use Rattle.qs_lawful.proofs.AsideBesides.{keeps_others_beside}
 use Rattle.qs_lawful.proofs.CoherentOpenings.{opens_soundly}
 use Rattle.qs_lawful.proofs.NumberedLogs.{opened_numbered}
+use Rattle.qs_lawful.proofs.OpenedCommits.{stays_among}
 use Rattle.qs_lawful.proofs.ParcelsKept.{channels_moved}
 use Rattle.qs_lawful.proofs.ScriptsLike.{crash_scripts}
 use Rattle.qs_lawful.proofs.WaysOn.{crash_ways}
 use Rattle.qs_every_run.specs.Agrees.{MakesStep, nodes_in}
-use Rattle.qs_every_run.specs.Joined.{ChannelsAt, ClientsAt, FactsAt, HeldAt, HomesAt, HomesHave, HoldsRunning, Joined, RunningAt, ScriptsAt, WaysAt, book_in}
+use Rattle.qs_every_run.specs.Joined.{ChannelsAt, ClientsAt, FactsAt, HeldAt, HomesAt, HomesHave, HoldsRunning, Joined, LoggedAt, OwnersAt, RunningAt, ScriptsAt, WaysAt, book_in}
 use Rattle.qs_every_run.specs.JoinedOwed.{AfterStep, Owed, StaysUnanimousThen}
 use Rattle.qs_every_run.proofs.JoinedFacts.{steps_facts}
 use Rattle.qs_every_run.proofs.JoinedHeld as held_proofs
 use Rattle.qs_every_run.proofs.JoinedHomes.{homes_after}
 use Rattle.qs_every_run.proofs.JoinedParts.{book_on, channels_later, lawful_on}
 use Rattle.qs_every_run.proofs.ClientsGo.{clients_then, scripts_then}
+use Rattle.qs_every_run.proofs.StaysWorlds.{steps_keep_logged}
 use Rattle.qs_every_run.proofs.JoinedSteps.{step_at, step_entries, step_journal, step_lawful, step_low, step_up}
+
+-- what a step appends leaves the Commits that the log had
+pub log_goes_on : (host : Host) (out : Effects) (tid : Tid) → is_among (recovery host.log).committed tid ≡ true → is_among (recovery (log_after host out)).committed tid ≡ true
+log_goes_on host out tid is = by out.force
+  where
+    by : (b : Bool) → is_among (recovery (if b then host.log ++ (host.waiting ++ out.records) else host.log)).committed tid ≡ true
+    by true = ap (λ (said : Recovery). is_among said.committed tid) (fold-append found_record nothing_said host.log (host.waiting ++ out.records)) ∙ stays_among tid (host.waiting ++ out.records) (recovery host.log) is
+    by false = is
 
 -- what is known of a world that a move leads to
 pub record Known (o : Opening) (world new : World) : Type 0 where
@@ -54,6 +70,8 @@ pub record Known (o : Opening) (world new : World) : Type 0 where
   pub facts : FactsAt new
   pub running : RunningAt o new
   pub homes : HomesAt o new
+  pub owners : OwnersAt o new
+  pub logged : LoggedAt new
   pub channels : ChannelsAt o new
   pub ways : WaysAt o new
   pub clients : ClientsAt new
@@ -73,6 +91,8 @@ module _ (P : Opening → World → Type 0) (owed : Owed P) (unanimous : AfterSt
     facts = k.facts;
     running = k.running;
     homes = k.homes;
+    owners = k.owners;
+    logged = k.logged;
     channels = k.channels;
     ways = k.ways;
     clients = k.clients;
@@ -152,6 +172,28 @@ module _ (P : Opening → World → Type 0) (owed : Owed P) (unanimous : AfterSt
         (step_lawful P owed o world j n stamp free source event makes)
         (subst (λ (b : BookValue). HoldsBeside b (new.hosts n).node) (book_on o world new entries journal) (runs_then n low_then runs).beside) j.homes))
 
+    own_log : (new.hosts n).log ≡ log_after (world.hosts n) (effects_of (world.hosts n).node event free)
+    own_log = ap (λ (e : Option Event). ((step_with world n stamp free source e).hosts n).log) makes.comes ∙ picked (n == n) (grind (arith, nat_tests))
+      where
+        picked : (b : Bool) → b ≡ true → (if b then stepped_host stamp (after_step (world.hosts n).node event free) (effects_of (world.hosts n).node event free) (world.hosts n) else world.hosts n).log ≡ log_after (world.hosts n) (effects_of (world.hosts n).node event free)
+        picked b is = rw is refl
+
+    same_log : (k : ℕ) → (k == n) ≡ false → (new.hosts k).log ≡ (world.hosts k).log
+    same_log k far = ap (λ (e : Option Event). ((step_with world n stamp free source e).hosts k).log) makes.comes ∙ picked (k == n) far
+      where
+        picked : (b : Bool) → b ≡ false → (if b then stepped_host stamp (after_step (world.hosts n).node event free) (effects_of (world.hosts n).node event free) (world.hosts n) else world.hosts k).log ≡ (world.hosts k).log
+        picked b is = rw is refl
+
+    logged_then : LoggedAt new
+    logged_then k low tid among = by (k == n) refl
+      where
+        by : (b : Bool) → (k == n) ≡ b → is_among (recovery (new.hosts k).log).committed tid ≡ true
+        by true near = subst (λ (i : ℕ). is_among (recovery (new.hosts i).log).committed tid ≡ true) (sym (eqb-true k n near)) (subst (λ (rs : List Record). is_among (recovery rs).committed tid ≡ true) (sym own_log)
+            (log_goes_on (world.hosts n) (effects_of (world.hosts n).node event free) tid (j.logged n (step_low P owed o world j n stamp free source event makes) tid
+            (subst (λ (ts : List Tid). is_among ts tid ≡ true) (steps_keep_logged world n stamp free source event j.shown makes (j.facts n (step_low P owed o world j n stamp free source event makes)))
+            (subst (λ (m : NodeValue). is_among m.committed tid ≡ true) own_then (subst (λ (i : ℕ). is_among (new.hosts i).node.committed tid ≡ true) (eqb-true k n near) among))))))
+        by false far = subst (λ (rs : List Record). is_among (recovery rs).committed tid ≡ true) (sym (same_log k far)) (j.logged k (subst (λ (s : ℕ). k < s) sized low) tid (subst (λ (m : NodeValue). is_among m.committed tid ≡ true) (same k far) among))
+
     pub step_joined : Joined P o new
     step_joined = then_joined step may (record {
       size = sized;
@@ -160,6 +202,8 @@ module _ (P : Opening → World → Type 0) (owed : Owed P) (unanimous : AfterSt
       facts = facts_then;
       running = runs_then;
       homes = homes_then;
+      owners = (runs_then n low_then runs).beside.owners;
+      logged = logged_then;
       channels = subst (λ (b : BookValue). HoldsChannels b new.size new.channels) (sym (book_on o world new entries journal))
           (subst (λ (w : World). HoldsChannels (book_after book entries) w.size w.channels) (sym (ap (step_with world n stamp free source) makes.comes)) (held_proofs.channels_then P owed unanimous o world j n stamp free source event makes));
       ways = owed.steps_ways o world step tt j may lawful_then;
@@ -169,7 +213,8 @@ module _ (P : Opening → World → Type 0) (owed : Owed P) (unanimous : AfterSt
 
   -- ---- a crash, whatever it leaves in the log
 
-  module _ (n stamp : ℕ) (cause : CrashCause) (log : List Record) (move : Move) (may : may_move world move ≡ true) (is : moved move world ≡ stopped world n stamp cause log) (well : StopsWell book (moved move world) n stamp cause) where
+  module _ (n stamp : ℕ) (cause : CrashCause) (log : List Record) (move : Move) (may : may_move world move ≡ true) (is : moved move world ≡ stopped world n stamp cause log) (longer : (tid : Tid) → is_among (recovery (world.hosts n).log).committed tid ≡ true → is_among (recovery log).committed tid ≡ true)
+      (well : StopsWell book (moved move world) n stamp cause) where
     abbrev after : World
     after = stopped world n stamp cause log
 
@@ -196,7 +241,6 @@ module _ (P : Opening → World → Type 0) (owed : Owed P) (unanimous : AfterSt
           beside = keeps_others_beside (opened_from o 0 o.size) world.journal (entry ∷ []) (opens_soundly o j.opens) (opened_numbered o 0 o.size) crash_lawful (world.hosts k).node
               (record { far = λ at. other k n far (sym (at ∙ its.node)); of_step = tt; answers = tt }, tt) ((λ tid label client begins. absurd (cc begins)), tt)
               (λ state there. held_proofs.runs_at book world k its runs state (subst (λ (i : ℕ). slice_get book.nodes i ≡ Some state) its.node there)) (j.running k low runs).beside;
-          numbered = (j.running k low runs).numbered;
           young = (j.running k low runs).young;
         })
           where
@@ -210,6 +254,19 @@ module _ (P : Opening → World → Type 0) (owed : Owed P) (unanimous : AfterSt
     still true client = refl
     still false client = refl
 
+    crash_owners : OwnersAt o after
+    crash_owners = subst (λ (b : BookValue). (tid : Tid) (tx : TransactionValue) → find_transaction b tid ≡ Some tx → HasOwner b tx) (sym (book_on o world after (entry ∷ []) refl)) (λ tid tx found. j.owners tid tx found)
+
+    crash_logged : LoggedAt after
+    crash_logged k low tid among = by (k == n) refl
+      where
+        had : (i : ℕ) → i ≡ k → is_among (recovery (world.hosts i).log).committed tid ≡ true
+        had i same = j.logged i (subst (λ (x : ℕ). x < world.size) (sym same) low) tid (subst (λ (x : ℕ). is_among (world.hosts x).node.committed tid ≡ true) (sym same) (subst (λ (m : NodeValue). is_among m.committed tid ≡ true) (node_stopped world n stamp cause log k) among))
+
+        by : (b : Bool) → (k == n) ≡ b → is_among (recovery (if b then stopped_host stamp log (world.hosts n) else world.hosts k).log).committed tid ≡ true
+        by true near = longer tid (had n (sym (eqb-true k n near)))
+        by false far = had k refl
+
     known : Known o world after
     known = record {
       size = refl;
@@ -218,6 +275,8 @@ module _ (P : Opening → World → Type 0) (owed : Owed P) (unanimous : AfterSt
       facts = λ k low. subst HasNodeFacts (sym (node_stopped world n stamp cause log k)) (j.facts k low);
       running = crash_running;
       homes = crash_homes;
+      owners = crash_owners;
+      logged = crash_logged;
       channels = channels_later o world after (entry ∷ []) j.opens refl crash_lawful world.size after.channels (channels_moved book world.size (channel.Crash n) world.channels tt j.channels);
       ways = subst (λ (b : BookValue). HoldsWays b after) (sym (book_on o world after (entry ∷ []) refl)) (crash_ways book world n stamp cause log j.ways);
       clients = λ k low client command there. let i = j.clients k low client command (subst (λ (m : NodeValue). lookup (is_at (client_cmp client)) m.commands ≡ Some command) (node_stopped world n stamp cause log k) there) in

@@ -53,7 +53,8 @@ use Rattle.qs_every_run.specs.Joined.{HoldsRunning, Joined, book_in}
 use Rattle.qs_every_run.specs.JoinedOwed.{AfterStep, HasOwner, Owed, StaysUnanimousThen, book_then, entries_in}
 use Rattle.qs_every_run.proofs.ClientsGo.{answers_aside, begins_owned, of_steps}
 use Rattle.qs_every_run.proofs.JoinedParts.{lawful_both}
-use Rattle.qs_every_run.proofs.JoinedSteps.{step_holds, step_lawful, step_low, step_up}
+use Rattle.qs_every_run.proofs.StaysWorlds.{steps_young}
+use Rattle.qs_every_run.proofs.JoinedSteps.{step_holds, step_kept, step_lawful, step_low, step_sent, step_up}
 
 -- each entry of a step is aside of another node
 all_aside : (k n stamp : ℕ) (node : NodeValue) (acts : List Act) → (k == n) ≡ false → Every (λ (act : Act). IsOfStep act × AnswersElsewhere node act) acts → Every (IsAside k node) (entries_of n stamp acts)
@@ -213,7 +214,10 @@ module _ (P : Opening → World → Type 0) (owed : Owed P) (unanimous : AfterSt
   -- what is said of those that run
 
   pub own_running : HoldsRunning now (after_step node event free)
-  own_running = owed.steps_running o world n stamp free source event j makes lawful
+  own_running = record {
+    beside = (step_kept P owed o world j n stamp free source event makes).beside;
+    young = steps_young world n stamp free source event j.shown makes (j.facts n low) (j.running n low up).beside.clock.room (j.running n low up).young;
+  }
 
   pub other_running : (k : ℕ) → (k == n) ≡ false → k < world.size → world.channels.up k ≡ true → HoldsRunning now (world.hosts k).node
   other_running k far k_low on = record {
@@ -222,7 +226,6 @@ module _ (P : Opening → World → Type 0) (owed : Owed P) (unanimous : AfterSt
         (subst (λ (i : ℕ). Every (IsAside i (world.hosts k).node) entries) (sym its.node) (asides k far k_low))
         (all_entries (HasOwner old) n stamp (effects_of node event free).entries (begins_owned P o world j n stamp free source event makes))
         (λ state there. runs_at old world k its on state (subst (λ (i : ℕ). slice_get old.nodes i ≡ Some state) its.node there)) (j.running k k_low on).beside);
-    numbered = (j.running k k_low on).numbered;
     young = (j.running k k_low on).young;
   }
     where
@@ -245,7 +248,7 @@ module _ (P : Opening → World → Type 0) (owed : Owed P) (unanimous : AfterSt
   pub channels_then : HoldsChannels now world.size after.channels
   channels_then = channels_posted now world.size n stamp (effects_of node event free).messages (taken_by world n source)
       (every_on (IsSent now node.setting) (λ (sending : Sending). IsParcel now world.size n sending.to.0 (record { stamp = stamp; message = sending.message })) (sent_parcel now node.setting stamp world.size n at.node at.run within)
-      (effects_of node event free).messages (owed.steps_sent o world n stamp free source event j makes lawful))
+      (effects_of node event free).messages (step_sent P owed o world j n stamp free source event makes))
       (channels_on old run_in entries lawful world.size (taken_by world n source) (taken_fits source makes.comes))
     where
       within : nat_lt n world.size ≡ true

@@ -15,6 +15,7 @@ use Rattle.qs_every_run.specs.PlacesLaws.{GoesOn}
 use Rattle.qs_every_run.proofs.JoinedFacts.{opens_facts}
 use Rattle.qs_every_run.proofs.JoinedHomes.{own_has}
 use Rattle.qs_every_run.proofs.JoinedMoves.{each_move_joined}
+use Rattle.qs_every_run.proofs.OpensRunning.{opens_owned, opens_running}
 
 pub each_opens_joined : (P : Opening → World → Type 0) → GoesOn P → EachOpensJoined P
 each_opens_joined P goes owed o opens = record {
@@ -23,10 +24,12 @@ each_opens_joined P goes owed o opens = record {
   lawful = tt;
   shown = every_run_shown (start o) (record { opening = o; opens = opens; moves = []; run = refl });
   held = world_held o opens;
-  running = owed.opens_running o opens;
+  running = opens_running o opens;
   facts = λ n low. opens_facts o opens n low;
   homes = λ tid tx found committed in_run. let low : tid.home.0 < o.size = grind (arith, nat_tests, in_run) in
-      own_has (book_of o) ((start o).hosts tid.home.0).node tid.home.0 ((world_held o opens).nodes tid.home.0 low).node (owed.opens_running o opens tid.home.0 low refl).beside tid tx found committed (itself tid.home.0);
+      own_has (book_of o) ((start o).hosts tid.home.0).node tid.home.0 ((world_held o opens).nodes tid.home.0 low).node (opens_running o opens tid.home.0 low refl).beside tid tx found committed (itself tid.home.0);
+  owners = opens_owned o opens;
+  logged = λ n low tid among. among;
   channels = record { posted = λ n m i j. tt; waits = λ n m. tt; known = λ n m. least ((start o).channels.inc m) };
   ways = opens_ways o opens;
   clients = λ n low client command there. absurd (cc there);

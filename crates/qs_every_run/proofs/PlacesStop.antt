@@ -10,7 +10,8 @@ use Rattle.qs_machine.specs.Clauses.{is_crash}
 use Rattle.qs_machine.specs.Transaction.{TransactionValue, is_open, is_unanimous}
 use Rattle.qs_record.specs.declared.record.Record.{Record}
 use Rattle.qs_restart.specs.Recovery.{names_transaction}
-use Rattle.qs_step.specs.Step.{effects_of}
+use Rattle.qs_step.specs.State.{NodeValue}
+use Rattle.qs_step.specs.Step.{after_step, effects_of}
 use Rattle.qs_step.specs.declared.event.Event.{Event}
 use Rattle.qs_world.specs.Moves.{Cut, Move, Source, Stop, cut_log, cut_with, event_of, is_in_order, is_later, may_move, may_step, moved, stopped, stopped_host}
 use Rattle.qs_world.specs.Posting.{entry_of}
@@ -99,11 +100,11 @@ module _ (o : Opening) (world : World) (j : Joined PlacesAt o world) (n stamp : 
       placed_in tid p.machine goes.goes (stop_holds tid book world n stamp cause log p.machine goes j.shown p.shows n_in on stamp own p.placed)) begun
 
   -- with a record of it kept
-  pub kept_places : (tid : Tid) → has_begun after tid ≡ true
-      → ((w : machine.World) → has_begun world tid ≡ true → ShowsAll tid world w → (goes : CutsOff tid after w) × (w.cell ≡ Open → goes.goes.next.cell ≡ Committed → (tx : TransactionValue) → find_transaction book tid ≡ Some tx → is_open tx.cell ≡ true → is_unanimous tx ≡ true))
+  pub kept_places : (tid : Tid) (leaves : NodeValue) → has_begun after tid ≡ true
+      → ((w : machine.World) → has_begun world tid ≡ true → ShowsAll tid world w → (goes : CutsOff tid leaves after w) × (w.cell ≡ Open → goes.goes.next.cell ≡ Committed → (tx : TransactionValue) → find_transaction book tid ≡ Some tx → is_open tx.cell ≡ true → is_unanimous tx ≡ true))
       → PlacedOf tid o after
-  kept_places tid begun kept = crash_places tid (λ was. let p : PlacedOf tid o world = j.places tid was in let goes = kept p.machine was p.shows in
-      placed_in tid p.machine goes.0.goes (cut_holds tid book world n stamp cause log p.machine goes.0 j.shown p.shows n_in on stamp own goes.1 p.placed)) begun
+  kept_places tid leaves begun kept = crash_places tid (λ was. let p : PlacedOf tid o world = j.places tid was in let goes = kept p.machine was p.shows in
+      placed_in tid p.machine goes.0.goes (cut_holds tid book world n stamp cause log p.machine leaves goes.0 j.shown p.shows n_in on stamp own goes.1 p.placed)) begun
 
 module _ (o : Opening) (world : World) (j : Joined PlacesAt o world) where
   ordered_so : (n stamp : ℕ) (source : Source) → may_step world n stamp source ≡ true → is_in_order world n stamp ≡ true
@@ -146,6 +147,6 @@ module _ (o : Opening) (world : World) (j : Joined PlacesAt o world) where
           of : (tid : Tid) → has_begun (stopped world n stamp cause log) tid ≡ true → (b : Bool) → is_cut_with tid is_kept world n free event ≡ b → PlacedOf tid o (stopped world n stamp cause log)
           of tid begun false lost = alone_places o world j n stamp cause log its.low its.runs ordered shown_so tid begun
               (λ w was shows. subst (λ (v : World). StopsAlone tid world v n w) (ap (cut_with world n stamp free is_kept cause) comes) (cut_goes_alone tid world n stamp free source is_kept cause event w may j.shown was shows comes lost))
-          of tid begun true kept = kept_places o world j n stamp cause log its.low its.runs ordered shown_so tid begun
-              (λ w was shows. let goes : CutsOff tid (stopped world n stamp cause log) w = subst (λ (v : World). CutsOff tid v w) (ap (cut_with world n stamp free is_kept cause) comes) (cut_goes_kept tid world n stamp free source is_kept cause event w may j.shown was shows comes kept) in
+          of tid begun true kept = kept_places o world j n stamp cause log its.low its.runs ordered shown_so tid (after_step (world.hosts n).node event free) begun
+              (λ w was shows. let goes : CutsOff tid (after_step (world.hosts n).node event free) (stopped world n stamp cause log) w = subst (λ (v : World). CutsOff tid (after_step (world.hosts n).node event free) v w) (ap (cut_with world n stamp free is_kept cause) comes) (cut_goes_kept tid world n stamp free source is_kept cause event w may j.shown was shows comes kept) in
               (goes, λ open_now committed tx found undecided. unanimous event comes tid w goes was shows open_now committed tx found undecided))

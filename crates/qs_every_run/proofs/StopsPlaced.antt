@@ -126,8 +126,8 @@ stops_placed tid book tx world n stamp cause log w goes is all n_in on found und
 -- ---- with a record of it kept
 
 pub cut_placed : CutPlaced
-cut_placed tid book tx world n stamp cause log w goes is all n_in on found undecided next h decides (inl doomed) = inl (doom_stays w goes.goes.next doomed goes.goes.leads)
-cut_placed tid book tx world n stamp cause log w goes is all n_in on found undecided next h decides (inr placed) = by goes.fate
+cut_placed tid book tx world n stamp cause log w leaves goes is all n_in on found undecided next h decides (inl doomed) = inl (doom_stays w goes.goes.next doomed goes.goes.leads)
+cut_placed tid book tx world n stamp cause log w leaves goes is all n_in on found undecided next h decides (inr placed) = by goes.fate
   where
     After : Type 0
     After = IsDoomed goes.goes.next ⊎ Placed tid tx (field_of (stopped world n stamp cause log))
@@ -160,4 +160,4 @@ pub stop_holds : StopHolds
 stop_holds tid book world n stamp cause log w goes is all n_in on next h places tx found undecided = stops_placed tid book tx world n stamp cause log w goes is all n_in on found undecided next h (places tx found undecided)
 
 pub cut_holds : CutHolds
-cut_holds tid book world n stamp cause log w goes is all n_in on next h decides places tx found undecided = cut_placed tid book tx world n stamp cause log w goes is all n_in on found undecided next h (λ open_now committed. decides open_now committed tx found undecided) (places tx found undecided)
+cut_holds tid book world n stamp cause log w leaves goes is all n_in on next h decides places tx found undecided = cut_placed tid book tx world n stamp cause log w leaves goes is all n_in on found undecided next h (λ open_now committed. decides open_now committed tx found undecided) (places tx found undecided)

@@ -7,6 +7,7 @@ use Rattle.qs_machine.specs.Book.{BookValue, find_transaction}
 use Rattle.qs_machine.specs.Lawful.{book_after}
 use Rattle.qs_machine.specs.Transaction.{TransactionValue, is_open, is_unanimous}
 use Rattle.qs_record.specs.declared.record.Record.{Record}
+use Rattle.qs_step.specs.State.{NodeValue}
 use Rattle.qs_world.specs.Moves.{stopped}
 use Rattle.qs_world.specs.Posting.{entry_of}
 use Rattle.qs_world.specs.World.{World}
@@ -25,11 +26,11 @@ StopsPlaced = (tid : Tid) (book : BookValue) (tx : TransactionValue) (world : Wo
     → IsShownWorld world → ShowsAll tid world w → n < world.size → world.channels.up n ≡ true → find_transaction book tid ≡ Some tx → is_open tx.cell ≡ true → (next : ℕ) → Holds next book (world.hosts n).node
     → IsDoomed w ⊎ Placed tid tx (field_of world) → IsDoomed goes.goes.next ⊎ Placed tid tx (field_of (stopped world n stamp cause log))
 
--- ---- cut off with a record of it kept
+-- ---- cut off with a record of it kept: the whole step would have left the node so
 
 -- where that step decided the commit it was unanimous before: the home decides in no step that asked, served, voted or took a loan back
 abbrev pub CutPlaced : Type 0
-CutPlaced = (tid : Tid) (book : BookValue) (tx : TransactionValue) (world : World) (n stamp : ℕ) (cause : CrashCause) (log : List Record) (w : machine.World) (goes : CutsOff tid (stopped world n stamp cause log) w)
+CutPlaced = (tid : Tid) (book : BookValue) (tx : TransactionValue) (world : World) (n stamp : ℕ) (cause : CrashCause) (log : List Record) (w : machine.World) (leaves : NodeValue) (goes : CutsOff tid leaves (stopped world n stamp cause log) w)
     → IsShownWorld world → ShowsAll tid world w → n < world.size → world.channels.up n ≡ true → find_transaction book tid ≡ Some tx → is_open tx.cell ≡ true → (next : ℕ) → Holds next book (world.hosts n).node
     → (w.cell ≡ Open → goes.goes.next.cell ≡ Committed → is_unanimous tx ≡ true)
     → IsDoomed w ⊎ Placed tid tx (field_of world) → IsDoomed goes.goes.next ⊎ Placed tid tx (field_of (stopped world n stamp cause log))
@@ -45,7 +46,7 @@ StopHolds = (tid : Tid) (book : BookValue) (world : World) (n stamp : ℕ) (caus
     → HoldsPlaced tid book (field_of world) w → HoldsPlaced tid (book_stopped book n stamp cause) (field_of (stopped world n stamp cause log)) goes.goes.next
 
 abbrev pub CutHolds : Type 0
-CutHolds = (tid : Tid) (book : BookValue) (world : World) (n stamp : ℕ) (cause : CrashCause) (log : List Record) (w : machine.World) (goes : CutsOff tid (stopped world n stamp cause log) w)
+CutHolds = (tid : Tid) (book : BookValue) (world : World) (n stamp : ℕ) (cause : CrashCause) (log : List Record) (w : machine.World) (leaves : NodeValue) (goes : CutsOff tid leaves (stopped world n stamp cause log) w)
     → IsShownWorld world → ShowsAll tid world w → n < world.size → world.channels.up n ≡ true → (next : ℕ) → Holds next book (world.hosts n).node
     → (w.cell ≡ Open → goes.goes.next.cell ≡ Committed → (tx : TransactionValue) → find_transaction book tid ≡ Some tx → is_open tx.cell ≡ true → is_unanimous tx ≡ true)
     → HoldsPlaced tid book (field_of world) w → HoldsPlaced tid (book_stopped book n stamp cause) (field_of (stopped world n stamp cause log)) goes.goes.next

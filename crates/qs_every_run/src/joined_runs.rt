@@ -3,7 +3,10 @@ ghost use Rattle.qs_every_run.specs.ClientLaws.{AnswersAside, BeginsOwned, InSte
 ghost use Rattle.qs_every_run.specs.JoinedPlaces.{PlacesAt};
 ghost use Rattle.qs_every_run.specs.PlacesLaws.{PlacesGoOn};
 ghost use Rattle.qs_every_run.specs.JoinedRuns.{EachMoveJoined, EachOpensJoined, EachRunJoined, EachRunLawful};
-ghost use Rattle.qs_every_run.specs.RiseLaws.{EachRiseKeepsBeside};
+ghost use Rattle.qs_every_run.specs.Joined.{RunningAt};
+ghost use Rattle.qs_every_run.specs.JoinedOwed.{Opens};
+ghost use Rattle.qs_every_run.specs.RiseLaws.{EachRiseKeepsBeside, EachRisesRunning};
+ghost use Rattle.qs_every_run.specs.StaysLaws.{StepsKeepLogged, StepsYoung};
 
 /// From what is still to be shown, which stands in one record: all that the machines and the nodes have together stands as a run begins, over
 /// old logs too that a restart can take up, and after each move; so each run's history is lawful.
@@ -12,6 +15,12 @@ pub fn runs_are_lawful()
     ensures moves { EachMoveJoined PlacesAt }
     ensures runs { EachRunJoined PlacesAt }
     ensures lawful { EachRunLawful PlacesAt }
+{}
+
+/// As a run begins, over old logs too, and as a node restarts, the machine has beside each node that begins all that it is to have beside it.
+pub fn nodes_begin_with_what_stands_beside()
+    ensures opens { Opens RunningAt }
+    ensures rises { EachRisesRunning PlacesAt }
 {}
 
 /// A restart of one node leaves what the machine has beside each other that runs.
@@ -33,4 +42,11 @@ pub fn steps_keep_scripts()
     ensures aside { InStep PlacesAt AnswersAside }
     ensures clients { InStep PlacesAt KeepsClients }
     ensures scripts { InStep PlacesAt KeepsScripts }
+{}
+
+/// A whole step of a node leaves what its home has not decided younger than the age limit: what becomes that old at a tick it aborts in that
+/// step. And it leaves the Commits that the log had as the node opened.
+pub fn steps_leave_the_young()
+    ensures young { StepsYoung }
+    ensures logged { StepsKeepLogged }
 {}

@@ -159,6 +159,8 @@ pub mod Tellings
 pub mod Forgetting
 pub mod TellingOn
 pub mod NotesIssued
+pub mod Numbers
+pub mod FactsIssued
 pub mod PeerRestarts
 pub mod Engaging
 pub mod Enqueued

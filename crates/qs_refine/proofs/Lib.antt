@@ -208,6 +208,7 @@ pub mod CommandStands
 pub mod OwnReplies
 pub mod ServeCounts
 pub mod ServeFirst
+pub mod ServeRoom
 pub mod ServeFrames
 pub mod ServeStands
 pub mod StepGoes
