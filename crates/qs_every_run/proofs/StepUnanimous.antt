@@ -9,7 +9,6 @@ use Rattle.std.specs.Prelude.{unwrap_or}
 use Rattle.qs_base.specs.Order.{same_tid}
 use Rattle.qs_base.specs.declared.identifiers.Class.{Class}
 use Rattle.qs_base.specs.declared.identifiers.Class.TheVariants as classes
-use Rattle.qs_base.specs.declared.identifiers.NodeNo.{NodeNo}
 use Rattle.qs_base.specs.declared.identifiers.Outcome.{Outcome}
 use Rattle.qs_base.specs.declared.identifiers.Outcome.TheVariants as outcomes
 use Rattle.qs_base.specs.declared.identifiers.Tid.{Tid}
@@ -17,11 +16,10 @@ use Rattle.qs_ipc.specs.Ipc as ipc
 use Rattle.qs_journal.specs.declared.entry.Act.{Act}
 use Rattle.qs_journal.specs.declared.entry.Entry.{Entry}
 use Rattle.qs_laws.proofs.Counts.{life_equal}
-use Rattle.qs_laws.proofs.Steps.{lawful_front}
 use Rattle.qs_machine.specs.Book.{BookValue, find_transaction}
-use Rattle.qs_machine.specs.Lawful.{IsLawful, book_after}
+use Rattle.qs_machine.specs.Lawful.{IsLawful}
 use Rattle.qs_machine.specs.Restart.{is_among}
-use Rattle.qs_machine.specs.Transaction.{TransactionValue, agrees, agrees_in, is_open, is_unanimous, life_cmp, no_part, part_of}
+use Rattle.qs_machine.specs.Transaction.{TransactionValue, agrees, agrees_in, is_open, is_unanimous, life_cmp, no_part}
 use Rattle.qs_machine.specs.declared.transaction.Life.{Life}
 use Rattle.qs_machine.specs.declared.transaction.Part.{Part}
 use Rattle.qs_ops.specs.Members.{class_of}
@@ -34,7 +32,7 @@ use Rattle.qs_tm.specs.Outcomes.{is_abort}
 use Rattle.qs_tm.specs.Participant.{is_undecided}
 use Rattle.qs_tm.specs.declared.participant.Participant.{Participant}
 use Rattle.qs_world.specs.Histories.{book_of, opened_from}
-use Rattle.qs_world.specs.Moves.{Move, Source, Step, may_move, moved, step_with, stepped_host}
+use Rattle.qs_world.specs.Moves.{Move, Source, Step, moved, step_with, stepped_host}
 use Rattle.qs_world.specs.Posting.{entries_of}
 use Rattle.qs_world.specs.World.{Host, Opening, World}
 use Rattle.qs_agree.specs.Carry as agreement
@@ -73,7 +71,7 @@ use Rattle.qs_every_run.specs.PlacesLaws.{StepsStayUnanimous}
 use Rattle.qs_every_run.proofs.CommitsPlaced.{committed_free, committed_keeps, committed_ways, none_decided}
 use Rattle.qs_every_run.proofs.FreeLives.{free_agrees}
 use Rattle.qs_every_run.proofs.JoinedParts.{book_on, lawful_on}
-use Rattle.qs_every_run.proofs.JoinedSteps.{step_at, step_holds, step_journal, step_low, step_up}
+use Rattle.qs_every_run.proofs.JoinedSteps.{step_holds, step_journal, step_low}
 use Rattle.qs_every_run.proofs.PlacesBegin.{begun_down}
 use Rattle.qs_every_run.proofs.Quiets.{quiet_unanimous}
 
