@@ -24,16 +24,18 @@ use Rattle.qs_refine.proofs.ShownMoves.{move_shown}
 use Rattle.qs_lawful.specs.Beside.{HoldsBeside}
 use Rattle.qs_lawful.specs.NodeFacts.{HasNodeFacts}
 use Rattle.qs_lawful.specs.Parcels.{HoldsChannels}
+use Rattle.qs_lawful.specs.Scripts.{HoldsScripts}
 use Rattle.qs_lawful.specs.Worlds.{HoldsWorld}
 use Rattle.qs_lawful.proofs.OpenedCommits.{stays_among}
 use Rattle.qs_every_run.specs.Agrees.{MakesStep, nodes_in}
-use Rattle.qs_every_run.specs.Joined.{ChannelsAt, FactsAt, HeldAt, HomesAt, HomesHave, HoldsRunning, Joined, ClocksAt, LoggedAt, OwnersAt, RunningAt, ScriptsAt, WaysAt, book_in}
-use Rattle.qs_every_run.specs.JoinedOwed.{Owed}
+use Rattle.qs_every_run.specs.Joined.{ChannelsAt, FactsAt, HeldAt, HomesAt, HomesHave, HoldsRunning, Joined, ClocksAt, LoggedAt, OwnersAt, RunningAt, ScriptsAt, WaysAt, book_in, ClientsAt}
+use Rattle.qs_every_run.specs.JoinedOwed.{Owed, AfterStep, StaysUnanimousThen}
 use Rattle.qs_every_run.proofs.JoinedFacts.{steps_facts}
 use Rattle.qs_every_run.proofs.JoinedHeld as held_proofs
 use Rattle.qs_every_run.proofs.JoinedHomes.{homes_after}
 use Rattle.qs_every_run.proofs.JoinedParts.{book_on, lawful_on}
 use Rattle.qs_every_run.proofs.JoinedClocks.{step_on_time}
+use Rattle.qs_every_run.proofs.ClientsGo.{clients_then, scripts_then}
 use Rattle.qs_every_run.proofs.StaysWorlds.{steps_keep_logged}
 use Rattle.qs_every_run.proofs.JoinedSteps.{step_at, step_entries, step_journal, step_lawful, step_low, step_up}
 
@@ -58,14 +60,15 @@ pub record Known (o : Opening) (world new : World) : Type 0 where
   pub clocks : ClocksAt new
   pub channels : ChannelsAt o new
   pub ways : WaysAt o new
+  pub clients : ClientsAt new
   pub scripts : ScriptsAt o new
 
-module _ (P : Opening → World → Type 0) (owed : Owed P) (o : Opening) (world : World) (j : Joined P o world) where
+module _ (P : Opening → World → Type 0) (owed : Owed P) (unanimous : AfterStep P StaysUnanimousThen) (o : Opening) (world : World) (j : Joined P o world) where
   abbrev book : BookValue
   book = book_in o world
 
-  pub then_joined : (move : Move) → may_move world move ≡ true → Known o world (moved move world) → Joined P o (moved move world)
-  then_joined move may k = record {
+  pub then_joined : (move : Move) → may_move world move ≡ true → Known o world (moved move world) → P o (moved move world) → Joined P o (moved move world)
+  then_joined move may k places = record {
     opens = j.opens;
     size = k.size ∙ j.size;
     lawful = k.lawful;
@@ -79,8 +82,9 @@ module _ (P : Opening → World → Type 0) (owed : Owed P) (o : Opening) (world
     clocks = k.clocks;
     channels = k.channels;
     ways = k.ways;
+    clients = k.clients;
     scripts = k.scripts;
-    places = owed.places o world move tt j may k.lawful;
+    places = places;
   }
 
   -- ---- a whole step
@@ -125,16 +129,16 @@ module _ (P : Opening → World → Type 0) (owed : Owed P) (o : Opening) (world
 
     held_then : HeldAt o new
     held_then = subst (λ (b : BookValue). HoldsWorld b new) (sym (book_on o world new entries journal))
-        (subst (λ (w : World). HoldsWorld (book_after book entries) w) (sym (ap (step_with world n stamp free source) makes.comes)) (held_proofs.held_then P owed o world j n stamp free source event makes))
+        (subst (λ (w : World). HoldsWorld (book_after book entries) w) (sym (ap (step_with world n stamp free source) makes.comes)) (held_proofs.held_then P owed unanimous o world j n stamp free source event makes))
 
     runs_then : RunningAt o new
     runs_then k low on = subst (λ (b : BookValue). HoldsRunning b (new.hosts k).node) (sym (book_on o world new entries journal)) (by (k == n) refl)
       where
         by : (b : Bool) → (k == n) ≡ b → HoldsRunning (book_after book entries) (new.hosts k).node
         by true near = subst (λ (i : ℕ). HoldsRunning (book_after book entries) (new.hosts i).node) (sym (eqb-true k n near))
-            (subst (λ (m : NodeValue). HoldsRunning (book_after book entries) m) (sym own_then) (held_proofs.own_running P owed o world j n stamp free source event makes))
+            (subst (λ (m : NodeValue). HoldsRunning (book_after book entries) m) (sym own_then) (held_proofs.own_running P owed unanimous o world j n stamp free source event makes))
         by false far = subst (λ (m : NodeValue). HoldsRunning (book_after book entries) m) (sym (same k far))
-            (held_proofs.other_running P owed o world j n stamp free source event makes k far (subst (λ (s : ℕ). k < s) sized low) (sym (ap (λ (f : ℕ → Bool). f k) ups) ∙ on))
+            (held_proofs.other_running P owed unanimous o world j n stamp free source event makes k far (subst (λ (s : ℕ). k < s) sized low) (sym (ap (λ (f : ℕ → Bool). f k) ups) ∙ on))
 
     low_then : n < new.size
     low_then = subst (λ (s : ℕ). n < s) (sym sized) (step_low P owed o world j n stamp free source event makes)
@@ -209,7 +213,8 @@ module _ (P : Opening → World → Type 0) (owed : Owed P) (o : Opening) (world
       logged = logged_then;
       clocks = clocks_then;
       channels = subst (λ (b : BookValue). HoldsChannels b new.size new.channels) (sym (book_on o world new entries journal))
-          (subst (λ (w : World). HoldsChannels (book_after book entries) w.size w.channels) (sym (ap (step_with world n stamp free source) makes.comes)) (held_proofs.channels_then P owed o world j n stamp free source event makes));
+          (subst (λ (w : World). HoldsChannels (book_after book entries) w.size w.channels) (sym (ap (step_with world n stamp free source) makes.comes)) (held_proofs.channels_then P owed unanimous o world j n stamp free source event makes));
       ways = owed.steps_ways o world step tt j may lawful_then;
-      scripts = owed.steps_scripts o world step tt j may lawful_then;
-    })
+      clients = clients_then P o world j n stamp free source event makes;
+      scripts = subst (λ (b : BookValue). HoldsScripts o b new) (sym (book_on o world new entries journal)) (scripts_then P o world j n stamp free source event makes);
+    }) (owed.places o world step tt j may lawful_then)

@@ -3,9 +3,13 @@ pub mod PlacedLaws
 pub mod StopLaws
 pub mod Agrees
 pub mod Joined
+pub mod Traces
+pub mod Answering
 pub mod JoinedOwed
 pub mod JoinedPlaces
+pub mod ClientLaws
 pub mod JoinedRuns
 pub mod RiseLaws
 pub mod Stays
 pub mod StaysLaws
+pub mod PlacesLaws
