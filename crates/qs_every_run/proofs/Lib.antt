@@ -38,3 +38,4 @@ pub mod RisesBeside
 pub mod RisesRunning
 pub mod JoinedMoves
 pub mod JoinedOver
+pub mod BornMoves

@@ -9,3 +9,4 @@ pub mod JoinedRuns
 pub mod RiseLaws
 pub mod Stays
 pub mod StaysLaws
+pub mod Born
