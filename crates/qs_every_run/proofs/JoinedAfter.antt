@@ -30,6 +30,7 @@ use Rattle.qs_lawful.proofs.OpenedCommits.{stays_among}
 use Rattle.qs_every_run.specs.Agrees.{MakesStep, nodes_in}
 use Rattle.qs_every_run.specs.Joined.{ChannelsAt, FactsAt, HeldAt, HomesAt, HomesHave, HoldsRunning, Joined, ClocksAt, LoggedAt, OwnersAt, RunningAt, ScriptsAt, WaysAt, book_in, ClientsAt}
 use Rattle.qs_every_run.specs.JoinedOwed.{Owed, AfterStep, StaysUnanimousThen}
+use Rattle.qs_every_run.proofs.BornMoves.{born_moved}
 use Rattle.qs_every_run.proofs.JoinedFacts.{steps_facts}
 use Rattle.qs_every_run.proofs.JoinedHeld as held_proofs
 use Rattle.qs_every_run.proofs.JoinedHomes.{homes_after}
@@ -80,6 +81,7 @@ module _ (P : Opening → World → Type 0) (owed : Owed P) (unanimous : AfterSt
     owners = k.owners;
     logged = k.logged;
     clocks = k.clocks;
+    born = born_moved o world j.born move may;
     channels = k.channels;
     ways = k.ways;
     clients = k.clients;

@@ -13,6 +13,7 @@ use Rattle.qs_every_run.specs.Joined.{Joined}
 use Rattle.qs_every_run.specs.JoinedOwed.{Owed}
 use Rattle.qs_every_run.specs.JoinedRuns.{EachOpensJoined, EachRunJoined, EachRunLawful}
 use Rattle.qs_every_run.specs.PlacesLaws.{GoesOn}
+use Rattle.qs_every_run.proofs.BornMoves.{born_start}
 use Rattle.qs_every_run.proofs.JoinedFacts.{opens_facts}
 use Rattle.qs_every_run.proofs.JoinedClocks.{opens_on_time}
 use Rattle.qs_every_run.proofs.JoinedHomes.{own_has}
@@ -33,6 +34,7 @@ each_opens_joined P goes owed o opens = record {
   owners = opens_owned o opens;
   logged = λ n low tid among. among;
   clocks = λ n low. none ((start o).hosts n).node.manager.ticks (opens_on_time o.alloc (o.settings n) (recovered_of (o.logs n)));
+  born = born_start o;
   channels = record { posted = λ n m i j. tt; waits = λ n m. tt; known = λ n m. least ((start o).channels.inc m) };
   ways = opens_ways o opens;
   clients = λ n low client command there. absurd (cc there);

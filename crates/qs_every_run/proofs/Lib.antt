@@ -60,3 +60,4 @@ pub mod PlacesMeet
 pub mod PlacesKept
 pub mod StepUnanimous
 pub mod PlacesGo
+pub mod BornMoves

@@ -23,6 +23,7 @@ use Rattle.qs_lawful.specs.Parcels.{HoldsChannels, HoldsWays}
 use Rattle.qs_lawful.specs.Scripts.{HoldsScripts}
 use Rattle.qs_lawful.specs.Worlds.{HoldsWorld}
 use Rattle.qs_every_run.specs.Agrees.{nodes_in}
+use Rattle.qs_every_run.specs.Born.{BornAt}
 
 -- the machine after what the world's journal has
 abbrev pub book_in : Opening → World → BookValue
@@ -98,6 +99,7 @@ pub record Joined (P : Opening → World → Type 0) (o : Opening) (world : Worl
   pub owners : OwnersAt o world
   pub logged : LoggedAt world
   pub clocks : ClocksAt world
+  pub born : BornAt o world
   pub channels : ChannelsAt o world
   pub ways : WaysAt o world
   pub clients : ClientsAt world

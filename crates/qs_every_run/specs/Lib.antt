@@ -13,3 +13,4 @@ pub mod RiseLaws
 pub mod Stays
 pub mod StaysLaws
 pub mod PlacesLaws
+pub mod Born
