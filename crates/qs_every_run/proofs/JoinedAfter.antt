@@ -1,5 +1,5 @@
 -- All that stands together of a world stands after a whole step, and after a crash: what the machines and the nodes are known to keep, and what is owed.
-use Rattle.std.proofs.Common.{◌≡◌, ℕ, ◌<◌, ◌==◌, Bool, true, false, List, [], ◌∷◌, ◌++◌, Option, Some, refl, sym, ap, subst, ◌∙◌, arith, if◌then◌else◌}
+use Rattle.std.proofs.Common.{◌≡◌, ℕ, ◌<◌, ◌==◌, Bool, true, false, List, [], ◌∷◌, ◌++◌, Option, Some, None, refl, sym, ap, subst, ◌∙◌, arith, if◌then◌else◌}
 use Rattle.std.specs.BTreeMap.{is_at}
 use Rattle.std.specs.Map.{lookup}
 use Rattle.std.specs.Prelude.{slice_get}
@@ -25,6 +25,7 @@ use Rattle.qs_refine.proofs.ShownBegins.{each_begun_shown}
 use Rattle.qs_refine.proofs.ShownMoves.{move_shown}
 use Rattle.qs_refine.proofs.StepAll.{node_stopped}
 use Rattle.qs_lawful.specs.Beside.{HoldsBeside, is_committed_at}
+use Rattle.qs_lawful.specs.Face.{waiting_at}
 use Rattle.qs_lawful.specs.NodeFacts.{HasNodeFacts}
 use Rattle.qs_lawful.specs.Parcels.{HoldsChannels, HoldsWays}
 use Rattle.qs_lawful.specs.Scripts.{HoldsScripts}
@@ -37,14 +38,16 @@ use Rattle.qs_lawful.proofs.ParcelsKept.{channels_moved}
 use Rattle.qs_lawful.proofs.ScriptsLike.{crash_scripts}
 use Rattle.qs_lawful.proofs.WaysOn.{crash_ways}
 use Rattle.qs_every_run.specs.Agrees.{MakesStep, nodes_in}
-use Rattle.qs_every_run.specs.Joined.{ChannelsAt, ClientsAt, FactsAt, HeldAt, HomesAt, HomesHave, HoldsRunning, Joined, RunningAt, ScriptsAt, WaysAt, book_in}
+use Rattle.qs_every_run.specs.Joined.{ChannelsAt, ClientsAt, FactsAt, HeldAt, HomesAt, HomesHave, HoldsRunning, Joined, KeepsBackUnmet, QueuedAt, RunningAt, ScriptsAt, WaysAt, book_in}
 use Rattle.qs_every_run.specs.JoinedOwed.{Owed}
 use Rattle.qs_every_run.proofs.JoinedFacts.{steps_facts}
 use Rattle.qs_every_run.proofs.JoinedHeld as held_proofs
 use Rattle.qs_every_run.proofs.JoinedHomes.{homes_after}
 use Rattle.qs_every_run.proofs.JoinedParts.{book_on, channels_later, lawful_on}
 use Rattle.qs_every_run.proofs.ClientsGo.{clients_then, scripts_then}
-use Rattle.qs_every_run.proofs.JoinedSteps.{step_at, step_entries, step_journal, step_lawful, step_low, step_up}
+use Rattle.qs_every_run.proofs.JoinedWays.{lasts_now, steps_ways}
+use Rattle.qs_every_run.proofs.KeptBack.{none_before, nothing_waits, step_unmet}
+use Rattle.qs_every_run.proofs.JoinedSteps.{step_at, step_entries, step_holds, step_journal, step_lawful, step_low, step_up}
 
 -- what is known of a world that a move leads to
 pub record Known (o : Opening) (world new : World) : Type 0 where
@@ -55,6 +58,8 @@ pub record Known (o : Opening) (world new : World) : Type 0 where
   pub running : RunningAt o new
   pub homes : HomesAt o new
   pub channels : ChannelsAt o new
+  pub unmet : KeepsBackUnmet new.channels
+  pub queued : QueuedAt o new
   pub ways : WaysAt o new
   pub clients : ClientsAt new
   pub scripts : ScriptsAt o new
@@ -74,6 +79,8 @@ module _ (P : Opening → World → Type 0) (owed : Owed P) (o : Opening) (world
     running = k.running;
     homes = k.homes;
     channels = k.channels;
+    unmet = k.unmet;
+    queued = k.queued;
     ways = k.ways;
     clients = k.clients;
     scripts = k.scripts;
@@ -152,6 +159,21 @@ module _ (P : Opening → World → Type 0) (owed : Owed P) (o : Opening) (world
         (step_lawful P owed o world j n stamp free source event makes)
         (subst (λ (b : BookValue). HoldsBeside b (new.hosts n).node) (book_on o world new entries journal) (runs_then n low_then runs).beside) j.homes))
 
+    -- of what the machine does not know nothing waits: at its own node by the step, at others since it knows on what it knew
+    queued_then : QueuedAt o new
+    queued_then k low tid server none = by (k == n) refl
+      where
+        none_now : find_transaction (book_after book entries) tid ≡ None
+        none_now = subst (λ (b : BookValue). find_transaction b tid ≡ None) (book_on o world new entries journal) none
+
+        own : waiting_at (after_step (world.hosts n).node event free) tid server ≡ []
+        own = nothing_waits stamp (book_after book entries) (after_step (world.hosts n).node event free) (step_holds P owed o world j n stamp free source event makes) tid server none_now
+
+        by : (b : Bool) → (k == n) ≡ b → waiting_at (new.hosts k).node tid server ≡ []
+        by true near = subst (λ (i : ℕ). waiting_at (new.hosts i).node tid server ≡ []) (sym (eqb-true k n near)) (subst (λ (m : NodeValue). waiting_at m tid server ≡ []) (sym own_then) own)
+        by false far = subst (λ (m : NodeValue). waiting_at m tid server ≡ []) (sym (same k far))
+            (j.queued k (subst (λ (s : ℕ). k < s) sized low) tid server (none_before entries book (lasts_now o world j.opens j.lawful) (step_lawful P owed o world j n stamp free source event makes) tid none_now))
+
     pub step_joined : Joined P o new
     step_joined = then_joined step may (record {
       size = sized;
@@ -162,7 +184,9 @@ module _ (P : Opening → World → Type 0) (owed : Owed P) (o : Opening) (world
       homes = homes_then;
       channels = subst (λ (b : BookValue). HoldsChannels b new.size new.channels) (sym (book_on o world new entries journal))
           (subst (λ (w : World). HoldsChannels (book_after book entries) w.size w.channels) (sym (ap (step_with world n stamp free source) makes.comes)) (held_proofs.channels_then P owed o world j n stamp free source event makes));
-      ways = owed.steps_ways o world step tt j may lawful_then;
+      unmet = subst (λ (w : World). KeepsBackUnmet w.channels) (sym (ap (step_with world n stamp free source) makes.comes)) (step_unmet world n stamp source event makes.comes (effects_of (world.hosts n).node event free).messages j.unmet);
+      queued = queued_then;
+      ways = subst (λ (b : BookValue). HoldsWays b new) (sym (book_on o world new entries journal)) (steps_ways P o world n stamp free source event j makes (step_lawful P owed o world j n stamp free source event makes));
       clients = clients_then P o world j n stamp free source event makes;
       scripts = subst (λ (b : BookValue). HoldsScripts o b new) (sym (book_on o world new entries journal)) (scripts_then P o world j n stamp free source event makes);
     })
@@ -219,6 +243,9 @@ module _ (P : Opening → World → Type 0) (owed : Owed P) (o : Opening) (world
       running = crash_running;
       homes = crash_homes;
       channels = channels_later o world after (entry ∷ []) j.opens refl crash_lawful world.size after.channels (channels_moved book world.size (channel.Crash n) world.channels tt j.channels);
+      unmet = j.unmet;
+      queued = λ k low tid server none. subst (λ (m : NodeValue). waiting_at m tid server ≡ []) (sym (node_stopped world n stamp cause log k))
+          (j.queued k low tid server (none_before (entry ∷ []) book (lasts_now o world j.opens j.lawful) crashed.lawful tid (subst (λ (b : BookValue). find_transaction b tid ≡ None) (book_on o world after (entry ∷ []) refl) none)));
       ways = subst (λ (b : BookValue). HoldsWays b after) (sym (book_on o world after (entry ∷ []) refl)) (crash_ways book world n stamp cause log j.ways);
       clients = λ k low client command there. let i = j.clients k low client command (subst (λ (m : NodeValue). lookup (is_at (client_cmp client)) m.commands ≡ Some command) (node_stopped world n stamp cause log k) there) in
           record { small = i.small; at = still ((world.clients client.0).at == n) (world.clients client.0) ∙ i.at };

@@ -27,6 +27,8 @@ each_opens_joined P owed o opens = record {
   homes = λ tid tx found committed in_run. let low : tid.home.0 < o.size = grind (arith, nat_tests, in_run) in
       own_has (book_of o) ((start o).hosts tid.home.0).node tid.home.0 ((world_held o opens).nodes tid.home.0 low).node (owed.opens_running o opens tid.home.0 low refl).beside tid tx found committed (itself tid.home.0);
   channels = record { posted = λ n m i j. tt; waits = λ n m. tt; known = λ n m. least ((start o).channels.inc m) };
+  unmet = λ n m some. refl;
+  queued = λ n low tid server none. refl;
   ways = opens_ways o opens;
   clients = λ n low client command there. absurd (cc there);
   scripts = opens_scripts o opens;

@@ -25,6 +25,16 @@ pub mod ScriptsAnswered
 pub mod JoinedClients
 pub mod JoinedScripts
 pub mod ClientsGo
+pub mod RequestsLeft
+pub mod WaysEntries
+pub mod WaysServed
+pub mod WaysServing
+pub mod WaysTraced
+pub mod WaysSent
+pub mod KeptBack
+pub mod WaysPosted
+pub mod WaysSplit
+pub mod JoinedWays
 pub mod JoinedSteps
 pub mod JoinedSound
 pub mod JoinedHeld

@@ -22,7 +22,7 @@ use Rattle.qs_tm.specs.Manager as tm
 use Rattle.qs_tm.specs.Participant.{is_undecided}
 use Rattle.qs_tm.specs.declared.participant.Participant.{Participant}
 use Rattle.qs_world.specs.Histories.{book_of}
-use Rattle.qs_world.specs.Moves.{Cut, Move, Rise, Source, Step, log_after, may_move, moved, reopened, waiting_after}
+use Rattle.qs_world.specs.Moves.{Cut, Move, Rise, Source, log_after, may_move, moved, reopened, waiting_after}
 use Rattle.qs_world.specs.Openings.{IsOpening}
 use Rattle.qs_world.specs.Posting.{entries_of}
 use Rattle.qs_world.specs.World.{Opening, World, inc_of, start}
@@ -37,7 +37,7 @@ use Rattle.qs_lawful.specs.Said.{HoldsSaid}
 use Rattle.qs_lawful.specs.WorldLaws.{StopsWell, rise_entry}
 use Rattle.qs_lawful.specs.Worlds.{HoldsKept}
 use Rattle.qs_every_run.specs.Agrees.{MakesStep, nodes_in}
-use Rattle.qs_every_run.specs.Joined.{HoldsRunning, Joined, RunningAt, WaysAt, book_in}
+use Rattle.qs_every_run.specs.Joined.{HoldsRunning, Joined, RunningAt, book_in}
 
 -- ---- as a run begins
 
@@ -114,10 +114,6 @@ StaysUnanimousThen o world n stamp free event = (k : ℕ) → (k == n) ≡ false
 
 -- ---- moves whose entries are lawful, by kind
 
-abbrev pub IsStep : Move → Type 0
-IsStep (Step n stamp free source) = ⊤
-IsStep move = ⊥
-
 abbrev pub Keeps : (Opening → World → Type 0) → (Move → Type 0) → (Opening → World → Type 0) → Type 0
 Keeps P kind X = (o : Opening) (world : World) (move : Move) → kind move → Joined P o world → may_move world move ≡ true → IsLawful (book_of o) (moved move world).journal → X o (moved move world)
 
@@ -145,7 +141,6 @@ pub record Owed (P : Opening → World → Type 0) : Type 0 where
   pub steps_unanimous : AfterStep P StaysUnanimousThen
   pub steps_running : AfterStep P RunningThen
   pub steps_sent : AfterStep P SentThen
-  pub steps_ways : Keeps P IsStep WaysAt
   -- after a crash
   pub keeps_its_batch : EachKeepsItsBatch P
   -- after a restart
