@@ -4,27 +4,33 @@ use Rattle.std.specs.BTreeMap.{is_at}
 use Rattle.std.specs.Map.{lookup}
 use Rattle.std.specs.Prelude.{slice_get}
 use Rattle.std.proofs.lemmas.Bool.{eqb-true}
+use Rattle.std.proofs.lemmas.List.Sums.{fold-append}
 use Rattle.std.proofs.lemmas.Bool.Decides.{nat_tests}
 use Rattle.qs_channels.specs.Channels as channel
 use Rattle.qs_journal.specs.declared.entry.Act.TheVariants as acts
 use Rattle.qs_journal.specs.declared.entry.CrashCause.{CrashCause}
 use Rattle.qs_journal.specs.declared.entry.Entry.{Entry}
+use Rattle.qs_base.specs.declared.identifiers.Tid.{Tid}
 use Rattle.qs_machine.specs.Book.{BookValue, find_transaction}
 use Rattle.qs_machine.specs.Lawful.{IsLawful, book_after}
+use Rattle.qs_machine.specs.Restart.{is_among}
+use Rattle.qs_machine.specs.Transaction.{TransactionValue}
 use Rattle.qs_record.specs.declared.record.Record.{Record}
+use Rattle.qs_restart.specs.Recovery.{Recovery, found_record, nothing_said, recovery}
 use Rattle.qs_step.specs.State.{NodeValue, client_cmp}
 use Rattle.qs_step.specs.Step.{after_step, effects_of}
+use Rattle.qs_step.specs.declared.event.Effects.{Effects}
 use Rattle.qs_step.specs.declared.event.Event.{Event}
 use Rattle.qs_world.specs.Histories.{book_of, opened_from}
-use Rattle.qs_world.specs.Moves.{Move, Source, Step, may_move, moved, step_with, stepped_host, stopped, taken_by}
+use Rattle.qs_world.specs.Moves.{Move, Source, Step, log_after, may_move, moved, step_with, stepped_host, stopped, stopped_host, taken_by}
 use Rattle.qs_world.specs.Posting.{entry_of}
-use Rattle.qs_world.specs.World.{Client, Opening, World}
+use Rattle.qs_world.specs.World.{Client, Host, Opening, World}
 use Rattle.qs_refine.proofs.Moving.{up_taken}
 use Rattle.qs_refine.proofs.Posted.{up_all}
 use Rattle.qs_refine.proofs.ShownBegins.{each_begun_shown}
 use Rattle.qs_refine.proofs.ShownMoves.{move_shown}
 use Rattle.qs_refine.proofs.StepAll.{node_stopped}
-use Rattle.qs_lawful.specs.Beside.{HoldsBeside, is_committed_at}
+use Rattle.qs_lawful.specs.Beside.{HasOwner, HoldsBeside, is_committed_at}
 use Rattle.qs_lawful.specs.Face.{waiting_at}
 use Rattle.qs_lawful.specs.NodeFacts.{HasNodeFacts}
 use Rattle.qs_lawful.specs.Parcels.{HoldsChannels, HoldsWays}
@@ -34,12 +40,13 @@ use Rattle.qs_lawful.specs.Worlds.{HoldsNodeAt, HoldsWorld}
 use Rattle.qs_lawful.proofs.AsideBesides.{keeps_others_beside}
 use Rattle.qs_lawful.proofs.CoherentOpenings.{opens_soundly}
 use Rattle.qs_lawful.proofs.NumberedLogs.{opened_numbered}
+use Rattle.qs_lawful.proofs.OpenedCommits.{stays_among}
 use Rattle.qs_lawful.proofs.ParcelsKept.{channels_moved}
 use Rattle.qs_lawful.proofs.ScriptsLike.{crash_scripts}
 use Rattle.qs_lawful.proofs.WaysOn.{crash_ways}
 use Rattle.qs_every_run.specs.Agrees.{MakesStep, nodes_in}
-use Rattle.qs_every_run.specs.Joined.{ChannelsAt, ClientsAt, FactsAt, HeldAt, HomesAt, HomesHave, HoldsRunning, Joined, KeepsBackUnmet, QueuedAt, RunningAt, ScriptsAt, WaysAt, book_in}
-use Rattle.qs_every_run.specs.JoinedOwed.{Owed}
+use Rattle.qs_every_run.specs.Joined.{ChannelsAt, ClientsAt, FactsAt, HeldAt, HomesAt, HomesHave, HoldsRunning, Joined, KeepsBackUnmet, LoggedAt, OwnersAt, QueuedAt, RunningAt, ScriptsAt, WaysAt, book_in}
+use Rattle.qs_every_run.specs.JoinedOwed.{AfterStep, Owed, StaysUnanimousThen}
 use Rattle.qs_every_run.proofs.JoinedFacts.{steps_facts}
 use Rattle.qs_every_run.proofs.JoinedHeld as held_proofs
 use Rattle.qs_every_run.proofs.JoinedHomes.{homes_after}
@@ -47,7 +54,16 @@ use Rattle.qs_every_run.proofs.JoinedParts.{book_on, channels_later, lawful_on}
 use Rattle.qs_every_run.proofs.ClientsGo.{clients_then, scripts_then}
 use Rattle.qs_every_run.proofs.JoinedWays.{lasts_now, steps_ways}
 use Rattle.qs_every_run.proofs.KeptBack.{none_before, nothing_waits, step_unmet}
+use Rattle.qs_every_run.proofs.StaysWorlds.{steps_keep_logged}
 use Rattle.qs_every_run.proofs.JoinedSteps.{step_at, step_entries, step_holds, step_journal, step_lawful, step_low, step_up}
+
+-- what a step appends leaves the Commits that the log had
+pub log_goes_on : (host : Host) (out : Effects) (tid : Tid) → is_among (recovery host.log).committed tid ≡ true → is_among (recovery (log_after host out)).committed tid ≡ true
+log_goes_on host out tid is = by out.force
+  where
+    by : (b : Bool) → is_among (recovery (if b then host.log ++ (host.waiting ++ out.records) else host.log)).committed tid ≡ true
+    by true = ap (λ (said : Recovery). is_among said.committed tid) (fold-append found_record nothing_said host.log (host.waiting ++ out.records)) ∙ stays_among tid (host.waiting ++ out.records) (recovery host.log) is
+    by false = is
 
 -- what is known of a world that a move leads to
 pub record Known (o : Opening) (world new : World) : Type 0 where
@@ -57,6 +73,8 @@ pub record Known (o : Opening) (world new : World) : Type 0 where
   pub facts : FactsAt new
   pub running : RunningAt o new
   pub homes : HomesAt o new
+  pub owners : OwnersAt o new
+  pub logged : LoggedAt new
   pub channels : ChannelsAt o new
   pub unmet : KeepsBackUnmet new.channels
   pub queued : QueuedAt o new
@@ -64,12 +82,12 @@ pub record Known (o : Opening) (world new : World) : Type 0 where
   pub clients : ClientsAt new
   pub scripts : ScriptsAt o new
 
-module _ (P : Opening → World → Type 0) (owed : Owed P) (o : Opening) (world : World) (j : Joined P o world) where
+module _ (P : Opening → World → Type 0) (owed : Owed P) (unanimous : AfterStep P StaysUnanimousThen) (o : Opening) (world : World) (j : Joined P o world) where
   abbrev book : BookValue
   book = book_in o world
 
-  pub then_joined : (move : Move) → may_move world move ≡ true → Known o world (moved move world) → Joined P o (moved move world)
-  then_joined move may k = record {
+  pub then_joined : (move : Move) → may_move world move ≡ true → Known o world (moved move world) → P o (moved move world) → Joined P o (moved move world)
+  then_joined move may k places = record {
     opens = j.opens;
     size = k.size ∙ j.size;
     lawful = k.lawful;
@@ -78,13 +96,15 @@ module _ (P : Opening → World → Type 0) (owed : Owed P) (o : Opening) (world
     facts = k.facts;
     running = k.running;
     homes = k.homes;
+    owners = k.owners;
+    logged = k.logged;
     channels = k.channels;
     unmet = k.unmet;
     queued = k.queued;
     ways = k.ways;
     clients = k.clients;
     scripts = k.scripts;
-    places = owed.places o world move tt j may k.lawful;
+    places = places;
   }
 
   -- ---- a whole step
@@ -129,16 +149,16 @@ module _ (P : Opening → World → Type 0) (owed : Owed P) (o : Opening) (world
 
     held_then : HeldAt o new
     held_then = subst (λ (b : BookValue). HoldsWorld b new) (sym (book_on o world new entries journal))
-        (subst (λ (w : World). HoldsWorld (book_after book entries) w) (sym (ap (step_with world n stamp free source) makes.comes)) (held_proofs.held_then P owed o world j n stamp free source event makes))
+        (subst (λ (w : World). HoldsWorld (book_after book entries) w) (sym (ap (step_with world n stamp free source) makes.comes)) (held_proofs.held_then P owed unanimous o world j n stamp free source event makes))
 
     runs_then : RunningAt o new
     runs_then k low on = subst (λ (b : BookValue). HoldsRunning b (new.hosts k).node) (sym (book_on o world new entries journal)) (by (k == n) refl)
       where
         by : (b : Bool) → (k == n) ≡ b → HoldsRunning (book_after book entries) (new.hosts k).node
         by true near = subst (λ (i : ℕ). HoldsRunning (book_after book entries) (new.hosts i).node) (sym (eqb-true k n near))
-            (subst (λ (m : NodeValue). HoldsRunning (book_after book entries) m) (sym own_then) (held_proofs.own_running P owed o world j n stamp free source event makes))
+            (subst (λ (m : NodeValue). HoldsRunning (book_after book entries) m) (sym own_then) (held_proofs.own_running P owed unanimous o world j n stamp free source event makes))
         by false far = subst (λ (m : NodeValue). HoldsRunning (book_after book entries) m) (sym (same k far))
-            (held_proofs.other_running P owed o world j n stamp free source event makes k far (subst (λ (s : ℕ). k < s) sized low) (sym (ap (λ (f : ℕ → Bool). f k) ups) ∙ on))
+            (held_proofs.other_running P owed unanimous o world j n stamp free source event makes k far (subst (λ (s : ℕ). k < s) sized low) (sym (ap (λ (f : ℕ → Bool). f k) ups) ∙ on))
 
     low_then : n < new.size
     low_then = subst (λ (s : ℕ). n < s) (sym sized) (step_low P owed o world j n stamp free source event makes)
@@ -174,6 +194,28 @@ module _ (P : Opening → World → Type 0) (owed : Owed P) (o : Opening) (world
         by false far = subst (λ (m : NodeValue). waiting_at m tid server ≡ []) (sym (same k far))
             (j.queued k (subst (λ (s : ℕ). k < s) sized low) tid server (none_before entries book (lasts_now o world j.opens j.lawful) (step_lawful P owed o world j n stamp free source event makes) tid none_now))
 
+    own_log : (new.hosts n).log ≡ log_after (world.hosts n) (effects_of (world.hosts n).node event free)
+    own_log = ap (λ (e : Option Event). ((step_with world n stamp free source e).hosts n).log) makes.comes ∙ picked (n == n) (grind (arith, nat_tests))
+      where
+        picked : (b : Bool) → b ≡ true → (if b then stepped_host stamp (after_step (world.hosts n).node event free) (effects_of (world.hosts n).node event free) (world.hosts n) else world.hosts n).log ≡ log_after (world.hosts n) (effects_of (world.hosts n).node event free)
+        picked b is = rw is refl
+
+    same_log : (k : ℕ) → (k == n) ≡ false → (new.hosts k).log ≡ (world.hosts k).log
+    same_log k far = ap (λ (e : Option Event). ((step_with world n stamp free source e).hosts k).log) makes.comes ∙ picked (k == n) far
+      where
+        picked : (b : Bool) → b ≡ false → (if b then stepped_host stamp (after_step (world.hosts n).node event free) (effects_of (world.hosts n).node event free) (world.hosts n) else world.hosts k).log ≡ (world.hosts k).log
+        picked b is = rw is refl
+
+    logged_then : LoggedAt new
+    logged_then k low tid among = by (k == n) refl
+      where
+        by : (b : Bool) → (k == n) ≡ b → is_among (recovery (new.hosts k).log).committed tid ≡ true
+        by true near = subst (λ (i : ℕ). is_among (recovery (new.hosts i).log).committed tid ≡ true) (sym (eqb-true k n near)) (subst (λ (rs : List Record). is_among (recovery rs).committed tid ≡ true) (sym own_log)
+            (log_goes_on (world.hosts n) (effects_of (world.hosts n).node event free) tid (j.logged n (step_low P owed o world j n stamp free source event makes) tid
+            (subst (λ (ts : List Tid). is_among ts tid ≡ true) (steps_keep_logged world n stamp free source event j.shown makes (j.facts n (step_low P owed o world j n stamp free source event makes)))
+            (subst (λ (m : NodeValue). is_among m.committed tid ≡ true) own_then (subst (λ (i : ℕ). is_among (new.hosts i).node.committed tid ≡ true) (eqb-true k n near) among))))))
+        by false far = subst (λ (rs : List Record). is_among (recovery rs).committed tid ≡ true) (sym (same_log k far)) (j.logged k (subst (λ (s : ℕ). k < s) sized low) tid (subst (λ (m : NodeValue). is_among m.committed tid ≡ true) (same k far) among))
+
     pub step_joined : Joined P o new
     step_joined = then_joined step may (record {
       size = sized;
@@ -182,18 +224,21 @@ module _ (P : Opening → World → Type 0) (owed : Owed P) (o : Opening) (world
       facts = facts_then;
       running = runs_then;
       homes = homes_then;
+      owners = (runs_then n low_then runs).beside.owners;
+      logged = logged_then;
       channels = subst (λ (b : BookValue). HoldsChannels b new.size new.channels) (sym (book_on o world new entries journal))
-          (subst (λ (w : World). HoldsChannels (book_after book entries) w.size w.channels) (sym (ap (step_with world n stamp free source) makes.comes)) (held_proofs.channels_then P owed o world j n stamp free source event makes));
+          (subst (λ (w : World). HoldsChannels (book_after book entries) w.size w.channels) (sym (ap (step_with world n stamp free source) makes.comes)) (held_proofs.channels_then P owed unanimous o world j n stamp free source event makes));
       unmet = subst (λ (w : World). KeepsBackUnmet w.channels) (sym (ap (step_with world n stamp free source) makes.comes)) (step_unmet world n stamp source event makes.comes (effects_of (world.hosts n).node event free).messages j.unmet);
       queued = queued_then;
       ways = subst (λ (b : BookValue). HoldsWays b new) (sym (book_on o world new entries journal)) (steps_ways P o world n stamp free source event j makes (step_lawful P owed o world j n stamp free source event makes));
       clients = clients_then P o world j n stamp free source event makes;
       scripts = subst (λ (b : BookValue). HoldsScripts o b new) (sym (book_on o world new entries journal)) (scripts_then P o world j n stamp free source event makes);
-    })
+    }) (owed.places o world step tt j may lawful_then)
 
   -- ---- a crash, whatever it leaves in the log
 
-  module _ (n stamp : ℕ) (cause : CrashCause) (log : List Record) (move : Move) (may : may_move world move ≡ true) (is : moved move world ≡ stopped world n stamp cause log) (well : StopsWell book (moved move world) n stamp cause) where
+  module _ (n stamp : ℕ) (cause : CrashCause) (log : List Record) (move : Move) (may : may_move world move ≡ true) (is : moved move world ≡ stopped world n stamp cause log) (longer : (tid : Tid) → is_among (recovery (world.hosts n).log).committed tid ≡ true → is_among (recovery log).committed tid ≡ true)
+      (well : StopsWell book (moved move world) n stamp cause) where
     abbrev after : World
     after = stopped world n stamp cause log
 
@@ -220,7 +265,6 @@ module _ (P : Opening → World → Type 0) (owed : Owed P) (o : Opening) (world
           beside = keeps_others_beside (opened_from o 0 o.size) world.journal (entry ∷ []) (opens_soundly o j.opens) (opened_numbered o 0 o.size) crash_lawful (world.hosts k).node
               (record { far = λ at. other k n far (sym (at ∙ its.node)); of_step = tt; answers = tt }, tt) ((λ tid label client begins. absurd (cc begins)), tt)
               (λ state there. held_proofs.runs_at book world k its runs state (subst (λ (i : ℕ). slice_get book.nodes i ≡ Some state) its.node there)) (j.running k low runs).beside;
-          numbered = (j.running k low runs).numbered;
           young = (j.running k low runs).young;
         })
           where
@@ -234,6 +278,19 @@ module _ (P : Opening → World → Type 0) (owed : Owed P) (o : Opening) (world
     still true client = refl
     still false client = refl
 
+    crash_owners : OwnersAt o after
+    crash_owners = subst (λ (b : BookValue). (tid : Tid) (tx : TransactionValue) → find_transaction b tid ≡ Some tx → HasOwner b tx) (sym (book_on o world after (entry ∷ []) refl)) (λ tid tx found. j.owners tid tx found)
+
+    crash_logged : LoggedAt after
+    crash_logged k low tid among = by (k == n) refl
+      where
+        had : (i : ℕ) → i ≡ k → is_among (recovery (world.hosts i).log).committed tid ≡ true
+        had i same = j.logged i (subst (λ (x : ℕ). x < world.size) (sym same) low) tid (subst (λ (x : ℕ). is_among (world.hosts x).node.committed tid ≡ true) (sym same) (subst (λ (m : NodeValue). is_among m.committed tid ≡ true) (node_stopped world n stamp cause log k) among))
+
+        by : (b : Bool) → (k == n) ≡ b → is_among (recovery (if b then stopped_host stamp log (world.hosts n) else world.hosts k).log).committed tid ≡ true
+        by true near = longer tid (had n (sym (eqb-true k n near)))
+        by false far = had k refl
+
     known : Known o world after
     known = record {
       size = refl;
@@ -242,6 +299,8 @@ module _ (P : Opening → World → Type 0) (owed : Owed P) (o : Opening) (world
       facts = λ k low. subst HasNodeFacts (sym (node_stopped world n stamp cause log k)) (j.facts k low);
       running = crash_running;
       homes = crash_homes;
+      owners = crash_owners;
+      logged = crash_logged;
       channels = channels_later o world after (entry ∷ []) j.opens refl crash_lawful world.size after.channels (channels_moved book world.size (channel.Crash n) world.channels tt j.channels);
       unmet = j.unmet;
       queued = λ k low tid server none. subst (λ (m : NodeValue). waiting_at m tid server ≡ []) (sym (node_stopped world n stamp cause log k))
@@ -252,5 +311,8 @@ module _ (P : Opening → World → Type 0) (owed : Owed P) (o : Opening) (world
       scripts = subst (λ (b : BookValue). HoldsScripts o b after) (sym (book_on o world after (entry ∷ []) refl)) (crash_scripts o book world n stamp cause log j.scripts);
     }
 
-    pub crash_joined : Joined P o (moved move world)
-    crash_joined = then_joined move may (subst (λ (w : World). Known o world w) (sym is) known)
+    pub crash_joined : (IsLawful (book_of o) (moved move world).journal → P o (moved move world)) → Joined P o (moved move world)
+    crash_joined places = then_joined move may so (places so.lawful)
+      where
+        so : Known o world (moved move world)
+        so = subst (λ (w : World). Known o world w) (sym is) known

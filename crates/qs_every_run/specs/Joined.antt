@@ -1,26 +1,25 @@
 -- What the reference machine, the agreement machine and the nodes have together of a world that a run leads to.
-use Rattle.std.specs.Prelude.{◌≡◌, ℕ, ◌<◌, ◌≤◌, true, [], length, Some, nat_lt}
+use Rattle.std.specs.Prelude.{◌≡◌, ℕ, ◌<◌, ◌≤◌, true, List, [], Some, nat_lt}
 use Rattle.std.specs.BTreeMap.{is_at}
 use Rattle.std.specs.Map.{lookup}
 use Rattle.qs_base.specs.declared.identifiers.ClientNo.{ClientNo}
 use Rattle.qs_base.specs.declared.identifiers.Tid.{Tid}
 use Rattle.qs_channels.specs.Channels.{Channels}
-use Rattle.qs_engage.specs.Nodes.{listed}
 use Rattle.qs_machine.specs.Book.{BookValue, find_transaction}
 use Rattle.qs_machine.specs.Lawful.{IsLawful, book_after}
+use Rattle.qs_machine.specs.Restart.{is_among}
 use Rattle.qs_machine.specs.Transaction.{TransactionValue, is_commit}
+use Rattle.qs_record.specs.declared.record.Record.{Record}
+use Rattle.qs_restart.specs.Recovery.{recovery}
 use Rattle.qs_step.specs.State.{NodeValue, client_cmp}
 use Rattle.qs_step.specs.declared.state.OpenCommand.{OpenCommand}
-use Rattle.qs_tm.specs.Manager as tm
-use Rattle.qs_tm.specs.declared.participant.Participant.{Participant}
 use Rattle.qs_world.specs.Histories.{book_of}
 use Rattle.qs_world.specs.Moves.{client_count}
 use Rattle.qs_world.specs.Openings.{IsOpening}
 use Rattle.qs_world.specs.World.{Opening, Parcel, World}
-use Rattle.qs_refine.specs.Sound.{is_sound}
 use Rattle.qs_refine.specs.ShownWorlds.{IsShownWorld}
-use Rattle.qs_lawful.specs.Beside.{HoldsBeside, is_committed_at}
-use Rattle.qs_lawful.specs.NodeFacts.{AreApart, AreYoung, HasNodeFacts, HasSoundFacts}
+use Rattle.qs_lawful.specs.Beside.{HasOwner, HoldsBeside, is_committed_at}
+use Rattle.qs_lawful.specs.NodeFacts.{AreYoung, HasNodeFacts}
 use Rattle.qs_lawful.specs.Parcels.{HoldsChannels, HoldsWays, WaitsForKnown}
 use Rattle.qs_lawful.specs.Scripts.{HoldsScripts}
 use Rattle.qs_lawful.specs.Worlds.{HoldsWorld}
@@ -39,18 +38,9 @@ HeldAt o world = HoldsWorld (book_in o world) world
 abbrev pub FactsAt : World → Type 0
 FactsAt world = (n : ℕ) → n < world.size → HasNodeFacts (world.hosts n).node
 
--- what does not follow from the invariant of one node (qs_refine's is_sound): a told set lacks a node of the run, and no two requests wait under one number
-pub record IsNumberedNode (node : NodeValue) : Type 0 where
-  pub told : (tid : Tid) (part : Participant) → tm.part_of tid node.manager ≡ Some part → length (listed part.told) < node.setting.nodes
-  pub apart : (tid : Tid) (part : Participant) → tm.part_of tid node.manager ≡ Some part → AreApart part.waiting
-
-abbrev pub SoundHasFacts : Type 0
-SoundHasFacts = (node : NodeValue) → is_sound node ≡ true → IsNumberedNode node → HasSoundFacts node
-
--- a node that runs: what the machine has beside it, and the rest of what holds of it by itself
+-- a node that runs: what the machine has beside it, and that what began at it is young
 pub record HoldsRunning (book : BookValue) (node : NodeValue) : Type 0 where
   pub beside : HoldsBeside book node
-  pub numbered : IsNumberedNode node
   pub young : AreYoung node
 
 abbrev pub RunningAt : Opening → World → Type 0
@@ -62,6 +52,17 @@ HomesHave book size nodes = (tid : Tid) (tx : TransactionValue) → find_transac
 
 abbrev pub HomesAt : Opening → World → Type 0
 HomesAt o world = HomesHave (book_in o world) world.size (nodes_in world)
+
+-- what the machine has is of clients of the run
+abbrev pub OwnersAt : Opening → World → Type 0
+OwnersAt o world = (tid : Tid) (tx : TransactionValue) → find_transaction (book_in o world) tid ≡ Some tx → HasOwner (book_in o world) tx
+
+-- the Commits that the log of a node had as it opened, its log has for good
+abbrev pub IsLogged : NodeValue → List Record → Type 0
+IsLogged node log = (tid : Tid) → is_among node.committed tid ≡ true → is_among (recovery log).committed tid ≡ true
+
+abbrev pub LoggedAt : World → Type 0
+LoggedAt world = (n : ℕ) → n < world.size → IsLogged (world.hosts n).node (world.hosts n).log
 
 abbrev pub ChannelsAt : Opening → World → Type 0
 ChannelsAt o world = HoldsChannels (book_in o world) world.size world.channels
@@ -99,6 +100,8 @@ pub record Joined (P : Opening → World → Type 0) (o : Opening) (world : Worl
   pub facts : FactsAt world
   pub running : RunningAt o world
   pub homes : HomesAt o world
+  pub owners : OwnersAt o world
+  pub logged : LoggedAt world
   pub channels : ChannelsAt o world
   pub unmet : KeepsBackUnmet world.channels
   pub queued : QueuedAt o world

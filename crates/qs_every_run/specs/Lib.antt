@@ -10,3 +10,6 @@ pub mod JoinedPlaces
 pub mod StepLaws
 pub mod JoinedRuns
 pub mod RiseLaws
+pub mod Stays
+pub mod StaysLaws
+pub mod PlacesLaws

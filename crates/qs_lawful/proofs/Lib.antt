@@ -23,6 +23,7 @@ pub mod AsideNode
 pub mod AsideKept
 pub mod AsideThen
 pub mod AsideDown
+pub mod AsideGoes
 pub mod AsideLeft
 pub mod AsideWhole
 pub mod AsideBeside
@@ -158,6 +159,8 @@ pub mod Tellings
 pub mod Forgetting
 pub mod TellingOn
 pub mod NotesIssued
+pub mod Numbers
+pub mod FactsIssued
 pub mod PeerRestarts
 pub mod Engaging
 pub mod Enqueued
