@@ -15,7 +15,7 @@ use Rattle.qs_lawful.specs.Logs.{Every}
 use Rattle.qs_lawful.specs.Scripts.{HoldsScripts}
 use Rattle.qs_lawful.specs.Worlds.{HoldsNodeAt}
 use Rattle.qs_every_run.specs.Agrees.{MakesStep}
-use Rattle.qs_every_run.specs.ClientLaws.{AnswersAside, BeginsOwned, InStep, KeepsClients, KeepsScripts}
+use Rattle.qs_every_run.specs.StepLaws.{AnswersAside, BeginsOwned, InStep, KeepsClients, KeepsScripts}
 use Rattle.qs_every_run.specs.Joined.{ClientsAt, Joined, book_in}
 use Rattle.qs_every_run.proofs.JoinedClients as clients
 use Rattle.qs_every_run.proofs.JoinedScripts as scripts

@@ -42,6 +42,11 @@ use Rattle.qs_every_run.specs.Traces.{fresh_command, trace_of}
 use Rattle.qs_every_run.proofs.Answered.{step_answers}
 use Rattle.qs_every_run.proofs.JoinedFacts.{formed}
 
+-- no entry of a step is a restart
+pub is_of_step : (was : Commands) (said : List ClientAnswer) (act : Act) → IsOfOpen was said act → IsOfStep act
+is_of_step was said (acts.Restart inc pend done) of = of
+is_of_step was said act of = tt
+
 module _ (o : Opening) (opens : IsOpening o) (book : BookValue) (world : World) (n stamp free : ℕ) (source : Source) (event : Event) (comes : event_of world n stamp source ≡ Some event)
     (scripts : HoldsScripts o book world) (clients : ClientsAt world) (sized : world.size ≡ o.size) (low : n < world.size) (up : world.channels.up n ≡ true)
     (nodes : (world.hosts n).node.setting.nodes ≡ world.size) (rising : IsRising client_cmp (world.hosts n).node.commands) where
@@ -198,8 +203,4 @@ module _ (o : Opening) (opens : IsOpening o) (book : BookValue) (world : World) 
       aside act of = tt
 
   pub of_steps : Every IsOfStep (effects_of node event free).entries
-  of_steps = every_on (IsOfOpen (with_event event node.commands) said) IsOfStep of_step (effects_of node event free).entries answering.entries
-    where
-      of_step : (act : Act) → IsOfOpen (with_event event node.commands) said act → IsOfStep act
-      of_step (acts.Restart inc pend done) of = of
-      of_step act of = tt
+  of_steps = every_on (IsOfOpen (with_event event node.commands) said) IsOfStep (is_of_step (with_event event node.commands) said) (effects_of node event free).entries answering.entries

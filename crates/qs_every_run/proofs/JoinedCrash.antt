@@ -1,5 +1,5 @@
 -- All that stands together of a world stands after a crash, whatever it leaves in the log.
-use Rattle.std.proofs.Common.{◌≡◌, ℕ, ◌≤◌, ◌<◌, ◌==◌, Bool, true, false, List, [], ◌∷◌, Some, refl, sym, ap, subst, ◌∙◌, arith, if◌then◌else◌}
+use Rattle.std.proofs.Common.{◌≡◌, ℕ, ◌≤◌, ◌<◌, ◌==◌, Bool, true, false, List, [], ◌∷◌, Some, None, refl, sym, ap, subst, ◌∙◌, arith, if◌then◌else◌}
 use Rattle.std.specs.BTreeMap.{is_at}
 use Rattle.std.specs.Map.{lookup}
 use Rattle.std.specs.Prelude.{slice_get}
@@ -23,6 +23,7 @@ use Rattle.qs_world.specs.Posting.{entry_of}
 use Rattle.qs_world.specs.World.{Client, Opening, World}
 use Rattle.qs_refine.proofs.StepAll.{node_stopped}
 use Rattle.qs_lawful.specs.Beside.{HasOwner, is_committed_at}
+use Rattle.qs_lawful.specs.Face.{waiting_at}
 use Rattle.qs_lawful.specs.NodeFacts.{HasNodeFacts}
 use Rattle.qs_lawful.specs.Parcels.{HoldsWays}
 use Rattle.qs_lawful.specs.Scripts.{HoldsScripts}
@@ -38,6 +39,8 @@ use Rattle.qs_every_run.specs.Joined.{HomesAt, HoldsRunning, Joined, ClocksAt, L
 use Rattle.qs_every_run.specs.JoinedOwed.{AfterStep, Owed, StaysUnanimousThen}
 use Rattle.qs_every_run.proofs.JoinedHeld as held_proofs
 use Rattle.qs_every_run.proofs.JoinedParts.{book_on, channels_later, lawful_on}
+use Rattle.qs_every_run.proofs.JoinedWays.{lasts_now}
+use Rattle.qs_every_run.proofs.KeptBack.{none_before}
 use Rattle.qs_every_run.proofs.JoinedClocks.{by_order, in_order_stamp}
 use Rattle.qs_every_run.proofs.JoinedAfter.{Known, then_joined}
 
@@ -118,6 +121,9 @@ module _ (P : Opening → World → Type 0) (owed : Owed P) (unanimous : AfterSt
       logged = crash_logged;
       clocks = crash_clocks;
       channels = channels_later o world after (entry ∷ []) j.opens refl crash_lawful world.size after.channels (channels_moved book world.size (channel.Crash n) world.channels tt j.channels);
+      unmet = j.unmet;
+      queued = λ k low tid server none. subst (λ (m : NodeValue). waiting_at m tid server ≡ []) (sym (node_stopped world n stamp cause log k))
+          (j.queued k low tid server (none_before (entry ∷ []) book (lasts_now o world j.opens j.lawful) crashed.lawful tid (subst (λ (b : BookValue). find_transaction b tid ≡ None) (book_on o world after (entry ∷ []) refl) none)));
       ways = subst (λ (b : BookValue). HoldsWays b after) (sym (book_on o world after (entry ∷ []) refl)) (crash_ways book world n stamp cause log j.ways);
       clients = λ k low client command there. let i = j.clients k low client command (subst (λ (m : NodeValue). lookup (is_at (client_cmp client)) m.commands ≡ Some command) (node_stopped world n stamp cause log k) there) in
           record { small = i.small; at = still ((world.clients client.0).at == n) (world.clients client.0) ∙ i.at };

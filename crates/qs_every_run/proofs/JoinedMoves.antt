@@ -6,7 +6,7 @@ use Rattle.std.specs.BTreeMap.{is_at}
 use Rattle.std.specs.Map.{lookup}
 use Rattle.qs_channels.specs.Channels as channel
 use Rattle.qs_journal.specs.declared.entry.Act.TheVariants as acts
-use Rattle.qs_machine.specs.Book.{BookValue}
+use Rattle.qs_machine.specs.Book.{BookValue, find_transaction}
 use Rattle.qs_machine.specs.Clauses.{is_crash}
 use Rattle.qs_machine.specs.Lawful.{IsLawful, book_after}
 use Rattle.qs_machine.specs.Restart.{is_among}
@@ -20,6 +20,7 @@ use Rattle.qs_world.specs.Moves.{Cut, Meet, Move, Rise, Step, Stop, cut_log, cut
 use Rattle.qs_world.specs.World.{Opening, World, known_of}
 use Rattle.qs_refine.proofs.SoundParts.{and_both}
 use Rattle.qs_lawful.specs.Beside.{HoldsBeside, is_committed_at}
+use Rattle.qs_lawful.specs.Face.{waiting_at}
 use Rattle.qs_lawful.specs.Lasting.{Lasts}
 use Rattle.qs_lawful.specs.Logs.{found_votes}
 use Rattle.qs_lawful.specs.NodeFacts.{HasNodeFacts}
@@ -38,13 +39,15 @@ use Rattle.qs_lawful.proofs.ScriptsLike.{meet_scripts}
 use Rattle.qs_lawful.proofs.StopsWhole.{by_cut, by_stop}
 use Rattle.qs_lawful.proofs.WaysOn.{rise_ways}
 use Rattle.qs_every_run.specs.Agrees.{nodes_in}
-use Rattle.qs_every_run.specs.Joined.{ClocksAt, FactsAt, HeldAt, HomesAt, HomesHave, HoldsRunning, Joined, LoggedAt, OwnersAt, RunningAt, book_in, ClientsAt, IsOwnClient}
+use Rattle.qs_every_run.specs.Joined.{ClocksAt, FactsAt, HeldAt, HomesAt, HomesHave, HoldsRunning, Joined, LoggedAt, OwnersAt, RunningAt, book_in, ClientsAt, IsOwnClient, QueuedAt}
 use Rattle.qs_every_run.specs.JoinedOwed.{Owed, AfterStep, IsBetweenSteps, Keeps, StaysUnanimousThen}
 use Rattle.qs_every_run.specs.JoinedRuns.{EachMoveJoined}
 use Rattle.qs_every_run.specs.PlacesLaws.{GoesOn}
 use Rattle.qs_every_run.proofs.JoinedFacts.{rises_facts}
 use Rattle.qs_every_run.proofs.JoinedHomes.{homes_after}
 use Rattle.qs_every_run.proofs.JoinedParts.{book_on, channels_later, lawful_on, seated_sound}
+use Rattle.qs_every_run.proofs.JoinedWays.{lasts_now}
+use Rattle.qs_every_run.proofs.KeptBack.{meet_unmet, none_before, rise_unmet}
 use Rattle.qs_every_run.proofs.RisesBeside.{rise_keeps_beside}
 use Rattle.qs_every_run.proofs.JoinedClocks.{by_order, in_order_stamp, opens_on_time}
 use Rattle.qs_every_run.proofs.RisesRunning.{rises_running}
@@ -123,6 +126,15 @@ module _ (P : Opening → World → Type 0) (between : Keeps P IsBetweenSteps P)
         (homes_after book world.size (nodes_in world) (nodes_in risen_world) n stamp (acts.Restart inc (found_votes (recovery (world.hosts n).log)) (recovery (world.hosts n).log).committed ∷ []) (j.held.nodes n n_low).node (rise_held.nodes n n_low).node rise_same
         rises.lawful (subst (λ (b : BookValue). HoldsBeside b (risen_world.hosts n).node) rise_book (rise_running n n_low rise_up).beside) j.homes)
 
+    -- nothing waits at it
+    rise_queued : QueuedAt o risen_world
+    rise_queued k low tid server none = by (k == n) refl
+      where
+        by : (b : Bool) → (k == n) ≡ b → waiting_at (risen_world.hosts k).node tid server ≡ []
+        by true near = subst (λ (m : NodeValue). waiting_at m tid server ≡ []) (sym (ap (λ (i : ℕ). (risen_world.hosts i).node) (eqb-true k n near) ∙ rise_own)) refl
+        by false far = subst (λ (m : NodeValue). waiting_at m tid server ≡ []) (sym (rise_same k far))
+            (j.queued k low tid server (none_before (rise_entry world n stamp inc ∷ []) book (lasts_now o world j.opens j.lawful) rises.lawful tid (subst (λ (b : BookValue). find_transaction b tid ≡ None) rise_book none)))
+
     -- it has nothing in hand
     rise_clients : ClientsAt risen_world
     rise_clients k low client command there = by (k == n) refl
@@ -165,6 +177,8 @@ module _ (P : Opening → World → Type 0) (between : Keeps P IsBetweenSteps P)
       clocks = rise_clocks;
       channels = channels_later o world risen_world (rise_entry world n stamp inc ∷ []) j.opens refl rise_lawful world.size risen_world.channels
           (channels_moved book world.size (channel.Restart n inc) world.channels (let later : nat_lt (world.channels.inc n) inc ≡ true = tests.1 in grind (arith, nat_tests, later)) j.channels);
+      unmet = rise_unmet world.channels n inc j.unmet;
+      queued = rise_queued;
       ways = subst (λ (b : BookValue). HoldsWays b risen_world) (sym rise_book) (rise_ways book world n stamp inc lasts j.held (seated_sound world j.shown.steady.seated) may j.ways);
       clients = rise_clients;
       scripts = subst (λ (b : BookValue). HoldsScripts o b risen_world) (sym rise_book) (rise_scripts o book world n stamp inc lasts j.held may j.scripts);
@@ -220,6 +234,8 @@ module _ (P : Opening → World → Type 0) (between : Keeps P IsBetweenSteps P)
       logged = met_logged;
       clocks = met_clocks;
       channels = channels_moved book world.size (channel.Meet n m inc) world.channels known_inc j.channels;
+      unmet = meet_unmet world.channels n m inc j.unmet;
+      queued = λ k low tid server none. subst (λ (m : NodeValue). waiting_at m tid server ≡ []) (sym (met_node k)) (j.queued k low tid server none);
       ways = meet_ways book world n stamp m inc j.channels (seated_sound world j.shown.steady.seated) may j.ways;
       clients = λ k low client command there. let i = j.clients k low client command (subst (λ (m : NodeValue). lookup (is_at (client_cmp client)) m.commands ≡ Some command) (met_node k) there) in record { small = i.small; at = i.at };
       scripts = meet_scripts o book world n stamp m inc j.scripts;

@@ -36,6 +36,8 @@ each_opens_joined P goes owed o opens = record {
   clocks = λ n low. none ((start o).hosts n).node.manager.ticks (opens_on_time o.alloc (o.settings n) (recovered_of (o.logs n)));
   born = born_start o;
   channels = record { posted = λ n m i j. tt; waits = λ n m. tt; known = λ n m. least ((start o).channels.inc m) };
+  unmet = λ n m some. refl;
+  queued = λ n low tid server none. refl;
   ways = opens_ways o opens;
   clients = λ n low client command there. absurd (cc there);
   scripts = opens_scripts o opens;

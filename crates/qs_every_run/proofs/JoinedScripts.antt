@@ -25,7 +25,6 @@ use Rattle.qs_world.specs.Posting.{answered, entries_of, is_answer_to}
 use Rattle.qs_world.specs.World.{Client, Opening, World}
 use Rattle.qs_refine.proofs.Moving.{up_taken}
 use Rattle.qs_refine.proofs.Posted.{up_all}
-use Rattle.qs_lawful.specs.Aside.{IsOfStep}
 use Rattle.qs_lawful.specs.Logs.{Every}
 use Rattle.qs_lawful.specs.Scripts.{AreBehind, HoldsClient, HoldsScripts, IsFresh, IsInHand, IsRest}
 use Rattle.qs_lawful.specs.WayLaws.{BeginsNone, HoldsScript, IsOther, IsSilentTo, LeavesScript}
@@ -77,10 +76,6 @@ module _ (o : Opening) (opens : IsOpening o) (book : BookValue) (world : World) 
 
   were : (k : ℕ) → list_any (is_answer_to k) said ≡ true → WasOpen was (record { 0 = k })
   were k is = (step.answering o opens book world n stamp free source event comes scripts clients sized low up nodes rising).were k is
-
-  of_step : (act : Act) → IsOfOpen was said act → IsOfStep act
-  of_step (acts.Restart inc pend done) of = of
-  of_step act of = tt
 
   below : (k : ℕ) → nat_lt k client_count ≡ true → k < client_count
   below k small = grind (arith, nat_tests, small)
@@ -154,7 +149,7 @@ module _ (o : Opening) (opens : IsOpening o) (book : BookValue) (world : World) 
       apart a b off same = let on : (a == b) ≡ true = grind (arith, nat_tests, same) in let both : true ≡ false = sym on ∙ off in cc (both)
 
       leaves : (act : Act) → IsOfOpen was said act → LeavesScript k lines (record { stamp = stamp; node = record { 0 = n }; act = act })
-      leaves act of = record { of_step = of_step act of; silent = silent act of; begins = begins act of }
+      leaves act of = record { of_step = step.is_of_step was said act of; silent = silent act of; begins = begins act of }
         where
           silent : (act : Act) → IsOfOpen was said act → IsSilentTo k act
           silent (acts.Answer client line answer) of = apart client.0 k (other client of.answered)
@@ -208,7 +203,7 @@ module _ (o : Opening) (opens : IsOpening o) (book : BookValue) (world : World) 
       one same = cc same
 
       passes : (act : Act) → IsOfOpen was said act → Passes k w.command.line.line (labels_begun rest) act
-      passes act of = record { of_step = of_step act of; answers = answers act of; begins = begins act of }
+      passes act of = record { of_step = step.is_of_step was said act of; answers = answers act of; begins = begins act of }
         where
           answers : (act : Act) → IsOfOpen was said act → AnswersAs k w.command.line.line act
           answers (acts.Answer client line answer) of = λ same. sym of.line_is ∙ ap (λ (o : OpenCommand). o.line.line) (one (sym (subst (λ (i : ℕ). lookup (is_at (client_cmp (record { 0 = i }))) was ≡ Some of.old) same of.there) ∙ w.there))

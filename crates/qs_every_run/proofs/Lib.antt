@@ -38,6 +38,16 @@ pub mod CountsServed
 pub mod JoinedClocks
 pub mod JoinedLogged
 pub mod JoinedGiven
+pub mod RequestsLeft
+pub mod WaysEntries
+pub mod WaysServed
+pub mod WaysServing
+pub mod WaysTraced
+pub mod WaysSent
+pub mod KeptBack
+pub mod WaysPosted
+pub mod WaysSplit
+pub mod JoinedWays
 pub mod JoinedSteps
 pub mod JoinedSound
 pub mod ToldFewer

@@ -38,7 +38,7 @@ use Rattle.qs_lawful.specs.Said.{HoldsSaid}
 use Rattle.qs_lawful.specs.WorldLaws.{StopsWell}
 use Rattle.qs_lawful.specs.Worlds.{HoldsKept}
 use Rattle.qs_every_run.specs.Agrees.{MakesStep}
-use Rattle.qs_every_run.specs.Joined.{Joined, WaysAt, book_in}
+use Rattle.qs_every_run.specs.Joined.{Joined, book_in}
 
 -- ---- as a run begins
 
@@ -134,7 +134,6 @@ pub record Owed (P : Opening → World → Type 0) : Type 0 where
   -- after a whole step
   pub steps_kept : AfterStep P KeptThen
   pub steps_said : AfterStep P SaidThen
-  pub steps_ways : Keeps P IsStep WaysAt
   -- what all places hold of each transaction
   pub places : Keeps P IsStep P
   -- after a crash

@@ -7,7 +7,7 @@ pub mod Traces
 pub mod Answering
 pub mod JoinedOwed
 pub mod JoinedPlaces
-pub mod ClientLaws
+pub mod StepLaws
 pub mod JoinedRuns
 pub mod RiseLaws
 pub mod Stays

@@ -1,6 +1,7 @@
--- The laws of a step and its clients: what begins has an owner, who is answered has nothing in hand at another node, and scripts go on.
+-- The laws of a step, of clients and of what is on its way: what begins has an owner, who is answered has nothing in hand at another node, and
+-- scripts and ways go on.
 use Rattle.std.specs.Prelude.{◌≡◌, ◌<◌, ℕ, ◌==◌, false}
-use Rattle.qs_machine.specs.Lawful.{book_after}
+use Rattle.qs_machine.specs.Lawful.{IsLawful, book_after}
 use Rattle.qs_step.specs.Step.{effects_of}
 use Rattle.qs_step.specs.declared.event.Event.{Event}
 use Rattle.qs_world.specs.Moves.{Source, Step, moved}
@@ -8,6 +9,7 @@ use Rattle.qs_world.specs.Posting.{entries_of}
 use Rattle.qs_world.specs.World.{Opening, World}
 use Rattle.qs_lawful.specs.Aside.{AnswersElsewhere}
 use Rattle.qs_lawful.specs.Logs.{Every}
+use Rattle.qs_lawful.specs.Parcels.{HoldsWays}
 use Rattle.qs_lawful.specs.Scripts.{HoldsScripts}
 use Rattle.qs_every_run.specs.Agrees.{MakesStep}
 use Rattle.qs_every_run.specs.Joined.{ClientsAt, Joined, book_in}
@@ -27,3 +29,8 @@ KeepsClients o world n stamp free source event = ClientsAt (moved (Step n stamp 
 
 abbrev pub KeepsScripts : Opening → World → ℕ → ℕ → ℕ → Source → Event → Type 0
 KeepsScripts o world n stamp free source event = HoldsScripts o (book_after (book_in o world) (entries_of n stamp (effects_of (world.hosts n).node event free).entries)) (moved (Step n stamp free source) world)
+
+-- where its entries are lawful
+abbrev pub KeepsWays : Opening → World → ℕ → ℕ → ℕ → Source → Event → Type 0
+KeepsWays o world n stamp free source event = IsLawful (book_in o world) (entries_of n stamp (effects_of (world.hosts n).node event free).entries)
+    → HoldsWays (book_after (book_in o world) (entries_of n stamp (effects_of (world.hosts n).node event free).entries)) (moved (Step n stamp free source) world)
