@@ -36,3 +36,5 @@ pub mod RisesBeside
 pub mod RisesRunning
 pub mod JoinedMoves
 pub mod JoinedOver
+pub mod KeptAfter
+pub mod JoinedKept
