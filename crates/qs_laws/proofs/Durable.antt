@@ -76,7 +76,7 @@ recorded None = None
 recorded (Some mark) = mark.rec
 
 -- nothing of what the member learnt is left
-learnt_none : (b : Bool) (tid : Tid) (v : NodeValue) → IsTidy v
+pub learnt_none : (b : Bool) (tid : Tid) (v : NodeValue) → IsTidy v
     → (pending_at (doubts_after tid (number b) (learn_node outcomes.Commit tid (number b) v)) tid (number b) ≡ []) × (record_of (doubts_after tid (number b) (learn_node outcomes.Commit tid (number b) v)) tid (number b) ≡ None)
 learnt_none true tid v tidy =
     (ap (λ (o : Option Share). (unwrap_or o nothing_held).changes) (removed tid_cmp at_exact tid v.files.shares tidy.files), removed voter_cmp voter_exact (voter tid 0) v.records tidy.records)

@@ -12,6 +12,7 @@ pub mod Unserved
 pub mod NotPending
 pub mod LearningOpens
 pub mod Unlearnt
+pub mod LearnsAll
 pub mod Openings
 pub mod Histories
 pub mod Stills
