@@ -1,5 +1,5 @@
 -- A step of a world in which all stands together is given all that it needs.
-use Rattle.std.proofs.Common.{◌≡◌, ℕ, true, Some, refl, subst, arith}
+use Rattle.std.proofs.Common.{◌≡◌, ℕ, ◌<◌, true, false, Some, refl, sym, ap, subst, ◌∙◌, arith, nat_lt}
 use Rattle.std.proofs.lemmas.Bool.Decides.{nat_tests}
 use Rattle.qs_step.specs.State.{NodeValue, work_on}
 use Rattle.qs_step.specs.declared.event.Event.{Event}
@@ -11,7 +11,8 @@ use Rattle.qs_refine.proofs.EachMay.{from_client, from_node, from_notice}
 use Rattle.qs_refine.proofs.MoveGoes.{StepMay, step_may}
 use Rattle.qs_lawful.specs.Agreed.{StepAgrees}
 use Rattle.qs_lawful.specs.Coming.{ComesTo}
-use Rattle.qs_lawful.specs.GivenStep.{MayStep}
+use Rattle.qs_lawful.specs.Given.{AtEach}
+use Rattle.qs_lawful.specs.GivenStep.{MayStep, first_work}
 use Rattle.qs_lawful.specs.Holds.{Holds}
 use Rattle.qs_lawful.specs.StepOn.{StepOn}
 use Rattle.qs_lawful.specs.Worlds.{HoldsNodeAt}

@@ -1,5 +1,5 @@
 -- The Commits that a node's log had as it opened are the machine's.
-use Rattle.std.proofs.Common.{◌≡◌, inl, inr, ℕ, ◌||◌, Bool, true, false, List, [], ◌∷◌, Some, refl, sym, subst}
+use Rattle.std.proofs.Common.{◌≡◌, ◌⊎◌, inl, inr, ℕ, ◌<◌, ◌==◌, ◌||◌, Bool, true, false, List, [], ◌∷◌, Some, refl, sym, ap, subst, ◌∙◌}
 use Rattle.std.specs.List.{list_any}
 use Rattle.std.specs.Prelude.{slice_get}
 use Rattle.qs_base.proofs.Same.{same_tid-true}
@@ -11,7 +11,7 @@ use Rattle.qs_restart.specs.Recovery.{recovery}
 use Rattle.qs_world.specs.World.{Host}
 use Rattle.qs_lawful.specs.BesideStep.{AreCommitted}
 use Rattle.qs_lawful.specs.Lasting.{Lasts}
-use Rattle.qs_lawful.specs.Logged.{HasCommitted, IsCommitMade}
+use Rattle.qs_lawful.specs.Logged.{HasCommitted, HoldsLogged, IsCommitMade}
 use Rattle.qs_lawful.specs.Logs.{Every}
 use Rattle.qs_lawful.specs.Worlds.{HoldsUp}
 use Rattle.qs_every_run.specs.Joined.{IsLogged}
