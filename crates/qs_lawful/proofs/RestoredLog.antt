@@ -17,13 +17,14 @@ use Rattle.qs_laws.proofs.Maps.{changed_at_here}
 use Rattle.qs_laws.proofs.Rising.{IsRising, put_rises, voter_total}
 use Rattle.qs_machine.specs.Book.{BookValue, cell_of_transaction, crossed_in, find_transaction}
 use Rattle.qs_machine.specs.Nodes as machine
-use Rattle.qs_machine.specs.Nodes.{is_recoverable, record_of, voter, voter_cmp}
+use Rattle.qs_machine.specs.Nodes.{changes_of, is_recoverable, record_of, voter, voter_cmp}
 use Rattle.qs_machine.specs.Restart.{is_among, is_found_as, is_new_vote, is_on_record, may_be_lost, member_at, new_votes, record_at, reopened, votes_once, with_votes, without_records}
 use Rattle.qs_machine.specs.Transaction.{TransactionValue, has_learnt, is_abort, is_open}
 use Rattle.qs_machine.specs.declared.state.OnRecord.{OnRecord}
 use Rattle.qs_machine.specs.declared.state.Voter.{Voter}
 use Rattle.qs_machine.specs.declared.transaction.Cell.{Cell}
 use Rattle.qs_machine.specs.declared.transaction.Cell.TheVariants as cells
+use Rattle.qs_ops.specs.Servers.{audit_no, extra_no, files_no}
 use Rattle.qs_ops.specs.Table.{TableValue, apply_change, apply_note}
 use Rattle.qs_restart.specs.Recovery.{Prepared, Recovery, is_in_doubt, names_transaction}
 use Rattle.qs_lawful.specs.Logged.{HoldsLogged, IsCommitMade, IsMarked, IsRecordSafe, StandsIn}
@@ -239,6 +240,12 @@ module _ (book : BookValue) (here : NodeNo) (stamp inc : ℕ) (log : Recovery) (
   undone : (v : Prepared) → (is_in_doubt v ≡ true → InDoubt book here stamp inc log state r v.tid) → IsUndone here.0 now v
   undone v doubt home names clear committed = cc (sym committed ∙ (doubt (rw (names, clear) refl)).away (ap (λ (x : ℕ). record { 0 = x }) home))
 
+  -- a server that keeps contents keeps its votes in a log
+  recoverable : (a b c : Bool) → (a || b) ≡ true → (a || (b || c)) ≡ true
+  recoverable true b c e = refl
+  recoverable false true c e = refl
+  recoverable false false c e = absurd (cc e)
+
   pub said_held : HoldsSaid here.0 now reborn log
   said_held = record {
     files = record {
@@ -252,6 +259,6 @@ module _ (book : BookValue) (here : NodeNo) (stamp inc : ℕ) (log : Recovery) (
     recorded = every_two (λ (v : Prepared). ((is_recoverable v.server.0 ≡ true) × StandsIn book v) × IsMarked log v) (IsToBeRecorded here.0 book log) (IsAsRecorded here.0 now reborn) (λ v all to_be. recorded_now v all.0.0 all.0.1 all.1 to_be) log.prepared
         (every_two (λ (v : Prepared). (is_recoverable v.server.0 ≡ true) × StandsIn book v) (IsMarked log) (λ (v : Prepared). ((is_recoverable v.server.0 ≡ true) × StandsIn book v) × IsMarked log v) (λ v a b. (a, b)) log.prepared both_of r.marked) r.left.recorded;
     apart = r.left.apart;
-    gone = λ tid server kept among. forgot_done log.committed tid server found kept rising_found among;
+    gone = λ tid server kept among. ap changes_of (forgot_done log.committed tid server found (recoverable (server == files_no) (server == audit_no) (server == extra_no) kept) rising_found among);
     undone = every_on (λ (v : Prepared). is_in_doubt v ≡ true → InDoubt book here stamp inc log state r v.tid) (IsUndone here.0 now) undone log.prepared (in_doubt book here stamp inc log state r);
   }
