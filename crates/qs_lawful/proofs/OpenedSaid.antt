@@ -181,7 +181,7 @@ module _ (o : Opening) (opens : IsOpening o) (n : ℕ) (low : n < o.size) where
   -- ---- contents and changes
 
   recorded : (v : Prepared) → KnowsVote v → IsAsRecorded n now its v
-  recorded v k rec is = of (in_doubt_or v k.doubt)
+  recorded v k clear rec is = of (in_doubt_or v k.doubt)
     where
       p : (u : Prepared) × (doubt_at its_log.prepared v.tid v.server.0 ≡ Some u) × (rec ≡ record_for (as_pending u))
       p = from_doubt v.tid v.server.0 rec is

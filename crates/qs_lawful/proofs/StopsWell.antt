@@ -249,7 +249,7 @@ module _ (book : BookValue) (world : World) (n stamp : ℕ) (cause : CrashCause)
         by : (o : Option OnRecord) → record_of at.state v.tid v.server.0 ≡ o → is_on_record at.state (found_of v) ≡ true → IsRecorded n now (record_at n mid v.tid v.server.0) v
         by None none on = absurd (cc (sym (ap (λ (o : Option OnRecord). elim o [ None ↦ false | Some rec ↦ rec.covers == v.covers ]) none) ∙ on))
         by (Some rec) is on =
-            let k : IsRecorded n book (Some rec) v = as_recorded rec is in
+            let k : IsRecorded n book (Some rec) v = as_recorded clear rec is in
             subst (λ (o : Option OnRecord). IsRecorded n now o v) (sym (record_is v.tid v.server.0 ∙ is)) (record { changes = k.changes; count = k.count })
 
     left : HoldsLeft n now state_now log

@@ -26,13 +26,14 @@ IsMadeBy table changes = SameContents table (applied no_table changes)
 
 -- ---- votes
 
--- on record is what the Prepare has, where the transaction is not crossed at the member; of files the count stands in any case
+-- on record is what the Prepare has, where the transaction is not crossed at the member; of files the count stands in any case; of a
+-- vote with a Commit behind it nothing is asked
 pub record IsRecorded (here : ℕ) (book : BookValue) (rec : Option OnRecord) (vote : Prepared) : Type 0 where
   pub changes : crossed_in (find_transaction book vote.tid) (member_at here vote.server.0) ≡ false → machine.changes_of rec ≡ vote.changes
   pub count : vote.server.0 ≡ files_no → count_of rec ≡ length vote.changes
 
 abbrev pub IsAsRecorded : ℕ → BookValue → machine.NodeValue → Prepared → Type 0
-IsAsRecorded here book state vote = (rec : OnRecord) → machine.record_of state vote.tid vote.server.0 ≡ Some rec → IsRecorded here book (Some rec) vote
+IsAsRecorded here book state vote = vote.committed ≡ false → (rec : OnRecord) → machine.record_of state vote.tid vote.server.0 ≡ Some rec → IsRecorded here book (Some rec) vote
 
 -- a Prepare with no Commit behind it has none before it either
 abbrev pub IsApart : Recovery → Prepared → Type 0
