@@ -9,8 +9,7 @@ use Rattle.qs_journal.specs.declared.entry.CrashCause.{CrashCause}
 use Rattle.qs_journal.specs.declared.entry.Entry.{Entry}
 use Rattle.qs_laws.specs.Gone.{restarts_into}
 use Rattle.qs_record.specs.declared.record.Record.{Record}
-use Rattle.qs_step.specs.State.{NodeValue}
-use Rattle.qs_step.specs.Step.{after_step, effects_of}
+use Rattle.qs_step.specs.Step.{effects_of}
 use Rattle.qs_step.specs.declared.event.Event.{Event}
 use Rattle.qs_step.specs.declared.event.Event.TheVariants as events
 use Rattle.qs_world.specs.Moves.{Clock, Commanded, Cut, Handed, Meet, Move, Noticed, Queues, Rise, Source, Step, Stop, cut_log, cut_with, event_of, hand_next, has_begun, is_before, is_later, may_move, moved, node_no, step_with, stopped, taken_by}

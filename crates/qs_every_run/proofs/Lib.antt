@@ -26,6 +26,8 @@ pub mod OpensRunning
 pub mod CountsServed
 pub mod JoinedClocks
 pub mod JoinedLogged
+pub mod OwedBefore
+pub mod JoinedGone
 pub mod JoinedGiven
 pub mod JoinedSteps
 pub mod JoinedSound
