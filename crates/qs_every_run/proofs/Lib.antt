@@ -18,7 +18,9 @@ pub mod JoinedFacts
 pub mod JoinedHomes
 pub mod TraceRules
 pub mod TraceTold
+pub mod TraceCommands
 pub mod TraceStages
+pub mod CommitsFirst
 pub mod Answered
 pub mod LabelsApart
 pub mod LinesLeft
@@ -48,6 +50,7 @@ pub mod JoinedMoves
 pub mod JoinedOver
 pub mod Entries
 pub mod PlacedTx
+pub mod UnanimousEarlier
 pub mod PlacesBegin
 pub mod PlacesStop
 pub mod RestartPlaced

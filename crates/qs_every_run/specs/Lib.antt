@@ -4,6 +4,8 @@ pub mod StopLaws
 pub mod Agrees
 pub mod Joined
 pub mod Traces
+pub mod Deeds
+pub mod Firsts
 pub mod Answering
 pub mod JoinedOwed
 pub mod JoinedPlaces
