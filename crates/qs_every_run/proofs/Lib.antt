@@ -46,6 +46,7 @@ pub mod JoinedHeld
 pub mod JoinedAfter
 pub mod RisesBeside
 pub mod RisesRunning
+pub mod CutUnanimous
 pub mod JoinedMoves
 pub mod JoinedOver
 pub mod Entries
