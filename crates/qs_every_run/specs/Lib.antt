@@ -1,5 +1,8 @@
 pub mod Placed
 pub mod PlacedLaws
+pub mod PlacedActs
+pub mod PlacesAmid
+pub mod PlacesRules
 pub mod StopLaws
 pub mod Agrees
 pub mod Joined

@@ -1,5 +1,6 @@
 //! A transaction of which all places hold what they should is unanimous as it is committed.
 ghost use Rattle.qs_every_run.specs.StopLaws.{StopsPlaced, CutPlaced, StopHolds, CutHolds};
+ghost use Rattle.qs_every_run.specs.PlacesRules.{LeftGoesOn, BeginLeaves, OthersLeave, RestLeaves, IssueHereGoesOn, IssueAwayGoesOn, ServeGoesOn, VoteGoesOn, YieldGoesOn};
 ghost use Rattle.qs_every_run.specs.PlacedLaws.{ReadyFree, FreeAgrees, QuietUnanimous, CommittedFree, CommittedWays, CommittedKeeps, CommittedUnanimous};
 
 /// At a node that is ready no request of it waits, no loan stands and every vote covers what was served; where that is so its present lives agree. Where all nodes
@@ -26,4 +27,18 @@ pub fn stops()
     ensures cut { CutPlaced }
     ensures stop_holds { StopHolds }
     ensures cut_holds { CutHolds }
+{}
+
+/// In the middle of a step of a node, what all places hold goes on through rules that leave it, as most do; and as a request is issued that
+/// reaches a node and crosses none, as one is served with its loan, as a vote for commit is cast, and as a loan is given back.
+pub fn rules()
+    ensures left { LeftGoesOn }
+    ensures begins { BeginLeaves }
+    ensures others { OthersLeave }
+    ensures rest { RestLeaves }
+    ensures issues_here { IssueHereGoesOn }
+    ensures issues_away { IssueAwayGoesOn }
+    ensures serves { ServeGoesOn }
+    ensures votes { VoteGoesOn }
+    ensures yields { YieldGoesOn }
 {}
