@@ -38,3 +38,4 @@ pub mod PlacedIssue
 pub mod ServedKinds
 pub mod PlacedServe
 pub mod PlacedVotes
+pub mod CommitsAmid

@@ -3,6 +3,7 @@ pub mod PlacedLaws
 pub mod PlacedActs
 pub mod PlacesAmid
 pub mod PlacesRules
+pub mod PlacesCommits
 pub mod StopLaws
 pub mod Agrees
 pub mod Joined

@@ -1,6 +1,7 @@
 //! A transaction of which all places hold what they should is unanimous as it is committed.
 ghost use Rattle.qs_every_run.specs.StopLaws.{StopsPlaced, CutPlaced, StopHolds, CutHolds};
 ghost use Rattle.qs_every_run.specs.PlacesRules.{LeftGoesOn, BeginLeaves, OthersLeave, RestLeaves, IssueHereGoesOn, IssueAwayGoesOn, ServeGoesOn, VoteGoesOn, YieldGoesOn};
+ghost use Rattle.qs_every_run.specs.PlacesCommits.{WorldShowsField, HomeCommitsUnanimous};
 ghost use Rattle.qs_every_run.specs.PlacedLaws.{ReadyFree, FreeAgrees, QuietUnanimous, CommittedFree, CommittedWays, CommittedKeeps, CommittedUnanimous};
 
 /// At a node that is ready no request of it waits, no loan stands and every vote covers what was served; where that is so its present lives agree. Where all nodes
@@ -41,4 +42,11 @@ pub fn rules()
     ensures serves { ServeGoesOn }
     ensures votes { VoteGoesOn }
     ensures yields { YieldGoesOn }
+{}
+
+/// A home that is ready in the middle of its step commits in the agreement machine, whatever room its log has; so where all places hold what
+/// they should, or it is doomed, its transaction is unanimous.
+pub fn home_commits()
+    ensures field { WorldShowsField }
+    ensures unanimous { HomeCommitsUnanimous }
 {}
