@@ -39,3 +39,7 @@ pub mod ServedKinds
 pub mod PlacedServe
 pub mod PlacedVotes
 pub mod CommitsAmid
+pub mod FieldBegins
+pub mod FieldEnds
+pub mod FieldTaken
+pub mod PlacedComes

@@ -2,6 +2,8 @@
 ghost use Rattle.qs_every_run.specs.StopLaws.{StopsPlaced, CutPlaced, StopHolds, CutHolds};
 ghost use Rattle.qs_every_run.specs.PlacesRules.{LeftGoesOn, BeginLeaves, OthersLeave, RestLeaves, IssueHereGoesOn, IssueAwayGoesOn, ServeGoesOn, VoteGoesOn, YieldGoesOn};
 ghost use Rattle.qs_every_run.specs.PlacesCommits.{WorldShowsField, HomeCommitsUnanimous};
+ghost use Rattle.qs_every_run.specs.PlacesComes.{MessageComes, RequestComes};
+ghost use Rattle.qs_every_run.specs.PlacesEnds.{StepBegins, StepEnds};
 ghost use Rattle.qs_every_run.specs.PlacedLaws.{ReadyFree, FreeAgrees, QuietUnanimous, CommittedFree, CommittedWays, CommittedKeeps, CommittedUnanimous};
 
 /// At a node that is ready no request of it waits, no loan stands and every vote covers what was served; where that is so its present lives agree. Where all nodes
@@ -49,4 +51,13 @@ pub fn rules()
 pub fn home_commits()
     ensures field { WorldShowsField }
     ensures unanimous { HomeCommitsUnanimous }
+{}
+
+/// A step begins with the field of its world, and ends with that of the world after it: what it sent stands behind what was on its way, or
+/// waits where no incarnation of its receiver is known. In between a message is off its way, and waits at its server where it is a request.
+pub fn ends()
+    ensures begins { StepBegins }
+    ensures ends { StepEnds }
+    ensures comes { MessageComes }
+    ensures requests { RequestComes }
 {}
