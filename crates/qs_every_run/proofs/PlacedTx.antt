@@ -1,14 +1,12 @@
 -- What all places hold of a transaction goes on as it changes: a request is issued, or served, a vote is cast, a loan is made, or given back.
-use Rattle.std.proofs.Common.{◌≡◌, ◌⊎◌, inl, inr, ℕ, ◌+◌, ◌<◌, ◌≤◌, ◌==◌, ◌&&◌, not, Bool, true, false, List, [], ◌∷◌, ◌++◌, length, Option, Some, None, refl, sym, ap, subst, ◌∙◌, arith, if◌then◌else◌}
-use Rattle.std.proofs.lemmas.Bool.Decides.{nat_tests}
+use Rattle.std.proofs.Common.{◌≡◌, ◌⊎◌, inl, inr, ℕ, ◌+◌, ◌<◌, ◌≤◌, true, false, List, [], ◌∷◌, Option, Some, refl, sym, ap, subst, ◌∙◌, arith}
 use Rattle.std.proofs.lemmas.Cmp.{nat_cmp_total, on_total, then_total, tied_itself}
 use Rattle.std.specs.declared.cmp.Ordering.TheVariants.{Equal}
-use Rattle.std.specs.BTreeMap.{insert_entry, is_at}
+use Rattle.std.specs.BTreeMap.{is_at}
 use Rattle.std.specs.Cmp.{IsTotalOrder}
-use Rattle.std.specs.List.{filter, find, list_all}
 use Rattle.std.specs.Map.{lookup}
 use Rattle.std.specs.Prelude.{unwrap_or}
-use Rattle.qs_base.specs.Order.{member_cmp, same_member}
+use Rattle.qs_base.specs.Order.{member_cmp}
 use Rattle.qs_base.specs.declared.identifiers.Class.{Class}
 use Rattle.qs_base.specs.declared.identifiers.Class.TheVariants as classes
 use Rattle.qs_base.specs.declared.identifiers.Member.{Member}
@@ -16,17 +14,15 @@ use Rattle.qs_base.specs.declared.identifiers.ServerNo.{ServerNo}
 use Rattle.qs_base.specs.declared.identifiers.Tid.{Tid}
 use Rattle.qs_laws.proofs.Counts.{life_equal, life_itself}
 use Rattle.qs_laws.proofs.Requests.{request_exact}
-use Rattle.qs_laws.proofs.Rising.{IsRising, put_rises}
-use Rattle.qs_machine.proofs.Present.{request_total}
-use Rattle.qs_machine.specs.Transaction.{TransactionValue, agrees, agrees_in, changed_value, is_empty, is_standing, life, life_cmp, mark_served, no_part, part_of, request_cmp, requests_at}
+use Rattle.qs_laws.proofs.Rising.{IsRising}
+use Rattle.qs_machine.specs.Transaction.{TransactionValue, agrees, agrees_in, changed_value, is_empty, life_cmp, no_part, request_cmp}
 use Rattle.qs_machine.specs.declared.transaction.Life.{Life}
 use Rattle.qs_machine.specs.declared.transaction.Part.{Part}
 use Rattle.qs_machine.specs.declared.transaction.Request.{Request}
 use Rattle.qs_machine.specs.declared.transaction.RequestNo.{RequestNo}
 use Rattle.qs_ops.specs.Members.{class_of, is_two_phase}
-use Rattle.qs_lawful.specs.Face.{at_server}
-use Rattle.qs_every_run.specs.Placed.{Field, EachLives, EachPlaced, IsLife, IsMember, IsPlaced, IsPresent, Placed, asked, goes_there, standing, waiting}
-use Rattle.qs_every_run.proofs.Entries.{Each, each_at, each_changed, each_found, each_on, each_put, changed_rises}
+use Rattle.qs_every_run.specs.Placed.{Field, EachLives, EachPlaced, IsMember, IsPlaced, IsPresent, Placed, asked, standing, waiting}
+use Rattle.qs_every_run.proofs.Entries.{Each, each_changed, each_found, each_on, changed_rises}
 
 -- ---- orders of keys
 

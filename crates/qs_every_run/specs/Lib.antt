@@ -1,5 +1,11 @@
 pub mod Placed
 pub mod PlacedLaws
+pub mod PlacedActs
+pub mod PlacesAmid
+pub mod PlacesRules
+pub mod PlacesCommits
+pub mod PlacesEnds
+pub mod PlacesComes
 pub mod StopLaws
 pub mod Agrees
 pub mod Joined
