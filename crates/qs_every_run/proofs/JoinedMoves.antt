@@ -53,6 +53,7 @@ use Rattle.qs_every_run.proofs.JoinedClocks.{by_order, in_order_stamp, opens_on_
 use Rattle.qs_every_run.proofs.RisesRunning.{rises_running}
 use Rattle.qs_every_run.proofs.JoinedAfter.{log_goes_on, step_joined, then_joined}
 use Rattle.qs_every_run.proofs.JoinedCrash.{crash_joined}
+use Rattle.qs_every_run.proofs.CutUnanimous.{cuts_unanimous}
 
 module _ (P : Opening → World → Type 0) (between : Keeps P IsBetweenSteps P) (owed : Owed P) (unanimous : AfterStep P StaysUnanimousThen) (o : Opening) (world : World) (j : Joined P o world) where
   abbrev book : BookValue
@@ -263,4 +264,4 @@ module _ (P : Opening → World → Type 0) (between : Keeps P IsBetweenSteps P)
   move_joined (Meet n stamp m inc) may = meet_joined n stamp m inc may
 
 pub each_move_joined : (P : Opening → World → Type 0) → GoesOn P → EachMoveJoined P
-each_move_joined P goes owed o world move j may = move_joined P (goes.between owed.cuts_unanimous) owed (goes.unanimous owed) o world j move may
+each_move_joined P goes owed o world move j may = move_joined P (goes.between (cuts_unanimous P owed)) owed (goes.unanimous owed) o world j move may

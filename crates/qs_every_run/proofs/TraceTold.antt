@@ -21,10 +21,10 @@ use Rattle.qs_tm.specs.Manager as tm
 use Rattle.qs_tm.specs.Outcomes.{is_abort, is_told_again, named_by}
 use Rattle.qs_tm.specs.Participant.{is_owed_by, is_undecided}
 use Rattle.qs_tm.specs.declared.participant.Participant.{Participant}
-use Rattle.qs_every_run.specs.Traces.{IsKept, Trace, trace_of}
+use Rattle.qs_every_run.specs.Deeds.{Deeds, IsKeptSo, deeds_of}
 use Rattle.qs_every_run.proofs.TraceRules as rules
 
-module _ (P : Trace → Type 0) (k : IsKept P) where
+module _ (P : Deeds → Type 0) (k : IsKeptSo P) where
   abbrev Keeps : Work → Work → Type 0
   Keeps work new = rules.Keeps P k work new
 
@@ -58,7 +58,7 @@ module _ (P : Trace → Type 0) (k : IsKept P) where
     where
       ended : (b : Bool) → Keeps work (end_told b tid (with_manager (tm.acknowledged tid peer) work))
       ended false h = h
-      ended true h = k.forgets (trace_of work) tid h
+      ended true h = k.forgets (deeds_of work) tid h
 
       of : (o : Option Outcome) → Keeps work (told_known peer tid further o work)
       of None = λ h. h
@@ -102,7 +102,7 @@ module _ (P : Trace → Type 0) (k : IsKept P) where
       of part (Some outcome) h = decided part outcome seen h
 
   pub peer_restarted_keeps : (peer : NodeNo) (old new : ℕ) (work : Work) → Keeps work (peer_restarted peer old new work)
-  peer_restarted_keeps peer old new work h = rules.fold_keeps P k (notice_tid peer old new) (notice_keeps peer old new) (tm.concerned peer work.node.manager) (with_queues (ipc.mark_queues peer) work) (k.stales (trace_of work) peer h)
+  peer_restarted_keeps peer old new work h = rules.fold_keeps P k (notice_tid peer old new) (notice_keeps peer old new) (tm.concerned peer work.node.manager) (with_queues (ipc.mark_queues peer) work) (k.stales (deeds_of work) peer h)
 
   resume_keeps : (work : Work) (tid : Tid) → Keeps work (resume_tid work tid)
   resume_keeps work tid = rules.elim_keeps P k (part_of tid work) work (λ part. resume_part tid part work) work (λ h. h) (λ part known. of part part.outcome)

@@ -76,7 +76,7 @@ abbrev pub EachKeepsItsBatch : (Opening → World → Type 0) → Type 0
 EachKeepsItsBatch P = (o : Opening) (world : World) (n stamp free : ℕ) (source : Source) (cause : CrashCause) → Joined P o world → may_move world (Cut n stamp free source true cause) ≡ true
     → StopsWell (book_in o world) (moved (Cut n stamp free source true cause) world) n stamp cause
 
--- what a home decided in a step that is cut off, with a record of it on the disk, was unanimous before: it decides in no step that asked, served, voted or took a loan back
+-- what a home decided in a step that is cut off, with a record of it on the disk, was unanimous before
 abbrev pub CutsUnanimous : Opening → World → ℕ → ℕ → ℕ → Bool → CrashCause → Event → Type 0
 CutsUnanimous o world n stamp free is_kept cause event = (tid : Tid) (w : agreement.World) (goes : CutsOff tid (after_step (world.hosts n).node event free) (stopped world n stamp cause (cut_log (world.hosts n) is_kept (effects_of (world.hosts n).node event free))) w) → has_begun world tid ≡ true → ShowsAll tid world w
     → w.cell ≡ Open → goes.goes.next.cell ≡ Committed → (tx : TransactionValue) → find_transaction (book_in o world) tid ≡ Some tx → is_open tx.cell ≡ true → is_unanimous tx ≡ true
@@ -149,4 +149,3 @@ pub record Owed (P : Opening → World → Type 0) : Type 0 where
   pub places : Keeps P IsStep P
   -- after a crash
   pub keeps_its_batch : EachKeepsItsBatch P
-  pub cuts_unanimous : EachCutUnanimous P

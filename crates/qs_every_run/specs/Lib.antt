@@ -1,9 +1,17 @@
 pub mod Placed
 pub mod PlacedLaws
+pub mod PlacedActs
+pub mod PlacesAmid
+pub mod PlacesRules
+pub mod PlacesCommits
+pub mod PlacesEnds
+pub mod PlacesComes
 pub mod StopLaws
 pub mod Agrees
 pub mod Joined
 pub mod Traces
+pub mod Deeds
+pub mod Firsts
 pub mod Answering
 pub mod JoinedOwed
 pub mod JoinedPlaces

@@ -4,6 +4,7 @@ ghost use Rattle.qs_every_run.specs.JoinedPlaces.{PlacesAt};
 ghost use Rattle.qs_every_run.specs.PlacesLaws.{PlacesGoOn};
 ghost use Rattle.qs_every_run.specs.JoinedRuns.{EachMoveJoined, EachOpensJoined, EachRunJoined, EachRunLawful};
 ghost use Rattle.qs_every_run.specs.Joined.{RunningAt};
+ghost use Rattle.qs_every_run.specs.Firsts.{CommitsUnanimous, StepsCommitFirst};
 ghost use Rattle.qs_every_run.specs.JoinedOwed.{Opens};
 ghost use Rattle.qs_every_run.specs.RiseLaws.{EachRiseKeepsBeside, EachRisesRunning};
 ghost use Rattle.qs_every_run.specs.StaysLaws.{StepsKeepLogged, StepsTickOnce, StepsYoung};
@@ -52,4 +53,11 @@ pub fn steps_leave_the_young()
     ensures young { StepsYoung }
     ensures ticks { StepsTickOnce }
     ensures logged { StepsKeepLogged }
+{}
+
+/// What a home commits in a step, it commits before the step asks for it, serves a request of it, votes on it, lends for it or takes a loan back.
+/// So it was unanimous as the step began.
+pub fn steps_commit_first()
+    ensures first { StepsCommitFirst }
+    ensures unanimous { CommitsUnanimous }
 {}

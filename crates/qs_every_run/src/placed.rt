@@ -1,5 +1,9 @@
 //! A transaction of which all places hold what they should is unanimous as it is committed.
 ghost use Rattle.qs_every_run.specs.StopLaws.{StopsPlaced, CutPlaced, StopHolds, CutHolds};
+ghost use Rattle.qs_every_run.specs.PlacesRules.{LeftGoesOn, BeginLeaves, OthersLeave, RestLeaves, IssueHereGoesOn, IssueAwayGoesOn, ServeGoesOn, VoteGoesOn, YieldGoesOn};
+ghost use Rattle.qs_every_run.specs.PlacesCommits.{WorldShowsField, HomeCommitsUnanimous};
+ghost use Rattle.qs_every_run.specs.PlacesComes.{MessageComes, RequestComes};
+ghost use Rattle.qs_every_run.specs.PlacesEnds.{StepBegins, StepEnds};
 ghost use Rattle.qs_every_run.specs.PlacedLaws.{ReadyFree, FreeAgrees, QuietUnanimous, CommittedFree, CommittedWays, CommittedKeeps, CommittedUnanimous};
 
 /// At a node that is ready no request of it waits, no loan stands and every vote covers what was served; where that is so its present lives agree. Where all nodes
@@ -26,4 +30,34 @@ pub fn stops()
     ensures cut { CutPlaced }
     ensures stop_holds { StopHolds }
     ensures cut_holds { CutHolds }
+{}
+
+/// In the middle of a step of a node, what all places hold goes on through rules that leave it, as most do; and as a request is issued that
+/// reaches a node and crosses none, as one is served with its loan, as a vote for commit is cast, and as a loan is given back.
+pub fn rules()
+    ensures left { LeftGoesOn }
+    ensures begins { BeginLeaves }
+    ensures others { OthersLeave }
+    ensures rest { RestLeaves }
+    ensures issues_here { IssueHereGoesOn }
+    ensures issues_away { IssueAwayGoesOn }
+    ensures serves { ServeGoesOn }
+    ensures votes { VoteGoesOn }
+    ensures yields { YieldGoesOn }
+{}
+
+/// A home that is ready in the middle of its step commits in the agreement machine, whatever room its log has; so where all places hold what
+/// they should, or it is doomed, its transaction is unanimous.
+pub fn home_commits()
+    ensures field { WorldShowsField }
+    ensures unanimous { HomeCommitsUnanimous }
+{}
+
+/// A step begins with the field of its world, and ends with that of the world after it: what it sent stands behind what was on its way, or
+/// waits where no incarnation of its receiver is known. In between a message is off its way, and waits at its server where it is a request.
+pub fn ends()
+    ensures begins { StepBegins }
+    ensures ends { StepEnds }
+    ensures comes { MessageComes }
+    ensures requests { RequestComes }
 {}
