@@ -43,3 +43,6 @@ pub mod FieldBegins
 pub mod FieldEnds
 pub mod FieldTaken
 pub mod PlacedComes
+pub mod PlacesGo
+pub mod SettlesGo
+pub mod CommandsGo
