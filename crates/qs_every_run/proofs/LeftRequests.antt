@@ -151,7 +151,7 @@ module _ (t : Tid) where
     log_vote_leaves votes.Volatile server work = itself_leaves t work
     log_vote_leaves votes.Recoverable server work = still work (log_vote votes.Recoverable tid server work) refl refl refl refl
 
-    vote_leaves : (server : ServerNo) (ballot : Vote) (work : Work) → L work (vote_with tid server ballot work)
+    pub vote_leaves : (server : ServerNo) (ballot : Vote) (work : Work) → L work (vote_with tid server ballot work)
     vote_leaves server ballot work = then_leaves t work (enter_vote tid server ballot work) (vote_with tid server ballot work) (entry_leaves t (acts.Vote tid _ ballot _) work (enter_vote tid server ballot work) far refl refl refl refl) (log_vote_leaves ballot server (enter_vote tid server ballot work))
 
     note_leaves : (o : Option NodeNo) (work : Work) → L work (issue_note tid o work)

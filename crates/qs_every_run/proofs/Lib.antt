@@ -75,7 +75,7 @@ pub mod MetFields
 pub mod PlacesMeet
 pub mod PlacesKept
 pub mod StepUnanimous
-pub mod PlacesGo
+pub mod PlacesGoOn
 pub mod BornMoves
 pub mod KeptAfter
 pub mod JoinedKept
@@ -97,3 +97,6 @@ pub mod FieldBegins
 pub mod FieldEnds
 pub mod FieldTaken
 pub mod PlacedComes
+pub mod PlacesGo
+pub mod SettlesGo
+pub mod CommandsGo

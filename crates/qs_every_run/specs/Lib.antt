@@ -6,6 +6,7 @@ pub mod PlacesRules
 pub mod PlacesCommits
 pub mod PlacesEnds
 pub mod PlacesComes
+pub mod PlacesGo
 pub mod StopLaws
 pub mod Agrees
 pub mod Joined

@@ -3,6 +3,7 @@ ghost use Rattle.qs_every_run.specs.StopLaws.{StopsPlaced, CutPlaced, StopHolds,
 ghost use Rattle.qs_every_run.specs.PlacesRules.{LeftGoesOn, BeginLeaves, OthersLeave, RestLeaves, IssueHereGoesOn, IssueAwayGoesOn, ServeGoesOn, VoteGoesOn, YieldGoesOn};
 ghost use Rattle.qs_every_run.specs.PlacesCommits.{WorldShowsField, HomeCommitsUnanimous};
 ghost use Rattle.qs_every_run.specs.PlacesComes.{MessageComes, RequestComes};
+ghost use Rattle.qs_every_run.specs.PlacesGo.{IssueGoes, SettleGoes, CommandGoes, WaitGoes};
 ghost use Rattle.qs_every_run.specs.PlacesEnds.{StepBegins, StepEnds};
 ghost use Rattle.qs_every_run.specs.PlacedLaws.{ReadyFree, FreeAgrees, QuietUnanimous, CommittedFree, CommittedWays, CommittedKeeps, CommittedUnanimous};
 
@@ -60,4 +61,14 @@ pub fn ends()
     ensures ends { StepEnds }
     ensures comes { MessageComes }
     ensures requests { RequestComes }
+{}
+
+/// From a rule of a step to the next, whichever it is, what all places hold goes on or the transaction is doomed: as a request is issued, and as a
+/// transaction is settled, its own with its vote pass or another; as a command comes,
+/// and as one that stayed open is looked at again.
+pub fn goes()
+    ensures issues { IssueGoes }
+    ensures settles { SettleGoes }
+    ensures commands { CommandGoes }
+    ensures waits { WaitGoes }
 {}

@@ -1,7 +1,7 @@
 use Rattle.qs_every_run.specs.JoinedPlaces.{PlacesAt}
 use Rattle.qs_every_run.proofs.JoinedMoves.{each_move_joined}
 use Rattle.qs_every_run.proofs.JoinedOver.{each_opens_joined, each_run_joined, each_run_lawful}
-use Rattle.qs_every_run.proofs.PlacesGo.{places_go}
+use Rattle.qs_every_run.proofs.PlacesGoOn.{places_go}
 use Rattle.qs_every_run.proofs.joined_runs.runs_are_lawful.Goals as goal
 
 pub returns : goal.returns
