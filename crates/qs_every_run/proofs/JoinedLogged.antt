@@ -1,5 +1,5 @@
 -- The Commits that a node's log had as it opened are the machine's.
-use Rattle.std.proofs.Common.{◌≡◌, ◌⊎◌, inl, inr, ℕ, ◌<◌, ◌==◌, ◌||◌, Bool, true, false, List, [], ◌∷◌, Some, refl, sym, ap, subst, ◌∙◌}
+use Rattle.std.proofs.Common.{◌≡◌, inl, inr, ℕ, ◌||◌, Bool, true, false, List, [], ◌∷◌, Some, refl, sym, subst}
 use Rattle.std.specs.List.{list_any}
 use Rattle.std.specs.Prelude.{slice_get}
 use Rattle.qs_base.proofs.Same.{same_tid-true}
@@ -11,13 +11,13 @@ use Rattle.qs_restart.specs.Recovery.{recovery}
 use Rattle.qs_world.specs.World.{Host}
 use Rattle.qs_lawful.specs.BesideStep.{AreCommitted}
 use Rattle.qs_lawful.specs.Lasting.{Lasts}
-use Rattle.qs_lawful.specs.Logged.{HasCommitted, HoldsLogged, IsCommitMade}
+use Rattle.qs_lawful.specs.Logged.{HasCommitted, IsCommitMade}
 use Rattle.qs_lawful.specs.Logs.{Every}
 use Rattle.qs_lawful.specs.Worlds.{HoldsUp}
 use Rattle.qs_every_run.specs.Joined.{IsLogged}
 
 -- each Commit of the log is the machine's
-every_made : (book : BookValue) (n : ℕ) (state : machine.NodeValue) → Lasts book → slice_get book.nodes n ≡ Some state → (tids : List Tid) → Every (IsCommitMade book state) tids → (tid : Tid) → list_any (same_tid tid) tids ≡ true → HasCommitted book tid
+pub every_made : (book : BookValue) (n : ℕ) (state : machine.NodeValue) → Lasts book → slice_get book.nodes n ≡ Some state → (tids : List Tid) → Every (IsCommitMade book state) tids → (tid : Tid) → list_any (same_tid tid) tids ≡ true → HasCommitted book tid
 every_made book n state lasts there [] made tid is = absurd (cc is)
 every_made book n state lasts there (t ∷ tids) made tid is = by (same_tid tid t) refl is (every_made book n state lasts there tids made.1 tid)
   where

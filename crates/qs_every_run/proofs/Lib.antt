@@ -51,7 +51,6 @@ pub mod JoinedMoves
 pub mod JoinedOver
 pub mod Entries
 pub mod PlacedTx
-pub mod UnanimousEarlier
 pub mod PlacesBegin
 pub mod PlacesStop
 pub mod RestartPlaced
@@ -64,6 +63,7 @@ pub mod StepUnanimous
 pub mod PlacesGo
 pub mod PlacedServes
 pub mod PlacedActs
+pub mod UnanimousEarlier
 pub mod PlacesLeft
 pub mod LeftOutcomes
 pub mod LeftRequests
@@ -80,3 +80,4 @@ pub mod FieldBegins
 pub mod FieldEnds
 pub mod FieldTaken
 pub mod PlacedComes
+pub mod CutCommits

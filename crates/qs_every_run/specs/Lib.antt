@@ -21,3 +21,4 @@ pub mod RiseLaws
 pub mod Stays
 pub mod StaysLaws
 pub mod PlacesLaws
+pub mod CutCommits
