@@ -17,7 +17,7 @@ use Rattle.qs_lawful.specs.Worlds.{HoldsUp}
 use Rattle.qs_every_run.specs.Joined.{IsLogged}
 
 -- each Commit of the log is the machine's
-every_made : (book : BookValue) (n : ℕ) (state : machine.NodeValue) → Lasts book → slice_get book.nodes n ≡ Some state → (tids : List Tid) → Every (IsCommitMade book state) tids → (tid : Tid) → list_any (same_tid tid) tids ≡ true → HasCommitted book tid
+pub every_made : (book : BookValue) (n : ℕ) (state : machine.NodeValue) → Lasts book → slice_get book.nodes n ≡ Some state → (tids : List Tid) → Every (IsCommitMade book state) tids → (tid : Tid) → list_any (same_tid tid) tids ≡ true → HasCommitted book tid
 every_made book n state lasts there [] made tid is = absurd (cc is)
 every_made book n state lasts there (t ∷ tids) made tid is = by (same_tid tid t) refl is (every_made book n state lasts there tids made.1 tid)
   where

@@ -65,7 +65,6 @@ pub mod JoinedMoves
 pub mod JoinedOver
 pub mod Entries
 pub mod PlacedTx
-pub mod UnanimousEarlier
 pub mod PlacesBegin
 pub mod PlacesStop
 pub mod RestartPlaced
@@ -81,6 +80,7 @@ pub mod KeptAfter
 pub mod JoinedKept
 pub mod PlacedServes
 pub mod PlacedActs
+pub mod UnanimousEarlier
 pub mod PlacesLeft
 pub mod LeftOutcomes
 pub mod LeftRequests
@@ -100,3 +100,4 @@ pub mod PlacedComes
 pub mod PlacesGo
 pub mod SettlesGo
 pub mod CommandsGo
+pub mod CutCommits

@@ -1,5 +1,5 @@
 -- What a home commits in a step was unanimous as the step began: what leaves it open and is not noted makes nothing unanimous.
-use Rattle.std.proofs.Common.{◌≡◌, ◌⊎◌, inl, inr, ℕ, ◌&&◌, ◌||◌, Bool, true, false, List, [], ◌∷◌, ◌++◌, Option, Some, None, refl, sym, ap, subst, ◌∙◌, cond}
+use Rattle.std.proofs.Common.{◌≡◌, inl, inr, ℕ, ◌&&◌, ◌||◌, Bool, true, false, List, [], ◌∷◌, ◌++◌, Option, Some, None, refl, sym, ap, subst, ◌∙◌, cond}
 use Rattle.std.specs.BTreeMap.{insert_entry, is_at}
 use Rattle.std.specs.List.{list_all, list_any}
 use Rattle.std.specs.Map.{lookup, set_value}
@@ -16,7 +16,7 @@ use Rattle.qs_journal.specs.declared.entry.Act.TheVariants as acts
 use Rattle.qs_laws.proofs.Maps.{lookup_put}
 use Rattle.qs_laws.proofs.Outcomes.{Inv}
 use Rattle.qs_laws.proofs.Steps.{held, stepped}
-use Rattle.qs_laws.proofs.Turns.{Gives, GivesFor, Obliged, Stands, step_turns}
+use Rattle.qs_laws.proofs.Turns.{Gives, GivesFor, Obliged}
 use Rattle.qs_machine.specs.Book.{BookValue, cell_of_transaction, find_transaction, inc_at}
 use Rattle.qs_machine.specs.Clauses.{borrower_at, broken_decide, broken_outcome, may_decide}
 use Rattle.qs_machine.specs.Lawful.{IsLawful, book_after, broken, broken_act, broken_at, effect, is_in_order}
@@ -31,12 +31,15 @@ use Rattle.qs_machine.specs.declared.transaction.RequestNo.{RequestNo}
 use Rattle.qs_ops.specs.Members.{class_of}
 use Rattle.qs_ops.specs.declared.answer.Cause.{Cause}
 use Rattle.qs_step.specs.State.{NodeValue}
-use Rattle.qs_step.specs.Step.{effects_of}
+use Rattle.qs_step.specs.Step.{effects_of, step_work}
 use Rattle.qs_step.specs.declared.event.Event.{Event}
 use Rattle.qs_world.specs.Posting.{entries_of, entry_of}
 use Rattle.qs_lawful.specs.Logged.{HasCommitted}
-use Rattle.qs_every_run.specs.Firsts.{CommitsFirst, StaysOpen, is_commit_of, is_noted}
+use Rattle.qs_every_run.specs.Deeds.{deeds_of}
+use Rattle.qs_every_run.specs.PlacesAmid.{Here}
+use Rattle.qs_every_run.specs.Firsts.{CommitsSo, is_commit_of, is_noted}
 use Rattle.qs_every_run.proofs.CommitsFirst.{commits_so}
+use Rattle.qs_every_run.proofs.PlacedActs.{step_here}
 use Rattle.qs_every_run.proofs.PlacedTx.{request_self}
 
 both_and : (a b : Bool) → (a && b) ≡ true → (a ≡ true) × (b ≡ true)
@@ -122,18 +125,22 @@ Divided tx = is_unanimous tx ≡ true → ⊥
 abbrev Uncommitted : TransactionValue → Type 0
 Uncommitted tx = is_commit tx.cell ≡ true → ⊥
 
--- a commit that is lawful is unanimous
-decide_unanimous : (book : BookValue) (n stamp : ℕ) (tid : Tid) (cause : Option Cause) (tx : TransactionValue) → find_transaction book tid ≡ Some tx → broken book (entry_of n stamp (acts.Decide tid outcomes.Commit cause)) ≡ None → is_unanimous tx ≡ true
-decide_unanimous book n stamp tid cause tx found h = at (slice_get book.nodes n) (held (is_in_order book (entry_of n stamp (acts.Decide tid outcomes.Commit cause))) 1 _ h).1
+-- a commit that is lawful is of what stands and is unanimous
+decide_unanimous : (book : BookValue) (n stamp : ℕ) (tid : Tid) (cause : Option Cause) → broken book (entry_of n stamp (acts.Decide tid outcomes.Commit cause)) ≡ None
+    → (tx : TransactionValue) × (find_transaction book tid ≡ Some tx) × (is_unanimous tx ≡ true)
+decide_unanimous book n stamp tid cause h = at (slice_get book.nodes n) (held (is_in_order book (entry_of n stamp (acts.Decide tid outcomes.Commit cause))) 1 _ h).1
   where
-    of_cause : (c : Option Cause) (node : machine.NodeValue) → broken_outcome node book.nodes tid tx stamp outcomes.Commit c ≡ None → is_unanimous tx ≡ true
-    of_cause None node is = (held (is_unanimous tx) 71 None is).0
-    of_cause (Some c) node is = absurd (cc is)
+    of_cause : (tx : TransactionValue) (c : Option Cause) (node : machine.NodeValue) → broken_outcome node book.nodes tid tx stamp outcomes.Commit c ≡ None → is_unanimous tx ≡ true
+    of_cause tx None node is = (held (is_unanimous tx) 71 None is).0
+    of_cause tx (Some c) node is = absurd (cc is)
 
-    at : (o : Option machine.NodeValue) → broken_at book stamp n o (acts.Decide tid outcomes.Commit cause) ≡ None → is_unanimous tx ≡ true
+    of_known : (node : machine.NodeValue) (x : Option TransactionValue) → find_transaction book tid ≡ x → broken_decide n node book.nodes tid x stamp outcomes.Commit cause ≡ None → (tx : TransactionValue) × (find_transaction book tid ≡ Some tx) × (is_unanimous tx ≡ true)
+    of_known node None none is = absurd (cc is)
+    of_known node (Some tx) found is = (tx, found, of_cause tx cause node (held (may_decide n tid tx) 70 (broken_outcome node book.nodes tid tx stamp outcomes.Commit cause) is).1)
+
+    at : (o : Option machine.NodeValue) → broken_at book stamp n o (acts.Decide tid outcomes.Commit cause) ≡ None → (tx : TransactionValue) × (find_transaction book tid ≡ Some tx) × (is_unanimous tx ≡ true)
     at None is = absurd (cc is)
-    at (Some node) is = of_cause cause node (held (may_decide n tid tx) 70 (broken_outcome node book.nodes tid tx stamp outcomes.Commit cause)
-        (subst (λ (x : Option TransactionValue). broken_decide n node book.nodes tid x stamp outcomes.Commit cause ≡ None) found (held node.up 2 (broken_act book stamp n node (acts.Decide tid outcomes.Commit cause)) is).1)).1
+    at (Some node) is = of_known node (find_transaction book tid) refl (held node.up 2 (broken_act book stamp n node (acts.Decide tid outcomes.Commit cause)) is).1
 
 module _ (tid : Tid) (n stamp : ℕ) where
   gives : (P : TransactionValue → Type 0) (book : BookValue) (t : Tid) (f : TransactionValue → TransactionValue) → ((tx : TransactionValue) → P tx → P (f tx)) → Gives tid P P book t f
@@ -164,11 +171,11 @@ module _ (tid : Tid) (n stamp : ℕ) where
   stays_divided book (acts.Crash cause) h off = λ tx p. p
   stays_divided book (acts.Restart inc pend done) h off = absurd (cc off)
 
-  divided_commit : (before after : List Act) (cause : Option Cause) (book : BookValue) → Inv book → IsLawful book (entries_of n stamp (before ++ acts.Decide tid outcomes.Commit cause ∷ after)) → list_any (is_noted tid) before ≡ false → Stands tid Divided book → ⊥
-  divided_commit [] after cause book i lawful off s = s.holds (decide_unanimous book n stamp tid cause s.tx s.found lawful.0)
+  divided_commit : (before after : List Act) (cause : Option Cause) (book : BookValue) → Inv book → IsLawful book (entries_of n stamp (before ++ acts.Decide tid outcomes.Commit cause ∷ after)) → list_any (is_noted tid) before ≡ false → Here tid Divided book → ⊥
+  divided_commit [] after cause book i lawful off s = let d = decide_unanimous book n stamp tid cause lawful.0 in s d.0 d.1 d.2
   divided_commit (act ∷ before) after cause book i lawful off s = let two = both_or (is_noted tid act) _ off in
       divided_commit before after cause (effect book (entry_of n stamp act)) (stepped book (entry_of n stamp act) i lawful.0).inv lawful.1 two.1
-      (step_turns tid Divided Divided book (entry_of n stamp act) i lawful.0 (stays_divided book act lawful.0 two.0) s)
+      (step_here tid Divided Divided book (entry_of n stamp act) i lawful.0 (stays_divided book act lawful.0 two.0) (λ label client ticks is un. cc un) s)
 
   -- ---- and not committed, through what commits nothing
 
@@ -198,29 +205,47 @@ module _ (tid : Tid) (n stamp : ℕ) where
   stays_open book (acts.Crash cause) off = λ tx p. p
   stays_open book (acts.Restart inc pend done) off = absurd (cc off)
 
-  uncommitted : (done : List Act) (book : BookValue) → Inv book → IsLawful book (entries_of n stamp done) → list_any (is_commit_of tid) done ≡ false → Stands tid Uncommitted book → Stands tid Uncommitted (book_after book (entries_of n stamp done))
+  uncommitted : (done : List Act) (book : BookValue) → Inv book → IsLawful book (entries_of n stamp done) → list_any (is_commit_of tid) done ≡ false → Here tid Uncommitted book → Here tid Uncommitted (book_after book (entries_of n stamp done))
   uncommitted [] book i lawful off s = s
   uncommitted (act ∷ done) book i lawful off s = let two = both_or (is_commit_of tid act) _ off in
       uncommitted done (effect book (entry_of n stamp act)) (stepped book (entry_of n stamp act) i lawful.0).inv lawful.1 two.1
-      (step_turns tid Uncommitted Uncommitted book (entry_of n stamp act) i lawful.0 (stays_open book act two.0) s)
+      (step_here tid Uncommitted Uncommitted book (entry_of n stamp act) i lawful.0 (stays_open book act two.0) (λ label client ticks is un. cc un) s)
 
   -- ---- a whole step
 
-  pub unanimous_earlier : (node : NodeValue) (event : Event) (free : ℕ) (book : BookValue) → Inv book → IsLawful book (entries_of n stamp (effects_of node event free).entries) → HasCommitted (book_after book (entries_of n stamp (effects_of node event free).entries)) tid
-      → (tx : TransactionValue) → find_transaction book tid ≡ Some tx → is_commit tx.cell ≡ false → is_unanimous tx ≡ true
-  unanimous_earlier node event free book i lawful now tx found undecided = by (is_unanimous tx) refl
-    where
-      done : List Act
-      done = (effects_of node event free).entries
+  module _ (node : NodeValue) (event : Event) (free : ℕ) (book : BookValue) (i : Inv book) (lawful : IsLawful book (entries_of n stamp (effects_of node event free).entries)) (now : HasCommitted (book_after book (entries_of n stamp (effects_of node event free).entries)) tid) where
+    committed_then : (later : Option TransactionValue) → cell_of_transaction later ≡ Some cells.Commit → (tx : TransactionValue) × (later ≡ Some tx) × (is_commit tx.cell ≡ true)
+    committed_then None is = absurd (cc is)
+    committed_then (Some tx) is = (tx, refl, so tx.cell is)
+      where
+        so : (c : Cell) → Some c ≡ Some cells.Commit → is_commit c ≡ true
+        so cells.Commit e = refl
+        so cells.Open e = absurd (cc e)
+        so cells.Abort e = absurd (cc e)
 
-      committed : (a b : Cell) → Some a ≡ Some b → b ≡ cells.Commit → is_commit a ≡ true
-      committed a b same is = let e : a ≡ b = cc same in rw (e, is) refl
+    -- nothing that is neither committed nor unanimous is committed then
+    not_both : Here tid Divided book → Here tid Uncommitted book → ⊥
+    not_both divided open_now = by (commits_so tid node event free)
+      where
+        by : CommitsSo tid (deeds_of (step_work node event free)) → ⊥
+        by (inl c) = divided_commit c.before c.after c.cause book i (subst (λ (acts_done : List Act). IsLawful book (entries_of n stamp acts_done)) c.is lawful) c.unnoted divided
+        by (inr s) = let later = committed_then (find_transaction (book_after book (entries_of n stamp (effects_of node event free).entries)) tid) now in uncommitted (effects_of node event free).entries book i lawful s.none open_now later.0 later.1 later.2
 
-      so : is_unanimous tx ≡ false → CommitsFirst tid done ⊎ StaysOpen tid (Rattle.qs_every_run.specs.Deeds.deeds_of (Rattle.qs_step.specs.Step.step_work node event free)) → ⊥
-      so divided (inl c) = divided_commit c.before c.after c.cause book i (subst (λ (acts_done : List Act). IsLawful book (entries_of n stamp acts_done)) c.is lawful) c.unnoted (record { tx = tx; found = found; holds = λ is. cc (divided, is) })
-      so divided (inr s) = let later = uncommitted done book i lawful s.none (record { tx = tx; found = found; holds = λ is. cc (undecided, is) }) in
-          later.holds (committed later.tx.cell cells.Commit (sym (ap cell_of_transaction later.found) ∙ now) refl)
+    pub unanimous_earlier : (tx : TransactionValue) → find_transaction book tid ≡ Some tx → is_commit tx.cell ≡ false → is_unanimous tx ≡ true
+    unanimous_earlier tx found undecided = by (is_unanimous tx) refl
+      where
+        one : (x : TransactionValue) → find_transaction book tid ≡ Some x → tx ≡ x
+        one x there = same (sym found ∙ there)
+          where
+            same : Some tx ≡ Some x → tx ≡ x
+            same e = cc e
 
-      by : (b : Bool) → is_unanimous tx ≡ b → is_unanimous tx ≡ true
-      by true is = is
-      by false is = absurd (so is (commits_so tid node event free))
+        by : (b : Bool) → is_unanimous tx ≡ b → is_unanimous tx ≡ true
+        by true is = is
+        by false is = absurd (not_both
+            (λ x there un. let e : tx ≡ x = one x there in cc (is, un, e))
+            (λ x there un. let e : tx ≡ x = one x there in cc (undecided, un, e)))
+
+    -- what begins in a step it does not commit
+    pub stood_earlier : find_transaction book tid ≡ None → ⊥
+    stood_earlier none = not_both (λ x there. absurd (cc (none, there))) (λ x there. absurd (cc (none, there)))

@@ -1,5 +1,5 @@
 -- What a home commits in a step, it commits before the step asks for it, serves a request of it, votes on it, lends for it or takes a loan back.
-use Rattle.std.specs.Prelude.{◌≡◌, ◌⊎◌, ℕ, Bool, true, false, List, ◌∷◌, ◌++◌, Option, Some}
+use Rattle.std.specs.Prelude.{◌≡◌, ◌⊎◌, ℕ, Bool, true, false, List, ◌∷◌, ◌++◌, Option, Some, None}
 use Rattle.std.specs.List.{list_any}
 use Rattle.qs_base.specs.Order.{same_tid}
 use Rattle.qs_base.specs.declared.identifiers.Outcome.TheVariants as outcomes
@@ -56,3 +56,8 @@ StepsCommitFirst = (tid : Tid) (node : NodeValue) (event : Event) (free : ℕ) �
 abbrev pub CommitsUnanimous : Type 0
 CommitsUnanimous = (tid : Tid) (n stamp : ℕ) (node : NodeValue) (event : Event) (free : ℕ) (book : BookValue) → Inv book → IsLawful book (entries_of n stamp (effects_of node event free).entries)
     → HasCommitted (book_after book (entries_of n stamp (effects_of node event free).entries)) tid → (tx : TransactionValue) → find_transaction book tid ≡ Some tx → is_commit tx.cell ≡ false → is_unanimous tx ≡ true
+
+-- and what is committed after a step stood as it began: what begins in it is not committed in it
+abbrev pub CommitsStood : Type 0
+CommitsStood = (tid : Tid) (n stamp : ℕ) (node : NodeValue) (event : Event) (free : ℕ) (book : BookValue) → Inv book → IsLawful book (entries_of n stamp (effects_of node event free).entries)
+    → HasCommitted (book_after book (entries_of n stamp (effects_of node event free).entries)) tid → find_transaction book tid ≡ None → ⊥

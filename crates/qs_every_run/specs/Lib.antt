@@ -23,3 +23,4 @@ pub mod Stays
 pub mod StaysLaws
 pub mod PlacesLaws
 pub mod Born
+pub mod CutCommits

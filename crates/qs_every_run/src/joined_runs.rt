@@ -4,7 +4,8 @@ ghost use Rattle.qs_every_run.specs.JoinedPlaces.{PlacesAt};
 ghost use Rattle.qs_every_run.specs.PlacesLaws.{PlacesGoOn};
 ghost use Rattle.qs_every_run.specs.JoinedRuns.{EachMoveJoined, EachOpensJoined, EachRunJoined, EachRunLawful};
 ghost use Rattle.qs_every_run.specs.Joined.{RunningAt};
-ghost use Rattle.qs_every_run.specs.Firsts.{CommitsUnanimous, StepsCommitFirst};
+ghost use Rattle.qs_every_run.specs.CutCommits.{EachKeepsCommits};
+ghost use Rattle.qs_every_run.specs.Firsts.{CommitsStood, CommitsUnanimous, StepsCommitFirst};
 ghost use Rattle.qs_every_run.specs.JoinedOwed.{Opens};
 ghost use Rattle.qs_every_run.specs.RiseLaws.{EachRiseKeepsBeside, EachRisesRunning};
 ghost use Rattle.qs_every_run.specs.StaysLaws.{StepsKeepLogged, StepsTickOnce, StepsYoung};
@@ -56,8 +57,15 @@ pub fn steps_leave_the_young()
 {}
 
 /// What a home commits in a step, it commits before the step asks for it, serves a request of it, votes on it, lends for it or takes a loan back.
-/// So it was unanimous as the step began.
+/// So it stood as the step began, and was unanimous.
 pub fn steps_commit_first()
     ensures first { StepsCommitFirst }
     ensures unanimous { CommitsUnanimous }
+    ensures stood { CommitsStood }
+{}
+
+/// Where a step is cut off with its batch kept, each Commit of the log that is left is of what the machine has committed, or is unanimous and was
+/// for that home to decide.
+pub fn kept_batches_are_settled()
+    ensures { EachKeepsCommits PlacesAt }
 {}
