@@ -1,11 +1,11 @@
 -- All that stands together of a world stands after a whole step: what the machines and the nodes are known to keep, and what is owed.
-use Rattle.std.proofs.Common.{◌≡◌, ℕ, ◌≤◌, ◌<◌, ◌==◌, Bool, true, false, List, ◌++◌, Option, refl, sym, ap, subst, ◌∙◌, arith, if◌then◌else◌}
+use Rattle.std.proofs.Common.{◌≡◌, ℕ, ◌≤◌, ◌<◌, ◌==◌, Bool, true, false, List, ◌++◌, Option, refl, sym, ap, subst, ◌∙◌, arith, if◌then◌else◌, [], None}
 use Rattle.std.proofs.lemmas.Bool.{eqb-true}
 use Rattle.std.proofs.lemmas.List.Sums.{fold-append}
 use Rattle.std.proofs.lemmas.Bool.Decides.{nat_tests}
 use Rattle.qs_journal.specs.declared.entry.Entry.{Entry}
 use Rattle.qs_base.specs.declared.identifiers.Tid.{Tid}
-use Rattle.qs_machine.specs.Book.{BookValue}
+use Rattle.qs_machine.specs.Book.{BookValue, find_transaction}
 use Rattle.qs_machine.specs.Lawful.{IsLawful, book_after}
 use Rattle.qs_machine.specs.Restart.{is_among}
 use Rattle.qs_record.specs.declared.record.Record.{Record}
@@ -22,21 +22,26 @@ use Rattle.qs_refine.proofs.Posted.{up_all}
 use Rattle.qs_refine.proofs.ShownBegins.{each_begun_shown}
 use Rattle.qs_refine.proofs.ShownMoves.{move_shown}
 use Rattle.qs_lawful.specs.Beside.{HoldsBeside}
+use Rattle.qs_lawful.specs.Face.{waiting_at}
 use Rattle.qs_lawful.specs.NodeFacts.{HasNodeFacts}
-use Rattle.qs_lawful.specs.Parcels.{HoldsChannels}
+use Rattle.qs_lawful.specs.Parcels.{HoldsChannels, HoldsWays}
+use Rattle.qs_lawful.specs.Scripts.{HoldsScripts}
 use Rattle.qs_lawful.specs.Worlds.{HoldsWorld}
 use Rattle.qs_lawful.proofs.OpenedCommits.{stays_among}
 use Rattle.qs_every_run.specs.Agrees.{MakesStep, nodes_in}
-use Rattle.qs_every_run.specs.Joined.{ChannelsAt, FactsAt, HeldAt, HomesAt, HomesHave, HoldsRunning, Joined, ClocksAt, LoggedAt, OwnersAt, RunningAt, ScriptsAt, WaysAt, book_in}
-use Rattle.qs_every_run.specs.JoinedOwed.{Owed}
+use Rattle.qs_every_run.specs.Joined.{ChannelsAt, FactsAt, HeldAt, HomesAt, HomesHave, HoldsRunning, Joined, ClocksAt, LoggedAt, OwnersAt, RunningAt, ScriptsAt, WaysAt, book_in, ClientsAt, KeepsBackUnmet, QueuedAt}
+use Rattle.qs_every_run.specs.JoinedOwed.{Owed, AfterStep, StaysUnanimousThen}
 use Rattle.qs_every_run.proofs.BornMoves.{born_moved}
 use Rattle.qs_every_run.proofs.JoinedFacts.{steps_facts}
 use Rattle.qs_every_run.proofs.JoinedHeld as held_proofs
 use Rattle.qs_every_run.proofs.JoinedHomes.{homes_after}
 use Rattle.qs_every_run.proofs.JoinedParts.{book_on, lawful_on}
 use Rattle.qs_every_run.proofs.JoinedClocks.{step_on_time}
+use Rattle.qs_every_run.proofs.ClientsGo.{clients_then, scripts_then}
+use Rattle.qs_every_run.proofs.JoinedWays.{lasts_now, steps_ways}
+use Rattle.qs_every_run.proofs.KeptBack.{none_before, nothing_waits, step_unmet}
 use Rattle.qs_every_run.proofs.StaysWorlds.{steps_keep_logged}
-use Rattle.qs_every_run.proofs.JoinedSteps.{step_at, step_entries, step_journal, step_lawful, step_low, step_up}
+use Rattle.qs_every_run.proofs.JoinedSteps.{step_at, step_entries, step_holds, step_journal, step_lawful, step_low, step_up}
 
 -- what a step appends leaves the Commits that the log had
 pub log_goes_on : (host : Host) (out : Effects) (tid : Tid) → is_among (recovery host.log).committed tid ≡ true → is_among (recovery (log_after host out)).committed tid ≡ true
@@ -58,15 +63,18 @@ pub record Known (o : Opening) (world new : World) : Type 0 where
   pub logged : LoggedAt new
   pub clocks : ClocksAt new
   pub channels : ChannelsAt o new
+  pub unmet : KeepsBackUnmet new.channels
+  pub queued : QueuedAt o new
   pub ways : WaysAt o new
+  pub clients : ClientsAt new
   pub scripts : ScriptsAt o new
 
-module _ (P : Opening → World → Type 0) (owed : Owed P) (o : Opening) (world : World) (j : Joined P o world) where
+module _ (P : Opening → World → Type 0) (owed : Owed P) (unanimous : AfterStep P StaysUnanimousThen) (o : Opening) (world : World) (j : Joined P o world) where
   abbrev book : BookValue
   book = book_in o world
 
-  pub then_joined : (move : Move) → may_move world move ≡ true → Known o world (moved move world) → Joined P o (moved move world)
-  then_joined move may k = record {
+  pub then_joined : (move : Move) → may_move world move ≡ true → Known o world (moved move world) → P o (moved move world) → Joined P o (moved move world)
+  then_joined move may k places = record {
     opens = j.opens;
     size = k.size ∙ j.size;
     lawful = k.lawful;
@@ -80,9 +88,12 @@ module _ (P : Opening → World → Type 0) (owed : Owed P) (o : Opening) (world
     clocks = k.clocks;
     born = born_moved o world j.born move may;
     channels = k.channels;
+    unmet = k.unmet;
+    queued = k.queued;
     ways = k.ways;
+    clients = k.clients;
     scripts = k.scripts;
-    places = owed.places o world move tt j may k.lawful;
+    places = places;
   }
 
   -- ---- a whole step
@@ -127,16 +138,16 @@ module _ (P : Opening → World → Type 0) (owed : Owed P) (o : Opening) (world
 
     held_then : HeldAt o new
     held_then = subst (λ (b : BookValue). HoldsWorld b new) (sym (book_on o world new entries journal))
-        (subst (λ (w : World). HoldsWorld (book_after book entries) w) (sym (ap (step_with world n stamp free source) makes.comes)) (held_proofs.held_then P owed o world j n stamp free source event makes))
+        (subst (λ (w : World). HoldsWorld (book_after book entries) w) (sym (ap (step_with world n stamp free source) makes.comes)) (held_proofs.held_then P owed unanimous o world j n stamp free source event makes))
 
     runs_then : RunningAt o new
     runs_then k low on = subst (λ (b : BookValue). HoldsRunning b (new.hosts k).node) (sym (book_on o world new entries journal)) (by (k == n) refl)
       where
         by : (b : Bool) → (k == n) ≡ b → HoldsRunning (book_after book entries) (new.hosts k).node
         by true near = subst (λ (i : ℕ). HoldsRunning (book_after book entries) (new.hosts i).node) (sym (eqb-true k n near))
-            (subst (λ (m : NodeValue). HoldsRunning (book_after book entries) m) (sym own_then) (held_proofs.own_running P owed o world j n stamp free source event makes))
+            (subst (λ (m : NodeValue). HoldsRunning (book_after book entries) m) (sym own_then) (held_proofs.own_running P owed unanimous o world j n stamp free source event makes))
         by false far = subst (λ (m : NodeValue). HoldsRunning (book_after book entries) m) (sym (same k far))
-            (held_proofs.other_running P owed o world j n stamp free source event makes k far (subst (λ (s : ℕ). k < s) sized low) (sym (ap (λ (f : ℕ → Bool). f k) ups) ∙ on))
+            (held_proofs.other_running P owed unanimous o world j n stamp free source event makes k far (subst (λ (s : ℕ). k < s) sized low) (sym (ap (λ (f : ℕ → Bool). f k) ups) ∙ on))
 
     low_then : n < new.size
     low_then = subst (λ (s : ℕ). n < s) (sym sized) (step_low P owed o world j n stamp free source event makes)
@@ -156,6 +167,21 @@ module _ (P : Opening → World → Type 0) (owed : Owed P) (o : Opening) (world
         (homes_after book world.size (nodes_in world) (nodes_in new) n stamp (effects_of (world.hosts n).node event free).entries (step_at P owed o world j n stamp free source event makes) (held_then.nodes n low_then).node same
         (step_lawful P owed o world j n stamp free source event makes)
         (subst (λ (b : BookValue). HoldsBeside b (new.hosts n).node) (book_on o world new entries journal) (runs_then n low_then runs).beside) j.homes))
+
+    -- of what the machine does not know nothing waits: at its own node by the step, at others since it knows on what it knew
+    queued_then : QueuedAt o new
+    queued_then k low tid server none = by (k == n) refl
+      where
+        none_now : find_transaction (book_after book entries) tid ≡ None
+        none_now = subst (λ (b : BookValue). find_transaction b tid ≡ None) (book_on o world new entries journal) none
+
+        own : waiting_at (after_step (world.hosts n).node event free) tid server ≡ []
+        own = nothing_waits stamp (book_after book entries) (after_step (world.hosts n).node event free) (step_holds P owed o world j n stamp free source event makes) tid server none_now
+
+        by : (b : Bool) → (k == n) ≡ b → waiting_at (new.hosts k).node tid server ≡ []
+        by true near = subst (λ (i : ℕ). waiting_at (new.hosts i).node tid server ≡ []) (sym (eqb-true k n near)) (subst (λ (m : NodeValue). waiting_at m tid server ≡ []) (sym own_then) own)
+        by false far = subst (λ (m : NodeValue). waiting_at m tid server ≡ []) (sym (same k far))
+            (j.queued k (subst (λ (s : ℕ). k < s) sized low) tid server (none_before entries book (lasts_now o world j.opens j.lawful) (step_lawful P owed o world j n stamp free source event makes) tid none_now))
 
     own_log : (new.hosts n).log ≡ log_after (world.hosts n) (effects_of (world.hosts n).node event free)
     own_log = ap (λ (e : Option Event). ((step_with world n stamp free source e).hosts n).log) makes.comes ∙ picked (n == n) (grind (arith, nat_tests))
@@ -211,7 +237,10 @@ module _ (P : Opening → World → Type 0) (owed : Owed P) (o : Opening) (world
       logged = logged_then;
       clocks = clocks_then;
       channels = subst (λ (b : BookValue). HoldsChannels b new.size new.channels) (sym (book_on o world new entries journal))
-          (subst (λ (w : World). HoldsChannels (book_after book entries) w.size w.channels) (sym (ap (step_with world n stamp free source) makes.comes)) (held_proofs.channels_then P owed o world j n stamp free source event makes));
-      ways = owed.steps_ways o world step tt j may lawful_then;
-      scripts = owed.steps_scripts o world step tt j may lawful_then;
-    })
+          (subst (λ (w : World). HoldsChannels (book_after book entries) w.size w.channels) (sym (ap (step_with world n stamp free source) makes.comes)) (held_proofs.channels_then P owed unanimous o world j n stamp free source event makes));
+      unmet = subst (λ (w : World). KeepsBackUnmet w.channels) (sym (ap (step_with world n stamp free source) makes.comes)) (step_unmet world n stamp source event makes.comes (effects_of (world.hosts n).node event free).messages j.unmet);
+      queued = queued_then;
+      ways = subst (λ (b : BookValue). HoldsWays b new) (sym (book_on o world new entries journal)) (steps_ways P o world n stamp free source event j makes (step_lawful P owed o world j n stamp free source event makes));
+      clients = clients_then P o world j n stamp free source event makes;
+      scripts = subst (λ (b : BookValue). HoldsScripts o b new) (sym (book_on o world new entries journal)) (scripts_then P o world j n stamp free source event makes);
+    }) (owed.places o world step tt j may lawful_then)

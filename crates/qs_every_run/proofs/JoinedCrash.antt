@@ -1,5 +1,7 @@
 -- All that stands together of a world stands after a crash, whatever it leaves in the log.
-use Rattle.std.proofs.Common.{◌≡◌, ℕ, ◌≤◌, ◌<◌, ◌==◌, Bool, true, false, List, [], ◌∷◌, Some, refl, sym, ap, subst, ◌∙◌, arith, if◌then◌else◌}
+use Rattle.std.proofs.Common.{◌≡◌, ℕ, ◌≤◌, ◌<◌, ◌==◌, Bool, true, false, List, [], ◌∷◌, Some, None, refl, sym, ap, subst, ◌∙◌, arith, if◌then◌else◌}
+use Rattle.std.specs.BTreeMap.{is_at}
+use Rattle.std.specs.Map.{lookup}
 use Rattle.std.specs.Prelude.{slice_get}
 use Rattle.std.proofs.lemmas.Bool.{eqb-true}
 use Rattle.std.proofs.lemmas.Bool.Decides.{nat_tests}
@@ -14,13 +16,14 @@ use Rattle.qs_machine.specs.Restart.{is_among}
 use Rattle.qs_machine.specs.Transaction.{TransactionValue}
 use Rattle.qs_record.specs.declared.record.Record.{Record}
 use Rattle.qs_restart.specs.Recovery.{recovery}
-use Rattle.qs_step.specs.State.{NodeValue}
+use Rattle.qs_step.specs.State.{NodeValue, client_cmp}
 use Rattle.qs_world.specs.Histories.{book_of, opened_from}
 use Rattle.qs_world.specs.Moves.{Move, is_in_order, may_move, moved, stopped, stopped_host}
 use Rattle.qs_world.specs.Posting.{entry_of}
-use Rattle.qs_world.specs.World.{Opening, World}
+use Rattle.qs_world.specs.World.{Client, Opening, World}
 use Rattle.qs_refine.proofs.StepAll.{node_stopped}
 use Rattle.qs_lawful.specs.Beside.{HasOwner, is_committed_at}
+use Rattle.qs_lawful.specs.Face.{waiting_at}
 use Rattle.qs_lawful.specs.NodeFacts.{HasNodeFacts}
 use Rattle.qs_lawful.specs.Parcels.{HoldsWays}
 use Rattle.qs_lawful.specs.Scripts.{HoldsScripts}
@@ -33,13 +36,15 @@ use Rattle.qs_lawful.proofs.ParcelsKept.{channels_moved}
 use Rattle.qs_lawful.proofs.ScriptsLike.{crash_scripts}
 use Rattle.qs_lawful.proofs.WaysOn.{crash_ways}
 use Rattle.qs_every_run.specs.Joined.{HomesAt, HoldsRunning, Joined, ClocksAt, LoggedAt, OwnersAt, RunningAt, book_in}
-use Rattle.qs_every_run.specs.JoinedOwed.{Owed}
+use Rattle.qs_every_run.specs.JoinedOwed.{AfterStep, Owed, StaysUnanimousThen}
 use Rattle.qs_every_run.proofs.JoinedHeld as held_proofs
 use Rattle.qs_every_run.proofs.JoinedParts.{book_on, channels_later, lawful_on}
+use Rattle.qs_every_run.proofs.JoinedWays.{lasts_now}
+use Rattle.qs_every_run.proofs.KeptBack.{none_before}
 use Rattle.qs_every_run.proofs.JoinedClocks.{by_order, in_order_stamp}
 use Rattle.qs_every_run.proofs.JoinedAfter.{Known, then_joined}
 
-module _ (P : Opening → World → Type 0) (owed : Owed P) (o : Opening) (world : World) (j : Joined P o world) where
+module _ (P : Opening → World → Type 0) (owed : Owed P) (unanimous : AfterStep P StaysUnanimousThen) (o : Opening) (world : World) (j : Joined P o world) where
   abbrev book : BookValue
   book = book_in o world
 
@@ -80,6 +85,10 @@ module _ (P : Opening → World → Type 0) (owed : Owed P) (o : Opening) (world
             other : (a b : ℕ) → (a == b) ≡ false → a ≡ b → ⊥
             other a b off same = let here : (a == b) ≡ true = grind (arith, nat_tests, same) in let both : true ≡ false = sym here ∙ off in cc (both)
 
+    still : (b : Bool) (client : Client) → (if b then record client { is_handed = false } else client).at ≡ client.at
+    still true client = refl
+    still false client = refl
+
     crash_owners : OwnersAt o after
     crash_owners = subst (λ (b : BookValue). (tid : Tid) (tx : TransactionValue) → find_transaction b tid ≡ Some tx → HasOwner b tx) (sym (book_on o world after (entry ∷ []) refl)) (λ tid tx found. j.owners tid tx found)
 
@@ -112,9 +121,17 @@ module _ (P : Opening → World → Type 0) (owed : Owed P) (o : Opening) (world
       logged = crash_logged;
       clocks = crash_clocks;
       channels = channels_later o world after (entry ∷ []) j.opens refl crash_lawful world.size after.channels (channels_moved book world.size (channel.Crash n) world.channels tt j.channels);
+      unmet = j.unmet;
+      queued = λ k low tid server none. subst (λ (m : NodeValue). waiting_at m tid server ≡ []) (sym (node_stopped world n stamp cause log k))
+          (j.queued k low tid server (none_before (entry ∷ []) book (lasts_now o world j.opens j.lawful) crashed.lawful tid (subst (λ (b : BookValue). find_transaction b tid ≡ None) (book_on o world after (entry ∷ []) refl) none)));
       ways = subst (λ (b : BookValue). HoldsWays b after) (sym (book_on o world after (entry ∷ []) refl)) (crash_ways book world n stamp cause log j.ways);
+      clients = λ k low client command there. let i = j.clients k low client command (subst (λ (m : NodeValue). lookup (is_at (client_cmp client)) m.commands ≡ Some command) (node_stopped world n stamp cause log k) there) in
+          record { small = i.small; at = still ((world.clients client.0).at == n) (world.clients client.0) ∙ i.at };
       scripts = subst (λ (b : BookValue). HoldsScripts o b after) (sym (book_on o world after (entry ∷ []) refl)) (crash_scripts o book world n stamp cause log j.scripts);
     }
 
-    pub crash_joined : Joined P o (moved move world)
-    crash_joined = then_joined P owed o world j move may (subst (λ (w : World). Known o world w) (sym is) known)
+    pub crash_joined : (IsLawful (book_of o) (moved move world).journal → P o (moved move world)) → Joined P o (moved move world)
+    crash_joined places = then_joined P owed unanimous o world j move may so (places so.lawful)
+      where
+        so : Known o world (moved move world)
+        so = subst (λ (w : World). Known o world w) (sym is) known

@@ -1,5 +1,7 @@
 //! Every run of the world of nodes is lawful, as far as it is owed.
+ghost use Rattle.qs_every_run.specs.StepLaws.{AnswersAside, BeginsOwned, InStep, KeepsClients, KeepsScripts, KeepsWays};
 ghost use Rattle.qs_every_run.specs.JoinedPlaces.{PlacesAt};
+ghost use Rattle.qs_every_run.specs.PlacesLaws.{PlacesGoOn};
 ghost use Rattle.qs_every_run.specs.JoinedRuns.{EachMoveJoined, EachOpensJoined, EachRunJoined, EachRunLawful};
 ghost use Rattle.qs_every_run.specs.Joined.{RunningAt};
 ghost use Rattle.qs_every_run.specs.JoinedOwed.{Opens};
@@ -24,6 +26,24 @@ pub fn nodes_begin_with_what_stands_beside()
 /// A restart of one node leaves what the machine has beside each other that runs.
 pub fn restart_leaves_what_stands_beside()
     ensures { EachRiseKeepsBeside }
+{}
+
+/// What all places hold of each transaction stands as a run begins, and after a crash, a restart and a first meeting, if a step that was cut off
+/// decided nothing that was not unanimous before it. And what the log of a home that is down has committed stays unanimous through a step of
+/// another node.
+pub fn places_go_on()
+    ensures { PlacesGoOn }
+{}
+
+/// A step of a node and its clients: each transaction that begins has an owner, no client is answered that has a command in hand at another node,
+/// what is in hand is of clients of the node, and the machine has the scripts of all clients after it. And where its entries are lawful, each request
+/// that is on its way stands in the machine in the order of numbers, behind those that wait.
+pub fn steps_keep_what_comes()
+    ensures owned { InStep PlacesAt BeginsOwned }
+    ensures aside { InStep PlacesAt AnswersAside }
+    ensures clients { InStep PlacesAt KeepsClients }
+    ensures scripts { InStep PlacesAt KeepsScripts }
+    ensures ways { InStep PlacesAt KeepsWays }
 {}
 
 /// A whole step of a node leaves what its home has not decided younger than the age limit: what becomes that old at a tick it aborts in that

@@ -23,6 +23,7 @@ pub mod AsideNode
 pub mod AsideKept
 pub mod AsideThen
 pub mod AsideDown
+pub mod AsideGoes
 pub mod AsideLeft
 pub mod AsideWhole
 pub mod AsideBeside

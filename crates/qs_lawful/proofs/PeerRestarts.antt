@@ -42,7 +42,7 @@ use Rattle.qs_lawful.proofs.Silent.{Fewer, NoneMore, at_fewer}
 
 -- ---- what waits is marked
 
-marked_at : (peer : NodeNo) (p : ServerNo → Bool) (queues : IpcValue) → (unwrap_or (lookup p (map (mark_queue peer) queues)) no_queue).waiting ≡ map (mark_stale peer) (unwrap_or (lookup p queues) no_queue).waiting
+pub marked_at : (peer : NodeNo) (p : ServerNo → Bool) (queues : IpcValue) → (unwrap_or (lookup p (map (mark_queue peer) queues)) no_queue).waiting ≡ map (mark_stale peer) (unwrap_or (lookup p queues) no_queue).waiting
 marked_at peer p [] = refl
 marked_at peer p (q ∷ qs) = by (p q.0) refl (marked_at peer p qs)
   where
@@ -52,14 +52,14 @@ marked_at peer p (q ∷ qs) = by (p q.0) refl (marked_at peer p qs)
     by false is more = rw is more
 
 -- a mark leaves whose a request is, its number and its operation
-marked_of : (peer : NodeNo) (t : Tid) (d : Delivery) → is_of t (mark_stale peer d) ≡ is_of t d
+pub marked_of : (peer : NodeNo) (t : Tid) (d : Delivery) → is_of t (mark_stale peer d) ≡ is_of t d
 marked_of peer t d = by (d.from.0 == peer.0)
   where
     by : (b : Bool) → is_of t (if b then record d { stale = true } else d) ≡ is_of t d
     by true = refl
     by false = refl
 
-marked_number : (peer : NodeNo) (at : RequestNo) (d : Delivery) → is_numbered at (mark_stale peer d) ≡ is_numbered at d
+pub marked_number : (peer : NodeNo) (at : RequestNo) (d : Delivery) → is_numbered at (mark_stale peer d) ≡ is_numbered at d
 marked_number peer at d = by (d.from.0 == peer.0)
   where
     by : (b : Bool) → is_numbered at (if b then record d { stale = true } else d) ≡ is_numbered at d
@@ -73,7 +73,7 @@ marked_op peer d = by (d.from.0 == peer.0)
     by true = refl
     by false = refl
 
-filter_marked : (peer : NodeNo) (p : Delivery → Bool) → ((d : Delivery) → p (mark_stale peer d) ≡ p d) → (ds : List Delivery) → filter p (map (mark_stale peer) ds) ≡ map (mark_stale peer) (filter p ds)
+pub filter_marked : (peer : NodeNo) (p : Delivery → Bool) → ((d : Delivery) → p (mark_stale peer d) ≡ p d) → (ds : List Delivery) → filter p (map (mark_stale peer) ds) ≡ map (mark_stale peer) (filter p ds)
 filter_marked peer p same [] = refl
 filter_marked peer p same (d ∷ ds) = by (p d) refl (filter_marked peer p same ds)
   where
@@ -81,7 +81,7 @@ filter_marked peer p same (d ∷ ds) = by (p d) refl (filter_marked peer p same 
     by true is more = rw (same d ∙ is, is) (ap (λ (xs : List Delivery). mark_stale peer d ∷ xs) more)
     by false is more = rw (same d ∙ is, is) more
 
-map_marked : (peer : NodeNo) (ds : List Delivery) → map (λ (d : Delivery). d.op) (map (mark_stale peer) ds) ≡ map (λ (d : Delivery). d.op) ds
+pub map_marked : (peer : NodeNo) (ds : List Delivery) → map (λ (d : Delivery). d.op) (map (mark_stale peer) ds) ≡ map (λ (d : Delivery). d.op) ds
 map_marked peer [] = refl
 map_marked peer (d ∷ ds) = ap (λ (op : Op). op ∷ map (λ (d : Delivery). d.op) (map (mark_stale peer) ds)) (marked_op peer d) ∙ ap (λ (ops : List Op). d.op ∷ ops) (map_marked peer ds)
 
