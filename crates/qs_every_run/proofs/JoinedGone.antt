@@ -170,10 +170,14 @@ module _ (P : Opening → World → Type 0) (owed : Owed P) (o : Opening) (world
       stands = subst (λ (p : NodeNo). stands_open tid p world.journal ≡ true) peer_is (owed.owes_open o world n stamp source peer old new j makes tid h.part h.known h.undecided h.owed)
 
       core : (tx : TransactionValue) → find_transaction book tid ≡ Some tx → IsTrueCause book tid (causes.Gone (node_no m) known)
-      core tx found = (tx, found, ap (λ (s : Option machine.NodeValue). machine_gone s tx) at.there ∙ is_gone_whenever opened world.journal tid (node_no m) known tx at.state (opens_soundly o j.opens) j.lawful found at.there (record {
-        ran = ran m known low_first before;
-        stood = record { early = world.journal; late = []; parts = sym (append-nil world.journal); restarted = restarted m known (world.channels.inc m) less before after; open_then = stands };
-      }))
+      core tx found = (
+        tx,
+        found,
+        ap (λ (s : Option machine.NodeValue). machine_gone s tx) at.there ∙ is_gone_whenever opened world.journal tid (node_no m) known tx at.state (opens_soundly o j.opens) j.lawful found at.there (record {
+          ran = ran m known low_first before;
+          stood = record { early = world.journal; late = []; parts = sym (append-nil world.journal); restarted = restarted m known (world.channels.inc m) less before after; open_then = stands };
+        }),
+      )
         where
           at : HoldsNodeAt book world m
           at = j.held.nodes m low
@@ -190,10 +194,10 @@ module _ (P : Opening → World → Type 0) (owed : Owed P) (o : Opening) (world
   walk : (tids : List Tid) (work : Work) → HoldsWork stamp book work → Back peer (work_on node free) work → AtEach (IsGone stamp book peer old) (notice_tid peer old new) work tids
   walk [] work held back = tt
   walk (tid ∷ tids) work held back = (
-      λ part known undecided owes. said_on book run_in [] (entries_so_far stamp work) tt held.lawful (messages.VotedAbort tid (causes.Gone peer old))
-          (cause (noted source makes.comes) tid (back tid (record { part = part; known = known; undecided = undecided; owed = owes }))),
-      walk tids (notice_tid peer old new work tid) (by_tid stamp book peer old new work held tid) (λ t h. back t (back_notice peer old new work tid t h)),
-    )
+    λ part known undecided owes. said_on book run_in [] (entries_so_far stamp work) tt held.lawful (messages.VotedAbort tid (causes.Gone peer old))
+        (cause (noted source makes.comes) tid (back tid (record { part = part; known = known; undecided = undecided; owed = owes }))),
+    walk tids (notice_tid peer old new work tid) (by_tid stamp book peer old new work held tid) (λ t h. back t (back_notice peer old new work tid t h)),
+  )
 
   pub finds_gone : HappensSo stamp book (events.PeerRestarted peer old new) (first_work node free)
   finds_gone = walk (tm.concerned peer (first_work node free).node.manager) (with_queues (ipc.mark_queues peer) (first_work node free))

@@ -73,3 +73,4 @@ pub mod PlacesKept
 pub mod StepUnanimous
 pub mod PlacesGo
 pub mod BornMoves
+pub mod TriedOwingRuns

@@ -14,3 +14,4 @@ pub mod Stays
 pub mod StaysLaws
 pub mod PlacesLaws
 pub mod Born
+pub mod TriedOwing
