@@ -101,3 +101,4 @@ pub mod PlacesGo
 pub mod SettlesGo
 pub mod CommandsGo
 pub mod CutCommits
+pub mod TriedOwingRuns

@@ -24,3 +24,4 @@ pub mod StaysLaws
 pub mod PlacesLaws
 pub mod Born
 pub mod CutCommits
+pub mod TriedOwing
