@@ -1,17 +1,29 @@
 -- How what a log says of contents and changes goes on by entries of its node and the record beside them: by entries that touch
 -- neither; by an end of a transaction's records; by a vote and its Prepare; and by a transaction that its servers learn to be
 -- committed, and its Commit.
-use Rattle.std.specs.Prelude.{◌≡◌, ℕ, true, false, ◌&&◌, ◌==◌, List, [], map}
+use Rattle.std.specs.Prelude.{◌≡◌, ℕ, true, false, ◌&&◌, ◌==◌, ◌++◌, List, [], ◌∷◌, None, Some, length, map, nat_lt, slice_get}
 use Rattle.qs_base.specs.Order.{same_tid}
 use Rattle.qs_base.specs.declared.identifiers.NodeNo.{NodeNo}
+use Rattle.qs_base.specs.declared.identifiers.ServerNo.{ServerNo}
 use Rattle.qs_base.specs.declared.identifiers.Tid.{Tid}
-use Rattle.qs_laws.specs.Learning.{HasLearnt}
+use Rattle.qs_journal.specs.declared.entry.Act.TheVariants as acts
+use Rattle.qs_journal.specs.declared.entry.Entry.{Entry}
+use Rattle.qs_laws.specs.Laws.{IsCoherent}
+use Rattle.qs_laws.specs.Learning.{AllLearn, HasLearnt, learning}
 use Rattle.qs_laws.specs.Served.{keeps_contents}
-use Rattle.qs_machine.specs.Book.{BookValue, crossed_in, find_transaction}
+use Rattle.qs_machine.specs.Book.{BookValue, crossed_in, find_transaction, inc_at, pending_in}
+use Rattle.qs_machine.specs.Lawful.{IsLawful, book_after, broken, effect}
 use Rattle.qs_machine.specs.Nodes as machine
+use Rattle.qs_machine.specs.Opening.{opening}
 use Rattle.qs_machine.specs.Restart.{is_among, member_at, votes_once}
+use Rattle.qs_machine.specs.declared.opened.Opened.{Opened}
+use Rattle.qs_ops.specs.Servers.{files_no}
+use Rattle.qs_ops.specs.declared.operation.Op.{Op}
+use Rattle.qs_ops.specs.declared.vote.Vote.TheVariants as votes
 use Rattle.qs_record.specs.declared.record.Record.{Record}
+use Rattle.qs_record.specs.declared.record.Record.TheVariants as made
 use Rattle.qs_restart.specs.Recovery.{Prepared, Recovery, ended, found_commit, found_prepare, is_of, names_transaction, recovery}
+use Rattle.qs_world.specs.Posting.{entry_of}
 use Rattle.qs_lawful.specs.Logged.{HasCommitted, HoldsLogged}
 use Rattle.qs_lawful.specs.Logs.{Every, found_of}
 use Rattle.qs_lawful.specs.Said.{HoldsSaid, IsApart, IsAsRecorded, IsMadeBy, IsUndone, SameContents}
@@ -80,3 +92,35 @@ EachMadeIsSaid = (here : ℕ) (book : BookValue) (state : machine.NodeValue) (lo
 -- each server's vote for a transaction stands in a log once
 abbrev pub EachVoteOnce : Type 0
 EachVoteOnce = (log : List Record) → votes_once (map found_of (recovery log).prepared) ≡ true
+
+-- ---- at entries of the machine
+
+-- the node after entries, and what its log says then
+pub record SaidAfter (here : ℕ) (new : BookValue) (log : Recovery) : Type 0 where
+  pub state : machine.NodeValue
+  pub there : slice_get new.nodes here ≡ Some state
+  pub said : HoldsMade here new state log
+
+-- these changes are what the member has pending, unless the transaction is crossed there; of files the machine has their count in any case
+pub record ArePending (here : ℕ) (book : BookValue) (state : machine.NodeValue) (tid : Tid) (server : ServerNo) (ops : List Op) : Type 0 where
+  pub changes : crossed_in (find_transaction book tid) (member_at here server.0) ≡ false → machine.pending_at state tid server.0 ≡ ops
+  pub count : server.0 ≡ files_no → pending_in (find_transaction book tid) (member_at here server.0) (inc_at book (record { 0 = here })) ≡ length ops
+
+-- a vote of changes that are pending, and its Prepare
+abbrev pub EachVoteEnters : Type 0
+EachVoteEnters = (opened : List Opened) (history : List Entry) (stamp here : ℕ) (state : machine.NodeValue) (tid : Tid) (server : ServerNo) (covers : ℕ) (changes : List Op) (records : List Record) → IsCoherent opened → IsLawful (opening opened) history
+    → slice_get (book_after (opening opened) history).nodes here ≡ Some state → broken (book_after (opening opened) history) (entry_of here stamp (acts.Vote tid (member_at here server.0) votes.Recoverable covers)) ≡ None
+    → is_among (recovery records).committed tid ≡ false → ArePending here (book_after (opening opened) history) state tid server changes → HoldsMade here (book_after (opening opened) history) state (recovery records)
+    → SaidAfter here (effect (book_after (opening opened) history) (entry_of here stamp (acts.Vote tid (member_at here server.0) votes.Recoverable covers))) (recovery (records ++ made.Prepare tid server covers changes ∷ []))
+
+-- all that the log has of the transaction is in doubt
+abbrev pub AreInDoubt : Tid → Recovery → Type 0
+AreInDoubt tid log = Every (λ (vote : Prepared). is_of tid vote ≡ true → vote.committed ≡ false) log.prepared
+
+-- its servers learn that it is committed, and its Commit
+abbrev pub EachCommitEnters : Type 0
+EachCommitEnters = (opened : List Opened) (history : List Entry) (stamp here : ℕ) (state : machine.NodeValue) (tid : Tid) (servers : List ServerNo) (told : List NodeNo) (records : List Record) → IsCoherent opened → nat_lt here (length opened) ≡ true → nat_lt tid.home.0 (length opened) ≡ true
+    → IsLawful (opening opened) history → HasCommitted (book_after (opening opened) history) tid → slice_get (book_after (opening opened) history).nodes here ≡ Some state → AllLearn (book_after (opening opened) history) tid here state servers
+    → IsLawful (book_after (opening opened) history) (learning stamp here tid servers) → names_transaction tid ≡ true → AreInDoubt tid (recovery records) → HoldsLogged here (book_after (opening opened) history) state (recovery records)
+    → HoldsMade here (book_after (opening opened) history) state (recovery records)
+    → SaidAfter here (book_after (book_after (opening opened) history) (learning stamp here tid servers)) (recovery (records ++ made.Commit tid told ∷ []))

@@ -41,7 +41,7 @@ ghost use Rattle.qs_world.specs.World.{Host};
 ghost use Rattle.qs_lawful.specs.Holds.{Holds};
 ghost use Rattle.qs_lawful.specs.Logged.{HoldsHost, IsTrueEvent, KeepsLogs};
 ghost use Rattle.qs_lawful.specs.Logs.{found_votes, HoldsStopped};
-ghost use Rattle.qs_lawful.specs.Saying.{EachCommitIsSaid, EachEndKeepsSaid, EachKeepsSaid, EachMadeIsSaid, EachVoteIsSaid, EachVoteOnce};
+ghost use Rattle.qs_lawful.specs.Saying.{EachCommitEnters, EachCommitIsSaid, EachEndKeepsSaid, EachKeepsSaid, EachMadeIsSaid, EachVoteEnters, EachVoteIsSaid, EachVoteOnce};
 
 /// A server votes: a vote that it can commit stands in the log with its Prepare, of every other vote the log says nothing.
 pub fn vote_keeps_the_log()
@@ -86,6 +86,13 @@ pub fn log_says_what_is_entered()
     ensures committed { EachCommitIsSaid }
     ensures whole { EachMadeIsSaid }
     ensures once { EachVoteOnce }
+{}
+
+/// So it does, in a run, as a vote of changes that are pending is entered with its Prepare, and as the servers that are still to learn it
+/// learn that a transaction is committed, with its Commit.
+pub fn log_says_votes_and_commits()
+    ensures voted { EachVoteEnters }
+    ensures committed { EachCommitEnters }
 {}
 
 /// What another node does, a crash and a restart of it too, leaves what is held of the log of a node.

@@ -1,0 +1,8 @@
+use Rattle.qs_lawful.proofs.SaidEntries.{commit_enters, vote_enters}
+use Rattle.qs_lawful.proofs.lawful_logs.log_says_votes_and_commits.Goals as goal
+
+pub returns : goal.returns
+returns c = record {
+  voted = λ opened history stamp here state tid server covers changes records coherent lawful there enters clear pending h. vote_enters opened history stamp here state tid server covers changes records coherent lawful there enters clear pending h;
+  committed = λ opened history stamp here state tid servers told records coherent in_run at_home lawful done there all goes named doubt logged h. commit_enters opened history stamp here state tid servers told records coherent in_run at_home lawful done there all goes named doubt logged h;
+}
