@@ -55,7 +55,7 @@ made_more table other said changes more contents notes same is = record {
 recorded_on : (here : ℕ) (old new : BookValue) (crossed : StaysCrossed here old new) (rec : OnRecord) (vote : Prepared) → IsRecorded here old (Some rec) vote → IsRecorded here new (Some rec) vote
 recorded_on here old new crossed rec vote is = record { changes = λ clean. is.changes (crossed vote.tid vote.server.0 clean); count = is.count }
 
-vote_on : (here : ℕ) (old new : BookValue) (state later : machine.NodeValue) (crossed : StaysCrossed here old new) (vote : Prepared) → record_of later vote.tid vote.server.0 ≡ record_of state vote.tid vote.server.0 → IsAsRecorded here old state vote → IsAsRecorded here new later vote
+pub vote_on : (here : ℕ) (old new : BookValue) (state later : machine.NodeValue) (crossed : StaysCrossed here old new) (vote : Prepared) → record_of later vote.tid vote.server.0 ≡ record_of state vote.tid vote.server.0 → IsAsRecorded here old state vote → IsAsRecorded here new later vote
 vote_on here old new state later crossed vote same is clear rec at = recorded_on here old new crossed rec vote (is clear rec (sym same ∙ at))
 
 -- ---- all of a list

@@ -6,6 +6,7 @@ use Rattle.qs_base.specs.Order.{same_tid}
 use Rattle.qs_base.specs.declared.identifiers.NodeNo.{NodeNo}
 use Rattle.qs_base.specs.declared.identifiers.ServerNo.{ServerNo}
 use Rattle.qs_base.specs.declared.identifiers.Tid.{Tid}
+use Rattle.qs_journal.specs.declared.entry.Act.{Act}
 use Rattle.qs_journal.specs.declared.entry.Act.TheVariants as acts
 use Rattle.qs_journal.specs.declared.entry.Entry.{Entry}
 use Rattle.qs_laws.specs.Laws.{IsCoherent}
@@ -24,7 +25,7 @@ use Rattle.qs_record.specs.declared.record.Record.{Record}
 use Rattle.qs_record.specs.declared.record.Record.TheVariants as made
 use Rattle.qs_restart.specs.Recovery.{Prepared, Recovery, ended, found_commit, found_prepare, is_of, names_transaction, recovery}
 use Rattle.qs_world.specs.Posting.{entry_of}
-use Rattle.qs_lawful.specs.Logged.{HasCommitted, HoldsLogged}
+use Rattle.qs_lawful.specs.Logged.{HasCommitted, HoldsLogged, is_plain}
 use Rattle.qs_lawful.specs.Logs.{Every, found_of}
 use Rattle.qs_lawful.specs.Said.{HoldsSaid, IsApart, IsAsRecorded, IsMadeBy, IsUndone, SameContents}
 
@@ -124,3 +125,19 @@ EachCommitEnters = (opened : List Opened) (history : List Entry) (stamp here : �
     → IsLawful (book_after (opening opened) history) (learning stamp here tid servers) → names_transaction tid ≡ true → AreInDoubt tid (recovery records) → HoldsLogged here (book_after (opening opened) history) state (recovery records)
     → HoldsMade here (book_after (opening opened) history) state (recovery records)
     → SaidAfter here (book_after (book_after (opening opened) history) (learning stamp here tid servers)) (recovery (records ++ made.Commit tid told ∷ []))
+
+-- entries that put nothing on record and take nothing off
+abbrev pub EachPlainEnters : Type 0
+EachPlainEnters = (opened : List Opened) (history : List Entry) (stamp here : ℕ) (state : machine.NodeValue) (act : Act) (log : Recovery) → IsCoherent opened → IsLawful (opening opened) history → slice_get (book_after (opening opened) history).nodes here ≡ Some state
+    → is_plain act ≡ true → broken (book_after (opening opened) history) (entry_of here stamp act) ≡ None → HoldsMade here (book_after (opening opened) history) state log → SaidAfter here (effect (book_after (opening opened) history) (entry_of here stamp act)) log
+
+-- nothing that the log has of the transaction is in doubt
+abbrev pub AreCommitted : Tid → Recovery → Type 0
+AreCommitted tid log = Every (λ (vote : Prepared). is_of tid vote ≡ true → vote.committed ≡ true) log.prepared
+
+-- its servers learn that it is committed, where the log has nothing in doubt of it: no Commit is written
+abbrev pub EachLearningEnters : Type 0
+EachLearningEnters = (opened : List Opened) (history : List Entry) (stamp here : ℕ) (state : machine.NodeValue) (tid : Tid) (servers : List ServerNo) (log : Recovery) → IsCoherent opened → nat_lt here (length opened) ≡ true → nat_lt tid.home.0 (length opened) ≡ true
+    → IsLawful (opening opened) history → HasCommitted (book_after (opening opened) history) tid → slice_get (book_after (opening opened) history).nodes here ≡ Some state → AllLearn (book_after (opening opened) history) tid here state servers
+    → IsLawful (book_after (opening opened) history) (learning stamp here tid servers) → AreCommitted tid log → HoldsLogged here (book_after (opening opened) history) state log → HoldsMade here (book_after (opening opened) history) state log
+    → SaidAfter here (book_after (book_after (opening opened) history) (learning stamp here tid servers)) log

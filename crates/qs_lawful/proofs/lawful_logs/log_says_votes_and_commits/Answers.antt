@@ -1,8 +1,10 @@
-use Rattle.qs_lawful.proofs.SaidEntries.{commit_enters, vote_enters}
+use Rattle.qs_lawful.proofs.SaidEntries.{commit_enters, learning_enters, plain_enters, vote_enters}
 use Rattle.qs_lawful.proofs.lawful_logs.log_says_votes_and_commits.Goals as goal
 
 pub returns : goal.returns
 returns c = record {
+  plain = λ opened history stamp here state act log coherent lawful there plain enters h. plain_enters opened history stamp here state act log coherent lawful there plain enters h;
   voted = λ opened history stamp here state tid server covers changes records coherent lawful there enters clear pending h. vote_enters opened history stamp here state tid server covers changes records coherent lawful there enters clear pending h;
   committed = λ opened history stamp here state tid servers told records coherent in_run at_home lawful done there all goes named doubt logged h. commit_enters opened history stamp here state tid servers told records coherent in_run at_home lawful done there all goes named doubt logged h;
+  learnt = λ opened history stamp here state tid servers log coherent in_run at_home lawful done there all goes ended logged h. learning_enters opened history stamp here state tid servers log coherent in_run at_home lawful done there all goes ended logged h;
 }
