@@ -246,6 +246,7 @@ pub mod RiseKeeps
 pub mod SaidOn
 pub mod SaidPairs
 pub mod SaidEntries
+pub mod SaidHeld
 pub mod SaidStays
 pub mod ParcelsKept
 pub mod GivenEvents

@@ -18,13 +18,20 @@ use Rattle.qs_machine.specs.Nodes as machine
 use Rattle.qs_machine.specs.Opening.{opening}
 use Rattle.qs_machine.specs.Restart.{is_among, member_at, votes_once}
 use Rattle.qs_machine.specs.declared.opened.Opened.{Opened}
+use Rattle.qs_ops.specs.Server.{changes_in}
 use Rattle.qs_ops.specs.Servers.{files_no}
 use Rattle.qs_ops.specs.declared.operation.Op.{Op}
 use Rattle.qs_ops.specs.declared.vote.Vote.TheVariants as votes
 use Rattle.qs_record.specs.declared.record.Record.{Record}
 use Rattle.qs_record.specs.declared.record.Record.TheVariants as made
 use Rattle.qs_restart.specs.Recovery.{Prepared, Recovery, ended, found_commit, found_prepare, is_of, names_transaction, recovery}
+use Rattle.qs_servers.specs.Servers.{server_at}
+use Rattle.qs_step.specs.State.{NodeValue}
+use Rattle.qs_tm.specs.Manager as tm
+use Rattle.qs_tm.specs.Participant.{learners}
+use Rattle.qs_tm.specs.declared.participant.Participant.{Participant}
 use Rattle.qs_world.specs.Posting.{entry_of}
+use Rattle.qs_lawful.specs.Holds.{Holds}
 use Rattle.qs_lawful.specs.Logged.{HasCommitted, HoldsLogged, is_plain}
 use Rattle.qs_lawful.specs.Logs.{Every, found_of}
 use Rattle.qs_lawful.specs.Said.{HoldsSaid, IsApart, IsAsRecorded, IsMadeBy, IsUndone, SameContents}
@@ -141,3 +148,11 @@ EachLearningEnters = (opened : List Opened) (history : List Entry) (stamp here :
     → IsLawful (opening opened) history → HasCommitted (book_after (opening opened) history) tid → slice_get (book_after (opening opened) history).nodes here ≡ Some state → AllLearn (book_after (opening opened) history) tid here state servers
     → IsLawful (book_after (opening opened) history) (learning stamp here tid servers) → AreCommitted tid log → HoldsLogged here (book_after (opening opened) history) state log → HoldsMade here (book_after (opening opened) history) state log
     → SaidAfter here (book_after (book_after (opening opened) history) (learning stamp here tid servers)) log
+
+-- ---- in the middle of a step: what it needs is so, since the machine holds what the node has
+
+abbrev pub EachPendingIsHeld : Type 0
+EachPendingIsHeld = (stamp : ℕ) (book : BookValue) (node : NodeValue) (tid : Tid) (server : ServerNo) (h : Holds stamp book node) → keeps_contents server.0 ≡ true → ArePending node.setting.node.0 book h.state tid server (changes_in (server_at node.servers server) tid)
+
+abbrev pub EachLearnerIsHeld : Type 0
+EachLearnerIsHeld = (stamp : ℕ) (book : BookValue) (node : NodeValue) (tid : Tid) (part : Participant) (h : Holds stamp book node) → tm.part_of tid node.manager ≡ Some part → AllLearn book tid node.setting.node.0 h.state (learners part)

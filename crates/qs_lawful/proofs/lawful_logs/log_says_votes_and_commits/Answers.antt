@@ -1,4 +1,5 @@
 use Rattle.qs_lawful.proofs.SaidEntries.{commit_enters, learning_enters, plain_enters, vote_enters}
+use Rattle.qs_lawful.proofs.SaidHeld.{learners_held, pending_held}
 use Rattle.qs_lawful.proofs.lawful_logs.log_says_votes_and_commits.Goals as goal
 
 pub returns : goal.returns
@@ -7,4 +8,6 @@ returns c = record {
   voted = λ opened history stamp here state tid server covers changes records coherent lawful there enters clear pending h. vote_enters opened history stamp here state tid server covers changes records coherent lawful there enters clear pending h;
   committed = λ opened history stamp here state tid servers told records coherent in_run at_home lawful done there all goes named doubt logged h. commit_enters opened history stamp here state tid servers told records coherent in_run at_home lawful done there all goes named doubt logged h;
   learnt = λ opened history stamp here state tid servers log coherent in_run at_home lawful done there all goes ended logged h. learning_enters opened history stamp here state tid servers log coherent in_run at_home lawful done there all goes ended logged h;
+  pending = λ stamp book node tid server h keeps. pending_held stamp book node tid server h keeps;
+  learners = λ stamp book node tid part h known. learners_held stamp book node tid part h known;
 }
