@@ -247,6 +247,7 @@ pub mod SaidOn
 pub mod SaidPairs
 pub mod SaidEntries
 pub mod SaidHeld
+pub mod SaidVoting
 pub mod SaidStays
 pub mod ParcelsKept
 pub mod GivenEvents

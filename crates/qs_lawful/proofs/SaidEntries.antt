@@ -95,17 +95,10 @@ module _ (opened : List Opened) (history : List Entry) (stamp here : ℕ) (state
 
 -- ---- a vote
 
-module _ (opened : List Opened) (history : List Entry) (stamp here : ℕ) (state : machine.NodeValue) (tid : Tid) (server : ServerNo) (covers : ℕ) (changes : List Op) (records : List Record) (coherent : IsCoherent opened) (lawful : IsLawful (opening opened) history)
-    (there : slice_get (book_after (opening opened) history).nodes here ≡ Some state) (enters : broken (book_after (opening opened) history) (entry_of here stamp (acts.Vote tid (member_at here server.0) votes.Recoverable covers)) ≡ None)
-    (clear : is_among (recovery records).committed tid ≡ false) (pending : ArePending here (book_after (opening opened) history) state tid server changes) (h : HoldsMade here (book_after (opening opened) history) state (recovery records)) where
-  abbrev book : BookValue
-  book = book_after (opening opened) history
-
+module _ (book : BookValue) (i : Inv book) (stamp here : ℕ) (state : machine.NodeValue) (tid : Tid) (server : ServerNo) (covers : ℕ) (changes : List Op) (records : List Record) (there : slice_get book.nodes here ≡ Some state)
+    (enters : broken book (entry_of here stamp (acts.Vote tid (member_at here server.0) votes.Recoverable covers)) ≡ None) (clear : is_among (recovery records).committed tid ≡ false) (pending : ArePending here book state tid server changes) (h : HoldsMade here book state (recovery records)) where
   abbrev entry : Entry
   entry = entry_of here stamp (acts.Vote tid (member_at here server.0) votes.Recoverable covers)
-
-  i : Inv book
-  i = inv_is opened history coherent lawful
 
   abbrev next : machine.NodeValue
   next = log_votes.next book stamp here state i there tid server covers changes enters
@@ -135,8 +128,8 @@ module _ (opened : List Opened) (history : List Entry) (stamp here : ℕ) (state
           let e : voter t s ≡ voter tid server.0 = voter_exact (voter t s) (voter tid server.0) is in
           absurd (cc (sym far ∙ (ap (λ (v : Voter). same_tid v.tid tid && (v.server.0 == server.0)) e ∙ (ap (λ (b : Bool). b && (server.0 == server.0)) (same_tid-self tid) ∙ no_same server.0))))
 
-  pub vote_enters : SaidAfter here (effect book entry) (recovery (records ++ made.Prepare tid server covers changes ∷ []))
-  vote_enters = record {
+  pub vote_enters_at : SaidAfter here (effect book entry) (recovery (records ++ made.Prepare tid server covers changes ∷ []))
+  vote_enters_at = record {
     state = next;
     there = log_votes.voted_there book stamp here state i there tid server covers changes enters;
     said = subst (HoldsMade here (effect book entry) next) (sym (one_more records (made.Prepare tid server covers changes)))

@@ -36,7 +36,7 @@ no_is : (a b : ℕ) → (a == b) ≡ true → a ≡ b
 no_is a b e = grind (arith, nat_tests, e)
 
 -- files, or audit
-either_server : (P : ℕ → Type 0) → P 0 → P 1 → (server : ℕ) → keeps_contents server ≡ true → P server
+pub either_server : (P : ℕ → Type 0) → P 0 → P 1 → (server : ℕ) → keeps_contents server ≡ true → P server
 either_server P files audit server keeps = by (server == 0) (server == 1) refl refl keeps
   where
     by : (a b : Bool) → (server == 0) ≡ a → (server == 1) ≡ b → (a || b) ≡ true → P server

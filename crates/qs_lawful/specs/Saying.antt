@@ -26,13 +26,16 @@ use Rattle.qs_record.specs.declared.record.Record.{Record}
 use Rattle.qs_record.specs.declared.record.Record.TheVariants as made
 use Rattle.qs_restart.specs.Recovery.{Prepared, Recovery, ended, found_commit, found_prepare, is_of, names_transaction, recovery}
 use Rattle.qs_servers.specs.Servers.{server_at}
-use Rattle.qs_step.specs.State.{NodeValue}
+use Rattle.qs_step.specs.State.{NodeValue, Work, here, part_of}
+use Rattle.qs_step.specs.Voting.{vote_with}
 use Rattle.qs_tm.specs.Manager as tm
 use Rattle.qs_tm.specs.Participant.{learners}
 use Rattle.qs_tm.specs.declared.participant.Participant.{Participant}
 use Rattle.qs_world.specs.Posting.{entry_of}
+use Rattle.qs_lawful.specs.Entering.{book_at, entries_so_far}
 use Rattle.qs_lawful.specs.Holds.{Holds}
-use Rattle.qs_lawful.specs.Logged.{HasCommitted, HoldsLogged, is_plain}
+use Rattle.qs_lawful.specs.Lasting.{Lasts}
+use Rattle.qs_lawful.specs.Logged.{HasCommitted, HoldsLogged, HoldsLogs, is_plain}
 use Rattle.qs_lawful.specs.Logs.{Every, found_of}
 use Rattle.qs_lawful.specs.Said.{HoldsSaid, IsApart, IsAsRecorded, IsMadeBy, IsUndone, SameContents}
 
@@ -156,3 +159,13 @@ EachPendingIsHeld = (stamp : ℕ) (book : BookValue) (node : NodeValue) (tid : T
 
 abbrev pub EachLearnerIsHeld : Type 0
 EachLearnerIsHeld = (stamp : ℕ) (book : BookValue) (node : NodeValue) (tid : Tid) (part : Participant) (h : Holds stamp book node) → tm.part_of tid node.manager ≡ Some part → AllLearn book tid node.setting.node.0 h.state (learners part)
+
+-- in the middle of a step: what the log will say with the records of the step so far
+abbrev pub SaidAt : ℕ → BookValue → List Record → List Record → Work → Type 0
+SaidAt stamp before disk waiting work = SaidAfter (here work).0 (book_at stamp before work) (recovery (disk ++ (waiting ++ work.out.records)))
+
+-- the rule by which a server votes recoverable
+abbrev pub EachVoteSays : Type 0
+EachVoteSays = (opened : List Opened) (history : List Entry) → IsCoherent opened → IsLawful (opening opened) history → (stamp : ℕ) (disk waiting : List Record) (tid : Tid) (server : ServerNo) (work : Work) (part : Participant) → part_of tid work ≡ Some part → part.outcome ≡ None
+    → keeps_contents server.0 ≡ true → Lasts (book_at stamp (book_after (opening opened) history) work) → IsLawful (book_after (opening opened) history) (entries_so_far stamp (vote_with tid server votes.Recoverable work)) → HoldsLogs stamp (book_after (opening opened) history) disk waiting work
+    → Holds stamp (book_at stamp (book_after (opening opened) history) work) work.node → SaidAt stamp (book_after (opening opened) history) disk waiting work → SaidAt stamp (book_after (opening opened) history) disk waiting (vote_with tid server votes.Recoverable work)
