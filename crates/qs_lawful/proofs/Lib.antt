@@ -245,6 +245,10 @@ pub mod OthersTid
 pub mod OthersRise
 pub mod RiseKeeps
 pub mod SaidOn
+pub mod SaidPairs
+pub mod SaidEntries
+pub mod SaidHeld
+pub mod SaidVoting
 pub mod SaidStays
 pub mod ParcelsKept
 pub mod GivenEvents
