@@ -163,7 +163,7 @@ module _ (tid : Tid) where
     serves = λ d server delivery reply next so. noted_so d _ delivery.tid (λ doings. record doings { served = true }) _ refl refl (λ apart. apart) refl (λ o. served_forbids (record o { served = true }) refl) so;
     lends = λ d t client served so. lends_so d _ t (acts.Loan t client) refl refl served (λ apart. apart) refl so;
     commit_asked = λ d t so. noted_so d _ t (λ doings. record doings { asked = true }) (acts.Ask t) refl refl (λ apart. apart) refl asked_forbids so;
-    votes = λ d t member ballot covers so. noted_so d _ t (λ doings. record doings { voted = true }) (acts.Vote t member ballot covers) refl refl (λ apart. apart) refl voted_forbids so;
+    votes = λ d t member ballot covers off so. noted_so d _ t (λ doings. record doings { voted = true }) (acts.Vote t member ballot covers) refl refl (λ apart. apart) refl voted_forbids so;
     prepares = prepared_so;
     yields = λ d t client so. noted_so d _ t (λ doings. record doings { yielded = true }) (acts.Yield t client) refl refl (λ apart. apart) refl yielded_forbids so;
     decides = λ d t outcome cause quiet so. decides_so d _ t outcome cause refl refl quiet so;

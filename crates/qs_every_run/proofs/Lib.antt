@@ -19,8 +19,10 @@ pub mod JoinedHomes
 pub mod TraceRules
 pub mod TraceTold
 pub mod TraceCommands
+pub mod PassDoings
 pub mod TraceStages
 pub mod CommitsFirst
+pub mod VotesFirst
 pub mod Answered
 pub mod LabelsApart
 pub mod LinesLeft

@@ -1,5 +1,5 @@
 -- What all things that a rule does keep, a whole step keeps: votes and settling, what comes, and commands that stayed open.
-use Rattle.std.proofs.Common.{◌≡◌, ℕ, Bool, true, false, List, [], ◌∷◌, Option, Some, None, refl}
+use Rattle.std.proofs.Common.{◌≡◌, ℕ, Bool, true, false, List, [], ◌∷◌, Option, Some, None, refl, fold}
 use Rattle.std.specs.BTreeMap.{insert_entry, is_at}
 use Rattle.std.specs.Map.{lookup}
 use Rattle.std.specs.Prelude.{if◌then◌else◌}
@@ -37,7 +37,7 @@ use Rattle.qs_step.specs.Commands.{decided_answer}
 use Rattle.qs_step.specs.Deciding.{decide, decide_commit, end_members}
 use Rattle.qs_step.specs.Restarts.{begin_incarnation}
 use Rattle.qs_step.specs.Serving.{engage, is_dropped, label_at, learn_label, request_came, take_in}
-use Rattle.qs_step.specs.Settling.{answer_superior, due_tids, forget_rule, is_pass_due, is_quiet, may_answer, pass_rule, ready, ready_rule, refusal_goes_to, refuse_elsewhere, refuse_home, refuse_rule, say_yes, send_refusal, settle, settle_tid, try}
+use Rattle.qs_step.specs.Settling.{answer_superior, due_tids, forget_rule, is_pass_due, is_put_off, is_quiet, may_answer, pass_rule, ready, ready_rule, refusal_goes_to, refuse_elsewhere, refuse_home, refuse_rule, say_yes, send_refusal, settle, settle_tid, try}
 use Rattle.qs_step.specs.State.{NodeValue, Work, client_cmp, doings_of, here, part_of, with_manager, with_queues, work_on}
 use Rattle.qs_step.specs.Step.{abort_old, age_rule, borrower_waits, command_came, happen, is_owner, message_came, owner_waits, step_work, wait_command, wait_on, waiting_clients, waits_at, with_command}
 use Rattle.qs_step.specs.Telling.{forget}
@@ -51,6 +51,7 @@ use Rattle.qs_tm.specs.Outcomes.{told_with_own}
 use Rattle.qs_tm.specs.Participant.{is_forgotten}
 use Rattle.qs_every_run.specs.Deeds.{Deeds, IsKeptSo, IsStill, TakesInSo, deeds_of}
 use Rattle.qs_every_run.specs.Traces.{IsKept, IsOrdinary, TakesIn, Trace, fresh_command, trace_of}
+use Rattle.qs_every_run.proofs.PassDoings.{due_off, ended_off, vote_off}
 use Rattle.qs_every_run.proofs.TraceCommands as commanded
 use Rattle.qs_every_run.proofs.TraceRules as rules
 use Rattle.qs_every_run.proofs.TraceTold as told
@@ -61,8 +62,8 @@ module _ (P : Deeds → Type 0) (k : IsKeptSo P) where
 
   -- ---- the vote pass, and settling
 
-  vote_next_keeps : (tid : Tid) (work : Work) (server : ServerNo) → Keeps work (vote_next tid work server)
-  vote_next_keeps tid work server = rules.if_keeps P k (owes_note tid server work) (issue_note tid work.node.setting.audit work) (vote_with tid server ballot work) work (λ is. note work.node.setting.audit) (λ is. voted ballot)
+  vote_next_keeps : (tid : Tid) (work : Work) (server : ServerNo) → is_put_off (doings_of tid work) ≡ false → Keeps work (vote_next tid work server)
+  vote_next_keeps tid work server off = rules.if_keeps P k (owes_note tid server work) (issue_note tid work.node.setting.audit work) (vote_with tid server ballot work) work (λ is. note work.node.setting.audit) (λ is. voted ballot)
     where
       ballot : Vote
       ballot = vote_of (server_at work.node.servers server) tid work.room (vote_frame work)
@@ -72,16 +73,20 @@ module _ (P : Deeds → Type 0) (k : IsKeptSo P) where
       note (Some node) h = rules.issue_keeps P k tid members.files_no (record { node = node; server = audit_no }) (Note (note_text tid (here work) (change_count tid work.node))) (change_count tid work.node) work h
 
       voted : (b : Vote) → Keeps work (log_vote b tid server (enter_vote tid server b work))
-      voted (votes.Abort reason) h = k.votes (deeds_of work) tid (member_here work server) (votes.Abort reason) (served_count tid server work) h
-      voted votes.ReadOnly h = k.votes (deeds_of work) tid (member_here work server) votes.ReadOnly (served_count tid server work) h
-      voted votes.Volatile h = k.votes (deeds_of work) tid (member_here work server) votes.Volatile (served_count tid server work) h
-      voted votes.Recoverable h = k.prepares (deeds_of (enter_vote tid server votes.Recoverable work)) tid (k.votes (deeds_of work) tid (member_here work server) votes.Recoverable (served_count tid server work) h)
+      voted (votes.Abort reason) h = k.votes (deeds_of work) tid (member_here work server) (votes.Abort reason) (served_count tid server work) off h
+      voted votes.ReadOnly h = k.votes (deeds_of work) tid (member_here work server) votes.ReadOnly (served_count tid server work) off h
+      voted votes.Volatile h = k.votes (deeds_of work) tid (member_here work server) votes.Volatile (served_count tid server work) off h
+      voted votes.Recoverable h = k.prepares (deeds_of (enter_vote tid server votes.Recoverable work)) tid (k.votes (deeds_of work) tid (member_here work server) votes.Recoverable (served_count tid server work) off h)
 
-  pass_keeps : (tid : Tid) (work : Work) → Keeps work (vote_pass tid work)
-  pass_keeps tid work h = rules.fold_keeps P k (vote_next tid) (vote_next_keeps tid) (due_votes tid work) (end_members tid work) (rules.ended_keeps P k tid work h)
+  votes_keep : (tid : Tid) (servers : List ServerNo) (work : Work) → is_put_off (doings_of tid work) ≡ false → Keeps work (fold (vote_next tid) work servers)
+  votes_keep tid [] work off h = h
+  votes_keep tid (server ∷ servers) work off h = votes_keep tid servers (vote_next tid work server) (vote_off tid work server off) (vote_next_keeps tid work server off h)
+
+  pass_keeps : (tid : Tid) (work : Work) → is_put_off (doings_of tid work) ≡ false → Keeps work (vote_pass tid work)
+  pass_keeps tid work off h = votes_keep tid (due_votes tid work) (end_members tid work) (ended_off tid work off) (rules.ended_keeps P k tid work h)
 
   passes_keep : (work : Work) (tid : Tid) → Keeps work (try tid pass_rule work)
-  passes_keep work tid = rules.undecided_keeps P k tid (pass_rule tid) work (λ part. rules.if_keeps P k (is_pass_due tid part work) (vote_pass tid work) work work (λ is. pass_keeps tid work) (λ is h. h))
+  passes_keep work tid = rules.undecided_keeps P k tid (pass_rule tid) work (λ part. rules.if_keeps P k (is_pass_due tid part work) (vote_pass tid work) work work (λ is. pass_keeps tid work (due_off tid part work is)) (λ is h. h))
 
   readies_keep : (work : Work) (tid : Tid) → Keeps work (try tid ready_rule work)
   readies_keep work tid = rules.undecided_keeps P k tid (ready_rule tid) work (λ part. rules.if_keeps P k (may_answer tid part work) (ready tid part work) work work
@@ -224,7 +229,7 @@ module _ (P : Trace → Type 0) (k : IsKept P) where
     serves = λ d. k.serves d.trace;
     lends = λ d tid client served. k.enters d.trace (acts.Loan tid client) tt;
     commit_asked = λ d tid. k.enters d.trace (acts.Ask tid) tt;
-    votes = λ d tid member ballot covers. k.enters d.trace (acts.Vote tid member ballot covers) tt;
+    votes = λ d tid member ballot covers off. k.enters d.trace (acts.Vote tid member ballot covers) tt;
     prepares = λ d tid h. h;
     yields = λ d tid client. k.enters d.trace (acts.Yield tid client) tt;
     decides = λ d tid outcome cause quiet. k.enters d.trace (acts.Decide tid outcome cause) tt;

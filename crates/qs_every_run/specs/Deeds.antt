@@ -1,5 +1,5 @@
--- A trace together with what a step noted of what it did for each transaction. Where a rule notes something it says so here, and a home commits
--- only where nothing was noted that forbids it.
+-- A trace together with what a step noted of what it did for each transaction. Where a rule notes something it says so here; a home commits
+-- only where nothing was noted that forbids it, and servers vote only where nothing was noted that puts it off.
 use Rattle.std.specs.Prelude.{◌≡◌, ℕ, ⊤, true, false, List, Option, Some, unwrap_or}
 use Rattle.std.specs.BTreeMap.{insert_entry, is_at}
 use Rattle.std.specs.Map.{lookup}
@@ -26,7 +26,7 @@ use Rattle.qs_ops.specs.declared.reply.Reply.{Reply}
 use Rattle.qs_ops.specs.declared.vote.Vote.{Vote}
 use Rattle.qs_packet.specs.declared.message.Message.{Message}
 use Rattle.qs_packet.specs.declared.message.Message.TheVariants as messages
-use Rattle.qs_step.specs.Settling.{is_quiet}
+use Rattle.qs_step.specs.Settling.{is_put_off, is_quiet}
 use Rattle.qs_step.specs.State.{Work, client_cmp, no_doings}
 use Rattle.qs_step.specs.Telling.{drop_counts}
 use Rattle.qs_step.specs.declared.event.Event.{Event}
@@ -90,7 +90,7 @@ pub record IsKeptSo (P : Deeds → Type 0) : Type 0 where
       (traced (λ t. entered (acts.Serve delivery.tid (member_at t server) delivery.from delivery.number reply) (with_queues (ipc.after_next server t.queues) t)) d))
   pub lends : (d : Deeds) (tid : Tid) (client : ClientNo) → (doings_in tid d).served ≡ true → P d → P (traced (entered (acts.Loan tid client)) d)
   pub commit_asked : (d : Deeds) (tid : Tid) → P d → P (noted tid (λ doings. record doings { asked = true }) (traced (entered (acts.Ask tid)) d))
-  pub votes : (d : Deeds) (tid : Tid) (member : Member) (ballot : Vote) (covers : ℕ) → P d → P (noted tid (λ doings. record doings { voted = true }) (traced (entered (acts.Vote tid member ballot covers)) d))
+  pub votes : (d : Deeds) (tid : Tid) (member : Member) (ballot : Vote) (covers : ℕ) → is_put_off (doings_in tid d) ≡ false → P d → P (noted tid (λ doings. record doings { voted = true }) (traced (entered (acts.Vote tid member ballot covers)) d))
   pub prepares : (d : Deeds) (tid : Tid) → P d → P (noted tid (λ doings. record doings { prepared = true }) d)
   pub yields : (d : Deeds) (tid : Tid) (client : ClientNo) → P d → P (noted tid (λ doings. record doings { yielded = true }) (traced (entered (acts.Yield tid client)) d))
   pub decides : (d : Deeds) (tid : Tid) (outcome : Outcome) (cause : Option Cause) → (outcome ≡ outcomes.Commit → is_quiet (doings_in tid d) ≡ true) → P d → P (traced (entered (acts.Decide tid outcome cause)) d)

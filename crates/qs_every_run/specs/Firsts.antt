@@ -1,5 +1,5 @@
--- What a home commits in a step, it commits before the step asks for it, serves a request of it, votes on it, lends for it or takes a loan back.
-use Rattle.std.specs.Prelude.{◌≡◌, ◌⊎◌, ℕ, Bool, true, false, List, ◌∷◌, ◌++◌, Option, Some, None}
+-- What comes first in a step: a home commits, and servers vote, before the step asks for the commit or serves a request; and a home commits before it votes, lends or takes a loan back.
+use Rattle.std.specs.Prelude.{◌≡◌, ◌⊎◌, ℕ, Bool, true, false, not, ◌&&◌, ◌||◌, List, [], ◌∷◌, ◌++◌, Option, Some, None}
 use Rattle.std.specs.List.{list_any}
 use Rattle.qs_base.specs.Order.{same_tid}
 use Rattle.qs_base.specs.declared.identifiers.Outcome.TheVariants as outcomes
@@ -18,6 +18,8 @@ use Rattle.qs_step.specs.declared.event.Event.{Event}
 use Rattle.qs_world.specs.Posting.{entries_of}
 use Rattle.qs_lawful.specs.Logged.{HasCommitted}
 use Rattle.qs_every_run.specs.Deeds.{Deeds, deeds_of, doings_in}
+
+-- ---- commits
 
 -- what a step notes of the transaction; and no step enters a restart
 abbrev pub is_noted : Tid → Act → Bool
@@ -61,3 +63,23 @@ CommitsUnanimous = (tid : Tid) (n stamp : ℕ) (node : NodeValue) (event : Event
 abbrev pub CommitsStood : Type 0
 CommitsStood = (tid : Tid) (n stamp : ℕ) (node : NodeValue) (event : Event) (free : ℕ) (book : BookValue) → Inv book → IsLawful book (entries_of n stamp (effects_of node event free).entries)
     → HasCommitted (book_after book (entries_of n stamp (effects_of node event free).entries)) tid → find_transaction book tid ≡ None → ⊥
+
+-- ---- votes
+
+-- the step asks for its commit, or serves a request of it
+abbrev pub is_asked_or_served : Tid → Act → Bool
+is_asked_or_served tid (acts.Ask t) = same_tid t tid
+is_asked_or_served tid (acts.Serve t member from number reply) = same_tid t tid
+is_asked_or_served tid act = false
+
+abbrev pub is_vote_of : Tid → Act → Bool
+is_vote_of tid (acts.Vote t member ballot covers) = same_tid t tid
+is_vote_of tid act = false
+
+-- each vote on it comes before any of these; whether one came already
+abbrev pub votes_first : Tid → Bool → List Act → Bool
+votes_first tid came [] = true
+votes_first tid came (act ∷ done) = not (is_vote_of tid act && came) && votes_first tid (came || is_asked_or_served tid act) done
+
+abbrev pub StepsVoteFirst : Type 0
+StepsVoteFirst = (tid : Tid) (node : NodeValue) (event : Event) (free : ℕ) → votes_first tid false (effects_of node event free).entries ≡ true

@@ -5,7 +5,7 @@ ghost use Rattle.qs_every_run.specs.PlacesLaws.{PlacesGoOn};
 ghost use Rattle.qs_every_run.specs.JoinedRuns.{EachMoveJoined, EachOpensJoined, EachRunJoined, EachRunLawful};
 ghost use Rattle.qs_every_run.specs.Joined.{RunningAt};
 ghost use Rattle.qs_every_run.specs.CutCommits.{EachKeepsCommits};
-ghost use Rattle.qs_every_run.specs.Firsts.{CommitsStood, CommitsUnanimous, StepsCommitFirst};
+ghost use Rattle.qs_every_run.specs.Firsts.{CommitsStood, CommitsUnanimous, StepsCommitFirst, StepsVoteFirst};
 ghost use Rattle.qs_every_run.specs.JoinedOwed.{Opens};
 ghost use Rattle.qs_every_run.specs.RiseLaws.{EachRiseKeepsBeside, EachRisesRunning};
 ghost use Rattle.qs_every_run.specs.StaysLaws.{StepsKeepLogged, StepsTickOnce, StepsYoung};
@@ -57,11 +57,12 @@ pub fn steps_leave_the_young()
 {}
 
 /// What a home commits in a step, it commits before the step asks for it, serves a request of it, votes on it, lends for it or takes a loan back.
-/// So it stood as the step began, and was unanimous.
+/// So it stood as the step began, and was unanimous. And each vote comes before what the step asks or serves of its transaction.
 pub fn steps_commit_first()
     ensures first { StepsCommitFirst }
     ensures unanimous { CommitsUnanimous }
     ensures stood { CommitsStood }
+    ensures votes { StepsVoteFirst }
 {}
 
 /// Where a step is cut off with its batch kept, each Commit of the log that is left is of what the machine has committed, or is unanimous and was
