@@ -46,3 +46,6 @@ pub mod PlacedComes
 pub mod PlacesGo
 pub mod SettlesGo
 pub mod CommandsGo
+pub mod ServesGo
+pub mod StepsGo
+pub mod StepsWhole
