@@ -104,3 +104,6 @@ pub mod SettlesGo
 pub mod CommandsGo
 pub mod CutCommits
 pub mod TriedOwingRuns
+pub mod ServesGo
+pub mod StepsGo
+pub mod StepsWhole

@@ -126,7 +126,7 @@ module _ (D : Type 0) (t : Tid) (base : Field) (knows : ℕ → ℕ) (n stamp : 
   Lawfully work = AreLawful n stamp before work
 
   -- what is said of its node
-  amid_on : (work new : Work) → Extends work new → Lawfully new → IsAmid base n stamp before work → IsAmid base n stamp before new
+  pub amid_on : (work new : Work) → Extends work new → Lawfully new → IsAmid base n stamp before work → IsAmid base n stamp before new
   amid_on work new e lawful is = record {
     inv = is.inv;
     here = ap (λ (s : Setting). s.node.0) e.setting ∙ is.here;

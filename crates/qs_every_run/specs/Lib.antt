@@ -7,6 +7,7 @@ pub mod PlacesCommits
 pub mod PlacesEnds
 pub mod PlacesComes
 pub mod PlacesGo
+pub mod PlacesWhole
 pub mod StopLaws
 pub mod Agrees
 pub mod Joined

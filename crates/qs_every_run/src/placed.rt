@@ -3,6 +3,7 @@ ghost use Rattle.qs_every_run.specs.StopLaws.{StopsPlaced, CutPlaced, StopHolds,
 ghost use Rattle.qs_every_run.specs.PlacesRules.{LeftGoesOn, BeginLeaves, OthersLeave, RestLeaves, IssueHereGoesOn, IssueAwayGoesOn, ServeGoesOn, VoteGoesOn, YieldGoesOn};
 ghost use Rattle.qs_every_run.specs.PlacesCommits.{WorldShowsField, HomeCommitsUnanimous};
 ghost use Rattle.qs_every_run.specs.PlacesComes.{MessageComes, RequestComes};
+ghost use Rattle.qs_every_run.specs.PlacesWhole.{ServeAllGoes, StepPlaces};
 ghost use Rattle.qs_every_run.specs.PlacesGo.{IssueGoes, SettleGoes, CommandGoes, WaitGoes};
 ghost use Rattle.qs_every_run.specs.PlacesEnds.{StepBegins, StepEnds};
 ghost use Rattle.qs_every_run.specs.PlacedLaws.{ReadyFree, FreeAgrees, QuietUnanimous, CommittedFree, CommittedWays, CommittedKeeps, CommittedUnanimous};
@@ -71,4 +72,6 @@ pub fn goes()
     ensures settles { SettleGoes }
     ensures commands { CommandGoes }
     ensures waits { WaitGoes }
+    ensures serves { ServeAllGoes }
+    ensures whole { StepPlaces }
 {}
