@@ -75,23 +75,23 @@ stays_crossed here entries book i lawful tid server clean = by (crossed_in (find
 
 -- ---- an entry that puts nothing on record and takes nothing off
 
-module _ (opened : List Opened) (history : List Entry) (stamp here : ℕ) (state : machine.NodeValue) (act : Act) (log : Recovery) (coherent : IsCoherent opened) (lawful : IsLawful (opening opened) history) (there : slice_get (book_after (opening opened) history).nodes here ≡ Some state)
-    (plain : is_plain act ≡ true) (enters : broken (book_after (opening opened) history) (entry_of here stamp act) ≡ None) (h : HoldsMade here (book_after (opening opened) history) state log) where
+module _ (start : BookValue) (i : Inv start) (stamp here : ℕ) (state : machine.NodeValue) (act : Act) (log : Recovery) (there : slice_get start.nodes here ≡ Some state)
+    (plain : is_plain act ≡ true) (enters : broken start (entry_of here stamp act) ≡ None) (h : HoldsMade here start state log) where
   abbrev now : BookValue
-  now = effect (book_after (opening opened) history) (entry_of here stamp act)
+  now = effect start (entry_of here stamp act)
 
-  keeps_of : (next : machine.NodeValue) → facet next ≡ facet state → KeepsSaid here (book_after (opening opened) history) now state next
+  keeps_of : (next : machine.NodeValue) → facet next ≡ facet state → KeepsSaid here start now state next
   keeps_of next same = record {
     files = record { contents = sym (ap (λ (f : Facet). f.files) same); notes = sym (ap (λ (f : Facet). f.file_notes) same) };
     audit = record { contents = sym (ap (λ (f : Facet). f.audit_files) same); notes = sym (ap (λ (f : Facet). f.notes) same) };
     records = λ tid server. ap (λ (f : Facet). lookup (is_at (voter_cmp (voter tid server))) f.records) same;
-    crossed = stays_crossed here (entry_of here stamp act ∷ []) (book_after (opening opened) history) (inv_is opened history coherent lawful) (enters, tt);
+    crossed = stays_crossed here (entry_of here stamp act ∷ []) start i (enters, tt);
   }
 
-  pub plain_enters : SaidAfter here now log
-  plain_enters =
-      let at : (node : machine.NodeValue) × (slice_get now.nodes here ≡ Some node) × (facet node ≡ facet state) = with_facet (slice_get now.nodes here) (facet state) (plain_facets stamp here act (book_after (opening opened) history) plain here ∙ ap (option_map facet) there) in
-      record { state = at.0; there = at.1; said = keeps_said here (book_after (opening opened) history) now state at.0 log (keeps_of at.0 at.2) h }
+  pub plain_enters_at : SaidAfter here now log
+  plain_enters_at =
+      let at : (node : machine.NodeValue) × (slice_get now.nodes here ≡ Some node) × (facet node ≡ facet state) = with_facet (slice_get now.nodes here) (facet state) (plain_facets stamp here act start plain here ∙ ap (option_map facet) there) in
+      record { state = at.0; there = at.1; said = keeps_said here start now state at.0 log (keeps_of at.0 at.2) h }
 
 -- ---- a vote
 

@@ -1,7 +1,7 @@
 -- How what a log says of contents and changes goes on by entries of its node and the record beside them: by entries that touch
 -- neither; by an end of a transaction's records; by a vote and its Prepare; and by a transaction that its servers learn to be
 -- committed, and its Commit.
-use Rattle.std.specs.Prelude.{◌≡◌, ℕ, true, false, ◌&&◌, ◌==◌, ◌++◌, List, [], ◌∷◌, None, Some, length, map, nat_lt, slice_get}
+use Rattle.std.specs.Prelude.{◌≡◌, ℕ, true, false, ◌&&◌, ◌==◌, ◌++◌, List, [], ◌∷◌, None, Some, length, map, nat_lt, slice_get, ⊤}
 use Rattle.qs_base.specs.Order.{same_tid}
 use Rattle.qs_base.specs.declared.identifiers.NodeNo.{NodeNo}
 use Rattle.qs_base.specs.declared.identifiers.ServerNo.{ServerNo}
@@ -35,7 +35,7 @@ use Rattle.qs_world.specs.Posting.{entry_of}
 use Rattle.qs_lawful.specs.Entering.{book_at, entries_so_far}
 use Rattle.qs_lawful.specs.Holds.{Holds}
 use Rattle.qs_lawful.specs.Lasting.{Lasts}
-use Rattle.qs_lawful.specs.Logged.{HasCommitted, HoldsLogged, HoldsLogs, is_plain}
+use Rattle.qs_lawful.specs.Logged.{HasCommitted, HoldsLogged, HoldsLogs, IsPlain, is_plain}
 use Rattle.qs_lawful.specs.Logs.{Every, found_of}
 use Rattle.qs_lawful.specs.Said.{HoldsSaid, IsApart, IsAsRecorded, IsMadeBy, IsUndone, SameContents}
 
@@ -169,3 +169,18 @@ abbrev pub EachVoteSays : Type 0
 EachVoteSays = (opened : List Opened) (history : List Entry) → IsCoherent opened → IsLawful (opening opened) history → (stamp : ℕ) (disk waiting : List Record) (tid : Tid) (server : ServerNo) (work : Work) (part : Participant) → part_of tid work ≡ Some part → part.outcome ≡ None
     → keeps_contents server.0 ≡ true → Lasts (book_at stamp (book_after (opening opened) history) work) → IsLawful (book_after (opening opened) history) (entries_so_far stamp (vote_with tid server votes.Recoverable work)) → HoldsLogs stamp (book_after (opening opened) history) disk waiting work
     → Holds stamp (book_at stamp (book_after (opening opened) history) work) work.node → SaidAt stamp (book_after (opening opened) history) disk waiting work → SaidAt stamp (book_after (opening opened) history) disk waiting (vote_with tid server votes.Recoverable work)
+
+-- rules that make no record, and put nothing on record and take nothing off
+abbrev pub EachQuietSays : Type 0
+EachQuietSays = (opened : List Opened) (history : List Entry) → IsCoherent opened → IsLawful (opening opened) history → (stamp : ℕ) (disk waiting : List Record) (work new : Work) (more : List Act) → new.out.entries ≡ work.out.entries ++ more → Every IsPlain more
+    → new.out.records ≡ work.out.records → new.node.setting ≡ work.node.setting → IsLawful (book_after (opening opened) history) (entries_so_far stamp new) → SaidAt stamp (book_after (opening opened) history) disk waiting work → SaidAt stamp (book_after (opening opened) history) disk waiting new
+
+-- or that end a transaction's records
+abbrev pub IsEnd : Record → Type 0
+IsEnd (made.Aborted tid) = ⊤
+IsEnd (made.End tid) = ⊤
+IsEnd other = ⊥
+
+abbrev pub EachEndSays : Type 0
+EachEndSays = (opened : List Opened) (history : List Entry) → IsCoherent opened → IsLawful (opening opened) history → (stamp : ℕ) (disk waiting : List Record) (work new : Work) (more : List Act) (rec : Record) → new.out.entries ≡ work.out.entries ++ more → Every IsPlain more → IsEnd rec
+    → new.out.records ≡ work.out.records ++ rec ∷ [] → new.node.setting ≡ work.node.setting → IsLawful (book_after (opening opened) history) (entries_so_far stamp new) → SaidAt stamp (book_after (opening opened) history) disk waiting work → SaidAt stamp (book_after (opening opened) history) disk waiting new
