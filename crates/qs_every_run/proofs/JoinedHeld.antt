@@ -52,6 +52,7 @@ use Rattle.qs_every_run.specs.Agrees.{MakesStep}
 use Rattle.qs_every_run.specs.Joined.{HoldsRunning, Joined, book_in}
 use Rattle.qs_every_run.specs.JoinedOwed.{AfterStep, HasOwner, Owed, StaysUnanimousThen, book_then, entries_in}
 use Rattle.qs_every_run.proofs.ClientsGo.{answers_aside, begins_owned, of_steps}
+use Rattle.qs_every_run.proofs.JoinedKept.{step_clients}
 use Rattle.qs_every_run.proofs.JoinedParts.{lawful_both}
 use Rattle.qs_every_run.proofs.StaysWorlds.{steps_young}
 use Rattle.qs_every_run.proofs.JoinedSteps.{step_holds, step_kept, step_lawful, step_low, step_sent, step_up}
@@ -183,7 +184,7 @@ module _ (P : Opening → World → Type 0) (owed : Owed P) (unanimous : AfterSt
     run = ap (λ (s : Setting). s.nodes) setting_is ∙ at.run;
     format = (held.same.extra, held.same.keep);
     accepted = refl;
-    kept = owed.steps_kept o world n stamp free source event j makes lawful;
+    kept = step_clients P owed o world j n stamp free source event makes;
     runs = λ is. record {
       next = λ s next. holds_next stamp s now (after_step node event free) held (subst (λ (k : ℕ). is_next s k now ≡ true) (sym node_is) next);
       log = log_then;

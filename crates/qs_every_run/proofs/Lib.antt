@@ -71,3 +71,5 @@ pub mod PlacesKept
 pub mod StepUnanimous
 pub mod PlacesGo
 pub mod BornMoves
+pub mod KeptAfter
+pub mod JoinedKept

@@ -245,6 +245,7 @@ pub mod OthersTid
 pub mod OthersRise
 pub mod RiseKeeps
 pub mod SaidOn
+pub mod SaidPairs
 pub mod SaidStays
 pub mod ParcelsKept
 pub mod GivenEvents

@@ -33,6 +33,7 @@ pub mod AsideLaws
 pub mod TriedOpenings
 pub mod TriedAside
 pub mod Said
+pub mod Saying
 pub mod Worlds
 pub mod WorldTests
 pub mod TriedWorlds
