@@ -21,9 +21,9 @@ use Rattle.qs_refine.proofs.SteadyGrows.{begun_past, begun_rises, own_past, past
 use Rattle.qs_refine.proofs.SteadySteps.{bump, d, more}
 use Rattle.qs_refine.proofs.StillSteps.{begins_in}
 use Rattle.qs_refine.proofs.TidyHappens.{Later, MayComeOn, happen_tidy}
-use Rattle.qs_refine.proofs.TidyKeeps.{tidy_keeps}
+use Rattle.qs_refine.proofs.TidyKeeps.{tidy_keeps, tidy_ticks}
 use Rattle.qs_refine.proofs.TidyReads.{tidy_reads}
-use Rattle.qs_refine.proofs.WalkSteps.{happen_walk}
+use Rattle.qs_refine.proofs.WalkSteps.{happen_walk, may_tick}
 
 bump_here : (n : ℕ) (count : ℕ → ℕ) → bump n count n ≡ count n + 1
 bump_here n count = let same : (n == n) ≡ true = grind (arith, nat_tests) in rw same refl
@@ -104,7 +104,7 @@ module _ (world : World) (steady : IsSteadyWorld world) (n free : ℕ) (low : n 
 
       by : (b : Bool) → begins_in event ≡ b → IsTidy before (happen event first) ⊎ ((begins_in event ≡ true) × IsTidy behind (happen event first))
       by false none = inl (happen_walk before.past before.begun before.met before.setting.node before.setting.nodes (IsTidy before) (tidy_reads before its) (tidy_keeps before its) event first
-          (may_on event none (comes_on world steady n free low up event fit)) (begun_tidy world steady n free low up))
+          (may_on event none (comes_on world steady n free low up event fit)) (may_tick (IsTidy before) (tidy_ticks before) event) (begun_tidy world steady n free low up))
       by true one = either (happen_tidy before its behind later event first (comes_on world steady n free low up event fit) (begun_tidy world steady n free low up))
         where
           either : IsTidy before (happen event first) ⊎ IsTidy behind (happen event first) → IsTidy before (happen event first) ⊎ ((begins_in event ≡ true) × IsTidy behind (happen event first))

@@ -39,14 +39,15 @@ use Rattle.qs_refine.proofs.SteadyBegins.{ComesFit}
 use Rattle.qs_refine.proofs.TidyKeeps.{tidy_keeps}
 use Rattle.qs_refine.proofs.TidyReads.{tidy_reads}
 use Rattle.qs_refine.proofs.WalkSettles.{settle_tid_walk}
-use Rattle.qs_lawful.specs.Agreed.{AreLentUndone, IsUndone}
-use Rattle.qs_every_run.specs.Agrees.{AgreesCame, AgreesOn, EventAgrees, MakesStep, nodes_in}
+use Rattle.qs_lawful.specs.Agreed.{AgreesEvent, AgreesMessage, AreLentUndone, IsUndone}
+use Rattle.qs_every_run.specs.Agrees.{EventAgrees, MakesStep, nodes_in}
 use Rattle.qs_every_run.proofs.AgreesEach.{AllFollow, all_first, came_to, fit, gives, low, steady, up}
 use Rattle.qs_every_run.proofs.AgreesFirst.{Follows, first_stage}
 use Rattle.qs_every_run.proofs.AgreesFollow.{after_settling, after_waiting}
 use Rattle.qs_every_run.proofs.AgreesOpen.{none_lent}
 use Rattle.qs_every_run.proofs.AgreesStage.{AtStage, undone}
 use Rattle.qs_every_run.proofs.AgreesWaits.{wait_on_walk}
+use Rattle.qs_every_run.proofs.JoinedSound.{lent_known}
 
 -- ---- what is lent has begun
 
@@ -73,7 +74,7 @@ module _ (world : World) (is : IsShownWorld world) (n stamp free : ℕ) (source 
   }
 
   pub lent_undone : (work : Work) → Following work → AreLentUndone world.size (nodes_in world) n work
-  lent_undone work all t lent = its_undone work t follows (λ committed. let none : is_lent t work.node ≡ false = none_lent t follows.later n work follows.at.now follows.at.stands committed in cc (none, lent))
+  lent_undone work all t lent = (lent_known work.node all.sound t lent, its_undone work t follows (λ committed. let none : is_lent t work.node ≡ false = none_lent t follows.later n work follows.at.now follows.at.stands committed in cc (none, lent)))
     where
       follows : Follows world n work t
       follows = all.each t (lent_begun all.stage t work.node.setting.inc work.node.kept.now.loans all.tidy.node.loans lent)
@@ -126,7 +127,7 @@ module _ (world : World) (is : IsShownWorld world) (n stamp free : ℕ) (source 
 
   on_message : (m : ℕ) (parcel : Parcel) → next_parcel world n m ≡ Some parcel → (message : Message) → parcel.message ≡ message
       → ComesFit world is.steady n free (low world is n stamp free source event makes) (up world is n stamp free source event makes) (events.Received (node_no m) message) → MachineGives (events.Received (node_no m) message) first_of
-      → AgreesOn world.size (nodes_in world) n first_of (node_no m) message
+      → AgreesMessage world.size (nodes_in world) n first_of (node_no m) message
   on_message m parcel found messages.Hello same fits given = tt
   on_message m parcel found (messages.Request tid label member number issuer op) same fits given = request_undone m parcel found tid number member.server.0 (and_both (has_begun world tid) _ fits.1.1).0 (ap (said tid) same)
   on_message m parcel found (messages.Answered tid member number reply) same fits given = tt
@@ -138,11 +139,11 @@ module _ (world : World) (is : IsShownWorld world) (n stamp free : ℕ) (source 
   on_message m parcel found (messages.Told tid further) same fits given = tt
   on_message m parcel found (messages.Inquire tid) same fits given = tt
 
-  came_agrees : AgreesCame world.size (nodes_in world) n first_of event
+  came_agrees : AgreesEvent world.size (nodes_in world) n first_of event
   came_agrees = by source makes.comes
     where
       Agrees : Event → Type 0
-      Agrees e = AgreesCame world.size (nodes_in world) n first_of e
+      Agrees e = AgreesEvent world.size (nodes_in world) n first_of e
 
       one : (a b : Event) → Some a ≡ Some b → a ≡ b
       one a b same = cc (same)

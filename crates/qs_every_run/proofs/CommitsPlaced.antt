@@ -161,10 +161,13 @@ module _ (tid : Tid) (server : ServerNo) (number : ℕ) where
   abbrev pub NoneIn : List Parcel → Type 0
   NoneIn ps = asked tid server number (map message_of ps) ≡ 0
 
+  pub none_said : (ms : List Message) → has_request (all_said tid ms) ≡ false → asked tid server number ms ≡ 0
+  none_said [] none = refl
+  none_said (m ∷ ms) none = let both = one m ms none in
+      rw both.0 (none_said ms both.1)
+
   pub none_in : (ps : List Parcel) → has_request (all_said tid (map message_of ps)) ≡ false → NoneIn ps
-  none_in [] none = refl
-  none_in (p ∷ ps) none = let both = one p.message (map message_of ps) none in
-      rw both.0 (none_in ps both.1)
+  none_in ps none = none_said (map message_of ps) none
 
   pub none_then : (ps qs : List Parcel) → NoneIn ps → NoneIn qs → NoneIn (ps ++ qs)
   none_then [] qs p q = q

@@ -52,7 +52,7 @@ module _ (tid : Tid) (inc : ℕ) (client : ClientNo) where
 
 -- ---- classes
 
-low_class : (s : ℕ) → nat_lt s 7 ≡ true → class_of s ≡ classes.Activity → ⊥
+pub low_class : (s : ℕ) → nat_lt s 7 ≡ true → class_of s ≡ classes.Activity → ⊥
 low_class s low is = by (s == names_no) (s == timers_no) (s == windows_no) (s == scratch_no) (is_client_no s) (grind (arith, nat_tests, low)) is
   where
     by : (a b c d e : Bool) → e ≡ false → (if a then classes.Volatile else if b then classes.Immediate else if c then classes.Standard else if d then classes.Delayed else if e then classes.Activity else classes.Recoverable) ≡ classes.Activity → ⊥
@@ -63,7 +63,7 @@ low_class s low is = by (s == names_no) (s == timers_no) (s == windows_no) (s ==
     by false false false false true off so = cc off
     by false false false false false off so = cc so
 
-client_class : (c : ℕ) → class_of (client_no c) ≡ classes.Activity
+pub client_class : (c : ℕ) → class_of (client_no c) ≡ classes.Activity
 client_class c = by (client_no c == names_no) (client_no c == timers_no) (client_no c == windows_no) (client_no c == scratch_no) (is_client_no (client_no c))
     (grind (arith, nat_tests)) (grind (arith, nat_tests)) (grind (arith, nat_tests)) (grind (arith, nat_tests)) (grind (arith, nat_tests))
   where

@@ -1,6 +1,5 @@
--- What a step asks of a node beside the reference machine follows from the invariant of one node, but for numbers and told sets.
-use Rattle.std.proofs.Common.{◌≡◌, ℕ, ◌<◌, ◌≤◌, ◌==◌, ◌&&◌, ◌||◌, not, Bool, true, false, List, length, Option, Some, None, is_none, is_some, refl, sym, ap, subst, ◌∙◌, arith, nat_lt, if◌then◌else◌}
-use Rattle.std.specs.List.{list_all}
+-- What a step asks of its node alone follows from the invariant of one node: what is lent is known, a home's told set lacks a node, and what is forgotten is idle.
+use Rattle.std.proofs.Common.{◌≡◌, ℕ, ◌<◌, ◌≤◌, ◌==◌, ◌&&◌, ◌||◌, not, Bool, true, false, length, Option, Some, None, is_none, is_some, refl, ap, ◌∙◌, arith, nat_le, nat_lt, if◌then◌else◌}
 use Rattle.std.proofs.lemmas.Bool.{eqb-true}
 use Rattle.std.proofs.lemmas.Bool.Decides.{nat_tests}
 use Rattle.std.proofs.lemmas.List.{get_or_past}
@@ -8,26 +7,31 @@ use Rattle.qs_base.specs.declared.identifiers.NodeNo.{NodeNo}
 use Rattle.qs_base.specs.declared.identifiers.Outcome.{Outcome}
 use Rattle.qs_base.specs.declared.identifiers.Tid.{Tid}
 use Rattle.qs_engage.specs.Engage.{no_peer, peer_of}
-use Rattle.qs_engage.specs.Nodes.{all_nodes}
+use Rattle.qs_engage.specs.Nodes.{all_nodes, has_node, listed, same_node}
 use Rattle.qs_engage.specs.declared.engage.PeerPart.{PeerPart}
 use Rattle.qs_ipc.specs.Ipc as ipc
-use Rattle.qs_step.specs.Settling.{is_lent}
-use Rattle.qs_step.specs.State.{NodeValue}
+use Rattle.qs_step.specs.Settling.{is_lent, pass_rule, ready_rule, refuse_rule, try}
+use Rattle.qs_step.specs.State.{NodeValue, Work}
 use Rattle.qs_tm.specs.Manager as tm
 use Rattle.qs_tm.specs.Outcomes.{is_abort}
-use Rattle.qs_tm.specs.Participant.{is_undecided, needs_pass}
+use Rattle.qs_tm.specs.Participant.{is_forgotten, is_undecided, needs_pass}
 use Rattle.qs_tm.specs.declared.participant.Participant.{Participant}
-use Rattle.qs_refine.specs.Sound.{is_engaged, is_idle, is_sound, is_sound_peer, where_so}
+use Rattle.qs_refine.specs.Sound.{is_idle, is_sound, is_sound_peer, same_flag, where_so}
 use Rattle.qs_refine.proofs.NodeSets.{all_named}
+use Rattle.qs_refine.proofs.SoundBegin.{all_implied}
 use Rattle.qs_refine.proofs.SoundCount.{all_at}
 use Rattle.qs_refine.proofs.SoundHolds.{known_sound}
 use Rattle.qs_refine.proofs.SoundKnown.{nothing_lent}
 use Rattle.qs_refine.proofs.SoundParts.{and_both}
-use Rattle.qs_refine.proofs.SoundViews.{PartSound, is_apart}
-use Rattle.qs_every_run.specs.Joined.{SoundHasFacts}
+use Rattle.qs_refine.proofs.SoundSettle.{ready_rule_sound, refuse_rule_sound, undecided_known}
+use Rattle.qs_refine.proofs.SoundViews.{PartSound, is_apart, seen}
+use Rattle.qs_refine.proofs.SoundVotes.{pass_rule_sound}
+use Rattle.qs_lawful.specs.Agreed.{IsIdle}
+use Rattle.qs_every_run.specs.Agrees.{SoundGives}
+use Rattle.qs_every_run.proofs.ToldFewer.{fewer_listed}
 
 module _ (node : NodeValue) (sound : is_sound node ≡ true) where
-  lent_known : (tid : Tid) → is_lent tid node ≡ true → tm.knows tid node.manager ≡ true
+  pub lent_known : (tid : Tid) → is_lent tid node ≡ true → tm.knows tid node.manager ≡ true
   lent_known tid lent = by (tm.part_of tid node.manager) refl
     where
       by : (o : Option Participant) → tm.part_of tid node.manager ≡ o → is_some o ≡ true
@@ -77,11 +81,61 @@ module _ (node : NodeValue) (sound : is_sound node ≡ true) where
         by true low = none (peer_of part.engage peer).sent part.involved _ true uninvolved (and_both (where_so (nat_lt 0 (peer_of part.engage peer).sent) _) _ (and_both _ _ (peer_sound (grind (arith, nat_tests, low)))).1).0
         by false high = ap (λ (p : PeerPart). p.sent) (get_or_past part.engage.peers peer.0 no_peer (past (length part.engage.peers) peer.0 slots high))
 
-pub sound_has_facts : SoundHasFacts
-sound_has_facts node sound numbered = record {
-  told = numbered.told;
-  lent = lent_known node sound;
-  apart = numbered.apart;
-  idle = λ tid part known away open_now alone. idle_so node sound tid part known away open_now alone;
-  unsent = λ tid part known uninvolved peer. unsent_so node sound tid part known uninvolved peer;
+    -- a home's told set has nodes of the run alone, and not the home
+    told_fewer : part.engage.home ≡ true → length (listed part.told) < node.setting.nodes
+    told_fewer home = fewer_listed part.told node.setting.nodes tid.home.0 home_in (not_so (has_node part.told tid.home) its.outside)
+        (all_implied (is_sound_peer node part) (λ (n : NodeNo). where_so (has_node part.told n) (nat_lt n.0 node.setting.nodes)) peer_in all_nodes its.peers)
+      where
+        home_in : tid.home.0 < node.setting.nodes
+        home_in = let own : nat_lt node.setting.node.0 node.setting.nodes ≡ true = (and_both (nat_lt node.setting.node.0 node.setting.nodes) _ (and_both (nat_lt node.setting.node.0 node.setting.nodes && _) _ (seen node sound).fits).0).0 in let same : same_node tid.home node.setting.node ≡ true = flag part.engage.home (same_node tid.home node.setting.node) home its.homed in grind (arith, nat_tests, own, same)
+          where
+            flag : (a b : Bool) → a ≡ true → same_flag a b ≡ true → b ≡ true
+            flag true b x so = so
+            flag false b x so = absurd (cc x)
+
+        peer_in : (n : NodeNo) → is_sound_peer node part n ≡ true → where_so (has_node part.told n) (nat_lt n.0 node.setting.nodes) ≡ true
+        peer_in n so = (and_both (where_so (nat_lt 0 (peer_of part.engage n).sent) (part.involved && (nat_lt n.0 node.setting.nodes && not (same_node n node.setting.node)))) (where_so (has_node part.told n) (nat_lt n.0 node.setting.nodes)) (and_both (nat_le (peer_of part.engage n).covered (peer_of part.engage n).sent) _ so).1).1
+
+    -- who is forgotten answers to nobody, and is not involved
+    idle_forgotten : is_forgotten part ≡ true → IsIdle part
+    idle_forgotten forgotten = record {
+      due = idle_so (not_so part.engage.home (and_both (is_undecided part) _ front).1) (none_decided part.outcome (and_both (is_undecided part) _ front).0) (none_answered part.engage.superior (and_both (is_none part.engage.superior) _ back).0);
+      unsent = unsent_so (not_so part.involved (and_both (is_none part.engage.superior) _ back).1);
+    }
+      where
+        front : (is_undecided part && not part.engage.home) ≡ true
+        front = (and_both (is_undecided part && not part.engage.home) _ forgotten).0
+
+        back : (is_none part.engage.superior && not part.involved) ≡ true
+        back = (and_both (is_none part.engage.superior && not part.involved) _ (and_both (is_undecided part && not part.engage.home) _ forgotten).1).0
+
+        none_decided : (o : Option Outcome) → is_none o ≡ true → o ≡ None
+        none_decided None so = refl
+        none_decided (Some outcome) so = absurd (cc so)
+
+        none_answered : (o : Option NodeNo) → is_none o ≡ true → o ≡ None
+        none_answered None so = refl
+        none_answered (Some node) so = absurd (cc so)
+
+-- after the vote pass, and before what is forgotten
+pub sound_gives : SoundGives
+sound_gives work tid sound = record {
+  told = λ part known home. told_fewer passed.node passed_sound tid part known home;
+  idle = λ part known forgotten. idle_forgotten refused.node refused_sound tid part known forgotten;
 }
+  where
+    passed : Work
+    passed = try tid pass_rule work
+
+    answered : Work
+    answered = try tid ready_rule passed
+
+    refused : Work
+    refused = try tid refuse_rule answered
+
+    passed_sound : is_sound passed.node ≡ true
+    passed_sound = undecided_known tid (pass_rule tid) work (λ part known open_now. pass_rule_sound tid part work known open_now) sound
+
+    refused_sound : is_sound refused.node ≡ true
+    refused_sound = undecided_known tid (refuse_rule tid) answered (λ part known open_now. refuse_rule_sound tid part answered known open_now)
+        (undecided_known tid (ready_rule tid) passed (λ part known open_now. ready_rule_sound tid part passed known open_now) passed_sound)

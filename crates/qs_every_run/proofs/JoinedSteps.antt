@@ -1,71 +1,44 @@
 -- A whole step of a world in which all stands together: its entries are lawful, from what the agreement machine gives at each of its stages.
-use Rattle.std.proofs.Common.{◌≡◌, ℕ, ◌<◌, ◌≤◌, Bool, true, false, List, [], ◌∷◌, ◌++◌, Option, Some, refl, ap, subst}
-use Rattle.qs_base.specs.declared.identifiers.NodeNo.{NodeNo}
+use Rattle.std.proofs.Common.{◌≡◌, ℕ, ◌<◌, true, List, [], ◌∷◌, ◌++◌, Option, ap, subst}
 use Rattle.qs_base.specs.declared.identifiers.Tid.{Tid}
-use Rattle.qs_engage.specs.Engage.{peer_of}
 use Rattle.qs_journal.specs.declared.entry.Entry.{Entry}
 use Rattle.qs_machine.specs.Book.{BookValue}
 use Rattle.qs_machine.specs.Lawful.{IsLawful, book_after}
-use Rattle.qs_packet.specs.declared.message.Message.{Message}
-use Rattle.qs_packet.specs.declared.message.Message.TheVariants as messages
 use Rattle.qs_step.specs.Settling.{due_tids, settle_tid}
 use Rattle.qs_step.specs.State.{NodeValue, Work}
 use Rattle.qs_step.specs.Step.{after_step, effects_of}
 use Rattle.qs_step.specs.declared.event.Event.{Event}
-use Rattle.qs_step.specs.declared.event.Event.TheVariants as events
-use Rattle.qs_tm.specs.Manager as tm
-use Rattle.qs_tm.specs.Participant.{is_undecided}
-use Rattle.qs_tm.specs.declared.participant.Participant.{Participant}
 use Rattle.qs_world.specs.Moves.{Source, Step, is_in_order, is_later, moved, step_with}
 use Rattle.qs_world.specs.Posting.{entries_of}
 use Rattle.qs_world.specs.World.{Opening, World}
-use Rattle.qs_refine.specs.SoundSteps.{AnswersFor}
+use Rattle.qs_refine.specs.Sound.{is_sound}
 use Rattle.qs_refine.proofs.MoveGoes.{StepMay, step_may}
 use Rattle.qs_refine.proofs.SoundParts.{and_both}
-use Rattle.qs_lawful.specs.Agreed.{AgreementGives, AgreesEvent, AgreesMessage, StepAgrees, WasSent}
+use Rattle.qs_lawful.specs.Agreed.{AgreementGives, StepAgrees}
+use Rattle.qs_lawful.specs.Amid.{IsSent}
 use Rattle.qs_lawful.specs.Given.{AtEach}
-use Rattle.qs_lawful.specs.GivenStep.{done_work, first_work}
+use Rattle.qs_lawful.specs.GivenStep.{done_work}
 use Rattle.qs_lawful.specs.Holds.{Holds}
+use Rattle.qs_lawful.specs.Logs.{Every}
 use Rattle.qs_lawful.specs.Worlds.{HoldsNodeAt}
+use Rattle.qs_lawful.specs.StepKeeps.{KeptThen}
+use Rattle.qs_lawful.proofs.BesideSent.{sent_after}
+use Rattle.qs_lawful.proofs.StepKept as keeping
 use Rattle.qs_lawful.proofs.WholeStep.{by_whole_step}
-use Rattle.qs_every_run.specs.Agrees.{AgreesCame, AgreesOn, MakesStep, PassesUndone, nodes_in}
+use Rattle.qs_every_run.specs.Agrees.{MakesStep, PassesUndone, nodes_in}
 use Rattle.qs_every_run.specs.Joined.{Joined, book_in}
-use Rattle.qs_every_run.specs.JoinedOwed.{AnswersLate, CommitsSettled, Owed}
-use Rattle.qs_every_run.proofs.AgreesPasses.{passes_agree, waits_agree}
+use Rattle.qs_every_run.specs.JoinedOwed.{CommitsSettled, Owed}
+use Rattle.qs_every_run.proofs.AgreesPasses.{passes_agree, stages_sound, waits_agree}
 use Rattle.qs_every_run.proofs.AgreesWhole.{event_agrees}
+use Rattle.qs_every_run.proofs.JoinedGiven.{given, step_on}
+use Rattle.qs_every_run.proofs.JoinedSound.{sound_gives}
 
 -- ---- what the protocol gives, put together
 
-sent_so : (peer : NodeNo) (tid : Tid) (up_to : ℕ) (work : Work) → AnswersFor peer tid up_to work → ((part : Participant) → tm.part_of tid work.node.manager ≡ Some part → is_undecided part ≡ false → up_to ≤ (peer_of part.engage peer).sent) → WasSent work peer tid up_to
-sent_so peer tid up_to work open_now late part known = by (is_undecided part) refl
-  where
-    by : (b : Bool) → is_undecided part ≡ b → up_to ≤ (peer_of part.engage peer).sent
-    by true is = open_now part known is
-    by false is = late part known is
-
-message_agrees : (size : ℕ) (nodes : ℕ → NodeValue) (n : ℕ) (work : Work) (peer : NodeNo) (message : Message) → AgreesOn size nodes n work peer message → AnswersLate (events.Received peer message) work → AgreesMessage size nodes n work peer message
-message_agrees size nodes n work peer messages.Hello came late = tt
-message_agrees size nodes n work peer (messages.Request tid label member number issuer op) came late = came
-message_agrees size nodes n work peer (messages.Answered tid member number reply) came late = tt
-message_agrees size nodes n work peer (messages.AskVote tid) came late = tt
-message_agrees size nodes n work peer (messages.Covered tid up_to) came late = sent_so peer tid up_to work came late
-message_agrees size nodes n work peer (messages.VotedYes tid up_to told) came late = sent_so peer tid up_to work came late
-message_agrees size nodes n work peer (messages.VotedAbort tid cause) came late = tt
-message_agrees size nodes n work peer (messages.Tell tid outcome) came late = tt
-message_agrees size nodes n work peer (messages.Told tid further) came late = tt
-message_agrees size nodes n work peer (messages.Inquire tid) came late = tt
-
-came_so : (size : ℕ) (nodes : ℕ → NodeValue) (n : ℕ) (work : Work) (event : Event) → AgreesCame size nodes n work event → AnswersLate event work → AgreesEvent size nodes n work event
-came_so size nodes n work (events.Command client line label command) came late = came
-came_so size nodes n work (events.Received peer message) came late = message_agrees size nodes n work peer message came late
-came_so size nodes n work events.ServeAll came late = tt
-came_so size nodes n work (events.PeerRestarted peer old new) came late = tt
-came_so size nodes n work events.Tick came late = tt
-
 settles_so : (stamp : ℕ) (before : BookValue) (size : ℕ) (nodes : ℕ → NodeValue) (n : ℕ) (tids : List Tid) (work : Work) → AtEach (PassesUndone size nodes n) settle_tid work tids → AtEach (CommitsSettled stamp before) settle_tid work tids
-    → AtEach (AgreementGives stamp before size nodes n) settle_tid work tids
-settles_so stamp before size nodes n [] work passes commits = tt
-settles_so stamp before size nodes n (tid ∷ tids) work passes commits = (record { passes = passes.0; commits = commits.0 }, settles_so stamp before size nodes n tids (settle_tid work tid) passes.1 commits.1)
+    → AtEach (λ (work : Work) (tid : Tid). is_sound work.node ≡ true) settle_tid work tids → AtEach (AgreementGives stamp before size nodes n) settle_tid work tids
+settles_so stamp before size nodes n [] work passes commits sound = tt
+settles_so stamp before size nodes n (tid ∷ tids) work passes commits sound = (record { passes = passes.0; commits = commits.0; alone = sound_gives work tid sound.0 }, settles_so stamp before size nodes n tids (settle_tid work tid) passes.1 commits.1 sound.1)
 
 -- ---- the step
 
@@ -93,8 +66,8 @@ module _ (P : Opening → World → Type 0) (owed : Owed P) (o : Opening) (world
 
   agreed : StepAgrees stamp (book_in o world) world.size (nodes_in world) n node event free
   agreed = record {
-    comes = came_so world.size (nodes_in world) n (first_work node free) event (event_agrees world n stamp free source event j.shown makes) (owed.answers o world n stamp free source event j makes);
-    settles = settles_so stamp (book_in o world) world.size (nodes_in world) n (due_tids (done_work node event free)) (done_work node event free) (passes_agree world n stamp free source event j.shown makes) (owed.commits o world n stamp free source event j makes);
+    comes = event_agrees world n stamp free source event j.shown makes;
+    settles = settles_so stamp (book_in o world) world.size (nodes_in world) n (due_tids (done_work node event free)) (done_work node event free) (passes_agree world n stamp free source event j.shown makes) (owed.commits o world n stamp free source event j makes) (stages_sound world n stamp free source event j.shown makes).settles;
     waits = waits_agree world n stamp free source event j.shown makes;
   }
 
@@ -106,7 +79,7 @@ module _ (P : Opening → World → Type 0) (owed : Owed P) (o : Opening) (world
 
   both : (k : ℕ) → node.setting.node.0 ≡ k → IsLawful (book_in o world) (entries_of k stamp (effects_of node event free).entries) × Holds stamp (book_after (book_in o world) (entries_of k stamp (effects_of node event free).entries)) (after_step node event free)
   both k same = subst (λ (i : ℕ). IsLawful (book_in o world) (entries_of i stamp (effects_of node event free).entries) × Holds stamp (book_after (book_in o world) (entries_of i stamp (effects_of node event free).entries)) (after_step node event free)) same
-      (by_whole_step stamp (book_in o world) node event free holds (owed.given o world n stamp free source event j makes agreed))
+      (by_whole_step stamp (book_in o world) node event free holds (given P owed o world j n stamp free source event makes holds agreed))
 
   pub step_lawful : IsLawful (book_in o world) step_entries
   step_lawful = (both n at.node).0
@@ -116,3 +89,19 @@ module _ (P : Opening → World → Type 0) (owed : Owed P) (o : Opening) (world
 
   pub step_journal : (moved (Step n stamp free source) world).journal ≡ world.journal ++ step_entries
   step_journal = ap (λ (e : Option Event). (step_with world n stamp free source e).journal) makes.comes
+
+  -- and all of this but what the log says of contents holds of the node after it
+  pub step_kept : KeptThen stamp (book_after (book_in o world) step_entries) world.size (nodes_in world) n (after_step node event free)
+  step_kept = kept n at.node
+    where
+      kept : (k : ℕ) → node.setting.node.0 ≡ k → KeptThen stamp (book_after (book_in o world) (entries_of k stamp (effects_of node event free).entries)) world.size (nodes_in world) n (after_step node event free)
+      kept k same = subst (λ (i : ℕ). KeptThen stamp (book_after (book_in o world) (entries_of i stamp (effects_of node event free).entries)) world.size (nodes_in world) n (after_step node event free)) same
+          (keeping.step_kept stamp (book_in o world) world.size (nodes_in world) n node event free (step_on P owed o world j n stamp free source event makes holds agreed) j.held.size).kept
+
+  -- what it sends is so, and goes to another node of the run
+  pub step_sent : Every (IsSent (book_after (book_in o world) step_entries) node.setting) (effects_of node event free).messages
+  step_sent = sent n at.node
+    where
+      sent : (k : ℕ) → node.setting.node.0 ≡ k → Every (IsSent (book_after (book_in o world) (entries_of k stamp (effects_of node event free).entries)) node.setting) (effects_of node event free).messages
+      sent k same = subst (λ (i : ℕ). Every (IsSent (book_after (book_in o world) (entries_of i stamp (effects_of node event free).entries)) node.setting) (effects_of node event free).messages) same
+          (sent_after stamp (book_in o world) world.size (nodes_in world) n node event free (step_on P owed o world j n stamp free source event makes holds agreed))

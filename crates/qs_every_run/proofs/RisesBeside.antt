@@ -105,16 +105,16 @@ module _ (book : BookValue) (risen : NodeNo) (stamp inc : ℕ) (log : Recovery) 
       by None nothing = absurd (cc (sym (ap is_some nothing) ∙ is))
       by (Some owner) there = ap is_some ((lines book risen stamp inc log state r client.0).on owner there).1
 
+  pub owners_kept : ((tid : Tid) (tx : TransactionValue) → find_transaction book tid ≡ Some tx → HasOwner book tx) → (tid : Tid) (later : TransactionValue) → find_transaction now tid ≡ Some later → HasOwner now later
+  owners_kept owners tid later found client is =
+      let w = was book risen stamp inc log state r tid later found in
+      owner_there client (owners tid w.0 w.1 client (sym w.2.owner ∙ is))
+
   -- ---- another node
 
   module _ (node : NodeValue) (far : (node.setting.node.0 == risen.0) ≡ false) (causes_on : (tid : Tid) (cause : Cause) → IsTrueCause book tid cause → IsTrueCause now tid cause) (b : HoldsBeside book node) where
     abbrev here : NodeNo
     here = node.setting.node
-
-    owners_on : (tid : Tid) (later : TransactionValue) → find_transaction now tid ≡ Some later → HasOwner now later
-    owners_on tid later found client is =
-        let w = was book risen stamp inc log state r tid later found in
-        owner_there client (b.owners tid w.0 w.1 client (sym w.2.owner ∙ is))
 
     module _ (tid : Tid) where
       abbrev held : HoldsTidBeside book b.state node tid
@@ -169,7 +169,7 @@ module _ (book : BookValue) (risen : NodeNo) (stamp inc : ℕ) (log : Recovery) 
       at_on = record { stands = stands_on; parts = parts_on; strangers = strangers_on; unbegun = unbegun_on; ended = ended_on }
 
     beside_on : HoldsBeside now node
-    beside_on = record { state = b.state; there = nodes_same book risen stamp inc log state r here.0 far (other_way here.0 risen.0 far) ∙ b.there; inc = b.inc; owners = owners_on; at = at_on; clock = b.clock }
+    beside_on = record { state = b.state; there = nodes_same book risen stamp inc log state r here.0 far (other_way here.0 risen.0 far) ∙ b.there; inc = b.inc; owners = owners_kept b.owners; at = at_on; clock = b.clock }
 
 -- ---- in a world
 

@@ -1,23 +1,18 @@
 -- What the agreement machine gives a step of a node, at each of its stages, in terms of the nodes alone.
-use Rattle.std.specs.Prelude.{◌≡◌, ℕ, ⊤, true, Some}
+use Rattle.std.specs.Prelude.{◌≡◌, ℕ, true, Some}
 use Rattle.qs_base.specs.declared.identifiers.ClientNo.{ClientNo}
-use Rattle.qs_base.specs.declared.identifiers.NodeNo.{NodeNo}
 use Rattle.qs_base.specs.declared.identifiers.Tid.{Tid}
-use Rattle.qs_packet.specs.declared.message.Message.{Message}
-use Rattle.qs_packet.specs.declared.message.Message.TheVariants as messages
 use Rattle.qs_step.specs.Settling.{due_tids, is_pass_due, settle, settle_tid}
 use Rattle.qs_step.specs.State.{NodeValue, Work}
 use Rattle.qs_step.specs.Step.{wait_on, waiting_clients}
 use Rattle.qs_step.specs.declared.event.Event.{Event}
-use Rattle.qs_step.specs.declared.event.Event.TheVariants as events
 use Rattle.qs_tm.specs.Manager as tm
 use Rattle.qs_tm.specs.declared.participant.Participant.{Participant}
 use Rattle.qs_world.specs.Moves.{Source, event_of, may_step}
 use Rattle.qs_world.specs.World.{World}
 use Rattle.qs_refine.specs.ShownWorlds.{IsShownWorld}
 use Rattle.qs_refine.specs.Sound.{is_sound}
-use Rattle.qs_refine.specs.SoundSteps.{AnswersFor}
-use Rattle.qs_lawful.specs.Agreed.{AreLentUndone, IsUndone}
+use Rattle.qs_lawful.specs.Agreed.{AgreesEvent, AreLentUndone, IsUndone, NodeGives}
 use Rattle.qs_lawful.specs.Given.{AtEach}
 use Rattle.qs_lawful.specs.GivenStep.{done_work, first_work}
 
@@ -31,20 +26,9 @@ pub record MakesStep (world : World) (n stamp : ℕ) (source : Source) (event : 
 
 -- ---- what comes: a request is of what is not committed, and what answers for requests of what is not decided here answers for some that were sent
 
-abbrev pub AgreesOn : ℕ → (ℕ → NodeValue) → ℕ → Work → NodeNo → Message → Type 0
-AgreesOn size nodes n work peer (messages.Request tid label member number issuer op) = IsUndone size nodes n work tid
-AgreesOn size nodes n work peer (messages.Covered tid up_to) = AnswersFor peer tid up_to work
-AgreesOn size nodes n work peer (messages.VotedYes tid up_to told) = AnswersFor peer tid up_to work
-AgreesOn size nodes n work peer message = ⊤
-
-abbrev pub AgreesCame : ℕ → (ℕ → NodeValue) → ℕ → Work → Event → Type 0
-AgreesCame size nodes n work (events.Command client line label command) = AreLentUndone size nodes n work
-AgreesCame size nodes n work (events.Received peer message) = AgreesOn size nodes n work peer message
-AgreesCame size nodes n work event = ⊤
-
 abbrev pub EventAgrees : Type 0
 EventAgrees = (world : World) (n stamp free : ℕ) (source : Source) (event : Event) → IsShownWorld world → MakesStep world n stamp source event
-    → AgreesCame world.size (nodes_in world) n (first_work (world.hosts n).node free) event
+    → AgreesEvent world.size (nodes_in world) n (first_work (world.hosts n).node free) event
 
 -- ---- settling: where a vote or an ending is due, nothing is committed
 
@@ -71,3 +55,7 @@ pub record SoundStages (node : NodeValue) (event : Event) (free : ℕ) : Type 0 
 
 abbrev pub StagesSound : Type 0
 StagesSound = (world : World) (n stamp free : ℕ) (source : Source) (event : Event) → IsShownWorld world → MakesStep world n stamp source event → SoundStages (world.hosts n).node event free
+
+-- and it gives what a step asks of the node by itself
+abbrev pub SoundGives : Type 0
+SoundGives = (work : Work) (tid : Tid) → is_sound work.node ≡ true → NodeGives work tid

@@ -1,43 +1,49 @@
 -- What is still to be shown so that every run is lawful: each is a law of its own, of a run's beginning, of what a step is given, or of what a move keeps.
-use Rattle.std.specs.Prelude.{◌≡◌, ℕ, ◌≤◌, ◌<◌, ◌==◌, ◌++◌, ⊤, true, false, List, [], ◌∷◌, None, Some, is_some, slice_get}
+use Rattle.std.specs.Prelude.{◌≡◌, ℕ, ◌<◌, ◌==◌, ◌++◌, ⊤, true, false, List, None, Some, is_some, slice_get, Bool, ◌&&◌}
+use Rattle.std.specs.List.{list_any}
 use Rattle.qs_base.specs.declared.identifiers.ClientNo.{ClientNo}
+use Rattle.qs_base.specs.declared.identifiers.NodeNo.{NodeNo}
 use Rattle.qs_base.specs.declared.identifiers.Tid.{Tid}
-use Rattle.qs_engage.specs.Engage.{peer_of}
 use Rattle.qs_journal.specs.declared.entry.Act.{Act}
 use Rattle.qs_journal.specs.declared.entry.Act.TheVariants as acts
 use Rattle.qs_journal.specs.declared.entry.CrashCause.{CrashCause}
 use Rattle.qs_journal.specs.declared.entry.Entry.{Entry}
-use Rattle.qs_machine.specs.Book.{BookValue}
+use Rattle.qs_kept.specs.Keeping.{is_label_of}
+use Rattle.qs_kept.specs.declared.kept.Begun.{Begun}
+use Rattle.qs_laws.specs.Gone.{stands_open}
+use Rattle.qs_machine.specs.Book.{BookValue, find_transaction}
 use Rattle.qs_machine.specs.Lawful.{IsLawful, book_after}
 use Rattle.qs_machine.specs.Nodes as machine
-use Rattle.qs_packet.specs.declared.message.Message.TheVariants as messages
+use Rattle.qs_machine.specs.Transaction.{TransactionValue, is_open, is_unanimous}
 use Rattle.qs_restart.specs.Recovery.{recovery}
-use Rattle.qs_step.specs.Opening.{recovered_of}
 use Rattle.qs_step.specs.Settling.{due_tids, is_quiet, may_answer, pass_rule, settle_tid, try}
 use Rattle.qs_step.specs.State.{Work, doings_of}
 use Rattle.qs_step.specs.Step.{after_step, effects_of}
 use Rattle.qs_step.specs.declared.event.Event.{Event}
 use Rattle.qs_step.specs.declared.event.Event.TheVariants as events
 use Rattle.qs_tm.specs.Manager as tm
-use Rattle.qs_tm.specs.Participant.{is_undecided}
+use Rattle.qs_tm.specs.Participant.{is_owed_by}
 use Rattle.qs_tm.specs.declared.participant.Participant.{Participant}
 use Rattle.qs_world.specs.Histories.{book_of}
-use Rattle.qs_world.specs.Moves.{Cut, Move, Rise, Source, Step, log_after, may_move, moved, reopened, waiting_after}
+use Rattle.qs_world.specs.Moves.{Cut, Move, Source, Step, cut_log, event_of, log_after, may_move, moved, stopped, waiting_after}
 use Rattle.qs_world.specs.Openings.{IsOpening}
 use Rattle.qs_world.specs.Posting.{entries_of}
-use Rattle.qs_world.specs.World.{Opening, World, inc_of, start}
-use Rattle.qs_lawful.specs.Agreed.{IsSettledAll, StepAgrees}
-use Rattle.qs_lawful.specs.Aside.{AnswersElsewhere, KeepsUnanimous}
-use Rattle.qs_lawful.specs.Amid.{IsSent}
+use Rattle.qs_world.specs.World.{Opening, World, start, inc_of}
+use Rattle.qs_agree.specs.World as agreement
+use Rattle.qs_agree.specs.World.{Open, Committed}
+use Rattle.qs_refine.specs.Begun.{has_begun}
+use Rattle.qs_refine.specs.CutLaws.{CutsOff}
+use Rattle.qs_refine.specs.EachMove.{ShowsAll}
+use Rattle.qs_lawful.specs.Aside.{StaysUnanimous}
+use Rattle.qs_lawful.specs.BesideStep.{HasCountRoom, HappensSo}
 use Rattle.qs_lawful.specs.Entering.{book_at}
 use Rattle.qs_lawful.specs.Given.{AtEach}
-use Rattle.qs_lawful.specs.GivenStep.{MayStep, done_work, first_work}
+use Rattle.qs_lawful.specs.GivenStep.{done_work, first_work}
 use Rattle.qs_lawful.specs.Logs.{Every}
 use Rattle.qs_lawful.specs.Said.{HoldsSaid}
-use Rattle.qs_lawful.specs.WorldLaws.{StopsWell, rise_entry}
-use Rattle.qs_lawful.specs.Worlds.{HoldsKept}
-use Rattle.qs_every_run.specs.Agrees.{MakesStep, nodes_in}
-use Rattle.qs_every_run.specs.Joined.{HoldsRunning, Joined, RunningAt, ScriptsAt, WaysAt, book_in}
+use Rattle.qs_lawful.specs.WorldLaws.{StopsWell}
+use Rattle.qs_every_run.specs.Agrees.{MakesStep}
+use Rattle.qs_every_run.specs.Joined.{Joined, book_in}
 
 -- ---- as a run begins
 
@@ -46,33 +52,38 @@ Opens X = (o : Opening) → IsOpening o → X o (start o)
 
 -- ---- a step
 
--- where a home commits, all places are settled
+-- what a home commits is unanimous in the reference machine
 abbrev pub CommitsSettled : ℕ → BookValue → Work → Tid → Type 0
 CommitsSettled stamp before work tid = (part : Participant) → tm.part_of tid (try tid pass_rule work).node.manager ≡ Some part → part.outcome ≡ None → part.engage.home ≡ true → may_answer tid part (try tid pass_rule work) ≡ true
-    → is_quiet (doings_of tid (try tid pass_rule work)) ≡ true → IsSettledAll (book_at stamp before (try tid pass_rule work)) tid
+    → is_quiet (doings_of tid (try tid pass_rule work)) ≡ true → (tx : TransactionValue) → find_transaction (book_at stamp before (try tid pass_rule work)) tid ≡ Some tx → is_unanimous tx ≡ true
 
 abbrev pub EachCommitsSettled : (Opening → World → Type 0) → Type 0
 EachCommitsSettled P = (o : Opening) (world : World) (n stamp free : ℕ) (source : Source) (event : Event) → Joined P o world → MakesStep world n stamp source event
     → AtEach (CommitsSettled stamp (book_in o world)) settle_tid (done_work (world.hosts n).node event free) (due_tids (done_work (world.hosts n).node event free))
 
--- what answers for requests of what is decided here answers for some that were sent; it counts for nothing then
-abbrev pub AnswersLate : Event → Work → Type 0
-AnswersLate (events.Received peer (messages.Covered tid up_to)) work = (part : Participant) → tm.part_of tid work.node.manager ≡ Some part → is_undecided part ≡ false → up_to ≤ (peer_of part.engage peer).sent
-AnswersLate (events.Received peer (messages.VotedYes tid up_to told)) work = (part : Participant) → tm.part_of tid work.node.manager ≡ Some part → is_undecided part ≡ false → up_to ≤ (peer_of part.engage peer).sent
-AnswersLate event work = ⊤
+-- what a node owes that restarted, of what is undecided, stands open in the history
+abbrev pub EachOwesOpen : (Opening → World → Type 0) → Type 0
+EachOwesOpen P = (o : Opening) (world : World) (n stamp : ℕ) (source : Source) (peer : NodeNo) (old new : ℕ) → Joined P o world → MakesStep world n stamp source (events.PeerRestarted peer old new)
+    → (tid : Tid) (part : Participant) → tm.part_of tid (world.hosts n).node.manager ≡ Some part → part.outcome ≡ None → is_owed_by peer part ≡ true → stands_open tid peer world.journal ≡ true
 
-abbrev pub EachAnswersLate : (Opening → World → Type 0) → Type 0
-EachAnswersLate P = (o : Opening) (world : World) (n stamp free : ℕ) (source : Source) (event : Event) → Joined P o world → MakesStep world n stamp source event → AnswersLate event (first_work (world.hosts n).node free)
-
--- from what the protocol gives, a step is given all that it needs
-abbrev pub EachGiven : (Opening → World → Type 0) → Type 0
-EachGiven P = (o : Opening) (world : World) (n stamp free : ℕ) (source : Source) (event : Event) → Joined P o world → MakesStep world n stamp source event
-    → StepAgrees stamp (book_in o world) world.size (nodes_in world) n (world.hosts n).node event free → MayStep stamp (book_in o world) (world.hosts n).node event free
+-- where a vote pass is due, the count of changes has room
+abbrev pub EachCountsRoom : (Opening → World → Type 0) → Type 0
+EachCountsRoom P = (o : Opening) (world : World) (n stamp free : ℕ) (source : Source) (event : Event) → Joined P o world → MakesStep world n stamp source event
+    → AtEach HasCountRoom settle_tid (done_work (world.hosts n).node event free) (due_tids (done_work (world.hosts n).node event free))
 
 -- a step that is cut off and whose batch is kept, as where it is lost
 abbrev pub EachKeepsItsBatch : (Opening → World → Type 0) → Type 0
 EachKeepsItsBatch P = (o : Opening) (world : World) (n stamp free : ℕ) (source : Source) (cause : CrashCause) → Joined P o world → may_move world (Cut n stamp free source true cause) ≡ true
     → StopsWell (book_in o world) (moved (Cut n stamp free source true cause) world) n stamp cause
+
+-- what a home decided in a step that is cut off, with a record of it on the disk, was unanimous before
+abbrev pub CutsUnanimous : Opening → World → ℕ → ℕ → ℕ → Bool → CrashCause → Event → Type 0
+CutsUnanimous o world n stamp free is_kept cause event = (tid : Tid) (w : agreement.World) (goes : CutsOff tid (after_step (world.hosts n).node event free) (stopped world n stamp cause (cut_log (world.hosts n) is_kept (effects_of (world.hosts n).node event free))) w) → has_begun world tid ≡ true → ShowsAll tid world w
+    → w.cell ≡ Open → goes.goes.next.cell ≡ Committed → (tx : TransactionValue) → find_transaction (book_in o world) tid ≡ Some tx → is_open tx.cell ≡ true → is_unanimous tx ≡ true
+
+abbrev pub EachCutUnanimous : (Opening → World → Type 0) → Type 0
+EachCutUnanimous P = (o : Opening) (world : World) (n stamp free : ℕ) (source : Source) (is_kept : Bool) (cause : CrashCause) (event : Event) → Joined P o world → may_move world (Cut n stamp free source is_kept cause) ≡ true → event_of world n stamp source ≡ Some event
+    → CutsUnanimous o world n stamp free is_kept cause event
 
 -- ---- a whole step: the world that the machine has after it
 
@@ -86,9 +97,15 @@ book_then o world n stamp free event = book_after (book_in o world) (entries_in 
 abbrev pub AfterStep : (Opening → World → Type 0) → (Opening → World → ℕ → ℕ → ℕ → Event → Type 0) → Type 0
 AfterStep P X = (o : Opening) (world : World) (n stamp free : ℕ) (source : Source) (event : Event) → Joined P o world → MakesStep world n stamp source event → IsLawful (book_in o world) (entries_in world n stamp free event) → X o world n stamp free event
 
--- what is kept for the clients of its node
-abbrev pub KeptThen : Opening → World → ℕ → ℕ → ℕ → Event → Type 0
-KeptThen o world n stamp free event = HoldsKept (after_step (world.hosts n).node event free).setting.node (inc_of world n) (book_then o world n stamp free event) (after_step (world.hosts n).node event free).kept.saved
+-- a label that a node keeps of a transaction of its own it keeps too as its owner's
+abbrev pub is_owned_as : Tid → Begun → Bool
+is_owned_as tid begun = is_some begun.owner && is_label_of tid begun
+
+abbrev pub AreOwned : NodeNo → List Begun → Begun → Type 0
+AreOwned here labels begun = (tid : Tid) → begun.tid ≡ Some tid → tid.home ≡ here → list_any (is_owned_as tid) labels ≡ true
+
+abbrev pub LabelsOwned : Opening → World → ℕ → ℕ → ℕ → Event → Type 0
+LabelsOwned o world n stamp free event = Every (AreOwned (after_step (world.hosts n).node event free).setting.node (after_step (world.hosts n).node event free).kept.saved.labels) (after_step (world.hosts n).node event free).kept.saved.labels
 
 -- what its log says of contents and changes, with the records that wait and on the disk
 abbrev pub SaidThen : Opening → World → ℕ → ℕ → ℕ → Event → Type 0
@@ -96,28 +113,13 @@ SaidThen o world n stamp free event = (state : machine.NodeValue) → slice_get 
     → HoldsSaid n (book_then o world n stamp free event) state (recovery (log_after (world.hosts n) (effects_of (world.hosts n).node event free) ++ waiting_after (world.hosts n) (effects_of (world.hosts n).node event free)))
     × HoldsSaid n (book_then o world n stamp free event) state (recovery (log_after (world.hosts n) (effects_of (world.hosts n).node event free)))
 
--- it answers no client that has a command in hand at another node
-abbrev pub AnswersAside : Opening → World → ℕ → ℕ → ℕ → Event → Type 0
-AnswersAside o world n stamp free event = (k : ℕ) → (k == n) ≡ false → k < world.size → Every (AnswersElsewhere (world.hosts k).node) (effects_of (world.hosts n).node event free).entries
-
 -- what begins has an owner
 abbrev pub HasOwner : BookValue → Act → Type 0
 HasOwner book act = (tid : Tid) (label : List ℕ) (client : ClientNo) → act ≡ acts.Begin tid label client → is_some (slice_get book.owners client.0) ≡ true
 
-abbrev pub BeginsOwned : Opening → World → ℕ → ℕ → ℕ → Event → Type 0
-BeginsOwned o world n stamp free event = Every (HasOwner (book_in o world)) (effects_of (world.hosts n).node event free).entries
-
--- what is said of its own node
-abbrev pub RunningThen : Opening → World → ℕ → ℕ → ℕ → Event → Type 0
-RunningThen o world n stamp free event = HoldsRunning (book_then o world n stamp free event) (after_step (world.hosts n).node event free)
-
--- what it sends is so, and goes to another node of the run
-abbrev pub SentThen : Opening → World → ℕ → ℕ → ℕ → Event → Type 0
-SentThen o world n stamp free event = Every (IsSent (book_then o world n stamp free event) (world.hosts n).node.setting) (effects_of (world.hosts n).node event free).messages
-
--- what is unanimous, and open at a home that is down, stays unanimous
+-- what the log of a home that is down has committed, and is open and unanimous, stays unanimous
 abbrev pub StaysUnanimousThen : Opening → World → ℕ → ℕ → ℕ → Event → Type 0
-StaysUnanimousThen o world n stamp free event = (k : ℕ) → (k == n) ≡ false → k < world.size → world.channels.up k ≡ false → KeepsUnanimous k (book_in o world) (entries_in world n stamp free event)
+StaysUnanimousThen o world n stamp free event = (k : ℕ) → (k == n) ≡ false → k < world.size → world.channels.up k ≡ false → StaysUnanimous k (recovery (world.hosts k).log) (book_in o world) (book_then o world n stamp free event)
 
 -- ---- moves whose entries are lawful, by kind
 
@@ -125,40 +127,25 @@ abbrev pub IsStep : Move → Type 0
 IsStep (Step n stamp free source) = ⊤
 IsStep move = ⊥
 
+-- a crash, a restart or a first meeting
+abbrev pub IsBetweenSteps : Move → Type 0
+IsBetweenSteps (Step n stamp free source) = ⊥
+IsBetweenSteps move = ⊤
+
 abbrev pub Keeps : (Opening → World → Type 0) → (Move → Type 0) → (Opening → World → Type 0) → Type 0
 Keeps P kind X = (o : Opening) (world : World) (move : Move) → kind move → Joined P o world → may_move world move ≡ true → IsLawful (book_of o) (moved move world).journal → X o (moved move world)
-
--- ---- what is said of a node that restarts
-
-abbrev pub rise_book : Opening → World → ℕ → ℕ → ℕ → BookValue
-rise_book o world n stamp inc = book_after (book_in o world) (rise_entry world n stamp inc ∷ [])
-
-abbrev pub EachRisesRunning : (Opening → World → Type 0) → Type 0
-EachRisesRunning P = (o : Opening) (world : World) (n stamp inc : ℕ) → Joined P o world → may_move world (Rise n stamp inc) ≡ true → HoldsRunning (rise_book o world n stamp inc) (reopened inc (recovered_of (world.hosts n).log) (world.hosts n).node)
 
 -- ---- all that is owed
 
 pub record Owed (P : Opening → World → Type 0) : Type 0 where
-  -- as a run begins
-  pub opens_running : Opens RunningAt
-  pub opens_places : Opens P
   -- what a step is given
   pub commits : EachCommitsSettled P
-  pub answers : EachAnswersLate P
-  pub given : EachGiven P
+  pub owes_open : EachOwesOpen P
+  pub rooms : EachCountsRoom P
   -- after a whole step
-  pub steps_kept : AfterStep P KeptThen
+  pub steps_labels : AfterStep P LabelsOwned
   pub steps_said : AfterStep P SaidThen
-  pub steps_answers : AfterStep P AnswersAside
-  pub steps_unanimous : AfterStep P StaysUnanimousThen
-  pub steps_owned : AfterStep P BeginsOwned
-  pub steps_running : AfterStep P RunningThen
-  pub steps_sent : AfterStep P SentThen
-  pub steps_ways : Keeps P IsStep WaysAt
-  pub steps_scripts : Keeps P IsStep ScriptsAt
+  -- what all places hold of each transaction
+  pub places : Keeps P IsStep P
   -- after a crash
   pub keeps_its_batch : EachKeepsItsBatch P
-  -- after a restart
-  pub rises_running : EachRisesRunning P
-  -- what all places hold of each transaction
-  pub places : Keeps P (λ (move : Move). ⊤) P

@@ -1,6 +1,5 @@
 //! What the agreement machine gives the steps of nodes.
-ghost use Rattle.qs_every_run.specs.Agrees.{EventAgrees, PassesAgree, StagesSound, WaitsAgree};
-ghost use Rattle.qs_every_run.specs.Joined.{SoundHasFacts};
+ghost use Rattle.qs_every_run.specs.Agrees.{EventAgrees, PassesAgree, SoundGives, StagesSound, WaitsAgree};
 
 /// Where each transaction that has begun is shown by the agreement machine, a step of a node is given that nothing is committed of which a request
 /// comes, a loan stands or a vote is due, at each of its stages; and what answers for requests answers for some that were sent.
@@ -10,9 +9,9 @@ pub fn steps_agree()
     ensures waits { WaitsAgree }
 {}
 
-/// The invariant of the node holds at each stage of such a step; and from it follows what a step asks of a node by itself, but that told sets
-/// lack a node of the run and that requests are numbered.
+/// The invariant of the node holds at each stage of such a step; and from it follows what settling asks of the node by itself: that the told set
+/// of a home lacks a node of the run, and that what is forgotten is idle.
 pub fn stages_are_sound()
     ensures stages { StagesSound }
-    ensures facts { SoundHasFacts }
+    ensures gives { SoundGives }
 {}

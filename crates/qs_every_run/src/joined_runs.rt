@@ -1,7 +1,14 @@
 //! Every run of the world of nodes is lawful, as far as it is owed.
+ghost use Rattle.qs_every_run.specs.StepLaws.{AnswersAside, BeginsOwned, InStep, KeepsClients, KeepsScripts, KeepsWays};
 ghost use Rattle.qs_every_run.specs.JoinedPlaces.{PlacesAt};
+ghost use Rattle.qs_every_run.specs.PlacesLaws.{PlacesGoOn};
 ghost use Rattle.qs_every_run.specs.JoinedRuns.{EachMoveJoined, EachOpensJoined, EachRunJoined, EachRunLawful};
-ghost use Rattle.qs_every_run.specs.RiseLaws.{EachRiseKeepsBeside};
+ghost use Rattle.qs_every_run.specs.Joined.{RunningAt};
+ghost use Rattle.qs_every_run.specs.CutCommits.{EachKeepsCommits, EachKeepsVotes};
+ghost use Rattle.qs_every_run.specs.Firsts.{CommitsStood, CommitsUnanimous, StepsCommitFirst, StepsVoteFirst};
+ghost use Rattle.qs_every_run.specs.JoinedOwed.{Opens};
+ghost use Rattle.qs_every_run.specs.RiseLaws.{EachRiseKeepsBeside, EachRisesRunning};
+ghost use Rattle.qs_every_run.specs.StaysLaws.{StepsKeepLogged, StepsTickOnce, StepsYoung};
 
 /// From what is still to be shown, which stands in one record: all that the machines and the nodes have together stands as a run begins, over
 /// old logs too that a restart can take up, and after each move; so each run's history is lawful.
@@ -12,7 +19,55 @@ pub fn runs_are_lawful()
     ensures lawful { EachRunLawful PlacesAt }
 {}
 
+/// As a run begins, over old logs too, and as a node restarts, the machine has beside each node that begins all that it is to have beside it.
+pub fn nodes_begin_with_what_stands_beside()
+    ensures opens { Opens RunningAt }
+    ensures rises { EachRisesRunning PlacesAt }
+{}
+
 /// A restart of one node leaves what the machine has beside each other that runs.
 pub fn restart_leaves_what_stands_beside()
     ensures { EachRiseKeepsBeside }
+{}
+
+/// What all places hold of each transaction stands as a run begins, and after a crash, a restart and a first meeting, if a step that was cut off
+/// decided nothing that was not unanimous before it. And what the log of a home that is down has committed stays unanimous through a step of
+/// another node.
+pub fn places_go_on()
+    ensures { PlacesGoOn }
+{}
+
+/// A step of a node and its clients: each transaction that begins has an owner, no client is answered that has a command in hand at another node,
+/// what is in hand is of clients of the node, and the machine has the scripts of all clients after it. And where its entries are lawful, each request
+/// that is on its way stands in the machine in the order of numbers, behind those that wait.
+pub fn steps_keep_what_comes()
+    ensures owned { InStep PlacesAt BeginsOwned }
+    ensures aside { InStep PlacesAt AnswersAside }
+    ensures clients { InStep PlacesAt KeepsClients }
+    ensures scripts { InStep PlacesAt KeepsScripts }
+    ensures ways { InStep PlacesAt KeepsWays }
+{}
+
+/// A whole step of a node leaves what its home has not decided younger than the age limit: what becomes that old at a tick it aborts in that
+/// step. Its clock moves by one tick at most; and it leaves the Commits that the log had as the node opened.
+pub fn steps_leave_the_young()
+    ensures young { StepsYoung }
+    ensures ticks { StepsTickOnce }
+    ensures logged { StepsKeepLogged }
+{}
+
+/// What a home commits in a step, it commits before the step asks for it, serves a request of it, votes on it, lends for it or takes a loan back.
+/// So it stood as the step began, and was unanimous. And each vote comes before what the step asks or serves of its transaction.
+pub fn steps_commit_first()
+    ensures first { StepsCommitFirst }
+    ensures unanimous { CommitsUnanimous }
+    ensures stood { CommitsStood }
+    ensures votes { StepsVoteFirst }
+{}
+
+/// Where a step is cut off with its batch kept, each Commit of the log that is left is of what the machine has committed, or is unanimous and was
+/// for that home to decide; and its votes are marked as its Commits are, and none that is in doubt at its home is committed.
+pub fn kept_batches_are_settled()
+    ensures commits { EachKeepsCommits PlacesAt }
+    ensures votes { EachKeepsVotes PlacesAt }
 {}

@@ -1,5 +1,11 @@
 //! A transaction of which all places hold what they should is unanimous as it is committed.
 ghost use Rattle.qs_every_run.specs.StopLaws.{StopsPlaced, CutPlaced, StopHolds, CutHolds};
+ghost use Rattle.qs_every_run.specs.PlacesRules.{LeftGoesOn, BeginLeaves, OthersLeave, RestLeaves, IssueHereGoesOn, IssueAwayGoesOn, ServeGoesOn, VoteGoesOn, YieldGoesOn};
+ghost use Rattle.qs_every_run.specs.PlacesCommits.{WorldShowsField, HomeCommitsUnanimous};
+ghost use Rattle.qs_every_run.specs.PlacesComes.{MessageComes, RequestComes};
+ghost use Rattle.qs_every_run.specs.PlacesWhole.{ServeAllGoes, StepPlaces};
+ghost use Rattle.qs_every_run.specs.PlacesGo.{IssueGoes, SettleGoes, CommandGoes, WaitGoes};
+ghost use Rattle.qs_every_run.specs.PlacesEnds.{StepBegins, StepEnds};
 ghost use Rattle.qs_every_run.specs.PlacedLaws.{ReadyFree, FreeAgrees, QuietUnanimous, CommittedFree, CommittedWays, CommittedKeeps, CommittedUnanimous};
 
 /// At a node that is ready no request of it waits, no loan stands and every vote covers what was served; where that is so its present lives agree. Where all nodes
@@ -20,10 +26,52 @@ pub fn commits()
 {}
 
 /// A node stops, between two steps or in one of which nothing is kept of it: it is doomed then, or so placed still. So it is where a record
-/// of it is kept, if a home that decided it in that step was free of it as the step began.
+/// of it is kept, if it was unanimous before where that step decided it.
 pub fn stops()
     ensures placed { StopsPlaced }
     ensures cut { CutPlaced }
     ensures stop_holds { StopHolds }
     ensures cut_holds { CutHolds }
+{}
+
+/// In the middle of a step of a node, what all places hold goes on through rules that leave it, as most do; and as a request is issued that
+/// reaches a node and crosses none, as one is served with its loan, as a vote for commit is cast, and as a loan is given back.
+pub fn rules()
+    ensures left { LeftGoesOn }
+    ensures begins { BeginLeaves }
+    ensures others { OthersLeave }
+    ensures rest { RestLeaves }
+    ensures issues_here { IssueHereGoesOn }
+    ensures issues_away { IssueAwayGoesOn }
+    ensures serves { ServeGoesOn }
+    ensures votes { VoteGoesOn }
+    ensures yields { YieldGoesOn }
+{}
+
+/// A home that is ready in the middle of its step commits in the agreement machine, whatever room its log has; so where all places hold what
+/// they should, or it is doomed, its transaction is unanimous.
+pub fn home_commits()
+    ensures field { WorldShowsField }
+    ensures unanimous { HomeCommitsUnanimous }
+{}
+
+/// A step begins with the field of its world, and ends with that of the world after it: what it sent stands behind what was on its way, or
+/// waits where no incarnation of its receiver is known. In between a message is off its way, and waits at its server where it is a request.
+pub fn ends()
+    ensures begins { StepBegins }
+    ensures ends { StepEnds }
+    ensures comes { MessageComes }
+    ensures requests { RequestComes }
+{}
+
+/// From a rule of a step to the next, whichever it is, what all places hold goes on or the transaction is doomed: as a request is issued, and as a
+/// transaction is settled, its own with its vote pass or another; as a command comes,
+/// and as one that stayed open is looked at again.
+pub fn goes()
+    ensures issues { IssueGoes }
+    ensures settles { SettleGoes }
+    ensures commands { CommandGoes }
+    ensures waits { WaitGoes }
+    ensures serves { ServeAllGoes }
+    ensures whole { StepPlaces }
 {}

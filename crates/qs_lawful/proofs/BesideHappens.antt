@@ -34,7 +34,6 @@ use Rattle.qs_lawful.specs.Face.{face_of}
 use Rattle.qs_lawful.specs.Given.{AtEach}
 use Rattle.qs_lawful.specs.Holds.{HoldsTid}
 use Rattle.qs_lawful.specs.Standing.{CanCount, HoldsHomes, Stands}
-use Rattle.qs_lawful.specs.StepOn.{KeepsSound}
 use Rattle.qs_lawful.proofs.BesideCommands.{goes_become, goes_command}
 use Rattle.qs_lawful.proofs.BesideGoes.{Goes, goes_elim, goes_if, goes_part, goes_self, goes_send, goes_then, goes_where}
 use Rattle.qs_lawful.proofs.BesideParts.{PartOn}
@@ -99,7 +98,7 @@ module _ (stamp : ℕ) (before : BookValue) (run : InRun before) where
       pub goes_message : (peer : NodeNo) (message : Message) → ComesMessage (book_at stamp before work) work.node peer message → AgreesMessage size nodes n work peer message → AreCommitted (book_at stamp before work) work.node → On work (message_came peer message work)
       goes_message peer messages.Hello c a logged = goes_self stamp before run work
       goes_message peer (messages.Request tid label member number issuer op) c a logged = goes_request stamp before run peer tid label member number op work (away tid) (λ none. unknown_so tid c.says (uncommitted stamp before size nodes n work s.by tid a))
-      goes_message peer (messages.Answered tid member number reply) c a logged = goes_reply stamp before run tid member number reply work (λ p known. s.by.sound.apart tid p known)
+      goes_message peer (messages.Answered tid member number reply) c a logged = goes_reply stamp before run tid member number reply work (λ p known. (s.by.facts.parts tid p known).numbered.apart)
       goes_message peer (messages.AskVote tid) c a logged = goes_ask_came peer tid work (asked_so tid c.says)
       goes_message peer (messages.Covered tid up_to) c a logged = goes_closer peer tid up_to [] work
       goes_message peer (messages.VotedYes tid up_to told) c a logged = goes_closer peer tid up_to told work
@@ -114,16 +113,16 @@ module _ (stamp : ℕ) (before : BookValue) (run : InRun before) where
 
     -- ---- all that waits is served
 
-    module _ (homes : HoldsHomes before size nodes n) (sounds : KeepsSound stamp before size nodes n) where
+    module _ (homes : HoldsHomes before size nodes n) where
       pub served_stands : (work : Work) → Stands stamp before size nodes n work → (server : ServerNo) → CanCount work server → On work (serve_next work server) × Stands stamp before size nodes n (serve_next work server)
       served_stands work s server room =
-          let g : On work (serve_next work server) = goes_next stamp before run work s.held server room (λ tid p known. s.by.sound.apart tid p known) in
+          let g : On work (serve_next work server) = goes_next stamp before run work s.held server room (λ tid p known. (s.by.facts.parts tid p known).numbered.apart) in
           let held : HoldsWork stamp before (serve_next work server) = by_served stamp before work s.held server (may_serve stamp before size nodes n work s server room) in (
             g,
             record {
               held = held;
               by = stands_on stamp before size nodes n homes work (serve_next work server) (serve_next_same work server) (serve_next_keeps work server) s held
-                  (record { sound = sounds.serves work server s held; beside = g.keeps held.lawful s.by.beside });
+                  (g.keeps held.lawful s.by.beside);
             },
           )
 

@@ -216,8 +216,8 @@ module _ (stamp : ℕ) (before : BookValue) (run : InRun before) (tid : Tid) whe
         (subst (λ (ss : List ServerNo). On work (fold (vote_next tid) (end_if (member_of part (no 3)).fresh tid work) ss)) (sym (ap (λ (o : Option Participant). elim o [ None ↦ [] | Some p ↦ servers_due dues.Vote p ]) known))
         (ended (member_of part (no 3)).fresh refl))
 
-  pub goes_pass_rule : (work : Work) → HoldsWork stamp before work → (part : Participant) → tm.part_of tid work.node.manager ≡ Some part → (is_pass_due tid part work ≡ true → MayPass stamp before work tid part) → change_count tid work.node < 2 ^ 64 → On work (pass_rule tid part work)
-  goes_pass_rule work h part known given room = goes_if stamp before run (is_pass_due tid part work) work (vote_pass tid work) work (λ due. goes_pass work h part known (parts due).0 (parts due).1 (given due) room) (λ none. goes_self stamp before run work)
+  pub goes_pass_rule : (work : Work) → HoldsWork stamp before work → (part : Participant) → tm.part_of tid work.node.manager ≡ Some part → (is_pass_due tid part work ≡ true → MayPass stamp before work tid part) → (is_pass_due tid part work ≡ true → change_count tid work.node < 2 ^ 64) → On work (pass_rule tid part work)
+  goes_pass_rule work h part known given room = goes_if stamp before run (is_pass_due tid part work) work (vote_pass tid work) work (λ due. goes_pass work h part known (parts due).0 (parts due).1 (given due) (room due)) (λ none. goes_self stamp before run work)
     where
       parts : is_pass_due tid part work ≡ true → (part.asked ≡ true) × (awaits_note part ≡ false)
       parts due = of part.asked (ipc.waits tid work.node.queues) (is_lent tid work.node) (awaits_note part) (needs_pass part) (not (is_put_off (doings_of tid work))) due

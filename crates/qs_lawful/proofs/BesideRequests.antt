@@ -46,7 +46,7 @@ use Rattle.qs_lawful.proofs.BesidePlain.{goes_loan}
 use Rattle.qs_lawful.proofs.BesideReply.{goes_reply}
 use Rattle.qs_lawful.proofs.BesideServed.{goes_served}
 use Rattle.qs_lawful.proofs.Clauses.{of_tid}
-use Rattle.qs_lawful.proofs.FactsQuiet.{requested_quiet, sent_quiet}
+use Rattle.qs_lawful.proofs.FactsQuiet.{requested_quiet, sent_home}
 use Rattle.qs_lawful.proofs.Faces.{part_changed}
 use Rattle.qs_lawful.proofs.LearningAll.{stands}
 use Rattle.qs_lawful.proofs.Asking.{sent_node}
@@ -106,7 +106,7 @@ module _ (stamp : ℕ) (before : BookValue) (run : InRun before) where
       told = send request.member.node (messages.Request tid (label_of tid work.node) request.member request.number request.issuer op) sent
 
       sent_on : (q : Participant) → PartOn q (participant.sent request.member.node q)
-      sent_on q = record { notes = record { keeps = λ c is. is }; asked = refl; outcome = refl; causes = inl refl; members = refl; involved = λ is. refl; home = (sent_quiet request.member.node).home q; begun_at = refl; unended = λ is. is }
+      sent_on q = record { notes = record { keeps = λ c is. is }; asked = refl; outcome = refl; causes = inl refl; members = refl; involved = λ is. refl; home = sent_home request.member.node q.engage; begun_at = refl; unended = λ is. is }
 
       known_sent : part_of tid sent ≡ Some (participant.sent request.member.node (participant.issued request p))
       known_sent = part_changed tid (participant.sent request.member.node) entered.node.manager (participant.issued request p) (part_changed tid (participant.issued request) work.node.manager p known)

@@ -1,5 +1,5 @@
 -- What a whole step sends is so and goes between two nodes of the run, so that channels hold what is so with it.
-use Rattle.std.proofs.Common.{◌≡◌, ◌<◌, ◌==◌, ℕ, true, false, List, ap, sym, subst, ◌∙◌, arith, nat_lt}
+use Rattle.std.proofs.Common.{◌≡◌, ◌<◌, ◌==◌, ℕ, true, false, List, ap, sym, subst, arith, nat_lt}
 use Rattle.std.proofs.lemmas.Bool.Decides.{nat_tests}
 use Rattle.std.proofs.lemmas.Option.{slice_get_within}
 use Rattle.std.specs.Prelude.{not, length}
@@ -54,11 +54,15 @@ module _ (stamp : ℕ) (before : BookValue) (size : ℕ) (nodes : ℕ → NodeVa
   pub lawful_on : IsLawful before entered
   lawful_on = subst (IsLawful before) same (held_after stamp before size nodes n node event free s).lawful
 
+  -- each message that the step sends says what is so then, and goes to another node of the run
+  pub sent_after : Every (IsSent (book_after before entered) node.setting) (effects_of node event free).messages
+  sent_after = subst (λ (t : Setting). Every (IsSent (book_after before entered) t) (effects_of node event free).messages) (step_same node event free)
+      (subst (λ (es : List Entry). Every (IsSent (book_after before es) (step_work node event free).node.setting) (effects_of node event free).messages) same (sent_so stamp before size nodes n node event free s))
+
   pub channels_after : length before.nodes ≡ size → (c : Channels Parcel) → HoldsChannels before size c → HoldsChannels (book_after before entered) size (post_all n stamp (effects_of node event free).messages c)
   channels_after whole c h = channels_posted (book_after before entered) size n stamp (effects_of node event free).messages c
-      (every_on (IsSent (book_after before entered) (step_work node event free).node.setting) (λ (sending : Sending). IsParcel (book_after before entered) size n sending.to.0 (record { stamp = stamp; message = sending.message }))
-      (sent_parcel (book_after before entered) (step_work node event free).node.setting stamp size n (ap (λ (t : Setting). t.node.0) (step_same node event free) ∙ s.at) (ap (λ (t : Setting). t.nodes) (step_same node event free) ∙ s.run) within) (effects_of node event free).messages
-      (subst (λ (es : List Entry). Every (IsSent (book_after before es) (step_work node event free).node.setting) (effects_of node event free).messages) same (sent_so stamp before size nodes n node event free s)))
+      (every_on (IsSent (book_after before entered) node.setting) (λ (sending : Sending). IsParcel (book_after before entered) size n sending.to.0 (record { stamp = stamp; message = sending.message }))
+      (sent_parcel (book_after before entered) node.setting stamp size n s.at s.run within) (effects_of node event free).messages sent_after)
       (channels_on before s.in_run entered lawful_on size c h)
     where
       below : (a b : ℕ) → a < b → nat_lt a b ≡ true

@@ -23,8 +23,8 @@ use Rattle.qs_lawful.specs.Entering.{HoldsWork, book_at, entries_so_far}
 use Rattle.qs_lawful.specs.Given.{AtEach}
 use Rattle.qs_lawful.specs.GivenStep.{MayAge, MayStep, done_work, first_work, tick_work}
 use Rattle.qs_lawful.specs.Standing.{HoldsHomes, KeepsStanding, Stands}
-use Rattle.qs_lawful.specs.StandingOn.{BesideOn, KeepsBeside, StandsBeside, StepBeside}
-use Rattle.qs_lawful.specs.StepOn.{KeepsSound, SoundOn, StepOn}
+use Rattle.qs_lawful.specs.StandingOn.{BesideOn, KeepsBeside, StepBeside}
+use Rattle.qs_lawful.specs.StepOn.{StepOn}
 use Rattle.qs_lawful.specs.StepStands.{StepStands}
 use Rattle.qs_lawful.proofs.BesideCommands.{goes_wait}
 use Rattle.qs_lawful.proofs.BesideGoes.{Goes, beside_alike, goes_fold, goes_self, goes_then, goes_where, said_on}
@@ -51,25 +51,25 @@ module _ (stamp : ℕ) (before : BookValue) (run : InRun before) (size : ℕ) (n
   abbrev On : Work → Work → Type 0
   On work new = Goes stamp before run work new
 
-  -- what goes on stands, where the node's own invariant does
-  on_by : (work new : Work) → On work new → SoundOn stamp before size nodes n work new → BesideOn stamp before size nodes n work new
-  on_by work new goes sound s held = record { sound = sound s held; beside = goes.keeps held.lawful s.by.beside }
+  -- what goes on stands
+  on_by : (work new : Work) → On work new → BesideOn stamp before size nodes n work new
+  on_by work new goes s held = goes.keeps held.lawful s.by.beside
 
-  pub keeps_beside : KeepsSound stamp before size nodes n → KeepsBeside stamp before size nodes n
-  keeps_beside sounds = record {
-    passes = λ work tid so s held. on_by work (try tid pass_rule work) (goes_where stamp before run tid (pass_rule tid) work (λ part known none. goes_pass_rule stamp before run tid work s.held part known (λ due. so.may part known due) so.room)) (sounds.passes work tid) s held;
-    readies = λ work tid s held. on_by work (try tid ready_rule work) (goes_where stamp before run tid (ready_rule tid) work (λ part known none. goes_ready stamp before run tid part work (λ home. unkept stamp before work s.held s.by.facts tid part known home none))) (sounds.readies work tid) s held;
-    refuses = λ work tid s held. on_by work (try tid refuse_rule work) (goes_where stamp before run tid (refuse_rule tid) work (λ part known none. goes_refuse stamp before run tid part work known none)) (sounds.refuses work tid) s held;
-    forgets = λ work tid s held. on_by work (try tid forget_rule work) (goes_where stamp before run tid (forget_rule tid) work (λ part known none. goes_forgets stamp before run tid part work known none s.by.facts)) (sounds.forgets work tid) s held;
-    serves = λ work server room s held. on_by work (serve_next work server) (goes_next stamp before run work s.held server room (λ tid p known. s.by.sound.apart tid p known)) (sounds.serves work server) s held;
-    waits = λ work client s held. on_by work (wait_on work client) (goes_wait stamp before run work client) (sounds.waits work client) s held;
+  pub keeps_beside : KeepsBeside stamp before size nodes n
+  keeps_beside = record {
+    passes = λ work tid so s held. on_by work (try tid pass_rule work) (goes_where stamp before run tid (pass_rule tid) work (λ part known none. goes_pass_rule stamp before run tid work s.held part known (λ due. so.may part known due) (λ due. so.room part known due))) s held;
+    readies = λ work tid s held. on_by work (try tid ready_rule work) (goes_where stamp before run tid (ready_rule tid) work (λ part known none. goes_ready stamp before run tid part work (λ home. unkept stamp before work s.held s.by.facts tid part known home none))) s held;
+    refuses = λ work tid s held. on_by work (try tid refuse_rule work) (goes_where stamp before run tid (refuse_rule tid) work (λ part known none. goes_refuse stamp before run tid part work known none)) s held;
+    forgets = λ work tid s held. on_by work (try tid forget_rule work) (goes_where stamp before run tid (forget_rule tid) work (λ part known none. goes_forgets stamp before run tid part work known none s.by.facts)) s held;
+    serves = λ work server room s held. on_by work (serve_next work server) (goes_next stamp before run work s.held server room (λ tid p known. (s.by.facts.parts tid p known).numbered.apart)) s held;
+    waits = λ work client s held. on_by work (wait_on work client) (goes_wait stamp before run work client) s held;
   }
 
   -- ---- settling
 
-  module _ (homes : HoldsHomes before size nodes n) (sounds : KeepsSound stamp before size nodes n) where
+  module _ (homes : HoldsHomes before size nodes n) where
     stages : KeepsStanding stamp before size nodes n
-    stages = keeps_standing stamp before size nodes n homes (keeps_beside sounds)
+    stages = keeps_standing stamp before size nodes n homes keeps_beside
 
     goes_settled : (work : Work) (tid : Tid) → Stands stamp before size nodes n work → AgreementGives stamp before size nodes n work tid → HasCountRoom work tid → On work (settle_tid work tid)
     goes_settled work tid s agreed room =
@@ -79,7 +79,7 @@ module _ (stamp : ℕ) (before : BookValue) (run : InRun before) (size : ℕ) (n
         let s1 : Stands stamp before size nodes n one = s_passed stamp before size nodes n stages work tid s agreed room in
         let s3 : Stands stamp before size nodes n three = s_refused stamp before size nodes n stages work tid s agreed room in
         goes_then stamp before run work one (settle_tid work tid)
-        (goes_where stamp before run tid (pass_rule tid) work (λ part known none. goes_pass_rule stamp before run tid work s.held part known (λ due. may_pass stamp before size nodes n work s.by tid part known (agreed.passes part known due)) room))
+        (goes_where stamp before run tid (pass_rule tid) work (λ part known none. goes_pass_rule stamp before run tid work s.held part known (λ due. may_pass stamp before size nodes n work s.by tid part known (agreed.passes part known due)) (λ due. room part known due)))
         (goes_then stamp before run one two (settle_tid work tid)
         (goes_where stamp before run tid (ready_rule tid) one (λ part known none. goes_ready stamp before run tid part one (λ home. unkept stamp before one s1.held s1.by.facts tid part known home none)))
         (goes_then stamp before run two three (settle_tid work tid)
@@ -103,8 +103,8 @@ module _ (stamp : ℕ) (before : BookValue) (size : ℕ) (nodes : ℕ → NodeVa
   goes_first : Goes stamp before s.in_run (work_on node free) (first_work node free)
   goes_first = goes_incarnation stamp before s.in_run (work_on node free)
 
-  first_beside : StandsBeside stamp before (first_work node free)
-  first_beside = record { sound = s.sound; beside = goes_first.keeps held_first.lawful s.beside }
+  first_beside : HoldsBeside (book_at stamp before (first_work node free)) (first_work node free).node
+  first_beside = goes_first.keeps held_first.lawful s.beside
 
   -- the Commits that the log had are the machine's for good
   logged_first : AreCommitted (book_at stamp before (first_work node free)) (first_work node free).node
@@ -112,7 +112,7 @@ module _ (stamp : ℕ) (before : BookValue) (size : ℕ) (nodes : ℕ → NodeVa
 
   -- what is old enough the machine finds that old
   ages_so : event ≡ events.Tick → MayAge stamp before (first_work node free).node.setting.age (tick_work (first_work node free))
-  ages_so is = may_age stamp before s.in_run (first_work node free) held_first first_beside.beside (begin_incarnation_keeps (work_on node free) s.facts)
+  ages_so is = may_age stamp before s.in_run (first_work node free) held_first first_beside (begin_incarnation_keeps (work_on node free) s.facts)
       (subst (λ (e : Event). ComesTo (book_at stamp before (first_work node free)) e (first_work node free)) is comes_here) (subst (λ (e : Event). HappensSo stamp before e (first_work node free)) is s.so)
 
   pub step_beside : StepBeside stamp before size nodes n node event free
@@ -123,9 +123,9 @@ module _ (stamp : ℕ) (before : BookValue) (size : ℕ) (nodes : ℕ → NodeVa
     fits = fits_so before node free event s.comes;
     homes = s.homes;
     held = held_first;
-    first = first_beside;
-    rules = keeps_beside stamp before s.in_run size nodes n s.sounds;
-    happens = λ comes here held. on_by stamp before s.in_run size nodes n (first_work node free) (happen event (first_work node free)) (goes_happens stamp before s.in_run size nodes n s.homes s.sounds event (first_work node free) here comes s.agreed.comes s.so logged_first) s.happens_sound here held;
+    beside = first_beside;
+    rules = keeps_beside stamp before s.in_run size nodes n;
+    happens = λ comes here held. on_by stamp before s.in_run size nodes n (first_work node free) (happen event (first_work node free)) (goes_happens stamp before s.in_run size nodes n s.homes event (first_work node free) here comes s.agreed.comes s.so logged_first) here held;
     comes = comes_here;
     ages = ages_so;
     agreed = s.agreed;
@@ -145,9 +145,9 @@ module _ (stamp : ℕ) (before : BookValue) (size : ℕ) (nodes : ℕ → NodeVa
       let done_at : Work = done_work node event free in
       let settled_at : Work = settle done_at in
       goes_then stamp before s.in_run (work_on node free) started (step_work node event free) goes_first
-      (goes_then stamp before s.in_run started done_at (step_work node event free) (goes_happens stamp before s.in_run size nodes n s.homes s.sounds event started stands.first comes_here s.agreed.comes s.so logged_first)
+      (goes_then stamp before s.in_run started done_at (step_work node event free) (goes_happens stamp before s.in_run size nodes n s.homes event started stands.first comes_here s.agreed.comes s.so logged_first)
       (goes_then stamp before s.in_run done_at settled_at (step_work node event free)
-      (goes_settles stamp before s.in_run size nodes n s.homes s.sounds (due_tids done_at) done_at (done stamp before size nodes n node event free stands) (given_so stamp before size nodes n node event free stands))
+      (goes_settles stamp before s.in_run size nodes n s.homes (due_tids done_at) done_at (done stamp before size nodes n node event free stands) (given_so stamp before size nodes n node event free stands))
       (goes_fold stamp before s.in_run wait_on (goes_wait stamp before s.in_run) (waiting_clients settled_at) settled_at)))
 
   pub held_after : HoldsWork stamp before (step_work node event free)

@@ -152,13 +152,13 @@ module _ (stamp : ℕ) (before : BookValue) (work : Work) (tid : Tid) (peer : No
 
 -- of what is unknown here, or decided, nothing is counted
 pub by_closer : (stamp : ℕ) (before : BookValue) (work : Work) → HoldsWork stamp before work → (peer : NodeNo) (tid : Tid) (up_to : ℕ) (told : List NodeNo) → (peer.0 == work.node.setting.node.0) ≡ false → nat_lt peer.0 work.node.setting.nodes ≡ true
-    → ((part : Participant) → tm.part_of tid work.node.manager ≡ Some part → up_to ≤ (peer_of part.engage peer).sent) → HoldsWork stamp before (closer_came peer tid up_to told work)
+    → ((part : Participant) → tm.part_of tid work.node.manager ≡ Some part → is_undecided part ≡ true → up_to ≤ (peer_of part.engage peer).sent) → HoldsWork stamp before (closer_came peer tid up_to told work)
 by_closer stamp before work h peer tid up_to told other in_run most = by (tm.part_of tid work.node.manager) refl
   where
-    of : (part : Participant) → tm.part_of tid work.node.manager ≡ Some part → (b : Bool) → HoldsWork stamp before (if b then count peer tid up_to told work else work)
-    of part known true = let tx = found_of stamp before work h tid part known in by_count stamp before work tid peer up_to told part tx.0 h known tx.1 other in_run (most part known)
-    of part known false = h
+    of : (part : Participant) → tm.part_of tid work.node.manager ≡ Some part → (b : Bool) → is_undecided part ≡ b → HoldsWork stamp before (if b then count peer tid up_to told work else work)
+    of part known true open_still = let tx = found_of stamp before work h tid part known in by_count stamp before work tid peer up_to told part tx.0 h known tx.1 other in_run (most part known open_still)
+    of part known false decided = h
 
     by : (o : Option Participant) → tm.part_of tid work.node.manager ≡ o → HoldsWork stamp before (elim o [ None ↦ work | Some part ↦ if is_undecided part then count peer tid up_to told work else work ])
     by None is = h
-    by (Some part) is = of part is (is_undecided part)
+    by (Some part) is = of part is (is_undecided part) refl

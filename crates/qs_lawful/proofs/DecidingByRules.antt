@@ -1,5 +1,5 @@
 -- A home decides by the rules: it commits what is settled, and aborts for a cause that the machine finds.
-use Rattle.std.proofs.Common.{◌≡◌, ℕ, ◌==◌, true, false, Option, Some, None, refl, ap, ◌∙◌, arith}
+use Rattle.std.proofs.Common.{◌≡◌, ℕ, ◌==◌, true, false, Option, Some, None, refl, ◌∙◌, arith}
 use Rattle.std.proofs.lemmas.Bool.Decides.{nat_tests}
 use Rattle.std.specs.Prelude.{is_none, is_some, slice_get}
 use Rattle.qs_base.specs.declared.identifiers.ClientNo.{ClientNo}
@@ -18,13 +18,11 @@ use Rattle.qs_step.specs.Deciding.{decide}
 use Rattle.qs_step.specs.State.{Work, NodeValue}
 use Rattle.qs_world.specs.Posting.{entry_of}
 use Rattle.qs_lawful.specs.Entering.{HoldsWork, book_at}
-use Rattle.qs_lawful.specs.Face.{face_of, part_or_new}
+use Rattle.qs_lawful.specs.Face.{face_of}
 use Rattle.qs_lawful.specs.Filed.{HoldsFiles}
 use Rattle.qs_lawful.specs.Holds.{Holds, HoldsTid}
-use Rattle.qs_lawful.specs.Places.{Facts, IsSettled, HoldsPlaces}
 use Rattle.qs_lawful.proofs.Clauses.{lawful_act, of_tid}
 use Rattle.qs_lawful.proofs.Decisions.{by_decision}
-use Rattle.qs_lawful.proofs.Unanimity.{unanimous}
 
 module _ (stamp : ℕ) (book : BookValue) (node : NodeValue) (h : Holds stamp book node) (tid : Tid) (tx : TransactionValue) (found : find_transaction book tid ≡ Some tx) (home : tid.home ≡ node.setting.node) (still : is_open tx.cell ≡ true) where
   is_home : (tid.home.0 == node.setting.node.0) ≡ true
@@ -45,12 +43,11 @@ module _ (stamp : ℕ) (before : BookValue) (work : Work) (tid : Tid) (part : Pa
   still : is_open tx.cell ≡ true
   still = (held.home home begun).undecided part known unknown
 
-  -- what is settled at every place
-  pub by_commit : (w : Facts) → part.asked ≡ true → IsSettled w → HoldsPlaces tx w → HoldsWork stamp before (decide tid outcomes.Commit None work)
-  by_commit w asked settled places =
+  -- what is unanimous
+  pub by_commit : is_unanimous tx ≡ true → HoldsWork stamp before (decide tid outcomes.Commit None work)
+  by_commit agreed =
       by_decision stamp before work tid outcomes.Commit part tx h files known found unknown None still slot
-      (may_commit stamp (book_at stamp before work) work.node h.holds tid tx found home still
-      (unanimous w settled tx still (held.asked (ap (λ (o : Option Participant). (part_or_new o).asked) known ∙ asked)) places))
+      (may_commit stamp (book_at stamp before work) work.node h.holds tid tx found home still agreed)
 
   -- for a cause that the machine finds
   pub by_abort : (cause : Cause) → is_cause h.holds.state (book_at stamp before work).nodes tid tx stamp cause ≡ true → HoldsWork stamp before (decide tid outcomes.Abort (Some cause) work)

@@ -11,6 +11,7 @@ use Rattle.qs_base.specs.declared.identifiers.NodeNo.{NodeNo}
 use Rattle.qs_base.specs.declared.identifiers.Outcome.{Outcome}
 use Rattle.qs_base.specs.declared.identifiers.Tid.{Tid}
 use Rattle.qs_engage.specs.Nodes.{same_node}
+use Rattle.qs_engage.specs.declared.engage.Engage.{Engage}
 use Rattle.qs_kept.specs.Keeping.{has_label, is_outcome_of}
 use Rattle.qs_kept.specs.declared.kept.Begun.{Begun}
 use Rattle.qs_kept.specs.declared.kept.Kept.{Kept}
@@ -24,7 +25,7 @@ use Rattle.qs_tm.specs.Outcomes.{aborted_participant}
 use Rattle.qs_tm.specs.Participant.{new_participant}
 use Rattle.qs_tm.specs.declared.manager.Manager.{Manager}
 use Rattle.qs_tm.specs.declared.participant.Participant.{Participant}
-use Rattle.qs_lawful.specs.NodeFacts.{HasFacts, IsOf, IsPart, IsRunning}
+use Rattle.qs_lawful.specs.NodeFacts.{AreNumbered, HasFacts, IsOf, IsPart, IsRunning}
 use Rattle.qs_lawful.proofs.Apart.{Apart, same_or_apart}
 use Rattle.qs_lawful.proofs.Faces.{part_apart, part_changed, part_unknown, put_apart}
 use Rattle.qs_lawful.proofs.Marks.{changed_rises, put_there}
@@ -35,12 +36,13 @@ Commands = List (ClientNo × OpenCommand)
 
 -- ---- the transactions that are known
 
--- a rule that leaves of a transaction its home's engagement, the places of its peers, its outcome, and that its log says no less
+-- a rule that leaves of a transaction its home's engagement, the places of its peers, its outcome, that its log says no less, and that what waits is numbered
 pub record IsQuiet (f : Participant → Participant) : Type 0 where
   pub home : (p : Participant) → (f p).engage.home ≡ p.engage.home
   pub slots : (p : Participant) → length (f p).engage.peers ≡ length p.engage.peers
   pub outcome : (p : Participant) → (f p).outcome ≡ p.outcome
   pub logged : (p : Participant) → (p.log.prepared ≡ true → p.log.unended ≡ true) → (f p).log.prepared ≡ true → (f p).log.unended ≡ true
+  pub numbers : (p : Participant) (here : NodeNo) (local : ℕ) → AreNumbered here local p.engage p.waiting → AreNumbered here local (f p).engage (f p).waiting
 
 pub room_on : (s : Setting) (m : Manager) (known : List (Tid × Participant)) → IsOf s m → IsOf s (record m { known = known })
 room_on s m known h = record { at = h.at; in_inc = h.in_inc; extra = h.extra; keep = h.keep }
@@ -77,35 +79,45 @@ removed_apart {V} p q far (e ∷ es) = by (p e.0) (q e.0) refl refl (removed_apa
     by false true is has rest = rw (is, has) refl
     by false false is has rest = rw (is, has) rest
 
-module _ (s : Setting) (k : Kept) (c : Commands) where
+-- nothing waits
+pub none_wait : (here : NodeNo) (local : ℕ) (engage : Engage) → AreNumbered here local engage []
+none_wait here local engage = record { apart = tt; given = tt }
+
+module _ (s : Setting) (k : Kept) (c : Commands) (local : Tid → ℕ) where
   -- ---- a quiet change
 
-  quiet_part : (f : Participant → Participant) → IsQuiet f → (tid : Tid) (p : Participant) → IsPart s tid p → IsPart s tid (f p)
+  quiet_part : (f : Participant → Participant) → IsQuiet f → (tid : Tid) (p : Participant) → IsPart s (local tid) tid p → IsPart s (local tid) tid (f p)
   quiet_part f q tid p h = record {
     homed = q.home p ∙ h.homed;
     slots = q.slots p ∙ h.slots;
     logged = q.logged p h.logged;
     began = λ home unknown. h.began (sym (q.home p) ∙ home) (sym (q.outcome p) ∙ unknown);
+    numbered = q.numbers p s.node (local tid) h.numbered;
   }
 
-  pub quiet_facts : (tid : Tid) (f : Participant → Participant) → IsQuiet f → (m : Manager) → HasFacts s m k c → HasFacts s (tm.with_part tid f m) k c
-  quiet_facts tid f q m h = record {
+  -- a change that leaves its outcome, and what else holds of it with so many requests to servers here
+  pub part_facts : (tid : Tid) (f : Participant → Participant) (m : Manager) (now : Tid → ℕ) → ((t : Tid) → Apart tid t → now t ≡ local t) → ((p : Participant) → tm.part_of tid m ≡ Some p → IsPart s (local tid) tid p → IsPart s (now tid) tid (f p))
+      → ((p : Participant) → (f p).outcome ≡ p.outcome) → HasFacts s m k c local → HasFacts s (tm.with_part tid f m) k c now
+  part_facts tid f m now same own outcome h = record {
     setting = h.setting;
     room = room_on s m _ h.room;
     rising = changed_rises tid f m h.rising;
-    parts = each_changed tid f m (IsPart s) (λ t p far known. h.parts t p known) (λ p known. quiet_part f q tid p (h.parts tid p known));
-    labels = record { homed = h.labels.homed; runs = λ label begun t client found of owned kept. runs_changed tid f m t (λ p e unknown. q.outcome p ∙ unknown) (h.labels.runs label begun t client found of owned kept) };
+    parts = each_changed tid f m (λ (t : Tid) (p : Participant). IsPart s (now t) t p) (λ t p far known. subst (λ (k : ℕ). IsPart s k t p) (sym (same t far)) (h.parts t p known)) (λ p known. own p known (h.parts tid p known));
+    labels = record { homed = h.labels.homed; runs = λ label begun t client found of owned kept. runs_changed tid f m t (λ p e unknown. outcome p ∙ unknown) (h.labels.runs label begun t client found of owned kept) };
     commands = h.commands;
   }
 
+  pub quiet_facts : (tid : Tid) (f : Participant → Participant) → IsQuiet f → (m : Manager) → HasFacts s m k c local → HasFacts s (tm.with_part tid f m) k c local
+  quiet_facts tid f q m h = part_facts tid f m local (λ t far. refl) (λ p known its. quiet_part f q tid p its) q.outcome h
+
   -- ---- an outcome is taken in elsewhere than at the home
 
-  pub outcome_facts : (tid : Tid) (outcome : Outcome) (m : Manager) → same_node tid.home s.node ≡ false → HasFacts s m k c → HasFacts s (tm.took_outcome tid outcome m) k c
+  pub outcome_facts : (tid : Tid) (outcome : Outcome) (m : Manager) → same_node tid.home s.node ≡ false → HasFacts s m k c local → HasFacts s (tm.took_outcome tid outcome m) k c local
   outcome_facts tid outcome m away h = record {
     setting = h.setting;
     room = room_on s m _ h.room;
     rising = changed_rises tid (outcome_rules.took_outcome outcome) m h.rising;
-    parts = each_changed tid (outcome_rules.took_outcome outcome) m (IsPart s) (λ t p far known. h.parts t p known) (λ p known. record { homed = (h.parts tid p known).homed; slots = (h.parts tid p known).slots; logged = (h.parts tid p known).logged; began = λ home unknown. absurd (cc unknown) });
+    parts = each_changed tid (outcome_rules.took_outcome outcome) m (λ (t : Tid) (p : Participant). IsPart s (local t) t p) (λ t p far known. h.parts t p known) (λ p known. record { homed = (h.parts tid p known).homed; slots = (h.parts tid p known).slots; logged = (h.parts tid p known).logged; began = λ home unknown. absurd (cc unknown); numbered = (h.parts tid p known).numbered });
     labels = record { homed = h.labels.homed; runs = λ label begun t client found of owned kept. runs_changed tid (outcome_rules.took_outcome outcome) m t (λ p e unknown. absurd (not_home t e (h.labels.homed label begun t client found of owned))) (h.labels.runs label begun t client found of owned kept) };
     commands = h.commands;
   }
@@ -115,7 +127,7 @@ module _ (s : Setting) (k : Kept) (c : Commands) where
 
   -- ---- one more is known
 
-  pub put_facts : (tid : Tid) (part : Participant) (m : Manager) → IsPart s tid part → tm.part_of tid m ≡ None → HasFacts s m k c → HasFacts s (tm.put_part tid part m) k c
+  pub put_facts : (tid : Tid) (part : Participant) (m : Manager) → IsPart s (local tid) tid part → tm.part_of tid m ≡ None → HasFacts s m k c local → HasFacts s (tm.put_part tid part m) k c local
   put_facts tid part m new unknown h = record {
     setting = h.setting;
     room = room_on s m _ h.room;
@@ -125,35 +137,35 @@ module _ (s : Setting) (k : Kept) (c : Commands) where
     commands = h.commands;
   }
     where
-      parts_of : (t : Tid) (p : Participant) → tm.part_of t (tm.put_part tid part m) ≡ Some p → (tid ≡ t) ⊎ Apart tid t → IsPart s t p
-      parts_of t p known (inl e) = subst (λ (x : Tid). IsPart s x p) e (subst (IsPart s tid) (of_some (sym (put_there tid part m) ∙ subst (λ (x : Tid). tm.part_of x (tm.put_part tid part m) ≡ Some p) (sym e) known)) new)
+      parts_of : (t : Tid) (p : Participant) → tm.part_of t (tm.put_part tid part m) ≡ Some p → (tid ≡ t) ⊎ Apart tid t → IsPart s (local t) t p
+      parts_of t p known (inl e) = subst (λ (x : Tid). IsPart s (local x) x p) e (subst (IsPart s (local tid) tid) (of_some (sym (put_there tid part m) ∙ subst (λ (x : Tid). tm.part_of x (tm.put_part tid part m) ≡ Some p) (sym e) known)) new)
       parts_of t p known (inr far) = h.parts t p (sym (put_apart tid t part m far) ∙ known)
 
       still : (t : Tid) → IsRunning m t → (tid ≡ t) ⊎ Apart tid t → IsRunning (tm.put_part tid part m) t
       still t r (inl e) = absurd (cc (sym unknown ∙ subst (λ (x : Tid). tm.part_of x m ≡ Some r.part) (sym e) r.known))
       still t r (inr far) = record { part = r.part; known = put_apart tid t part m far ∙ r.known; undecided = r.undecided }
 
-  pub meet_facts : (tid : Tid) (m : Manager) → same_node tid.home s.node ≡ false → HasFacts s m k c → HasFacts s (tm.meet tid m) k c
+  pub meet_facts : (tid : Tid) (m : Manager) → same_node tid.home s.node ≡ false → HasFacts s m k c local → HasFacts s (tm.meet tid m) k c local
   meet_facts tid m away h = by (tm.part_of tid m) refl
     where
       home_is : tm.is_home tid m ≡ same_node tid.home s.node
       home_is = ap (same_node tid.home) h.room.at
 
-      by : (o : Option Participant) → tm.part_of tid m ≡ o → HasFacts s (if is_some o then m else tm.put_part tid (new_participant (tm.is_home tid m)) m) k c
-      by None unknown = put_facts tid (new_participant (tm.is_home tid m)) m (record { homed = home_is; slots = refl; logged = λ e. absurd (cc e); began = λ home open_still. absurd (clash (sym (home_is ∙ away) ∙ home)) }) unknown h
+      by : (o : Option Participant) → tm.part_of tid m ≡ o → HasFacts s (if is_some o then m else tm.put_part tid (new_participant (tm.is_home tid m)) m) k c local
+      by None unknown = put_facts tid (new_participant (tm.is_home tid m)) m (record { homed = home_is; slots = refl; logged = λ e. absurd (cc e); began = λ home open_still. absurd (clash (sym (home_is ∙ away) ∙ home)); numbered = none_wait s.node (local tid) _ }) unknown h
       by (Some part) known = h
 
-  pub abort_facts : (tid : Tid) (m : Manager) → HasFacts s m k c → HasFacts s (tm.keep_abort tid m) k c
+  pub abort_facts : (tid : Tid) (m : Manager) → HasFacts s m k c local → HasFacts s (tm.keep_abort tid m) k c local
   abort_facts tid m h = by (tm.part_of tid m) refl
     where
-      by : (o : Option Participant) → tm.part_of tid m ≡ o → HasFacts s (if is_some o then m else tm.put_part tid (aborted_participant (tm.is_home tid m)) m) k c
-      by None unknown = put_facts tid (aborted_participant (tm.is_home tid m)) m (record { homed = ap (same_node tid.home) h.room.at; slots = refl; logged = λ e. absurd (cc e); began = λ home open_still. absurd (cc open_still) }) unknown h
+      by : (o : Option Participant) → tm.part_of tid m ≡ o → HasFacts s (if is_some o then m else tm.put_part tid (aborted_participant (tm.is_home tid m)) m) k c local
+      by None unknown = put_facts tid (aborted_participant (tm.is_home tid m)) m (record { homed = ap (same_node tid.home) h.room.at; slots = refl; logged = λ e. absurd (cc e); began = λ home open_still. absurd (cc open_still); numbered = none_wait s.node (local tid) _ }) unknown h
       by (Some part) known = h
 
   -- ---- one is forgotten, that no client here owns undecided
 
   pub forget_facts : (tid : Tid) (m : Manager) → ((label : List ℕ) (begun : Begun) (client : ClientNo) → find (has_label label) k.labels ≡ Some begun → begun.tid ≡ Some tid → begun.owner ≡ Some client → find (is_outcome_of tid) k.outcomes ≡ None → ⊥)
-      → HasFacts s m k c → HasFacts s (tm.forget tid m) k c
+      → HasFacts s m k c local → HasFacts s (tm.forget tid m) k c local
   forget_facts tid m unowned h = record {
     setting = h.setting;
     room = room_on s m _ h.room;
@@ -166,7 +178,7 @@ module _ (s : Setting) (k : Kept) (c : Commands) where
       apart_part : (t : Tid) → Apart tid t → tm.part_of t (tm.forget tid m) ≡ tm.part_of t m
       apart_part t far = removed_apart (is_at (tid_cmp tid)) (is_at (tid_cmp t)) far.keys m.known
 
-      parts_of : (t : Tid) (p : Participant) → tm.part_of t (tm.forget tid m) ≡ Some p → (tid ≡ t) ⊎ Apart tid t → IsPart s t p
+      parts_of : (t : Tid) (p : Participant) → tm.part_of t (tm.forget tid m) ≡ Some p → (tid ≡ t) ⊎ Apart tid t → IsPart s (local t) t p
       parts_of t p known (inl e) = absurd (cc (sym (removed tid_cmp at_exact tid m.known h.rising) ∙ subst (λ (x : Tid). tm.part_of x (tm.forget tid m) ≡ Some p) (sym e) known))
       parts_of t p known (inr far) = h.parts t p (sym (apart_part t far) ∙ known)
 

@@ -1,8 +1,9 @@
 -- What holds of a node by itself as a transaction is labelled, begins and is decided, and as commands come and are answered.
 use Rattle.std.proofs.Common.{◌≡◌, ◌⊎◌, inl, inr, ℕ, ◌+◌, Bool, true, false, List, [], ◌∷◌, ◌++◌, length, Option, Some, None, Less, Equal, Greater, refl, sym, ap, subst, ◌∙◌}
 use Rattle.std.proofs.lemmas.Map.Lookups.{exact_unsigned}
-use Rattle.std.specs.BTreeMap.{insert_entry}
+use Rattle.std.specs.BTreeMap.{insert_entry, is_at}
 use Rattle.std.specs.List.{find}
+use Rattle.std.specs.Ordering.{nat_cmp}
 use Rattle.std.specs.Map.{lookup, remove_entry, set_value}
 use Rattle.std.specs.Prelude.{if◌then◌else◌}
 use Rattle.std.specs.declared.cmp.Ordering.{Ordering}
@@ -26,12 +27,12 @@ use Rattle.qs_tm.specs.Participant.{begun_participant}
 use Rattle.qs_tm.specs.declared.manager.Manager.{Manager}
 use Rattle.qs_tm.specs.declared.participant.Participant.{Participant}
 use Rattle.qs_lawful.specs.Logs.{Every}
-use Rattle.qs_lawful.specs.NodeFacts.{HasFacts, IsCommand, IsPart, IsRunning}
+use Rattle.qs_lawful.specs.NodeFacts.{AreNumbered, HasFacts, IsCommand, IsPart, IsRunning}
 use Rattle.qs_lawful.proofs.Apart.{Apart, same_or_apart}
 use Rattle.qs_lawful.proofs.Faces.{put_apart}
 use Rattle.qs_lawful.proofs.Marks.{changed_rises, put_there}
 use Rattle.qs_lawful.proofs.Truths.{clash, of_some, same_self}
-use Rattle.qs_lawful.proofs.FactsKept.{Commands, each_changed, room_on, runs_changed}
+use Rattle.qs_lawful.proofs.FactsKept.{Commands, each_changed, none_wait, room_on, runs_changed}
 
 -- ---- labels and outcomes
 
@@ -59,9 +60,9 @@ none_more test (z ∷ zs) x none = by (test z) none (none_more test zs x)
     by true none rest = absurd (cc none)
     by false none rest = rest none
 
-module _ (s : Setting) (c : Commands) where
+module _ (s : Setting) (c : Commands) (local : Tid → ℕ) where
   -- a label of what no client here owns, or of what was not begun
-  pub label_facts : (begun : Begun) → ((tid : Tid) (client : ClientNo) → begun.tid ≡ Some tid → begun.owner ≡ Some client → ⊥) → (m : Manager) (k : Kept) → HasFacts s m k c → HasFacts s m (record k { labels = k.labels ++ begun ∷ [] }) c
+  pub label_facts : (begun : Begun) → ((tid : Tid) (client : ClientNo) → begun.tid ≡ Some tid → begun.owner ≡ Some client → ⊥) → (m : Manager) (k : Kept) → HasFacts s m k c local → HasFacts s m (record k { labels = k.labels ++ begun ∷ [] }) c local
   label_facts begun unowned m k h = record {
     setting = h.setting;
     room = h.room;
@@ -83,7 +84,7 @@ module _ (s : Setting) (c : Commands) where
       runs_of label other tid client of owned kept (inr e) = absurd (unowned tid client (ap (λ (b : Begun). b.tid) e ∙ of) (ap (λ (b : Begun). b.owner) e ∙ owned))
 
   -- a transaction begins here, under a label that a client here owns
-  module _ (client : ClientNo) (label : List ℕ) (m : Manager) (k : Kept) (h : HasFacts s m k c) where
+  module _ (client : ClientNo) (label : List ℕ) (m : Manager) (k : Kept) (h : HasFacts s m k c local) where
     abbrev next : Tid
     next = tm.next_tid m
 
@@ -93,8 +94,8 @@ module _ (s : Setting) (c : Commands) where
     abbrev begun : Begun
     begun = record { label = label; tid = Some next; owner = Some client }
 
-    new_part : IsPart s next part
-    new_part = record { homed = sym (ap (λ (n : NodeNo). same_node n s.node) h.room.at ∙ same_self s.node.0); slots = refl; logged = λ e. absurd (cc e); began = λ home open_still. h.room.in_inc }
+    new_part : IsPart s (local next) next part
+    new_part = record { homed = sym (ap (λ (n : NodeNo). same_node n s.node) h.room.at ∙ same_self s.node.0); slots = refl; logged = λ e. absurd (cc e); began = λ home open_still. h.room.in_inc; numbered = none_wait s.node (local next) _ }
 
     there : tm.part_of next (tm.begin client m) ≡ Some part
     there = put_there next part (record m { begun = m.begun + 1 })
@@ -102,8 +103,8 @@ module _ (s : Setting) (c : Commands) where
     elsewhere : (t : Tid) → Apart next t → tm.part_of t (tm.begin client m) ≡ tm.part_of t m
     elsewhere t far = put_apart next t part (record m { begun = m.begun + 1 }) far
 
-    parts_of : (t : Tid) (p : Participant) → tm.part_of t (tm.begin client m) ≡ Some p → (next ≡ t) ⊎ Apart next t → IsPart s t p
-    parts_of t p known (inl e) = subst (λ (x : Tid). IsPart s x p) e (subst (IsPart s next) (of_some (sym there ∙ subst (λ (x : Tid). tm.part_of x (tm.begin client m) ≡ Some p) (sym e) known)) new_part)
+    parts_of : (t : Tid) (p : Participant) → tm.part_of t (tm.begin client m) ≡ Some p → (next ≡ t) ⊎ Apart next t → IsPart s (local t) t p
+    parts_of t p known (inl e) = subst (λ (x : Tid). IsPart s (local x) x p) e (subst (IsPart s (local next) next) (of_some (sym there ∙ subst (λ (x : Tid). tm.part_of x (tm.begin client m) ≡ Some p) (sym e) known)) new_part)
     parts_of t p known (inr far) = h.parts t p (sym (elsewhere t far) ∙ known)
 
     its_tid : (other : Begun) (tid : Tid) → begun ≡ other → other.tid ≡ Some tid → next ≡ tid
@@ -121,7 +122,7 @@ module _ (s : Setting) (c : Commands) where
     runs_of l other tid who of owned kept (inl found) = still tid (h.labels.runs l other tid who found of owned kept) (same_or_apart next tid)
     runs_of l other tid who of owned kept (inr e) = record { part = part; known = subst (λ (x : Tid). tm.part_of x (tm.begin client m) ≡ Some part) (its_tid other tid e of) there; undecided = refl }
 
-    pub begin_facts : HasFacts s (tm.begin client m) (record k { labels = k.labels ++ begun ∷ [] }) c
+    pub begin_facts : HasFacts s (tm.begin client m) (record k { labels = k.labels ++ begun ∷ [] }) c local
     begin_facts = record {
       setting = h.setting;
       room = record { at = h.room.at; in_inc = h.room.in_inc; extra = h.room.extra; keep = h.room.keep };
@@ -136,12 +137,12 @@ module _ (s : Setting) (c : Commands) where
 
   -- it is decided, which is kept for its owner
   pub decide_facts : (tid : Tid) (f : Participant → Participant) → ((p : Participant) → (f p).engage.home ≡ p.engage.home) → ((p : Participant) → length (f p).engage.peers ≡ length p.engage.peers) → ((p : Participant) → (p.log.prepared ≡ true → p.log.unended ≡ true) → (f p).log.prepared ≡ true → (f p).log.unended ≡ true)
-      → ((p : Participant) → (f p).outcome ≡ None → ⊥) → (decided : Decided) → decided.tid ≡ tid → (m : Manager) (k : Kept) → HasFacts s m k c → HasFacts s (tm.with_part tid f m) (record k { outcomes = k.outcomes ++ decided ∷ [] }) c
-  decide_facts tid f home slots logged closes decided of_it m k h = record {
+      → ((p : Participant) → (f p).outcome ≡ None → ⊥) → ((p : Participant) (here : NodeNo) (n : ℕ) → AreNumbered here n p.engage p.waiting → AreNumbered here n (f p).engage (f p).waiting) → (decided : Decided) → decided.tid ≡ tid → (m : Manager) (k : Kept) → HasFacts s m k c local → HasFacts s (tm.with_part tid f m) (record k { outcomes = k.outcomes ++ decided ∷ [] }) c local
+  decide_facts tid f home slots logged closes numbers decided of_it m k h = record {
     setting = h.setting;
     room = room_on s m _ h.room;
     rising = changed_rises tid f m h.rising;
-    parts = each_changed tid f m (IsPart s) (λ t p far known. h.parts t p known) (λ p known. record { homed = home p ∙ (h.parts tid p known).homed; slots = slots p ∙ (h.parts tid p known).slots; logged = logged p (h.parts tid p known).logged; began = λ at unknown. absurd (closes p unknown) });
+    parts = each_changed tid f m (λ (t : Tid) (p : Participant). IsPart s (local t) t p) (λ t p far known. h.parts t p known) (λ p known. record { homed = home p ∙ (h.parts tid p known).homed; slots = slots p ∙ (h.parts tid p known).slots; logged = logged p (h.parts tid p known).logged; began = λ at unknown. absurd (closes p unknown); numbered = numbers p s.node (local tid) (h.parts tid p known).numbered });
     labels = record { homed = h.labels.homed; runs = λ label begun t client found of owned kept. runs_of t (h.labels.runs label begun t client found of owned (none_more (is_outcome_of t) k.outcomes decided kept).0) (none_more (is_outcome_of t) k.outcomes decided kept).1 };
     commands = h.commands;
   }
@@ -183,6 +184,16 @@ every_set P test f each es every = by (lookup test es) refl
     by None is = every
     by (Some command) is = put es command is every
 
-module _ (s : Setting) (m : Manager) (k : Kept) where
-  pub commands_facts : (c d : Commands) → Every (λ (entry : ClientNo × OpenCommand). IsCommand s entry.0 entry.1) d → HasFacts s m k c → HasFacts s m k d
+-- what is found under a client's number is its command
+pub command_in : (P : ClientNo × OpenCommand → Type 0) (client : ClientNo) (command : OpenCommand) (entries : List (ClientNo × OpenCommand)) → Every P entries → lookup (is_at (client_cmp client)) entries ≡ Some command → P (client, command)
+command_in P client command [] every found = absurd (cc found)
+command_in P client command (e ∷ es) every found = by (nat_cmp client.0 e.0.0) refl found (λ f. command_in P client command es every.1 f)
+  where
+    by : (r : Ordering) → nat_cmp client.0 e.0.0 ≡ r → lookup (is_at (client_cmp client)) (e ∷ es) ≡ Some command → (lookup (is_at (client_cmp client)) es ≡ Some command → P (client, command)) → P (client, command)
+    by Less is found rest = rest (rw is at found)
+    by Equal is found rest = subst (λ (c : OpenCommand). P (client, c)) (of_some (rw is at found)) (subst (λ (k : ClientNo). P (k, e.1)) (ap (λ (k : ℕ). record { 0 = k }) (sym (exact_unsigned client.0 e.0.0 is))) every.0)
+    by Greater is found rest = rest (rw is at found)
+
+module _ (s : Setting) (m : Manager) (k : Kept) (local : Tid → ℕ) where
+  pub commands_facts : (c d : Commands) → Every (λ (entry : ClientNo × OpenCommand). IsCommand s entry.0 entry.1) d → HasFacts s m k c local → HasFacts s m k d local
   commands_facts c d every h = record { setting = h.setting; room = h.room; rising = h.rising; parts = h.parts; labels = h.labels; commands = every }

@@ -27,10 +27,10 @@ use Rattle.qs_tm.specs.Outcomes.{committed_before, voted_before}
 use Rattle.qs_tm.specs.Participant.{new_participant}
 use Rattle.qs_tm.specs.declared.manager.Manager.{Manager}
 use Rattle.qs_tm.specs.declared.participant.Participant.{Participant}
-use Rattle.qs_lawful.specs.NodeFacts.{AreHomed, HasNodeFacts, IsOf, IsPart, IsSetIn}
+use Rattle.qs_lawful.specs.NodeFacts.{AreHomed, AreNumbered, HasNodeFacts, IsOf, IsPart, IsSetIn}
 use Rattle.qs_lawful.proofs.Apart.{Apart, same_or_apart}
 use Rattle.qs_lawful.proofs.Faces.{put_apart}
-use Rattle.qs_lawful.proofs.FactsKept.{each_changed, room_on}
+use Rattle.qs_lawful.proofs.FactsKept.{each_changed, none_wait, room_on}
 use Rattle.qs_lawful.proofs.Marks.{changed_rises, put_there}
 use Rattle.qs_lawful.proofs.Truths.{clash, of_some, same_self}
 
@@ -39,12 +39,13 @@ use Rattle.qs_lawful.proofs.Truths.{clash, of_some, same_self}
 record IsUp (s : Setting) (m : Manager) : Type 0 where
   room : IsOf s m
   rising : IsRising tid_cmp m.known
-  parts : (tid : Tid) (part : Participant) → tm.part_of tid m ≡ Some part → IsPart s tid part
+  parts : (tid : Tid) (part : Participant) → tm.part_of tid m ≡ Some part → IsPart s 0 tid part
 
--- what is of its home, and has its places
+-- what is of its home, has its places, and is numbered
 record IsPlaced (s : Setting) (tid : Tid) (part : Participant) : Type 0 where
   homed : part.engage.home ≡ same_node tid.home s.node
   slots : length part.engage.peers ≡ 16
+  numbered : AreNumbered s.node 0 part.engage part.waiting
 
 -- what is put is known, and all else stays
 put_parts : (P : Tid → Participant → Type 0) (tid : Tid) (part : Participant) (m : Manager) → P tid part → ((t : Tid) (p : Participant) → tm.part_of t m ≡ Some p → P t p) → (t : Tid) (p : Participant) → tm.part_of t (tm.put_part tid part m) ≡ Some p → P t p
@@ -62,30 +63,31 @@ module _ (s : Setting) (tid : Tid) (m : Manager) (h : IsUp s m) where
   record IsMet (n : Manager) : Type 0 where
     room : IsOf s n
     rising : IsRising tid_cmp n.known
-    others : (t : Tid) (p : Participant) → Apart tid t → tm.part_of t n ≡ Some p → IsPart s t p
+    others : (t : Tid) (p : Participant) → Apart tid t → tm.part_of t n ≡ Some p → IsPart s 0 t p
     its : (p : Participant) → tm.part_of tid n ≡ Some p → IsPlaced s tid p
 
   met : IsMet (tm.meet tid m)
   met = by (tm.part_of tid m) refl
     where
       by : (o : Option Participant) → tm.part_of tid m ≡ o → IsMet (if is_some o then m else tm.put_part tid (new_participant (tm.is_home tid m)) m)
-      by (Some part) known = record { room = h.room; rising = h.rising; others = λ t p far is. h.parts t p is; its = λ p is. record { homed = (h.parts tid p is).homed; slots = (h.parts tid p is).slots } }
+      by (Some part) known = record { room = h.room; rising = h.rising; others = λ t p far is. h.parts t p is; its = λ p is. record { homed = (h.parts tid p is).homed; slots = (h.parts tid p is).slots; numbered = (h.parts tid p is).numbered } }
       by None unknown = record {
         room = room_on s m _ h.room;
         rising = put_rises tid_cmp tid_total tid (new_participant (tm.is_home tid m)) m.known h.rising;
         others = λ t p far is. h.parts t p (sym (put_apart tid t (new_participant (tm.is_home tid m)) m far) ∙ is);
-        its = λ p is. subst (IsPlaced s tid) (of_some (sym (put_there tid (new_participant (tm.is_home tid m)) m) ∙ is)) (record { homed = home_is; slots = refl });
+        its = λ p is. subst (IsPlaced s tid) (of_some (sym (put_there tid (new_participant (tm.is_home tid m)) m) ∙ is)) (record { homed = home_is; slots = refl; numbered = none_wait s.node 0 _ });
       }
 
   vote_up : (server : ServerNo) (covers : ℕ) → IsUp s (tm.take_up_vote tid server covers m)
   vote_up server covers = record {
     room = room_on s (tm.meet tid m) _ met.room;
     rising = changed_rises tid (voted_before (tm.is_home tid m) server covers) (tm.meet tid m) met.rising;
-    parts = each_changed tid (voted_before (tm.is_home tid m) server covers) (tm.meet tid m) (IsPart s) met.others (λ p known. record {
+    parts = each_changed tid (voted_before (tm.is_home tid m) server covers) (tm.meet tid m) (IsPart s 0) met.others (λ p known. record {
       homed = (met.its p known).homed;
       slots = (met.its p known).slots;
       logged = λ e. refl;
       began = λ home unknown. absurd (decided p (tm.is_home tid m) (sym home_is) ((met.its p known).homed) home unknown);
+      numbered = (met.its p known).numbered;
     });
   }
     where
@@ -101,7 +103,7 @@ module _ (s : Setting) (tid : Tid) (m : Manager) (h : IsUp s m) where
       by false = record {
         room = room_on s m _ h.room;
         rising = put_rises tid_cmp tid_total tid (committed_before (tm.is_home tid m) told) m.known h.rising;
-        parts = put_parts (IsPart s) tid (committed_before (tm.is_home tid m) told) m (record { homed = home_is; slots = refl; logged = λ e. absurd (cc e); began = λ home unknown. absurd (cc unknown) }) h.parts;
+        parts = put_parts (IsPart s 0) tid (committed_before (tm.is_home tid m) told) m (record { homed = home_is; slots = refl; logged = λ e. absurd (cc e); began = λ home unknown. absurd (cc unknown); numbered = none_wait s.node 0 _ }) h.parts;
       }
 
 all_up : (s : Setting) (rs : List Record) (m : Manager) → IsUp s m → IsUp s (fold take_up m rs)

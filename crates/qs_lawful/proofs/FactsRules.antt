@@ -33,7 +33,7 @@ use Rattle.qs_step.specs.Asking.{ask_came, asked_by, become_asked, block, closer
 use Rattle.qs_step.specs.Bringing.{answer, enter, log_if, member_here, send, send_each, tid_of}
 use Rattle.qs_step.specs.Deciding.{decide, decide_commit, due_endings, end_member, end_members, give_notices, keep_outcome, learn_member, learn_members, learners_at}
 use Rattle.qs_step.specs.Requests as requests
-use Rattle.qs_step.specs.Requests.{answer_issuer, ask_on, enqueue, enter_issue, is_asked, issue, issue_as, issue_away, issue_here, label_of, next_number, reply_came, take_reply, waits_as, with_local}
+use Rattle.qs_step.specs.Requests.{answer_issuer, enqueue, reply_came, take_reply, waits_as}
 use Rattle.qs_step.specs.Serving.{cover_from, engage, enter_serve, is_dropped, label_at, learn_label, lent_to, make_loan, may_serve, met, put_label, reply_here, request_came, serve, serve_all, serve_next, serve_or_drop, take_in}
 use Rattle.qs_step.specs.State.{Work, change_server, client_cmp, here, part_of, with_doings, with_manager, with_queues}
 use Rattle.qs_step.specs.declared.state.OpenCommand.{OpenCommand}
@@ -45,11 +45,11 @@ use Rattle.qs_tm.specs.declared.manager.Decision.{Decision}
 use Rattle.qs_tm.specs.declared.participant.Outstanding.{Outstanding}
 use Rattle.qs_tm.specs.declared.participant.Participant.{Participant}
 use Rattle.std.specs.Prelude.{is_none}
-use Rattle.qs_lawful.specs.NodeFacts.{HasFacts, HasNodeFacts, IsCommand}
+use Rattle.qs_lawful.specs.NodeFacts.{HasFacts, HasNodeFacts, IsCommand, locals_of}
 use Rattle.qs_lawful.proofs.Asking.{sent_each_node, sent_node}
 use Rattle.qs_lawful.proofs.FactsKept.{IsQuiet, meet_facts, quiet_facts}
 use Rattle.qs_lawful.proofs.FactsLabelled.{commands_facts, decide_facts, every_removed, label_facts}
-use Rattle.qs_lawful.proofs.FactsQuiet.{ask_quiet, cause_quiet, counted_quiet, dropped_quiet, issued_quiet, logged_quiet, noted_quiet, refused_quiet, requested_quiet, sent_quiet, served_quiet, settled_quiet}
+use Rattle.qs_lawful.proofs.FactsQuiet.{ask_quiet, cause_quiet, counted_quiet, dropped_quiet, logged_quiet, noted_quiet, refused_quiet, requested_quiet, served_quiet, settled_quiet}
 
 -- a rule keeps what holds of the node by itself
 abbrev pub Keeps : Work → Work → Type 0
@@ -81,7 +81,7 @@ pub node_keeps : (work new : Work) → new.node ≡ work.node → Keeps work new
 node_keeps work new same h = subst HasNodeFacts (sym same) h
 
 pub part_keeps : (tid : Tid) (f : Participant → Participant) → IsQuiet f → (work : Work) → Keeps work (with_manager (tm.with_part tid f) work)
-part_keeps tid f quiet work h = quiet_facts work.node.setting work.node.kept.now work.node.commands tid f quiet work.node.manager h
+part_keeps tid f quiet work h = quiet_facts work.node.setting work.node.kept.now work.node.commands (locals_of work.node) tid f quiet work.node.manager h
 
 -- ---- messages, answers and records
 
@@ -93,7 +93,7 @@ send_each_keeps nodes message work = node_keeps work (send_each nodes message wo
 
 pub log_if_keeps : (o : Option Record) (work : Work) → Keeps work (log_if o work)
 log_if_keeps None work h = h
-log_if_keeps (Some rec) work h = quiet_facts work.node.setting work.node.kept.now work.node.commands (tid_of rec) (outcome_rules.logged rec) (logged_quiet rec) work.node.manager h
+log_if_keeps (Some rec) work h = quiet_facts work.node.setting work.node.kept.now work.node.commands (locals_of work.node) (tid_of rec) (outcome_rules.logged rec) (logged_quiet rec) work.node.manager h
 
 pub answer_keeps : (client : ClientNo) (said : Answer) (work : Work) → Keeps work (answer client said work)
 answer_keeps client said work = by (lookup (is_at (client_cmp client)) work.node.commands)
@@ -109,35 +109,13 @@ answer_keeps client said work = by (lookup (is_at (client_cmp client)) work.node
       }
     ])
     by None h = h
-    by (Some command) h = commands_facts work.node.setting work.node.manager work.node.kept.now work.node.commands (remove_entry (is_at (client_cmp client)) work.node.commands)
+    by (Some command) h = commands_facts work.node.setting work.node.manager work.node.kept.now (locals_of work.node) work.node.commands (remove_entry (is_at (client_cmp client)) work.node.commands)
         (every_removed (λ (entry : ClientNo × OpenCommand). IsCommand work.node.setting entry.0 entry.1) (is_at (client_cmp client)) work.node.commands h.commands) h
 
 -- ---- requests
 
-enqueue_keeps : (server : ServerNo) (delivery : Delivery) (work : Work) → Keeps work (enqueue server delivery work)
+pub enqueue_keeps : (server : ServerNo) (delivery : Delivery) (work : Work) → Keeps work (enqueue server delivery work)
 enqueue_keeps server delivery work = if_keeps (is_for server delivery.op) (with_queues (ipc.enqueue server delivery) work) work work (λ is h. h) (λ is h. h)
-
-ask_on_keeps : (b : Bool) (tid : Tid) (to : NodeNo) (work : Work) → Keeps work (ask_on b tid to work)
-ask_on_keeps false tid to work h = h
-ask_on_keeps true tid to work h = send_keeps to (messages.AskVote tid) work h
-
-issue_here_keeps : (tid : Tid) (request : Outstanding) (op : Op) (work : Work) → Keeps work (issue_here tid request op work)
-issue_here_keeps tid request op work h = enqueue_keeps request.member.server (record { tid = tid; from = here work; number = request.number; op = op; stale = false }) (with_local tid request.number (enter_issue tid request op work))
-    (quiet_facts work.node.setting work.node.kept.now work.node.commands tid (participant.issued request) (issued_quiet request) work.node.manager h)
-
-issue_away_keeps : (tid : Tid) (request : Outstanding) (op : Op) (work : Work) → Keeps work (issue_away tid request op work)
-issue_away_keeps tid request op work h =
-    ask_on_keeps (is_asked tid work) tid request.member.node (send request.member.node (messages.Request tid (label_of tid work.node) request.member request.number request.issuer op) (with_manager (tm.sent tid request.member.node) (enter_issue tid request op work)))
-    (send_keeps request.member.node (messages.Request tid (label_of tid work.node) request.member request.number request.issuer op) (with_manager (tm.sent tid request.member.node) (enter_issue tid request op work))
-    (part_keeps tid (participant.sent request.member.node) (sent_quiet request.member.node) (enter_issue tid request op work)
-    (quiet_facts work.node.setting work.node.kept.now work.node.commands tid (participant.issued request) (issued_quiet request) work.node.manager h)))
-
-pub issue_as_keeps : (tid : Tid) (request : Outstanding) (op : Op) (work : Work) → Keeps work (issue_as tid request op work)
-issue_as_keeps tid request op work = if_keeps (same_node request.member.node (here work)) (issue_here tid request op work) (issue_away tid request op work) work (λ is. issue_here_keeps tid request op work) (λ is. issue_away_keeps tid request op work)
-
-pub issue_keeps : (tid : Tid) (issuer : ServerNo) (member : Member) (op : Op) (changes : ℕ) (work : Work) → Keeps work (issue tid issuer member op changes work)
-issue_keeps tid issuer member op changes work = elim_keeps (next_number tid member.node work) work (λ number. issue_as tid (record { issuer = issuer; member = member; number = number; count = changes }) op work) work (λ h. h)
-    (λ number is. issue_as_keeps tid (record { issuer = issuer; member = member; number = number; count = changes }) op work)
 
 -- ---- replies
 
@@ -167,11 +145,11 @@ request_keeps peer tid label member number op work h =
     (part_keeps tid (participant.requested peer number) (requested_quiet peer number) (met tid (learn_label label tid work)) (met_keeps (learn_label label tid work) (noted h))))
   where
     met_keeps : (w : Work) → Keeps w (met tid w)
-    met_keeps w = if_keeps (same_node tid.home (here w)) w (with_manager (tm.meet tid) w) w (λ is h. h) (λ is h. meet_facts w.node.setting w.node.kept.now w.node.commands tid w.node.manager is h)
+    met_keeps w = if_keeps (same_node tid.home (here w)) w (with_manager (tm.meet tid) w) w (λ is h. h) (λ is h. meet_facts w.node.setting w.node.kept.now w.node.commands (locals_of w.node) tid w.node.manager is h)
 
     noted : Keeps work (learn_label label tid work)
     noted = if_keeps (is_none (label_at label work.node)) (put_label (record { label = label; tid = Some tid; owner = None }) work) work work
-        (λ is h. label_facts work.node.setting work.node.commands (record { label = label; tid = Some tid; owner = None }) (λ t client of owned. cc owned) work.node.manager work.node.kept.now h) (λ is h. h)
+        (λ is h. label_facts work.node.setting work.node.commands (locals_of work.node) (record { label = label; tid = Some tid; owner = None }) (λ t client of owned. cc owned) work.node.manager work.node.kept.now h) (λ is h. h)
 
 pub loan_keeps : (tid : Tid) (o : Option ClientNo) (work : Work) → Keeps work (make_loan tid o work)
 loan_keeps tid None work h = h
@@ -207,10 +185,10 @@ serve_all_keeps work = fold_keeps serve_next serve_next_keeps (ipc.turns work.no
 -- ---- notices and decisions
 
 pub ended_keeps : (tid : Tid) (work : Work) → Keeps work (end_members tid work)
-ended_keeps tid work = fold_keeps (end_member tid) (λ w s h. quiet_facts w.node.setting w.node.kept.now w.node.commands tid (outcome_rules.settled s) (settled_quiet s) w.node.manager h) (due_endings tid work) work
+ended_keeps tid work = fold_keeps (end_member tid) (λ w s h. quiet_facts w.node.setting w.node.kept.now w.node.commands (locals_of w.node) tid (outcome_rules.settled s) (settled_quiet s) w.node.manager h) (due_endings tid work) work
 
 learnt_keeps : (tid : Tid) (outcome : Outcome) (work : Work) → Keeps work (learn_members tid outcome work)
-learnt_keeps tid outcome work = fold_keeps (learn_member tid outcome) (λ w s h. quiet_facts w.node.setting w.node.kept.now w.node.commands tid (outcome_rules.settled s) (settled_quiet s) w.node.manager h) (learners_at tid work) work
+learnt_keeps tid outcome work = fold_keeps (learn_member tid outcome) (λ w s h. quiet_facts w.node.setting w.node.kept.now w.node.commands (locals_of w.node) tid (outcome_rules.settled s) (settled_quiet s) w.node.manager h) (learners_at tid work) work
 
 pub noticed_keeps : (tid : Tid) (outcome : Outcome) (work : Work) → Keeps work (give_notices tid outcome work)
 noticed_keeps tid outcomes.Commit work h = learnt_keeps tid outcomes.Commit work h
@@ -219,12 +197,12 @@ noticed_keeps tid outcomes.Abort work h = learnt_keeps tid outcomes.Abort (end_m
 pub decided_keeps : (tid : Tid) (outcome : Outcome) (cause : Option Cause) (work : Work) → Keeps work (decide tid outcome cause work)
 decided_keeps tid outcome cause work h = sent made
   where
-    its : HasFacts work.node.setting (tm.decide tid outcome work.node.manager) (record work.node.kept.now { outcomes = work.node.kept.now.outcomes ++ record { tid = tid; outcome = outcome; cause = cause } ∷ [] }) work.node.commands
-    its = decide_facts work.node.setting work.node.commands tid (outcome_rules.decided outcome) (λ p. refl) (λ p. refl) (λ p l is. l is) (λ p e. cc e) (record { tid = tid; outcome = outcome; cause = cause }) refl work.node.manager work.node.kept.now h
+    its : HasFacts work.node.setting (tm.decide tid outcome work.node.manager) (record work.node.kept.now { outcomes = work.node.kept.now.outcomes ++ record { tid = tid; outcome = outcome; cause = cause } ∷ [] }) work.node.commands (locals_of work.node)
+    its = decide_facts work.node.setting work.node.commands (locals_of work.node) tid (outcome_rules.decided outcome) (λ p. refl) (λ p. refl) (λ p l is. l is) (λ p e. cc e) (λ p here local h. h) (record { tid = tid; outcome = outcome; cause = cause }) refl work.node.manager work.node.kept.now h
 
     logged : (o : Option Record) → HasNodeFacts (enter (acts.Decide tid outcome cause) (keep_outcome tid outcome cause (log_if o (with_manager (tm.decide tid outcome) work)))).node
     logged None = its
-    logged (Some rec) = quiet_facts work.node.setting (record work.node.kept.now { outcomes = work.node.kept.now.outcomes ++ record { tid = tid; outcome = outcome; cause = cause } ∷ [] }) work.node.commands (tid_of rec) (outcome_rules.logged rec) (logged_quiet rec) (tm.decide tid outcome work.node.manager) its
+    logged (Some rec) = quiet_facts work.node.setting (record work.node.kept.now { outcomes = work.node.kept.now.outcomes ++ record { tid = tid; outcome = outcome; cause = cause } ∷ [] }) work.node.commands (locals_of work.node) (tid_of rec) (outcome_rules.logged rec) (logged_quiet rec) (tm.decide tid outcome work.node.manager) its
 
     made : Decision
     made = tm.decision tid outcome work.node.manager

@@ -27,7 +27,7 @@ use Rattle.qs_tm.specs.Outcomes.{is_abort, is_told_again, named_by, told_with_ow
 use Rattle.qs_tm.specs.Participant as participant
 use Rattle.qs_tm.specs.Participant.{is_forgotten, is_owed_by, is_undecided}
 use Rattle.qs_tm.specs.declared.participant.Participant.{Participant}
-use Rattle.qs_lawful.specs.NodeFacts.{HasNodeFacts}
+use Rattle.qs_lawful.specs.NodeFacts.{HasNodeFacts, locals_of}
 use Rattle.qs_lawful.proofs.FactsKept.{abort_facts, forget_facts, outcome_facts, quiet_facts}
 use Rattle.qs_lawful.proofs.FactsQuiet.{acknowledged_quiet, names_quiet, restarted_quiet, tell_quiet, told_quiet}
 use Rattle.qs_lawful.proofs.FactsRules.{Keeps, block_keeps, elim_keeps, fold_keeps, if_keeps, log_if_keeps, noticed_keeps, part_keeps, send_each_keeps, send_keeps}
@@ -38,7 +38,7 @@ use Rattle.qs_lawful.proofs.Truths.{of_some}
 learn_keeps : (tid : Tid) (outcome : Outcome) (part : Participant) (work : Work) → same_node tid.home (here work) ≡ false → Keeps work (learn tid outcome part work)
 learn_keeps tid outcome part work away h =
     log_if_keeps (record_learnt tid outcome part) (give_notices tid outcome (with_manager (tm.took_outcome tid outcome) work))
-    (noticed_keeps tid outcome (with_manager (tm.took_outcome tid outcome) work) (outcome_facts work.node.setting work.node.kept.now work.node.commands tid outcome work.node.manager away h))
+    (noticed_keeps tid outcome (with_manager (tm.took_outcome tid outcome) work) (outcome_facts work.node.setting work.node.kept.now work.node.commands (locals_of work.node) tid outcome work.node.manager away h))
 
 take_outcome_keeps : (tid : Tid) (outcome : Outcome) (work : Work) → same_node tid.home (here work) ≡ false → Keeps work (take_outcome tid outcome work)
 take_outcome_keeps tid outcome work away = elim_keeps (part_of tid work) (learn_unknown tid outcome work) (λ part. if is_undecided part then learn tid outcome part work else work) work (unknown outcome)
@@ -46,7 +46,7 @@ take_outcome_keeps tid outcome work away = elim_keeps (part_of tid work) (learn_
   where
     unknown : (o : Outcome) → Keeps work (learn_unknown tid o work)
     unknown outcomes.Commit h = h
-    unknown outcomes.Abort h = abort_facts work.node.setting work.node.kept.now work.node.commands tid work.node.manager h
+    unknown outcomes.Abort h = abort_facts work.node.setting work.node.kept.now work.node.commands (locals_of work.node) tid work.node.manager h
 
 pub tell_keeps : (peer : NodeNo) (tid : Tid) (outcome : Outcome) (work : Work) → Keeps work (tell_came peer tid outcome work)
 tell_keeps peer tid outcome work = if_keeps (same_node tid.home (here work)) work (send peer (messages.Told tid (names_at tid outcome work)) (take_outcome tid outcome work)) work (λ is h. h)
@@ -57,7 +57,7 @@ names_keeps tid further work h = send_each_keeps (listed (tm.new_names tid furth
     (part_keeps tid (outcome_rules.take_names tid.home further) (names_quiet tid.home further) work h)
 
 keep_abort_keeps : (tid : Tid) (peer : NodeNo) (work : Work) → Keeps work (keep_abort_told tid peer work)
-keep_abort_keeps tid peer work h = quiet_facts work.node.setting work.node.kept.now work.node.commands tid (outcome_rules.add_tell peer) (tell_quiet peer) (tm.keep_abort tid work.node.manager) (abort_facts work.node.setting work.node.kept.now work.node.commands tid work.node.manager h)
+keep_abort_keeps tid peer work h = quiet_facts work.node.setting work.node.kept.now work.node.commands (locals_of work.node) tid (outcome_rules.add_tell peer) (tell_quiet peer) (tm.keep_abort tid work.node.manager) (abort_facts work.node.setting work.node.kept.now work.node.commands (locals_of work.node) tid work.node.manager h)
 
 -- no client here waits for what is decided and not kept
 decided_unowned : (tid : Tid) (part : Participant) (work : Work) → HasNodeFacts work.node → part_of tid work ≡ Some part → (part.outcome ≡ None → ⊥)
@@ -68,7 +68,7 @@ decided_unowned tid part work h known decided label begun client found of owned 
 end_told_keeps : (b : Bool) (peer : NodeNo) (tid : Tid) (part : Participant) (work : Work) → part_of tid work ≡ Some part → (part.outcome ≡ None → ⊥) → Keeps work (end_told b tid (with_manager (tm.acknowledged tid peer) work))
 end_told_keeps false peer tid part work known decided h = part_keeps tid (outcome_rules.acknowledged peer) (acknowledged_quiet peer) work h
 end_told_keeps true peer tid part work known decided h =
-    forget_facts work.node.setting work.node.kept.now work.node.commands tid (log (records.End tid) (with_manager (tm.acknowledged tid peer) work)).node.manager
+    forget_facts work.node.setting work.node.kept.now work.node.commands (locals_of work.node) tid (log (records.End tid) (with_manager (tm.acknowledged tid peer) work)).node.manager
     (λ label begun client. decided_unowned tid part work h known decided label begun client)
     (log_if_keeps (Some (records.End tid)) (with_manager (tm.acknowledged tid peer) work) (part_keeps tid (outcome_rules.acknowledged peer) (acknowledged_quiet peer) work h))
 

@@ -29,7 +29,7 @@ turned true h = absurd (cc h)
 turned false h = refl
 
 -- a vote is the same as another where that one is the same as it
-same_vote_sym : (v w : Prepared) → is_same_vote (found_of v) (found_of w) ≡ is_vote_of w.tid w.server v
+pub same_vote_sym : (v w : Prepared) → is_same_vote (found_of v) (found_of w) ≡ is_vote_of w.tid w.server v
 same_vote_sym v w = turn (w.tid.home.0 == v.tid.home.0) (v.tid.home.0 == w.tid.home.0) (w.tid.inc == v.tid.inc) (v.tid.inc == w.tid.inc) (w.tid.seq == v.tid.seq) (v.tid.seq == w.tid.seq) (w.server.0 == v.server.0) (v.server.0 == w.server.0)
     (flip _ _) (flip _ _) (flip _ _) (flip _ _)
   where
@@ -121,6 +121,10 @@ once_all (rec ∷ log) said h = once_all log (found_record said rec) (once_recor
 map_twice : (xs : List Prepared) → map moves.found_of (map open_vote xs) ≡ map found_of xs
 map_twice [] = refl
 map_twice (x ∷ xs) = ap (λ (fs : List Found). found_of x ∷ fs) (map_twice xs)
+
+-- a server's vote for a transaction stands in a log once
+pub votes_once_in : (log : List Record) → votes_once (map found_of (recovery log).prepared) ≡ true
+votes_once_in log = once_all log nothing_said refl
 
 -- the votes that a restart finds are found once
 pub found_once : (log : List Record) → votes_once (found_votes (recovery log)) ≡ true

@@ -32,7 +32,7 @@ each_at (suc count) test k all below = by (k == count) refl (each_at count test 
     by true is rest = ap test (number_is k count is) ∙ left_true (test count) _ all
     by false is rest = rest (lower is)
 
-module _ (o : Opening) (book : BookValue) (world : World) (n stamp free : ℕ) (opens : IsOpening o) (g : WorldGives o book world n free) where
+module _ (o : Opening) (book : BookValue) (world : World) (n stamp free : ℕ) (opens : IsOpening o) (source : Source) (g : WorldGives o book world n free source) where
   formed : (k : ℕ) → nat_lt k 64 ≡ true → list_all (is_line world.size k (labels_begun (o.clients k).1)) (o.clients k).1 ≡ true
   formed k small = subst (λ (size : ℕ). list_all (is_line size k (labels_begun (o.clients k).1)) (o.clients k).1 ≡ true) (sym g.size)
       (right_true (are_rising 0 (o.clients k).1) _ (right_true (nat_lt (o.clients k).0 o.size) _ (each_at 64 (λ k. is_script o.size k (o.clients k)) k opens.scripts small)))
@@ -56,13 +56,16 @@ module _ (o : Opening) (book : BookValue) (world : World) (n stamp free : ℕ) (
       by true is = subst (λ (e : Event). ComesTo book e (work_on (world.hosts n).node free)) (of_some is)
           (message_comes book world n m g.channels (g.ways m n between.from between.to between.other) g.node g.nodes parcel next)
 
-  pub event_comes : (source : Source) (event : Event) → event_of world n stamp source ≡ Some event → ComesTo book event (work_on (world.hosts n).node free)
-  event_comes (Commanded k) event is = commanded k event (nat_lt k 64 && ((world.clients k).at == n)) refl (next_line (world.clients k)) refl is
-  event_comes (Handed m) event is = handed m event (next_parcel world n m) refl is
-  event_comes Queues event is = subst (λ (e : Event). ComesTo book e (work_on (world.hosts n).node free)) (of_some is) g.room
-  event_comes Clock event is = subst (λ (e : Event). ComesTo book e (work_on (world.hosts n).node free)) (of_some is) g.young
-  event_comes (Noticed m new) event is = by (nat_lt 0 (known_of world n m) && (nat_lt (known_of world n m) new && has_begun world stamp m new)) is
+  from_source : (from : Source) → source ≡ from → (event : Event) → event_of world n stamp from ≡ Some event → ComesTo book event (work_on (world.hosts n).node free)
+  from_source (Commanded k) its event is = commanded k event (nat_lt k 64 && ((world.clients k).at == n)) refl (next_line (world.clients k)) refl is
+  from_source (Handed m) its event is = handed m event (next_parcel world n m) refl is
+  from_source Queues its event is = subst (λ (e : Event). ComesTo book e (work_on (world.hosts n).node free)) (of_some is) (g.room its)
+  from_source Clock its event is = subst (λ (e : Event). ComesTo book e (work_on (world.hosts n).node free)) (of_some is) g.young
+  from_source (Noticed m new) its event is = by (nat_lt 0 (known_of world n m) && (nat_lt (known_of world n m) new && has_begun world stamp m new)) is
     where
       by : (b : Bool) → (if b then Some (events.PeerRestarted (node_no m) (known_of world n m) new) else None) ≡ Some event → ComesTo book event (work_on (world.hosts n).node free)
       by false is = absurd (cc is)
       by true is = subst (λ (e : Event). ComesTo book e (work_on (world.hosts n).node free)) (of_some is) tt
+
+  pub event_comes : (event : Event) → event_of world n stamp source ≡ Some event → ComesTo book event (work_on (world.hosts n).node free)
+  event_comes event is = from_source source refl event is

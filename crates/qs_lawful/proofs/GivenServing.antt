@@ -138,7 +138,7 @@ module _ (stamp : ℕ) (before : BookValue) (size : ℕ) (nodes : ℕ → NodeVa
   -- a reply may come, whichever it is
   pub may_reply : (tid : Tid) (member : Member) (number : ℕ) → MayReply stamp before work tid member number
   may_reply tid member number part tx request known found waits =
-      replied_notes work.node.setting.node work.node.setting.inc tid tx part (notes_of tid tx part found known) (s.by.sound.apart tid part known) member number request waits
+      replied_notes work.node.setting.node work.node.setting.inc tid tx part (notes_of tid tx part found known) (s.by.facts.parts tid part known).numbered.apart member number request waits
 
   -- what waits first at a server may be served
   pub may_serve : (server : ServerNo) → CanCount work server → MayServe stamp before work server
@@ -189,7 +189,7 @@ module _ (stamp : ℕ) (before : BookValue) (size : ℕ) (nodes : ℕ → NodeVa
           by (Some part) known = subst (λ (t : Setting). AreNoted t.node t.inc delivery.tid tx3 (replied (at_server work.node.setting.node server) delivery.number request part3)) (sym alike.0)
               (replied_notes work.node.setting.node work.node.setting.inc delivery.tid tx3 part3
               (of_tx found.0 found.1 part known is)
-              (subst AreApart (sym (served_waiting server part) ∙ ap (λ (p : Participant). p.waiting) is) (s.by.sound.apart delivery.tid part known))
+              (subst AreApart (sym (served_waiting server part) ∙ ap (λ (p : Participant). p.waiting) is) (s.by.facts.parts delivery.tid part known).numbered.apart)
               (at_server work.node.setting.node server) delivery.number request waits)
             where
               is : participant.served server part ≡ part3

@@ -7,7 +7,7 @@ use Rattle.qs_base.specs.declared.identifiers.NodeNo.{NodeNo}
 use Rattle.qs_base.specs.declared.identifiers.Tid.{Tid}
 use Rattle.qs_engage.specs.Nodes.{all_nodes, has_node, is_no_node, listed, same_node, with_listed}
 use Rattle.qs_engage.specs.declared.nodes.Nodes.{Nodes}
-use Rattle.qs_machine.specs.Book.{BookValue}
+use Rattle.qs_machine.specs.Book.{BookValue, find_transaction}
 use Rattle.qs_machine.specs.Nodes as machine
 use Rattle.qs_machine.specs.Transaction.{TransactionValue, has_refusal, is_commit, is_unanimous}
 use Rattle.qs_machine.specs.Clauses.{has_no_record, is_gone_cause}
@@ -19,17 +19,14 @@ use Rattle.qs_tm.specs.Outcomes as outcome_rules
 use Rattle.qs_tm.specs.Participant.{is_forgotten}
 use Rattle.qs_tm.specs.declared.participant.Participant.{Participant}
 use Rattle.qs_world.specs.Openings.{is_audit}
-use Rattle.qs_lawful.specs.Agreed.{IsSettledAll, IsUndone}
+use Rattle.qs_lawful.specs.Agreed.{IsIdle, IsUndone}
 use Rattle.qs_lawful.specs.Beside.{IsTrueCause, is_committed_at, is_done}
 use Rattle.qs_lawful.specs.Entering.{book_at}
-use Rattle.qs_lawful.specs.Face.{face_of, part_or_new}
-use Rattle.qs_lawful.specs.Holds.{HoldsNode, HoldsTid}
-use Rattle.qs_lawful.proofs.Clauses.{of_tid}
+use Rattle.qs_lawful.specs.Holds.{HoldsNode}
 use Rattle.qs_lawful.proofs.OnlyRead.{only_read_there}
 use Rattle.qs_lawful.proofs.Truths.{both_true, clash, left_true, node_is, number_is, not_false, not_true, of_some, right_true}
-use Rattle.qs_lawful.proofs.Unanimity.{unanimous}
 use Rattle.qs_lawful.specs.Given.{HasCause, IsUncommitted, MayCommit, MayDecide, MayForget, MayPass}
-use Rattle.qs_lawful.specs.NodeFacts.{IsPart}
+use Rattle.qs_lawful.specs.NodeFacts.{IsPart, locals_of}
 use Rattle.qs_lawful.specs.Standing.{Stands, StandsBy}
 
 -- the Commit's need stands between those of a Commit that names nobody and of one that names all nodes
@@ -78,7 +75,7 @@ module _ (stamp : ℕ) (before : BookValue) (size : ℕ) (nodes : ℕ → NodeVa
   -- ---- decisions at the home
 
   module _ (work : Work) (s : StandsBy stamp before size nodes n work) (tid : Tid) (part : Participant) (known : tm.part_of tid work.node.manager ≡ Some part) where
-    is_part : IsPart work.node.setting tid part
+    is_part : IsPart work.node.setting (locals_of work.node tid) tid part
     is_part = s.facts.parts tid part known
 
     at_home : part.engage.home ≡ true → tid.home ≡ work.node.setting.node
@@ -122,33 +119,27 @@ module _ (stamp : ℕ) (before : BookValue) (size : ℕ) (nodes : ℕ → NodeVa
   module _ (work : Work) (s : Stands stamp before size nodes n work) (tid : Tid) (part : Participant) (known : tm.part_of tid work.node.manager ≡ Some part) where
     -- ---- forgetting
 
-    pub may_forget : part.engage.home ≡ false → is_forgotten part ≡ true → MayForget stamp before work tid
-    may_forget away forgotten = record {
+    pub may_forget : part.engage.home ≡ false → is_forgotten part ≡ true → IsIdle part → MayForget stamp before work tid
+    may_forget away forgotten idle = record {
       away = λ e. clash (sym away ∙ ((s.by.facts.parts tid part known).homed ∙ ap (λ (k : NodeNo). same_node k work.node.setting.node) e ∙ itself work.node.setting.node.0));
       once = s.by.facts.rising;
-      read = λ tx found. only_read_there stamp before size nodes n work s tid part known tx found forgotten;
+      read = λ tx found. only_read_there stamp before size nodes n work s tid part known tx found forgotten idle;
     }
       where
         itself : (k : ℕ) → (k == k) ≡ true
         itself k = grind (arith, nat_tests)
 
-    -- ---- committing: what is settled, and where its Commit finds no room the machine finds so
+    -- ---- committing: what is unanimous, and where its Commit finds no room the machine finds so
+
+    abbrev IsAgreed : Type 0
+    IsAgreed = (tx : TransactionValue) → find_transaction (book_at stamp before work) tid ≡ Some tx → is_unanimous tx ≡ true
 
     -- the Commit names at least one node, and not all
-    room_cause : part.engage.home ≡ true → part.outcome ≡ None → part.asked ≡ true → IsSettledAll (book_at stamp before work) tid → (need : ℕ) → tm.need_past tid work.room work.node.manager ≡ Some need → HasCause stamp before work tid (causes.Room need work.room)
-    room_cause home unknown asked settled need is state tx there found = both_true (is_unanimous tx && has_no_record state tid) _ (both_true (is_unanimous tx) (has_no_record state tid) agreed unrecorded) (room_within work.node.manager.extra work.node.manager.keep (length (listed part.told)) (length (book_at stamp before work).nodes) need work.room (machine.extra_of state.format) (machine.keep_of state.format) same_extra same_keep named few lacks.1 short)
+    room_cause : part.engage.home ≡ true → part.outcome ≡ None → IsAgreed → length (listed part.told) < work.node.setting.nodes → (need : ℕ) → tm.need_past tid work.room work.node.manager ≡ Some need → HasCause stamp before work tid (causes.Room need work.room)
+    room_cause home unknown agreed lacks_one need is state tx there found = both_true (is_unanimous tx && has_no_record state tid) _ (both_true (is_unanimous tx) (has_no_record state tid) (agreed tx found) unrecorded) (room_within work.node.manager.extra work.node.manager.keep (length (listed part.told)) (length (book_at stamp before work).nodes) need work.room (machine.extra_of state.format) (machine.keep_of state.format) same_extra same_keep named few lacks.1 short)
       where
-        sound : IsPart work.node.setting tid part
+        sound : IsPart work.node.setting (locals_of work.node tid) tid part
         sound = s.by.facts.parts tid part known
-
-        held : HoldsTid work.node.setting.node work.node.setting.inc tid tx (face_of work.node tid)
-        held = of_tid stamp (book_at stamp before work) work.node s.held.holds tid tx found
-
-        decides : MayDecide stamp before work tid
-        decides = may_decide work s.by tid part known home unknown
-
-        agreed : is_unanimous tx ≡ true
-        agreed = unanimous settled.world settled.settled tx ((held.home decides.home decides.inc).undecided part known unknown) (held.asked (ap (λ (o : Option Participant). (part_or_new o).asked) known ∙ asked)) (settled.places tx found)
 
         need_is : (o : Option Participant) → o ≡ Some part → elim o [ None ↦ None | Some p ↦ tm.need_of work.room work.node.manager p ] ≡ Some need → tm.need_of work.room work.node.manager part ≡ Some need
         need_is None e h = absurd (cc e)
@@ -185,7 +176,7 @@ module _ (stamp : ℕ) (before : BookValue) (size : ℕ) (nodes : ℕ → NodeVa
             second false e h = h
 
         few : length (listed part.told) < length (book_at stamp before work).nodes
-        few = subst (λ (k : ℕ). length (listed part.told) < k) (sym s.held.holds.run) (s.by.sound.told tid part known)
+        few = subst (λ (k : ℕ). length (listed part.told) < k) (sym s.held.holds.run) lacks_one
 
         same_extra : machine.extra_of state.format ≡ work.node.manager.extra
         same_extra = of_state.extra ∙ sym s.by.facts.room.extra
@@ -199,11 +190,9 @@ module _ (stamp : ℕ) (before : BookValue) (size : ℕ) (nodes : ℕ → NodeVa
             of_state : HoldsNode work.node state
             of_state = subst (λ (x : machine.NodeValue). HoldsNode work.node x) (of_some (sym s.held.holds.there ∙ there)) s.held.holds.same
 
-    pub may_commit : part.engage.home ≡ true → part.outcome ≡ None → part.asked ≡ true → IsSettledAll (book_at stamp before work) tid → MayCommit stamp before work tid
-    may_commit home unknown asked settled = record {
+    pub may_commit : part.engage.home ≡ true → part.outcome ≡ None → IsAgreed → length (listed part.told) < work.node.setting.nodes → MayCommit stamp before work tid
+    may_commit home unknown agreed lacks_one = record {
       decides = may_decide work s.by tid part known home unknown;
-      world = settled.world;
-      settled = settled.settled;
-      places = settled.places;
-      room = room_cause home unknown asked settled;
+      agreed = agreed;
+      room = room_cause home unknown agreed lacks_one;
     }

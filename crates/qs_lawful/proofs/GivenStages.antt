@@ -1,15 +1,14 @@
 -- Each transaction is settled with what it is given, at each stage of the fold: by what stands there, and by what the protocol gives there.
-use Rattle.std.proofs.Common.{◌≡◌, ℕ, Bool, true, false, List, [], ◌∷◌, Some, None, refl, subst, fold}
+use Rattle.std.proofs.Common.{◌≡◌, ℕ, true, false, List, [], ◌∷◌, Some, None, subst, fold}
 use Rattle.std.specs.Prelude.{not, ◌&&◌}
 use Rattle.qs_base.specs.declared.identifiers.Tid.{Tid}
-use Rattle.qs_engage.specs.Engage.{is_passive}
 use Rattle.qs_machine.specs.Book.{BookValue, find_transaction}
 use Rattle.qs_machine.specs.Transaction.{TransactionValue}
 use Rattle.qs_ops.specs.declared.answer.Cause.{Cause}
-use Rattle.qs_step.specs.Settling.{forget_rule, is_busy, is_quiet, may_answer, pass_rule, ready_rule, refuse_rule, settle_tid, try}
+use Rattle.qs_step.specs.Settling.{forget_rule, is_quiet, may_answer, pass_rule, ready_rule, refuse_rule, settle_tid, try}
 use Rattle.qs_step.specs.State.{NodeValue, Work, doings_of}
 use Rattle.qs_tm.specs.Manager as tm
-use Rattle.qs_tm.specs.Participant.{all_agree, is_forgotten, is_undecided, needs_pass}
+use Rattle.qs_tm.specs.Participant.{is_forgotten, is_undecided}
 use Rattle.qs_tm.specs.declared.participant.Participant.{Participant}
 use Rattle.qs_lawful.specs.Agreed.{AgreementGives}
 use Rattle.qs_lawful.specs.Beside.{IsTrueCause}
@@ -56,14 +55,8 @@ module _ (stamp : ℕ) (before : BookValue) (size : ℕ) (nodes : ℕ → NodeVa
     s_passed = let held : HoldsWork stamp before passed = by_undecided stamp before work s.held tid (pass_rule tid) (λ part known unknown. by_pass_rule stamp before tid work s.held part known (λ due. may_pass stamp before size nodes n work s.by tid part known (agreed.passes part known due))) in
         record { held = held; by = keeps.passes work tid (record { may = λ part known due. may_pass stamp before size nodes n work s.by tid part known (agreed.passes part known due); room = room }) s held }
 
-    asked_of : (a b c d e f g : Bool) → (((a && b) && ((c && d) && e)) && (f && g)) ≡ true → a ≡ true
-    asked_of true b c d e f g is = refl
-    asked_of false b c d e f g is = absurd (cc is)
-
     commits_so : (part : Participant) → tm.part_of tid passed.node.manager ≡ Some part → part.outcome ≡ None → part.engage.home ≡ true → may_answer tid part passed ≡ true → is_quiet (doings_of tid passed) ≡ true → MayCommit stamp before passed tid
-    commits_so part known unknown home ready quiet = may_commit stamp before size nodes n passed s_passed tid part known home unknown
-        (asked_of part.asked (not part.blocked) (not (is_busy tid passed.node part)) (is_passive part.engage) (all_agree part) (not (needs_pass part)) (not (doings_of tid passed).prepared) ready)
-        (agreed.commits part known unknown home ready quiet)
+    commits_so part known unknown home ready quiet = may_commit stamp before size nodes n passed s_passed tid part known home unknown (agreed.commits part known unknown home ready quiet) (agreed.alone.told part known home)
 
     pub s_answered : Stands stamp before size nodes n answered
     s_answered = let held : HoldsWork stamp before answered = by_undecided stamp before passed s_passed.held tid (ready_rule tid) (λ part known unknown. by_ready stamp before tid passed s_passed.held part known unknown (commits_so part known unknown)) in
@@ -88,7 +81,7 @@ module _ (stamp : ℕ) (before : BookValue) (size : ℕ) (nodes : ℕ → NodeVa
       passes = λ part known due. may_pass stamp before size nodes n work s.by tid part known (agreed.passes part known due);
       commits = commits_so;
       aborts = aborts_so;
-      forgets = λ part known forgotten. may_forget stamp before size nodes n refused s_refused tid part known (away part forgotten) forgotten;
+      forgets = λ part known forgotten. may_forget stamp before size nodes n refused s_refused tid part known (away part forgotten) forgotten (agreed.alone.idle part known forgotten);
     }
       where
         away : (part : Participant) → is_forgotten part ≡ true → part.engage.home ≡ false

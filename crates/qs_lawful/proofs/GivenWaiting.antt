@@ -1,14 +1,11 @@
 -- What a client's command is given, as it comes and while it waits: what a client here owns runs here, what is lent here is known and not
 -- committed, and a request fits the run.
-use Rattle.std.proofs.Common.{◌≡◌, ℕ, ◌==◌, Bool, true, false, List, [], ◌∷◌, Option, Some, None, Less, Equal, Greater, refl, sym, ap, subst, ◌∙◌, arith, nat_lt}
+use Rattle.std.proofs.Common.{◌≡◌, ℕ, ◌==◌, Bool, true, false, List, [], ◌∷◌, Option, Some, None, refl, sym, ap, subst, ◌∙◌, arith, nat_lt}
 use Rattle.std.proofs.lemmas.Bool.Decides.{nat_tests}
-use Rattle.std.proofs.lemmas.Map.Lookups.{exact_unsigned}
 use Rattle.std.specs.BTreeMap.{is_at}
 use Rattle.std.specs.List.{list_any}
 use Rattle.std.specs.Map.{lookup}
-use Rattle.std.specs.Ordering.{nat_cmp}
 use Rattle.std.specs.Prelude.{not, ◌||◌, is_some, if◌then◌else◌}
-use Rattle.std.specs.declared.cmp.Ordering.{Ordering}
 use Rattle.qs_base.proofs.Same.{same_tid-true, same_tid-self}
 use Rattle.qs_base.specs.Order.{same_tid}
 use Rattle.qs_base.specs.declared.identifiers.ClientNo.{ClientNo}
@@ -35,9 +32,9 @@ use Rattle.qs_lawful.specs.Agreed.{AreLentUndone}
 use Rattle.qs_lawful.specs.Coming.{ComesLine}
 use Rattle.qs_lawful.specs.Entering.{book_at}
 use Rattle.qs_lawful.specs.GivenStep.{IsLentHere, IsLentTo, IsUndecidedOfNow, MayCommand, MayRequest, MayWait}
-use Rattle.qs_lawful.specs.Logs.{Every}
 use Rattle.qs_lawful.specs.NodeFacts.{IsCommand, IsRunning}
 use Rattle.qs_lawful.specs.Standing.{StandsBy}
+use Rattle.qs_lawful.proofs.FactsLabelled.{command_in}
 use Rattle.qs_lawful.proofs.GivenSettling.{uncommitted}
 use Rattle.qs_lawful.proofs.Truths.{left_true, of_some, right_true}
 
@@ -60,18 +57,6 @@ taken_in client tid test loan (x ∷ xs) found is = by (last_taken client tid xs
     by None rest found = first (is_taken client tid x) refl found
     by (Some other) rest found = (or_right (test x) (rest found).0, (rest found).1)
 
--- ---- commands
-
--- what is found under a client's number is its command
-command_in : (P : ClientNo × OpenCommand → Type 0) (client : ClientNo) (command : OpenCommand) (entries : List (ClientNo × OpenCommand)) → Every P entries → lookup (is_at (client_cmp client)) entries ≡ Some command → P (client, command)
-command_in P client command [] every found = absurd (cc found)
-command_in P client command (e ∷ es) every found = by (nat_cmp client.0 e.0.0) refl found (λ f. command_in P client command es every.1 f)
-  where
-    by : (r : Ordering) → nat_cmp client.0 e.0.0 ≡ r → lookup (is_at (client_cmp client)) (e ∷ es) ≡ Some command → (lookup (is_at (client_cmp client)) es ≡ Some command → P (client, command)) → P (client, command)
-    by Less is found rest = rest (rw is at found)
-    by Equal is found rest = subst (λ (c : OpenCommand). P (client, c)) (of_some (rw is at found)) (subst (λ (k : ClientNo). P (k, e.1)) (ap (λ (k : ℕ). record { 0 = k }) (sym (exact_unsigned client.0 e.0.0 is))) every.0)
-    by Greater is found rest = rest (rw is at found)
-
 module _ (stamp : ℕ) (before : BookValue) (size : ℕ) (nodes : ℕ → NodeValue) (n : ℕ) (work : Work) (s : StandsBy stamp before size nodes n work) where
   -- ---- what is owned here
 
@@ -87,7 +72,7 @@ module _ (stamp : ℕ) (before : BookValue) (size : ℕ) (nodes : ℕ → NodeVa
   -- ---- what is lent here
 
   lent_here : (client : ClientNo) (tid : Tid) → AreLentUndone size nodes n work → IsLentTo client work tid → IsLentHere stamp before work tid
-  lent_here client tid undone lent = by (tm.part_of tid work.node.manager) refl (s.sound.lent tid stands)
+  lent_here client tid undone lent = by (tm.part_of tid work.node.manager) refl (undone tid stands).0
     where
       valid : (not (lent.loan.inc == work.node.setting.inc) || is_aborted tid work.node) ≡ false
       valid = lent.valid
@@ -107,7 +92,7 @@ module _ (stamp : ℕ) (before : BookValue) (size : ℕ) (nodes : ℕ → NodeVa
 
       by : (o : Option Participant) → tm.part_of tid work.node.manager ≡ o → is_some o ≡ true → IsLentHere stamp before work tid
       by None known there = absurd (cc there)
-      by (Some part) known there = record { part = part; known = known; open_still = uncommitted stamp before size nodes n work s tid (undone tid stands) }
+      by (Some part) known there = record { part = part; known = known; open_still = uncommitted stamp before size nodes n work s tid (undone tid stands).1 }
 
   -- ---- requests
 

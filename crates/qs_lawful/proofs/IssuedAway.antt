@@ -38,14 +38,14 @@ use Rattle.qs_lawful.proofs.IssuedStands.{crossed_elsewhere}
 
 -- ---- the node's count of what went to that node
 
-counts : (to : NodeNo) (e : Engage) → ((peer_of e to).sent == last_number) ≡ false → to.0 < length e.peers → (peer_of (engage.sent to e) to).sent ≡ (peer_of e to).sent + 1
+pub counts : (to : NodeNo) (e : Engage) → ((peer_of e to).sent == last_number) ≡ false → to.0 < length e.peers → (peer_of (engage.sent to e) to).sent ≡ (peer_of e to).sent + 1
 counts to e room slot = by ((peer_of e to).sent == last_number) room
   where
     by : (b : Bool) → b ≡ false → (peer_of (if b then e else record e { peers = slice_set e.peers to.0 (record (peer_of e to) { sent = (peer_of e to).sent + 1 }) }) to).sent ≡ (peer_of e to).sent + 1
     by true is = absurd (cc is)
     by false is = ap (λ (p : PeerPart). p.sent) (index_set e.peers to.0 (record (peer_of e to) { sent = (peer_of e to).sent + 1 }) no_peer slot)
 
-counts_other : (to peer : NodeNo) (e : Engage) → to.0 ≢ peer.0 → (peer_of (engage.sent to e) peer).sent ≡ (peer_of e peer).sent
+pub counts_other : (to peer : NodeNo) (e : Engage) → to.0 ≢ peer.0 → (peer_of (engage.sent to e) peer).sent ≡ (peer_of e peer).sent
 counts_other to peer e far = by ((peer_of e to).sent == last_number)
   where
     by : (b : Bool) → (peer_of (if b then e else record e { peers = slice_set e.peers to.0 (record (peer_of e to) { sent = (peer_of e to).sent + 1 }) }) peer).sent ≡ (peer_of e peer).sent

@@ -23,6 +23,7 @@ pub mod AsideNode
 pub mod AsideKept
 pub mod AsideThen
 pub mod AsideDown
+pub mod AsideGoes
 pub mod AsideLeft
 pub mod AsideWhole
 pub mod AsideBeside
@@ -81,7 +82,6 @@ pub mod Clauses
 pub mod Issuing
 pub mod FoundOnce
 pub mod Restarting
-pub mod Unanimity
 pub mod Faces
 pub mod Steps
 pub mod Asking
@@ -158,6 +158,8 @@ pub mod Tellings
 pub mod Forgetting
 pub mod TellingOn
 pub mod NotesIssued
+pub mod Numbers
+pub mod FactsIssued
 pub mod PeerRestarts
 pub mod Engaging
 pub mod Enqueued
@@ -242,6 +244,12 @@ pub mod OthersTid
 pub mod OthersRise
 pub mod RiseKeeps
 pub mod SaidOn
+pub mod SaidPairs
+pub mod SaidEntries
+pub mod SaidHeld
+pub mod SaidVoting
+pub mod SaidRules
+pub mod SaidCommits
 pub mod SaidStays
 pub mod ParcelsKept
 pub mod GivenEvents
@@ -254,6 +262,7 @@ pub mod BesideActs
 pub mod BesideGoes
 pub mod BesidePlain
 pub mod NoteTexts
+pub mod IssuedNotes
 pub mod BesideIssue
 pub mod BesideOwn
 pub mod BesideClocks
@@ -263,6 +272,7 @@ pub mod BesideVote
 pub mod BesideVoted
 pub mod BesideNotice
 pub mod BesideLearnt
+pub mod DecidedOutcomes
 pub mod BesideDecide
 pub mod BesideKnown
 pub mod BesideReply

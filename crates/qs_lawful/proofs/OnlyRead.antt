@@ -21,6 +21,7 @@ use Rattle.qs_tm.specs.Members.{all_servers}
 use Rattle.qs_tm.specs.Participant.{has_due, is_due_at, is_forgotten, is_undecided, member_of, needs_pass, only_read}
 use Rattle.qs_tm.specs.declared.participant.Participant.{Participant}
 use Rattle.qs_tm.specs.declared.participant.Due.TheVariants as dues
+use Rattle.qs_lawful.specs.Agreed.{IsIdle}
 use Rattle.qs_lawful.specs.Beside.{HoldsPart, HoldsReads}
 use Rattle.qs_lawful.specs.Entering.{book_at}
 use Rattle.qs_lawful.specs.Face.{at_server, face_of}
@@ -91,7 +92,7 @@ no_superior None e = refl
 no_superior (Some node) e = absurd (cc e)
 
 module _ (stamp : ℕ) (before : BookValue) (size : ℕ) (nodes : ℕ → NodeValue) (n : ℕ) (work : Work) (s : Stands stamp before size nodes n work) (tid : Tid) (part : Participant) (known : tm.part_of tid work.node.manager ≡ Some part)
-    (tx : TransactionValue) (found : find_transaction (book_at stamp before work) tid ≡ Some tx) (forgotten : is_forgotten part ≡ true) where
+    (tx : TransactionValue) (found : find_transaction (book_at stamp before work) tid ≡ Some tx) (forgotten : is_forgotten part ≡ true) (quiet : IsIdle part) where
   abbrev here : NodeNo
   here = work.node.setting.node
 
@@ -119,9 +120,6 @@ module _ (stamp : ℕ) (before : BookValue) (size : ℕ) (nodes : ℕ → NodeVa
   read : only_read part ≡ true
   read = right_true (is_no_node part.told) (only_read part) (right_true (is_none part.engage.superior && not part.involved) _ back)
 
-  idle : needs_pass part ≡ false
-  idle = s.by.sound.idle tid part known away unknown (no_superior part.engage.superior (left_true (is_none part.engage.superior) (not part.involved) free))
-
   its : HoldsPart (book_at stamp before work) s.by.beside.state work.node tid tx part
   its = (s.by.beside.at tid).parts tx part found known
 
@@ -147,15 +145,15 @@ module _ (stamp : ℕ) (before : BookValue) (size : ℕ) (nodes : ℕ → NodeVa
       stale : (b : Bool) → (b ≡ true → part.involved ≡ true) → b ≡ false
       stale false e = refl
       stale true e = absurd (clash (sym uninvolved ∙ e refl))
-  learnt server kept classes.Immediate is = unlearning (part_of tx (at_server here server) inc) ((member server kept).ends (rw is refl) ∙ unended part idle server (rw is refl))
+  learnt server kept classes.Immediate is = unlearning (part_of tx (at_server here server) inc) ((member server kept).ends (rw is refl) ∙ unended part quiet.due server (rw is refl))
   learnt server kept classes.Activity is = absurd (no_client server.0 kept is)
 
   pub only_read_there : HasOnlyRead here inc tid tx
   only_read_there = record {
     covers = λ server kept two. (reads.readers server kept).anew two (all_read part read server kept two);
     learns = λ server kept. learnt server kept (class_of server.0) refl;
-    ends = λ server kept is. (member server kept).ends is ∙ unended part idle server is;
-    sent = λ peer apart. held.sent refl peer apart ∙ s.by.sound.unsent tid part known uninvolved peer;
+    ends = λ server kept is. (member server kept).ends is ∙ unended part quiet.due server is;
+    sent = λ peer apart. held.sent refl peer apart ∙ quiet.unsent peer;
     noted = λ count one. no_note count one (has_note tx (record { node = here; inc = inc; text = note_text tid here.0 count })) refl;
   }
     where

@@ -102,7 +102,7 @@ list_commits : (tid : Tid) (told : List NodeNo) (said : Recovery) → (with_list
 list_commits tid [] said = refl
 list_commits tid (first ∷ more) said = refl
 
-stays_among : (tid : Tid) (log : List Record) (said : Recovery) → is_among said.committed tid ≡ true → is_among (fold found_record said log).committed tid ≡ true
+pub stays_among : (tid : Tid) (log : List Record) (said : Recovery) → is_among said.committed tid ≡ true → is_among (fold found_record said log).committed tid ≡ true
 stays_among tid [] said h = h
 stays_among tid (rec ∷ log) said h = stays_among tid log (found_record said rec) (one rec)
   where

@@ -9,7 +9,7 @@ use Rattle.qs_base.specs.declared.identifiers.Tid.{Tid}
 use Rattle.qs_laws.proofs.Reopens.{restarted_is}
 use Rattle.qs_machine.specs.Book.{BookValue, cell_of_transaction, find_transaction}
 use Rattle.qs_machine.specs.Nodes as machine
-use Rattle.qs_machine.specs.Nodes.{record_of, voter, voter_cmp}
+use Rattle.qs_machine.specs.Nodes.{changes_of, record_of, voter, voter_cmp}
 use Rattle.qs_machine.specs.Opening.{keep_pending, note_of, put_of}
 use Rattle.qs_machine.specs.Restart.{is_among}
 use Rattle.qs_machine.specs.Transaction.{TransactionValue}
@@ -181,7 +181,7 @@ module _ (o : Opening) (opens : IsOpening o) (n : ℕ) (low : n < o.size) where
   -- ---- contents and changes
 
   recorded : (v : Prepared) → KnowsVote v → IsAsRecorded n now its v
-  recorded v k rec is = of (in_doubt_or v k.doubt)
+  recorded v k clear rec is = of (in_doubt_or v k.doubt)
     where
       p : (u : Prepared) × (doubt_at its_log.prepared v.tid v.server.0 ≡ Some u) × (rec ≡ record_for (as_pending u))
       p = from_doubt v.tid v.server.0 rec is
@@ -211,7 +211,7 @@ module _ (o : Opening) (opens : IsOpening o) (n : ℕ) (low : n < o.size) where
     };
     recorded = every_on KnowsVote (IsAsRecorded n now its) recorded its_log.prepared known;
     apart = every_on KnowsVote (IsApart its_log) (λ v k names clear. far_of o opens n low v k.doubt clear) its_log.prepared known;
-    gone = λ tid server kept among. none tid server among (record_of its tid server) refl;
+    gone = λ tid server kept among. ap changes_of (none tid server among (record_of its tid server) refl);
     undone = every_on KnowsVote (IsUndone n now) undone its_log.prepared known;
   }
     where

@@ -98,7 +98,7 @@ module _ (old : BookValue) (s m p : ℕ) (ns : List machine.NodeValue) (n : ℕ)
   said_on state log h = record {
     files = h.files;
     audit = h.audit;
-    recorded = every_on (IsAsRecorded n old state) (IsAsRecorded n new state) (λ v is rec at. recorded_on (Some rec) v (is rec at)) log.prepared h.recorded;
+    recorded = every_on (IsAsRecorded n old state) (IsAsRecorded n new state) (λ v is clear rec at. recorded_on (Some rec) v (is clear rec at)) log.prepared h.recorded;
     apart = h.apart;
     gone = h.gone;
     undone = h.undone;

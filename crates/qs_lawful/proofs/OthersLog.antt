@@ -114,7 +114,7 @@ module _ (book : BookValue) (risen : NodeNo) (stamp inc : ℕ) (log : Recovery) 
   said_on s said h = record {
     files = h.files;
     audit = h.audit;
-    recorded = every_on (IsAsRecorded n book s) (IsAsRecorded n now s) (λ v is rec at. recorded_on (Some rec) v (is rec at)) said.prepared h.recorded;
+    recorded = every_on (IsAsRecorded n book s) (IsAsRecorded n now s) (λ v is clear rec at. recorded_on (Some rec) v (is clear rec at)) said.prepared h.recorded;
     apart = h.apart;
     gone = h.gone;
     undone = every_on (IsUndone n book) (IsUndone n now) undone_on said.prepared h.undone;

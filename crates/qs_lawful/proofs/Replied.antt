@@ -47,7 +47,7 @@ changed_twice {K} {V} p f g es = by (lookup p es) refl
     by None is = ap (λ (o : Option V). elim o [ None ↦ es | Some v ↦ set_value p es (f v) ]) is
     by (Some v) is = ap (λ (o : Option V). elim o [ None ↦ set_value p es (g v) | Some u ↦ set_value p (set_value p es (g v)) (f u) ]) (lookup_set p es v (g v) is) ∙ set_twice p es (g v) (f (g v))
 
-part_twice : (tid : Tid) (f g : Participant → Participant) (manager : Manager) → tm.with_part tid f (tm.with_part tid g manager) ≡ tm.with_part tid (λ p. f (g p)) manager
+pub part_twice : (tid : Tid) (f g : Participant → Participant) (manager : Manager) → tm.with_part tid f (tm.with_part tid g manager) ≡ tm.with_part tid (λ p. f (g p)) manager
 part_twice tid f g manager = ap (λ (known : List (Tid × Participant)). record manager { known = known }) (changed_twice (is_at (tid_cmp tid)) f g manager.known)
 
 -- ---- the rule

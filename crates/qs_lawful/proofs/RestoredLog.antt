@@ -17,16 +17,17 @@ use Rattle.qs_laws.proofs.Maps.{changed_at_here}
 use Rattle.qs_laws.proofs.Rising.{IsRising, put_rises, voter_total}
 use Rattle.qs_machine.specs.Book.{BookValue, cell_of_transaction, crossed_in, find_transaction}
 use Rattle.qs_machine.specs.Nodes as machine
-use Rattle.qs_machine.specs.Nodes.{is_recoverable, record_of, voter, voter_cmp}
+use Rattle.qs_machine.specs.Nodes.{changes_of, is_recoverable, record_of, voter, voter_cmp}
 use Rattle.qs_machine.specs.Restart.{is_among, is_found_as, is_new_vote, is_on_record, may_be_lost, member_at, new_votes, record_at, reopened, votes_once, with_votes, without_records}
 use Rattle.qs_machine.specs.Transaction.{TransactionValue, has_learnt, is_abort, is_open}
 use Rattle.qs_machine.specs.declared.state.OnRecord.{OnRecord}
 use Rattle.qs_machine.specs.declared.state.Voter.{Voter}
 use Rattle.qs_machine.specs.declared.transaction.Cell.{Cell}
 use Rattle.qs_machine.specs.declared.transaction.Cell.TheVariants as cells
+use Rattle.qs_ops.specs.Servers.{audit_no, extra_no, files_no}
 use Rattle.qs_ops.specs.Table.{TableValue, apply_change, apply_note}
 use Rattle.qs_restart.specs.Recovery.{Prepared, Recovery, is_in_doubt, names_transaction}
-use Rattle.qs_lawful.specs.Logged.{HoldsLogged, IsCommitMade, IsMarked, IsRecordSafe, StandsIn}
+use Rattle.qs_lawful.specs.Logged.{HoldsLogged, IsCommitMade, IsRecordSafe, StandsIn}
 use Rattle.qs_lawful.specs.Logs.{Every, IsCutVote, IsRecordKept, IsVoteLogged, found_of, found_votes}
 use Rattle.qs_lawful.specs.Said.{HoldsSaid, IsAsRecorded, IsRecorded, IsToBeRecorded, IsUndone}
 use Rattle.qs_lawful.proofs.FoundMembers.{every_two}
@@ -214,8 +215,8 @@ module _ (book : BookValue) (here : NodeNo) (stamp inc : ℕ) (log : Recovery) (
   same_node_then : SameNode state (fold without_records found log.committed)
   same_node_then = same_then state found (fold without_records found log.committed) (same_votes (new_votes here.0 book (found_votes log)) state) (same_forgot log.committed found)
 
-  recorded_now : (v : Prepared) → is_recoverable v.server.0 ≡ true → StandsIn book v → IsMarked log v → IsToBeRecorded here.0 book log v → IsAsRecorded here.0 now reborn v
-  recorded_now v kept stands mark to_be rec is = by (is_among log.committed v.tid) refl v.committed refl
+  recorded_now : (v : Prepared) → is_recoverable v.server.0 ≡ true → StandsIn book v → IsToBeRecorded here.0 book log v → IsAsRecorded here.0 now reborn v
+  recorded_now v kept stands to_be clear rec is = by (is_among log.committed v.tid) refl
     where
       crossed_still : crossed_in (find_transaction now v.tid) (member_at here.0 v.server.0) ≡ false → crossed_in (find_transaction book v.tid) (member_at here.0 v.server.0) ≡ false
       crossed_still clean = at (find_transaction book v.tid) refl
@@ -229,15 +230,20 @@ module _ (book : BookValue) (here : NodeNo) (stamp inc : ℕ) (log : Recovery) (
       same_record : is_among log.committed v.tid ≡ false → record_at here.0 mid v.tid v.server.0 ≡ Some rec
       same_record far = record_is v.tid v.server.0 ∙ (sym (forgot_others log.committed v.tid v.server.0 found far) ∙ is)
 
-      by : (b : Bool) → is_among log.committed v.tid ≡ b → (c : Bool) → v.committed ≡ c → IsRecorded here.0 now (Some rec) v
-      by true among c _ = absurd (cc (sym (forgot_done log.committed v.tid v.server.0 found kept rising_found among) ∙ is))
-      by false far true marked = absurd (cc (sym far ∙ mark marked))
-      by false far false clear =
+      by : (b : Bool) → is_among log.committed v.tid ≡ b → IsRecorded here.0 now (Some rec) v
+      by true among = absurd (cc (sym (forgot_done log.committed v.tid v.server.0 found kept rising_found among) ∙ is))
+      by false far =
           let h : IsRecorded here.0 book (Some rec) v = subst (λ (o : Option OnRecord). IsRecorded here.0 book o v) (same_record far) (to_be (named v stands) clear) in
           record { changes = λ clean. h.changes (crossed_still clean); count = h.count }
 
   undone : (v : Prepared) → (is_in_doubt v ≡ true → InDoubt book here stamp inc log state r v.tid) → IsUndone here.0 now v
   undone v doubt home names clear committed = cc (sym committed ∙ (doubt (rw (names, clear) refl)).away (ap (λ (x : ℕ). record { 0 = x }) home))
+
+  -- a server that keeps contents keeps its votes in a log
+  recoverable : (a b c : Bool) → (a || b) ≡ true → (a || (b || c)) ≡ true
+  recoverable true b c e = refl
+  recoverable false true c e = refl
+  recoverable false false c e = absurd (cc e)
 
   pub said_held : HoldsSaid here.0 now reborn log
   said_held = record {
@@ -249,9 +255,8 @@ module _ (book : BookValue) (here : NodeNo) (stamp inc : ℕ) (log : Recovery) (
       contents = (restarted_is (fold without_records found log.committed).audit (reopened here.0 inc (found_votes log) log.committed mid).audit (reopened here.0 inc (found_votes log) log.committed mid).audit_kept).0 ∙ (ap (λ (t : TableValue). fold apply_change t.contents (reopened here.0 inc (found_votes log) log.committed mid).audit) same_node_then.audit ∙ r.left.audit.contents);
       notes = (restarted_is (fold without_records found log.committed).audit (reopened here.0 inc (found_votes log) log.committed mid).audit (reopened here.0 inc (found_votes log) log.committed mid).audit_kept).1 ∙ (ap (λ (t : TableValue). fold apply_note t.notes (reopened here.0 inc (found_votes log) log.committed mid).audit) same_node_then.audit ∙ r.left.audit.notes);
     };
-    recorded = every_two (λ (v : Prepared). ((is_recoverable v.server.0 ≡ true) × StandsIn book v) × IsMarked log v) (IsToBeRecorded here.0 book log) (IsAsRecorded here.0 now reborn) (λ v all to_be. recorded_now v all.0.0 all.0.1 all.1 to_be) log.prepared
-        (every_two (λ (v : Prepared). (is_recoverable v.server.0 ≡ true) × StandsIn book v) (IsMarked log) (λ (v : Prepared). ((is_recoverable v.server.0 ≡ true) × StandsIn book v) × IsMarked log v) (λ v a b. (a, b)) log.prepared both_of r.marked) r.left.recorded;
+    recorded = every_two (λ (v : Prepared). (is_recoverable v.server.0 ≡ true) × StandsIn book v) (IsToBeRecorded here.0 book log) (IsAsRecorded here.0 now reborn) (λ v all to_be. recorded_now v all.0 all.1 to_be) log.prepared both_of r.left.recorded;
     apart = r.left.apart;
-    gone = λ tid server kept among. forgot_done log.committed tid server found kept rising_found among;
+    gone = λ tid server kept among. ap changes_of (forgot_done log.committed tid server found (recoverable (server == files_no) (server == audit_no) (server == extra_no) kept) rising_found among);
     undone = every_on (λ (v : Prepared). is_in_doubt v ≡ true → InDoubt book here stamp inc log state r v.tid) (IsUndone here.0 now) undone log.prepared (in_doubt book here stamp inc log state r);
   }

@@ -1,6 +1,6 @@
 -- A transaction is settled: its votes, then what is ready, refused and forgotten. The rules as wholes, and all that are due.
 use Rattle.std.proofs.Common.{◌≡◌, ℕ, Bool, true, false, List, [], ◌∷◌, Option, Some, None, refl, fold}
-use Rattle.std.specs.Prelude.{not, ◌&&◌, is_some, slice_get, if◌then◌else◌}
+use Rattle.std.specs.Prelude.{is_some, slice_get, if◌then◌else◌}
 use Rattle.qs_base.specs.declared.identifiers.ClientNo.{ClientNo}
 use Rattle.qs_base.specs.declared.identifiers.NodeNo.{NodeNo}
 use Rattle.qs_base.specs.declared.identifiers.Outcome.TheVariants as outcomes
@@ -14,7 +14,7 @@ use Rattle.qs_ops.specs.declared.answer.Cause.{Cause}
 use Rattle.qs_ops.specs.declared.answer.Cause.TheVariants as causes
 use Rattle.qs_packet.specs.declared.message.Message.TheVariants as messages
 use Rattle.qs_step.specs.Deciding.{decide, decide_commit}
-use Rattle.qs_step.specs.Settling.{answer_superior, due_tids, forget_rule, is_busy, is_quiet, may_answer, pass_rule, ready_rule, refusal_goes_to, refuse_elsewhere, refuse_rule, say_yes, send_refusal, settle, settle_tid, try}
+use Rattle.qs_step.specs.Settling.{answer_superior, due_tids, forget_rule, is_quiet, may_answer, pass_rule, ready_rule, refusal_goes_to, refuse_elsewhere, refuse_rule, say_yes, send_refusal, settle, settle_tid, try}
 use Rattle.qs_step.specs.State.{Work, doings_of, here, with_manager}
 use Rattle.qs_tm.specs.Manager as tm
 use Rattle.qs_tm.specs.Outcomes.{told_with_own}
@@ -47,12 +47,12 @@ module _ (stamp : ℕ) (before : BookValue) (tid : Tid) where
     pub aborted : MayDecide stamp before work tid → (cause : Cause) → HasCause stamp before work tid cause → HoldsWork stamp before (decide tid outcomes.Abort (Some cause) work)
     aborted d cause has = by_abort stamp before work tid part in_machine.0 h (files_held stamp before work h) known in_machine.1 d.home d.inc unknown (slot d) cause (has h.holds.state in_machine.0 h.holds.there in_machine.1)
 
-    -- what is settled is committed, or its Commit finds no room
-    committed : part.asked ≡ true → MayCommit stamp before work tid → HoldsWork stamp before (decide_commit tid work)
-    committed asked c = by (tm.need_past tid work.room work.node.manager) refl
+    -- what is unanimous is committed, or its Commit finds no room
+    committed : MayCommit stamp before work tid → HoldsWork stamp before (decide_commit tid work)
+    committed c = by (tm.need_past tid work.room work.node.manager) refl
       where
         by : (o : Option ℕ) → tm.need_past tid work.room work.node.manager ≡ o → HoldsWork stamp before (elim o [ None ↦ decide tid outcomes.Commit None work | Some need ↦ decide tid outcomes.Abort (Some (causes.Room need work.room)) work ])
-        by None is = by_commit stamp before work tid part in_machine.0 h (files_held stamp before work h) known in_machine.1 c.decides.home c.decides.inc unknown (slot c.decides) c.world asked c.settled (c.places in_machine.0 in_machine.1)
+        by None is = by_commit stamp before work tid part in_machine.0 h (files_held stamp before work h) known in_machine.1 c.decides.home c.decides.inc unknown (slot c.decides) (c.agreed in_machine.0 in_machine.1)
         by (Some need) is = aborted c.decides (causes.Room need work.room) (c.room need is)
 
     -- ---- elsewhere the superior is answered
@@ -68,12 +68,8 @@ module _ (stamp : ℕ) (before : BookValue) (tid : Tid) where
     pub by_ready : (part.engage.home ≡ true → may_answer tid part work ≡ true → is_quiet (doings_of tid work) ≡ true → MayCommit stamp before work tid) → HoldsWork stamp before (ready_rule tid part work)
     by_ready given = by (may_answer tid part work) refl
       where
-        asked : (a b c d e f g : Bool) → (((a && b) && ((c && d) && e)) && (f && g)) ≡ true → a ≡ true
-        asked true b c d e f g is = refl
-        asked false b c d e f g is = absurd (cc is)
-
         quiet : may_answer tid part work ≡ true → part.engage.home ≡ true → (b : Bool) → is_quiet (doings_of tid work) ≡ b → HoldsWork stamp before (if b then decide_commit tid work else work)
-        quiet is home true still = committed (asked part.asked (not part.blocked) (not (is_busy tid work.node part)) (is_passive part.engage) (all_agree part) (not (needs_pass part)) (not (doings_of tid work).prepared) is) (given home is still)
+        quiet is home true still = committed (given home is still)
         quiet is home false still = h
 
         of : may_answer tid part work ≡ true → (b : Bool) → part.engage.home ≡ b → HoldsWork stamp before (if b then (if is_quiet (doings_of tid work) then decide_commit tid work else work) else answer_superior tid part work)

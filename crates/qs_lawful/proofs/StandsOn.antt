@@ -10,11 +10,12 @@ use Rattle.qs_step.specs.Voting.{vote_pass}
 use Rattle.qs_step.specs.declared.event.Event.{Event}
 use Rattle.qs_step.specs.declared.setting.Setting.{Setting}
 use Rattle.qs_tm.specs.Participant.{is_forgotten}
-use Rattle.qs_lawful.specs.Entering.{HoldsWork}
+use Rattle.qs_lawful.specs.Beside.{HoldsBeside}
+use Rattle.qs_lawful.specs.Entering.{HoldsWork, book_at}
 use Rattle.qs_lawful.specs.GivenStep.{MayStep, first_work}
 use Rattle.qs_lawful.specs.NodeFacts.{FitsEvent, HasNodeFacts}
 use Rattle.qs_lawful.specs.Standing.{HoldsHomes, KeepsStanding, Stands, StandsBy}
-use Rattle.qs_lawful.specs.StandingOn.{KeepsBeside, StandsBeside, StepBeside}
+use Rattle.qs_lawful.specs.StandingOn.{KeepsBeside, StepBeside}
 use Rattle.qs_lawful.specs.StepStands.{StepStands}
 use Rattle.qs_lawful.proofs.FactsRules.{serve_next_keeps}
 use Rattle.qs_lawful.proofs.FactsStages.{forgets_keep, happens_keep, passes_keep, readies_keep, refuses_keep, waits_keep}
@@ -27,11 +28,10 @@ use Rattle.qs_lawful.proofs.SameSettings.{happen_same, pass_same, ready_same, re
 
 module _ (stamp : ℕ) (before : BookValue) (size : ℕ) (nodes : ℕ → NodeValue) (n : ℕ) (homes : HoldsHomes before size nodes n) where
   -- what stands after a rule that keeps the setting and the node's own facts
-  pub stands_on : (work new : Work) → new.node.setting ≡ work.node.setting → (HasNodeFacts work.node → HasNodeFacts new.node) → Stands stamp before size nodes n work → HoldsWork stamp before new → StandsBeside stamp before new → StandsBy stamp before size nodes n new
+  pub stands_on : (work new : Work) → new.node.setting ≡ work.node.setting → (HasNodeFacts work.node → HasNodeFacts new.node) → Stands stamp before size nodes n work → HoldsWork stamp before new → HoldsBeside (book_at stamp before new) new.node → StandsBy stamp before size nodes n new
   stands_on work new same keeps s held beside = record {
     facts = keeps s.by.facts;
-    sound = beside.sound;
-    beside = beside.beside;
+    beside = beside;
     homes = homes_stand stamp before size nodes n new at held.lawful homes;
     at = at;
     run = ap (λ (t : Setting). t.nodes) same ∙ s.by.run;
@@ -63,8 +63,7 @@ module _ (stamp : ℕ) (before : BookValue) (size : ℕ) (nodes : ℕ → NodeVa
     held = s.held;
     by = record {
       facts = begin_incarnation_keeps (work_on node free) s.facts;
-      sound = s.first.sound;
-      beside = s.first.beside;
+      beside = s.beside;
       homes = homes_stand stamp before size nodes n (first_work node free) at_first s.held.lawful s.homes;
       at = at_first;
       run = ap (λ (t : Setting). t.nodes) setting_is ∙ s.run;

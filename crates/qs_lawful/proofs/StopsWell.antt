@@ -1,6 +1,7 @@
 -- A node stops, in place of a step or in one whose batch is lost: what its log says on the disk is what a restart will find, and no more.
 use Rattle.std.proofs.Common.{◌≡◌, inl, inr, ℕ, ◌<◌, ◌==◌, ◌&&◌, ◌||◌, ◌++◌, not, Bool, true, false, List, [], ◌∷◌, flat_map, Option, Some, None, fold, refl, sym, ap, subst, ◌∙◌, arith, if◌then◌else◌, is_some, nat_lt}
 use Rattle.std.proofs.lemmas.Bool.Decides.{nat_tests}
+use Rattle.std.proofs.lemmas.Grind.{flat_map-append}
 use Rattle.std.specs.Prelude.{slice_get}
 use Rattle.std.specs.Map.{lookup}
 use Rattle.std.specs.BTreeMap.{is_at}
@@ -16,6 +17,7 @@ use Rattle.qs_journal.specs.declared.entry.Found.{Found}
 use Rattle.qs_kept.specs.declared.kept.Decided.{Decided}
 use Rattle.qs_kept.specs.declared.kept.Kept.{Kept}
 use Rattle.qs_laws.proofs.Maps.{changed_at_here}
+use Rattle.qs_laws.specs.Served.{keeps_contents}
 use Rattle.qs_machine.specs.Book.{BookValue, cell_of_transaction, crash_node, find_transaction}
 use Rattle.qs_machine.specs.Clauses.{has_vote, is_crash}
 use Rattle.qs_machine.specs.Lawful.{broken, effect}
@@ -81,12 +83,17 @@ none_new : (here : ℕ) (book : BookValue) (state : machine.NodeValue) (fs : Lis
 none_new here book state [] all = refl
 none_new here book state (f ∷ fs) all = subst (λ (b : Bool). (if b then (machine.voter f.tid f.server.0, vote_as_stopped here book state f) ∷ [] else []) ++ flat_map (new_vote here book state) fs ≡ []) (sym all.0) (none_new here book state fs all.1)
 
-none_found : (here : ℕ) (book : BookValue) (done : List Tid) → Every (λ (tid : Tid). has_record here book tid ≡ false) done → commits_found here book done ≡ []
-none_found here book done all = from done all
+-- of Commits none of which has changes, no changes are found
+none_found : (here : ℕ) (book : BookValue) (changes : Tid → List Op) (done : List Tid) → Every (λ (tid : Tid). changes tid ≡ []) done → flat_map changes (commits_found here book done) ≡ []
+none_found here book changes done all = from done [] all refl
   where
-    from : (tids : List Tid) → Every (λ (tid : Tid). has_record here book tid ≡ false) tids → fold (add_commit here book) [] tids ≡ []
-    from [] all = refl
-    from (t ∷ tids) all = subst (λ (b : Bool). fold (add_commit here book) (if b && not (is_among [] t) then [] ++ (t ∷ []) else []) tids ≡ []) (sym all.0) (from tids all.1)
+    more : (tid : Tid) (acc : List Tid) → changes tid ≡ [] → flat_map changes acc ≡ [] → (b : Bool) → flat_map changes (if b then acc ++ tid ∷ [] else acc) ≡ []
+    more tid acc none empty true = flat_map-append changes acc (tid ∷ []) ∙ rw (empty, none) refl
+    more tid acc none empty false = empty
+
+    from : (tids acc : List Tid) → Every (λ (tid : Tid). changes tid ≡ []) tids → flat_map changes acc ≡ [] → flat_map changes (fold (add_commit here book) acc tids) ≡ []
+    from [] acc all empty = empty
+    from (t ∷ tids) acc all empty = from tids (add_commit here book acc t) all.1 (more t acc all.0 empty (has_record here book t && not (is_among acc t)))
 
 -- ---- the whole
 
@@ -217,8 +224,8 @@ module _ (book : BookValue) (world : World) (n stamp : ℕ) (cause : CrashCause)
     record_is tid s = ap (λ (o : Option machine.NodeValue). elim o [ None ↦ None | Some node ↦ record_of node tid s ]) (changed_at_here (with_votes (new_votes n now (found_votes log))) now.nodes n state_now there_now)
         ∙ ap (λ (votes : List (Voter × OnRecord)). record_of (with_votes votes state_now) tid s) votes_none
 
-    gone : (tid : Tid) → is_among log.committed tid ≡ true → has_record n mid tid ≡ false
-    gone tid among = rw (record_is tid files_no ∙ said.gone tid files_no refl among, record_is tid audit_no ∙ said.gone tid audit_no refl among) refl
+    gone : (server : ℕ) → keeps_contents server ≡ true → (tid : Tid) → is_among log.committed tid ≡ true → changes_at n mid server tid ≡ []
+    gone server keeps tid among = ap machine.changes_of (record_is tid server) ∙ said.gone tid server keeps among
 
     every_self : (P : Tid → Type 0) (tids : List Tid) → ((tid : Tid) → is_among tids tid ≡ true → P tid) → Every P tids
     every_self P [] gives = tt
@@ -232,8 +239,8 @@ module _ (book : BookValue) (world : World) (n stamp : ℕ) (cause : CrashCause)
         any true b e = refl
         any false b e = e
 
-    nothing_found : commits_found n mid log.committed ≡ []
-    nothing_found = none_found n mid log.committed (every_self (λ (tid : Tid). has_record n mid tid ≡ false) log.committed gone)
+    nothing_found : (server : ℕ) → keeps_contents server ≡ true → flat_map (changes_at n mid server) (commits_found n mid log.committed) ≡ []
+    nothing_found server keeps = none_found n mid (changes_at n mid server) log.committed (every_self (λ (tid : Tid). changes_at n mid server tid ≡ []) log.committed (gone server keeps))
 
     recorded : (v : Prepared) → IsVoteLogged n book at.state log v → IsAsRecorded n book at.state v → IsApart log v → IsToBeRecorded n now log v
     recorded v (inr applied) as_recorded apart names clear = absurd (cc (sym (apart names clear) ∙ applied.has_commit))
@@ -242,13 +249,13 @@ module _ (book : BookValue) (world : World) (n stamp : ℕ) (cause : CrashCause)
         by : (o : Option OnRecord) → record_of at.state v.tid v.server.0 ≡ o → is_on_record at.state (found_of v) ≡ true → IsRecorded n now (record_at n mid v.tid v.server.0) v
         by None none on = absurd (cc (sym (ap (λ (o : Option OnRecord). elim o [ None ↦ false | Some rec ↦ rec.covers == v.covers ]) none) ∙ on))
         by (Some rec) is on =
-            let k : IsRecorded n book (Some rec) v = as_recorded rec is in
+            let k : IsRecorded n book (Some rec) v = as_recorded clear rec is in
             subst (λ (o : Option OnRecord). IsRecorded n now o v) (sym (record_is v.tid v.server.0 ∙ is)) (record { changes = k.changes; count = k.count })
 
     left : HoldsLeft n now state_now log
     left = record {
-      files = subst (λ (ops : List Op). IsMadeBy (applied at.state.files ops) log.files) (sym (ap (flat_map (changes_at n mid files_no)) nothing_found)) (record { contents = said.files.contents; notes = said.files.notes });
-      audit = subst (λ (ops : List Op). IsMadeBy (applied at.state.audit ops) log.audit) (sym (ap (flat_map (changes_at n mid audit_no)) nothing_found)) (record { contents = said.audit.contents; notes = said.audit.notes });
+      files = subst (λ (ops : List Op). IsMadeBy (applied at.state.files ops) log.files) (sym (nothing_found files_no refl)) (record { contents = said.files.contents; notes = said.files.notes });
+      audit = subst (λ (ops : List Op). IsMadeBy (applied at.state.audit ops) log.audit) (sym (nothing_found audit_no refl)) (record { contents = said.audit.contents; notes = said.audit.notes });
       recorded = every_two (λ (v : Prepared). IsVoteLogged n book at.state log v × IsAsRecorded n book at.state v) (IsApart log) (IsToBeRecorded n now log) (λ v both apart. recorded v both.0 both.1 apart) log.prepared
           (every_two (IsVoteLogged n book at.state log) (IsAsRecorded n book at.state) (λ (v : Prepared). IsVoteLogged n book at.state log v × IsAsRecorded n book at.state v) (λ v a b. (a, b)) log.prepared logged.votes said.recorded) said.apart;
       apart = said.apart;

@@ -1,26 +1,27 @@
--- What the agreement protocol gives a step, at each of its stages, in terms of the nodes alone: that something is not committed yet, that
--- what is counted was sent, and that what is ready at its home is settled at all places.
-use Rattle.std.specs.Prelude.{◌≡◌, ℕ, ◌==◌, ◌≤◌, ⊤, true, false, Some, None, nat_lt, if◌then◌else◌}
+-- What the agreement protocol gives a step, at each of its stages: that something is not committed yet, that what is counted was sent, and
+-- that what is ready at its home is unanimous in the reference machine; and what the invariant of the node gives there.
+use Rattle.std.specs.Prelude.{◌≡◌, ℕ, ◌==◌, ◌≤◌, ◌<◌, ⊤, true, false, length, Some, None, nat_lt, if◌then◌else◌}
 use Rattle.qs_base.specs.declared.identifiers.ClientNo.{ClientNo}
 use Rattle.qs_base.specs.declared.identifiers.NodeNo.{NodeNo}
 use Rattle.qs_base.specs.declared.identifiers.Tid.{Tid}
 use Rattle.qs_engage.specs.Engage.{peer_of}
+use Rattle.qs_engage.specs.Nodes.{listed}
 use Rattle.qs_machine.specs.Book.{BookValue, find_transaction}
-use Rattle.qs_machine.specs.Transaction.{TransactionValue}
+use Rattle.qs_machine.specs.Transaction.{TransactionValue, is_unanimous}
 use Rattle.qs_packet.specs.declared.message.Message.{Message}
 use Rattle.qs_packet.specs.declared.message.Message.TheVariants as messages
-use Rattle.qs_step.specs.Settling.{due_tids, is_lent, is_pass_due, is_quiet, may_answer, pass_rule, settle, settle_tid, try}
+use Rattle.qs_step.specs.Settling.{due_tids, is_lent, is_pass_due, is_quiet, may_answer, pass_rule, ready_rule, refuse_rule, settle, settle_tid, try}
 use Rattle.qs_step.specs.State.{NodeValue, Work, doings_of}
 use Rattle.qs_step.specs.Step.{wait_on, waiting_clients}
 use Rattle.qs_step.specs.declared.event.Event.{Event}
 use Rattle.qs_step.specs.declared.event.Event.TheVariants as events
 use Rattle.qs_tm.specs.Manager as tm
+use Rattle.qs_tm.specs.Participant.{is_forgotten, is_undecided, needs_pass}
 use Rattle.qs_tm.specs.declared.participant.Participant.{Participant}
 use Rattle.qs_lawful.specs.Beside.{is_committed_at}
 use Rattle.qs_lawful.specs.Entering.{book_at}
 use Rattle.qs_lawful.specs.Given.{AtEach}
 use Rattle.qs_lawful.specs.GivenStep.{done_work, first_work}
-use Rattle.qs_lawful.specs.Places.{Facts, HoldsPlaces, IsSettled}
 
 -- ---- what all nodes have: node n is in the middle of a step, the others stand as they are
 
@@ -34,13 +35,13 @@ pub record IsUndone (size : ℕ) (nodes : ℕ → NodeValue) (n : ℕ) (work : W
 
 -- ---- what comes
 
--- so many requests went to that node
+-- so many requests went to that node, of what is undecided; what answers for requests of what is decided counts for nothing
 abbrev pub WasSent : Work → NodeNo → Tid → ℕ → Type 0
-WasSent work peer tid up_to = (part : Participant) → tm.part_of tid work.node.manager ≡ Some part → up_to ≤ (peer_of part.engage peer).sent
+WasSent work peer tid up_to = (part : Participant) → tm.part_of tid work.node.manager ≡ Some part → is_undecided part ≡ true → up_to ≤ (peer_of part.engage peer).sent
 
--- what is lent here is not committed
+-- what is lent here is known, and not committed
 abbrev pub AreLentUndone : ℕ → (ℕ → NodeValue) → ℕ → Work → Type 0
-AreLentUndone size nodes n work = (tid : Tid) → is_lent tid work.node ≡ true → IsUndone size nodes n work tid
+AreLentUndone size nodes n work = (tid : Tid) → is_lent tid work.node ≡ true → (tm.knows tid work.node.manager ≡ true) × IsUndone size nodes n work tid
 
 abbrev pub AgreesMessage : ℕ → (ℕ → NodeValue) → ℕ → Work → NodeNo → Message → Type 0
 AgreesMessage size nodes n work peer (messages.Request tid label member number issuer op) = IsUndone size nodes n work tid
@@ -55,16 +56,21 @@ AgreesEvent size nodes n work event = ⊤
 
 -- ---- settling
 
--- all places are settled, and the machine has of each what it has itself; the facts are those of the agreement machine's world
-pub record IsSettledAll (book : BookValue) (tid : Tid) : Type 0 where
-  pub world : Facts
-  pub settled : IsSettled world
-  pub places : (tx : TransactionValue) → find_transaction book tid ≡ Some tx → HoldsPlaces tx world
+-- nothing is due of it here, and nothing was sent
+pub record IsIdle (part : Participant) : Type 0 where
+  pub due : needs_pass part ≡ false
+  pub unsent : (peer : NodeNo) → (peer_of part.engage peer).sent ≡ 0
+
+-- what the invariant of the node gives: a home's told set names nodes of the run, and not the home; and what is forgotten is idle
+pub record NodeGives (work : Work) (tid : Tid) : Type 0 where
+  pub told : (part : Participant) → tm.part_of tid (try tid pass_rule work).node.manager ≡ Some part → part.engage.home ≡ true → length (listed part.told) < (try tid pass_rule work).node.setting.nodes
+  pub idle : (part : Participant) → tm.part_of tid (try tid refuse_rule (try tid ready_rule (try tid pass_rule work))).node.manager ≡ Some part → is_forgotten part ≡ true → IsIdle part
 
 pub record AgreementGives (stamp : ℕ) (before : BookValue) (size : ℕ) (nodes : ℕ → NodeValue) (n : ℕ) (work : Work) (tid : Tid) : Type 0 where
   pub passes : (part : Participant) → tm.part_of tid work.node.manager ≡ Some part → is_pass_due tid part work ≡ true → IsUndone size nodes n work tid
   pub commits : (part : Participant) → tm.part_of tid (try tid pass_rule work).node.manager ≡ Some part → part.outcome ≡ None → part.engage.home ≡ true → may_answer tid part (try tid pass_rule work) ≡ true
-      → is_quiet (doings_of tid (try tid pass_rule work)) ≡ true → IsSettledAll (book_at stamp before (try tid pass_rule work)) tid
+      → is_quiet (doings_of tid (try tid pass_rule work)) ≡ true → (tx : TransactionValue) → find_transaction (book_at stamp before (try tid pass_rule work)) tid ≡ Some tx → is_unanimous tx ≡ true
+  pub alone : NodeGives work tid
 
 -- ---- the step, stage by stage
 

@@ -30,9 +30,9 @@ IsGone stamp before peer old work tid = (part : Participant) → tm.part_of tid 
 abbrev pub AreCommitted : BookValue → NodeValue → Type 0
 AreCommitted book node = (tid : Tid) → list_any (same_tid tid) node.committed ≡ true → HasCommitted book tid
 
--- the count that its note tells has room
+-- where a pass is due, the count that its note tells has room
 abbrev pub HasCountRoom : Work → Tid → Type 0
-HasCountRoom work tid = change_count tid work.node < 2 ^ 64
+HasCountRoom work tid = (part : Participant) → tm.part_of tid work.node.manager ≡ Some part → is_pass_due tid part work ≡ true → change_count tid work.node < 2 ^ 64
 
 -- where a pass is due, it may be, and the count that a note tells has room
 pub record PassesSo (stamp : ℕ) (before : BookValue) (work : Work) (tid : Tid) : Type 0 where

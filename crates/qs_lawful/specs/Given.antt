@@ -15,7 +15,7 @@ use Rattle.qs_laws.proofs.Rising.{IsRising}
 use Rattle.qs_machine.specs.Book.{BookValue, find_transaction, is_done}
 use Rattle.qs_machine.specs.Clauses.{is_cause, note_text}
 use Rattle.qs_machine.specs.Nodes as machine
-use Rattle.qs_machine.specs.Transaction.{TransactionValue, has_note, is_commit, is_covering, may_learn_still, part_of, sent_in, sent_on, served_in}
+use Rattle.qs_machine.specs.Transaction.{TransactionValue, has_note, is_commit, is_covering, is_unanimous, may_learn_still, part_of, sent_in, sent_on, served_in}
 use Rattle.qs_ops.specs.Members.{class_of, is_two_phase}
 use Rattle.qs_ops.specs.declared.answer.Cause.{Cause}
 use Rattle.qs_ops.specs.declared.answer.Cause.TheVariants as causes
@@ -31,7 +31,6 @@ use Rattle.qs_step.specs.State.{Work, doings_of, with_queues}
 use Rattle.qs_lawful.specs.Entering.{book_at}
 use Rattle.qs_lawful.specs.Face.{at_server}
 use Rattle.qs_lawful.specs.Holds.{is_kept}
-use Rattle.qs_lawful.specs.Places.{Facts, HoldsPlaces, IsSettled}
 
 -- it is given at each stage of a fold
 abbrev pub AtEach : {A : Type 0} → (Work → A → Type 0) → (Work → A → Work) → Work → List A → Type 0
@@ -92,12 +91,10 @@ pub record MayDecide (stamp : ℕ) (before : BookValue) (work : Work) (tid : Tid
   pub inc : tid.inc ≡ work.node.setting.inc
   pub owner : (tx : TransactionValue) (client : ClientNo) → find_transaction (book_at stamp before work) tid ≡ Some tx → tx.owner ≡ Some client → is_some (slice_get (book_at stamp before work).owners client.0) ≡ true
 
--- it is settled at all places, and where its Commit finds no room the machine finds so
+-- it is unanimous in the machine, and where its Commit finds no room the machine finds so
 pub record MayCommit (stamp : ℕ) (before : BookValue) (work : Work) (tid : Tid) : Type 0 where
   pub decides : MayDecide stamp before work tid
-  pub world : Facts
-  pub settled : IsSettled world
-  pub places : (tx : TransactionValue) → find_transaction (book_at stamp before work) tid ≡ Some tx → HoldsPlaces tx world
+  pub agreed : (tx : TransactionValue) → find_transaction (book_at stamp before work) tid ≡ Some tx → is_unanimous tx ≡ true
   pub room : (need : ℕ) → tm.need_past tid work.room work.node.manager ≡ Some need → HasCause stamp before work tid (causes.Room need work.room)
 
 -- ---- forgetting what was read

@@ -41,6 +41,7 @@ use Rattle.qs_step.specs.declared.event.Event.{Event}
 use Rattle.qs_step.specs.declared.event.Event.TheVariants as events
 use Rattle.qs_step.specs.declared.state.OpenCommand.{OpenCommand}
 use Rattle.qs_tm.specs.Manager as tm
+use Rattle.qs_tm.specs.Participant.{is_undecided}
 use Rattle.qs_tm.specs.declared.participant.Participant.{Participant}
 use Rattle.qs_lawful.specs.Entering.{IsAborted, book_at}
 use Rattle.qs_lawful.specs.Face.{waiting_at}
@@ -111,11 +112,11 @@ pub record MayBeAsked (stamp : ℕ) (before : BookValue) (work : Work) (tid : Ti
   pub away : (part : Participant) → tm.part_of tid work.node.manager ≡ Some part → part.engage.home ≡ false → tid.home ≢ work.node.setting.node
   pub asked : (tx : TransactionValue) → find_transaction (book_at stamp before work) tid ≡ Some tx → is_some tx.asked ≡ true
 
--- another node of the run answers for what went to it
+-- another node of the run answers for what went to it, where that still counts
 pub record MayCount (work : Work) (peer : NodeNo) (tid : Tid) (up_to : ℕ) : Type 0 where
   pub other : (peer.0 == work.node.setting.node.0) ≡ false
   pub in_run : nat_lt peer.0 work.node.setting.nodes ≡ true
-  pub sent : (part : Participant) → tm.part_of tid work.node.manager ≡ Some part → up_to ≤ (peer_of part.engage peer).sent
+  pub sent : (part : Participant) → tm.part_of tid work.node.manager ≡ Some part → is_undecided part ≡ true → up_to ≤ (peer_of part.engage peer).sent
 
 -- the outcome that is told is the cell's
 pub record IsCell (stamp : ℕ) (before : BookValue) (work : Work) (tid : Tid) (outcome : Outcome) : Type 0 where

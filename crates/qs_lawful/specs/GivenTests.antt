@@ -24,6 +24,7 @@ use Rattle.qs_ops.specs.declared.operation.Op.{Op}
 use Rattle.qs_packet.specs.declared.message.Message.{Message}
 use Rattle.qs_packet.specs.declared.message.Message.TheVariants as messages
 use Rattle.qs_step.specs.Answering.{kept_outcome, was_committed}
+use Rattle.qs_step.specs.Requests.{local_count}
 use Rattle.qs_step.specs.State.{NodeValue, client_cmp}
 use Rattle.qs_step.specs.Telling.{is_other_node}
 use Rattle.qs_step.specs.declared.state.OpenCommand.{OpenCommand}
@@ -37,6 +38,7 @@ use Rattle.qs_world.specs.Openings.{are_rising, labels_begun}
 use Rattle.qs_world.specs.World.{Client, Parcel, World}
 use Rattle.qs_lawful.specs.Beside.{awaits_count, has_issued}
 use Rattle.qs_lawful.specs.Face.{at_server, waiting_at}
+use Rattle.qs_lawful.specs.NodeFacts.{given_to}
 use Rattle.qs_lawful.specs.Parcels.{on_its_way, ops_of, way_between}
 use Rattle.qs_lawful.specs.Waits.{standing_ops, waiting_ops}
 use Rattle.qs_lawful.specs.TableTests.{same_op}
@@ -58,6 +60,10 @@ are_apart (request ∷ rest) = not (list_any (is_answered_by request.member requ
 abbrev young_test : NodeValue → Participant → Bool
 young_test node part = nat_le part.begun_at node.manager.ticks && elim node.setting.age [ None ↦ true | Some age ↦ nat_lt (node.manager.ticks - part.begun_at) age ]
 
+-- what waits has one of the numbers that were given
+abbrev numbered_test : NodeValue → Tid × Participant → Outstanding → Bool
+numbered_test node entry request = nat_le request.number (given_to node.setting.node (local_count entry.0 node) entry.1.engage request.member.node)
+
 -- who answers to nobody has nothing due, and who is not involved sent nothing
 abbrev quiet_test : Participant → Bool
 quiet_test part =
@@ -67,7 +73,7 @@ quiet_test part =
 abbrev part_test : NodeValue → Tid × Participant → Bool
 part_test node entry = quiet_test entry.1
     && (alike entry.1.engage.home (same_node entry.0.home node.setting.node) && ((length entry.1.engage.peers == 16) && implied entry.1.log.prepared entry.1.log.unended))
-    && ((nat_lt (length (listed entry.1.told)) node.setting.nodes && are_apart entry.1.waiting)
+    && ((nat_lt (length (listed entry.1.told)) node.setting.nodes && (are_apart entry.1.waiting && list_all (numbered_test node entry) entry.1.waiting))
     && implied (entry.1.engage.home && is_undecided entry.1) ((entry.0.inc == node.setting.inc) && young_test node entry.1))
 
 abbrev owned_test : NodeValue → Tid → Bool

@@ -6,7 +6,6 @@ pub mod Entering
 pub mod Doubts
 pub mod Given
 pub mod GivenStep
-pub mod Places
 pub mod Logs
 pub mod Issues
 pub mod Tests
@@ -33,6 +32,7 @@ pub mod AsideLaws
 pub mod TriedOpenings
 pub mod TriedAside
 pub mod Said
+pub mod Saying
 pub mod Worlds
 pub mod WorldTests
 pub mod TriedWorlds

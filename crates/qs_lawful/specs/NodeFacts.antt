@@ -1,5 +1,5 @@
 -- What holds of a node by itself, as it comes to a step and at each stage of one: nothing here speaks of the machine.
-use Rattle.std.specs.Prelude.{◌≡◌, ℕ, ◌-◌, ◌≤◌, ◌<◌, ⊤, true, false, List, [], ◌∷◌, length, Some, None, nat_le, nat_lt}
+use Rattle.std.specs.Prelude.{◌≡◌, ℕ, ◌-◌, ◌≤◌, ◌<◌, ⊤, true, false, List, [], ◌∷◌, length, Some, None, nat_le, nat_lt, if◌then◌else◌}
 use Rattle.std.specs.List.{find, list_any}
 use Rattle.qs_base.specs.Order.{tid_cmp}
 use Rattle.qs_base.specs.declared.identifiers.ClientNo.{ClientNo}
@@ -7,7 +7,8 @@ use Rattle.qs_base.specs.declared.identifiers.Member.{Member}
 use Rattle.qs_base.specs.declared.identifiers.NodeNo.{NodeNo}
 use Rattle.qs_base.specs.declared.identifiers.Tid.{Tid}
 use Rattle.qs_engage.specs.Engage.{peer_of}
-use Rattle.qs_engage.specs.Nodes.{listed, same_node}
+use Rattle.qs_engage.specs.Nodes.{same_node}
+use Rattle.qs_engage.specs.declared.engage.Engage.{Engage}
 use Rattle.qs_ipc.specs.Queue.{is_for}
 use Rattle.qs_journal.specs.declared.script_line.Command.TheVariants as commands
 use Rattle.qs_kept.specs.Keeping.{has_label, is_outcome_of}
@@ -15,14 +16,14 @@ use Rattle.qs_kept.specs.declared.kept.Begun.{Begun}
 use Rattle.qs_kept.specs.declared.kept.Kept.{Kept}
 use Rattle.qs_laws.proofs.Rising.{IsRising}
 use Rattle.qs_ops.specs.declared.operation.Op.{Op}
-use Rattle.qs_step.specs.Settling.{is_lent}
+use Rattle.qs_step.specs.Requests.{local_count}
 use Rattle.qs_step.specs.State.{NodeValue}
 use Rattle.qs_step.specs.declared.event.Event.{Event}
 use Rattle.qs_step.specs.declared.event.Event.TheVariants as events
 use Rattle.qs_step.specs.declared.setting.Setting.{Setting}
 use Rattle.qs_step.specs.declared.state.OpenCommand.{OpenCommand}
 use Rattle.qs_tm.specs.Manager as tm
-use Rattle.qs_tm.specs.Participant.{is_answered_by, needs_pass}
+use Rattle.qs_tm.specs.Participant.{is_answered_by}
 use Rattle.qs_tm.specs.declared.manager.Manager.{Manager}
 use Rattle.qs_tm.specs.declared.participant.Outstanding.{Outstanding}
 use Rattle.qs_tm.specs.declared.participant.Participant.{Participant}
@@ -39,11 +40,26 @@ pub record IsSetIn (setting : Setting) : Type 0 where
 
 -- ---- what it keeps of a transaction
 
-pub record IsPart (setting : Setting) (tid : Tid) (part : Participant) : Type 0 where
+-- no two requests wait under one number at one member
+abbrev pub AreApart : List Outstanding → Type 0
+AreApart [] = ⊤
+AreApart (request ∷ rest) = (list_any (is_answered_by request.member request.number) rest ≡ false) × AreApart rest
+
+-- how many requests went to that node; the engagement does not count those to servers here
+abbrev pub given_to : NodeNo → ℕ → Engage → NodeNo → ℕ
+given_to here local engage to = if same_node to here then local else (peer_of engage to).sent
+
+-- what waits has one of the numbers that were given
+pub record AreNumbered (here : NodeNo) (local : ℕ) (engage : Engage) (waiting : List Outstanding) : Type 0 where
+  pub apart : AreApart waiting
+  pub given : Every (λ (request : Outstanding). request.number ≤ given_to here local engage request.member.node) waiting
+
+pub record IsPart (setting : Setting) (local : ℕ) (tid : Tid) (part : Participant) : Type 0 where
   pub homed : part.engage.home ≡ same_node tid.home setting.node  -- engaged as a home exactly at its home's node
   pub slots : length part.engage.peers ≡ 16
   pub logged : part.log.prepared ≡ true → part.log.unended ≡ true
   pub began : part.engage.home ≡ true → part.outcome ≡ None → tid.inc ≡ setting.inc  -- what a home has not decided began since the node started
+  pub numbered : AreNumbered setting.node local part.engage part.waiting
 
 -- ---- labels, and what a client here owns
 
@@ -76,16 +92,20 @@ pub record IsOf (setting : Setting) (manager : Manager) : Type 0 where
   pub extra : manager.extra ≡ setting.extra
   pub keep : manager.keep ≡ setting.keep
 
-pub record HasFacts (own : Setting) (manager : Manager) (kept : Kept) (open_commands : List (ClientNo × OpenCommand)) : Type 0 where
+pub record HasFacts (own : Setting) (manager : Manager) (kept : Kept) (open_commands : List (ClientNo × OpenCommand)) (local : Tid → ℕ) : Type 0 where
   pub setting : IsSetIn own
   pub room : IsOf own manager
   pub rising : IsRising tid_cmp manager.known  -- each transaction is known once
-  pub parts : (tid : Tid) (part : Participant) → tm.part_of tid manager ≡ Some part → IsPart own tid part
+  pub parts : (tid : Tid) (part : Participant) → tm.part_of tid manager ≡ Some part → IsPart own (local tid) tid part
   pub labels : AreLabels own manager kept
   pub commands : Every (λ (entry : ClientNo × OpenCommand). IsCommand own entry.0 entry.1) open_commands
 
+-- how many requests of each transaction went to servers here
+abbrev pub locals_of : NodeValue → Tid → ℕ
+locals_of node tid = local_count tid node
+
 abbrev pub HasNodeFacts : NodeValue → Type 0
-HasNodeFacts node = HasFacts node.setting node.manager node.kept.now node.commands
+HasNodeFacts node = HasFacts node.setting node.manager node.kept.now node.commands (locals_of node)
 
 -- ---- as a step and an incarnation begin
 
@@ -97,21 +117,6 @@ FitsEvent setting event = ⊤
 -- what a client owns under a label began at this node
 abbrev pub AreHomed : NodeNo → Kept → Type 0
 AreHomed node kept = (label : List ℕ) (begun : Begun) (tid : Tid) (client : ClientNo) → find (has_label label) kept.labels ≡ Some begun → begun.tid ≡ Some tid → begun.owner ≡ Some client → tid.home ≡ node
-
--- ---- what follows from the invariant of one node (qs_refine's is_sound: is_sound_peer and the told set without the home; is_sound_loan; is_idle),
--- and that its requests are numbered
-
--- no two requests wait under one number at one member
-abbrev pub AreApart : List Outstanding → Type 0
-AreApart [] = ⊤
-AreApart (request ∷ rest) = (list_any (is_answered_by request.member request.number) rest ≡ false) × AreApart rest
-
-pub record HasSoundFacts (node : NodeValue) : Type 0 where
-  pub told : (tid : Tid) (part : Participant) → tm.part_of tid node.manager ≡ Some part → length (listed part.told) < node.setting.nodes  -- nodes of the run, and not the home
-  pub lent : (tid : Tid) → is_lent tid node ≡ true → tm.knows tid node.manager ≡ true  -- what is lent here is known
-  pub apart : (tid : Tid) (part : Participant) → tm.part_of tid node.manager ≡ Some part → AreApart part.waiting
-  pub idle : (tid : Tid) (part : Participant) → tm.part_of tid node.manager ≡ Some part → part.engage.home ≡ false → part.outcome ≡ None → part.engage.superior ≡ None → needs_pass part ≡ false  -- who answers to nobody has nothing due
-  pub unsent : (tid : Tid) (part : Participant) → tm.part_of tid node.manager ≡ Some part → part.involved ≡ false → (peer : NodeNo) → (peer_of part.engage peer).sent ≡ 0
 
 -- ---- ages, between steps
 

@@ -1,7 +1,8 @@
 -- What a log says of contents and changes, and what the machine has of them: committed files and notes are those that the log's
 -- Commits leave, and what is on record is what the log's Prepare has.
-use Rattle.std.specs.Prelude.{◌≡◌, ℕ, true, false, List, length, Option, Some, None}
+use Rattle.std.specs.Prelude.{◌≡◌, ℕ, true, false, List, [], length, Option, Some, None}
 use Rattle.qs_base.specs.declared.identifiers.Tid.{Tid}
+use Rattle.qs_laws.specs.Served.{keeps_contents}
 use Rattle.qs_machine.specs.Book.{BookValue, crossed_in, find_transaction}
 use Rattle.qs_machine.specs.Nodes as machine
 use Rattle.qs_machine.specs.Restart.{count_of, is_among, member_at, put_new_votes, record_at, reopened}
@@ -25,13 +26,14 @@ IsMadeBy table changes = SameContents table (applied no_table changes)
 
 -- ---- votes
 
--- on record is what the Prepare has, where the transaction is not crossed at the member; of files the count stands in any case
+-- on record is what the Prepare has, where the transaction is not crossed at the member; of files the count stands in any case; of a
+-- vote with a Commit behind it nothing is asked
 pub record IsRecorded (here : ℕ) (book : BookValue) (rec : Option OnRecord) (vote : Prepared) : Type 0 where
   pub changes : crossed_in (find_transaction book vote.tid) (member_at here vote.server.0) ≡ false → machine.changes_of rec ≡ vote.changes
   pub count : vote.server.0 ≡ files_no → count_of rec ≡ length vote.changes
 
 abbrev pub IsAsRecorded : ℕ → BookValue → machine.NodeValue → Prepared → Type 0
-IsAsRecorded here book state vote = (rec : OnRecord) → machine.record_of state vote.tid vote.server.0 ≡ Some rec → IsRecorded here book (Some rec) vote
+IsAsRecorded here book state vote = vote.committed ≡ false → (rec : OnRecord) → machine.record_of state vote.tid vote.server.0 ≡ Some rec → IsRecorded here book (Some rec) vote
 
 -- a Prepare with no Commit behind it has none before it either
 abbrev pub IsApart : Recovery → Prepared → Type 0
@@ -48,7 +50,7 @@ pub record HoldsSaid (here : ℕ) (book : BookValue) (state : machine.NodeValue)
   pub audit : IsMadeBy state.audit log.audit
   pub recorded : Every (IsAsRecorded here book state) log.prepared
   pub apart : Every (IsApart log) log.prepared
-  pub gone : (tid : Tid) (server : ℕ) → machine.is_recoverable server ≡ true → is_among log.committed tid ≡ true → machine.record_of state tid server ≡ None  -- it was applied
+  pub gone : (tid : Tid) (server : ℕ) → keeps_contents server ≡ true → is_among log.committed tid ≡ true → machine.changes_of (machine.record_of state tid server) ≡ []  -- it was applied
   pub undone : Every (IsUndone here book) log.prepared
 
 -- ---- a node that is down: what its log has that was not applied is applied as it restarts

@@ -19,7 +19,7 @@ use Rattle.qs_lawful.specs.Beside.{HoldsBeside, is_committed_at}
 use Rattle.qs_lawful.specs.BesideStep.{PassesSo}
 use Rattle.qs_lawful.specs.Entering.{HoldsWork, book_at}
 use Rattle.qs_lawful.specs.Holds.{is_kept}
-use Rattle.qs_lawful.specs.NodeFacts.{HasNodeFacts, HasSoundFacts}
+use Rattle.qs_lawful.specs.NodeFacts.{HasNodeFacts}
 
 -- what the machine has committed, the home has committed, where that is another node
 abbrev pub HoldsHomes : BookValue → ℕ → (ℕ → NodeValue) → ℕ → Type 0
@@ -28,7 +28,6 @@ HoldsHomes book size nodes n = (tid : Tid) (tx : TransactionValue) → find_tran
 -- beside the relation between the machine and the node
 pub record StandsBy (stamp : ℕ) (before : BookValue) (size : ℕ) (nodes : ℕ → NodeValue) (n : ℕ) (work : Work) : Type 0 where
   pub facts : HasNodeFacts work.node
-  pub sound : HasSoundFacts work.node
   pub beside : HoldsBeside (book_at stamp before work) work.node
   pub homes : HoldsHomes (book_at stamp before work) size nodes n
   pub at : work.node.setting.node.0 ≡ n

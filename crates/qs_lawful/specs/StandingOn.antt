@@ -1,5 +1,4 @@
--- What is left to show that the rules of a step keep what stands: what the machine has beside the node, and what follows from the invariant
--- of one node. All else stands by itself.
+-- What is left to show that the rules of a step keep what stands: what the machine has beside the node. All else stands by itself.
 use Rattle.std.specs.Prelude.{◌≡◌, ℕ}
 use Rattle.qs_base.specs.declared.identifiers.ClientNo.{ClientNo}
 use Rattle.qs_base.specs.declared.identifiers.ServerNo.{ServerNo}
@@ -18,15 +17,11 @@ use Rattle.qs_lawful.specs.Coming.{ComesTo}
 use Rattle.qs_lawful.specs.Entering.{HoldsWork, book_at}
 use Rattle.qs_lawful.specs.Given.{AtEach}
 use Rattle.qs_lawful.specs.GivenStep.{MayAge, done_work, first_work, tick_work}
-use Rattle.qs_lawful.specs.NodeFacts.{FitsEvent, HasNodeFacts, HasSoundFacts}
+use Rattle.qs_lawful.specs.NodeFacts.{FitsEvent, HasNodeFacts}
 use Rattle.qs_lawful.specs.Standing.{CanCount, HoldsHomes, Stands}
 
-pub record StandsBeside (stamp : ℕ) (before : BookValue) (work : Work) : Type 0 where
-  pub sound : HasSoundFacts work.node
-  pub beside : HoldsBeside (book_at stamp before work) work.node
-
 abbrev pub BesideOn : ℕ → BookValue → ℕ → (ℕ → NodeValue) → ℕ → Work → Work → Type 0
-BesideOn stamp before size nodes n old new = Stands stamp before size nodes n old → HoldsWork stamp before new → StandsBeside stamp before new
+BesideOn stamp before size nodes n old new = Stands stamp before size nodes n old → HoldsWork stamp before new → HoldsBeside (book_at stamp before new) new.node
 
 pub record KeepsBeside (stamp : ℕ) (before : BookValue) (size : ℕ) (nodes : ℕ → NodeValue) (n : ℕ) : Type 0 where
   pub passes : (work : Work) (tid : Tid) → PassesSo stamp before work tid → BesideOn stamp before size nodes n work (try tid pass_rule work)
@@ -45,7 +40,7 @@ pub record StepBeside (stamp : ℕ) (before : BookValue) (size : ℕ) (nodes : �
   pub fits : FitsEvent node.setting event
   pub homes : HoldsHomes before size nodes n
   pub held : HoldsWork stamp before (first_work node free)
-  pub first : StandsBeside stamp before (first_work node free)
+  pub beside : HoldsBeside (book_at stamp before (first_work node free)) (first_work node free).node
   pub rules : KeepsBeside stamp before size nodes n
   pub happens : ComesTo (book_at stamp before (first_work node free)) event (first_work node free) → BesideOn stamp before size nodes n (first_work node free) (happen event (first_work node free))
   pub comes : ComesTo (book_at stamp before (first_work node free)) event (first_work node free)

@@ -1,9 +1,10 @@
--- What a world holds of what comes to one of its nodes that runs: scripts, channels, and counts and ages that have room.
+-- What a world holds of what comes to one of its nodes that runs: scripts, channels, and counts, where requests are served, and ages that have room.
 use Rattle.std.specs.Prelude.{◌≡◌, ℕ, true, nat_lt}
 use Rattle.qs_ipc.specs.Ipc as ipc
 use Rattle.qs_machine.specs.Book.{BookValue}
 use Rattle.qs_step.specs.Serving.{serve_next}
 use Rattle.qs_step.specs.State.{work_on}
+use Rattle.qs_world.specs.Moves.{Queues, Source}
 use Rattle.qs_world.specs.World.{Opening, World}
 use Rattle.qs_lawful.specs.Given.{AtEach}
 use Rattle.qs_lawful.specs.NodeFacts.{AreYoung}
@@ -11,7 +12,7 @@ use Rattle.qs_lawful.specs.Parcels.{HoldsChannels, HoldsWays}
 use Rattle.qs_lawful.specs.Scripts.{HoldsScripts}
 use Rattle.qs_lawful.specs.Standing.{CanCount}
 
-pub record WorldGives (o : Opening) (book : BookValue) (world : World) (n free : ℕ) : Type 0 where
+pub record WorldGives (o : Opening) (book : BookValue) (world : World) (n free : ℕ) (source : Source) : Type 0 where
   pub size : world.size ≡ o.size
   pub in_run : nat_lt n world.size ≡ true
   pub up : world.channels.up n ≡ true
@@ -20,5 +21,5 @@ pub record WorldGives (o : Opening) (book : BookValue) (world : World) (n free :
   pub scripts : HoldsScripts o book world
   pub channels : HoldsChannels book world.size world.channels
   pub ways : HoldsWays book world
-  pub room : AtEach CanCount serve_next (work_on (world.hosts n).node free) (ipc.turns (world.hosts n).node.queues)
+  pub room : source ≡ Queues → AtEach CanCount serve_next (work_on (world.hosts n).node free) (ipc.turns (world.hosts n).node.queues)
   pub young : AreYoung (world.hosts n).node

@@ -7,11 +7,11 @@ ghost use Rattle.qs_lawful.specs.Amid.{InRun};
 ghost use Rattle.qs_lawful.specs.GivenStep.{MayStep};
 ghost use Rattle.qs_lawful.specs.StandingOn.{KeepsBeside};
 ghost use Rattle.qs_lawful.specs.StepKeeps.{StepKeeps};
-ghost use Rattle.qs_lawful.specs.StepOn.{KeepsSound, StepOn};
+ghost use Rattle.qs_lawful.specs.StepOn.{StepOn};
 
-/// Each rule of settling, serving, and what waits keep what the machine has beside the node, where its own invariant goes on.
+/// Each rule of settling, serving, and what waits keep what the machine has beside the node.
 pub fn rules_keep_what_is_beside()
-    ensures { (stamp : ℕ) (before : BookValue) → InRun before → (size : ℕ) (nodes : ℕ → NodeValue) (n : ℕ) → KeepsSound stamp before size nodes n → KeepsBeside stamp before size nodes n }
+    ensures { (stamp : ℕ) (before : BookValue) → InRun before → (size : ℕ) (nodes : ℕ → NodeValue) (n : ℕ) → KeepsBeside stamp before size nodes n }
 {}
 
 /// So a whole step is given all that it needs.

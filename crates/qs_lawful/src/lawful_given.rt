@@ -1,9 +1,9 @@
 //! What a step is given: from what stands at each of its stages, and from what the agreement protocol gives.
-ghost use Rattle.std.specs.Prelude.{◌≡◌, ℕ, true, false, List, None, Option, Some, nat_lt};
+ghost use Rattle.std.specs.Prelude.{◌≡◌, ◌<◌, ℕ, true, false, List, length, None, Option, Some, nat_lt};
 ghost use Rattle.qs_base.specs.declared.identifiers.Member.{Member};
 ghost use Rattle.qs_base.specs.declared.identifiers.ServerNo.{ServerNo};
 ghost use Rattle.qs_base.specs.declared.identifiers.Tid.{Tid};
-ghost use Rattle.qs_lawful.specs.Agreed.{AgreementGives, AgreesMessage, AreLentUndone, IsSettledAll, IsUndone};
+ghost use Rattle.qs_lawful.specs.Agreed.{AgreementGives, AgreesMessage, AreLentUndone, IsIdle, IsUndone};
 ghost use Rattle.qs_lawful.specs.BesideStep.{HasCountRoom};
 ghost use Rattle.qs_lawful.specs.Coming.{ComesLine, ComesMessage, ComesTo};
 ghost use Rattle.qs_lawful.specs.WorldGives.{WorldGives};
@@ -47,7 +47,9 @@ ghost use Rattle.qs_machine.specs.declared.opened.Opened.{Opened};
 ghost use Rattle.qs_lawful.specs.Given.{HasCause, IsUncommitted, MayCommit, MayDecide, MayForget, MayPass, MayReply, MayServe, MaySettle};
 ghost use Rattle.qs_lawful.specs.Standing.{CanCount, HoldsHomes, KeepsStanding, Stands, StandsBy};
 ghost use Rattle.qs_step.specs.Settling.{forget_rule, pass_rule, ready_rule, refuse_rule, settle_tid, try};
-ghost use Rattle.qs_machine.specs.Book.{BookValue};
+ghost use Rattle.qs_machine.specs.Book.{BookValue, find_transaction};
+ghost use Rattle.qs_machine.specs.Transaction.{TransactionValue, is_unanimous};
+ghost use Rattle.qs_engage.specs.Nodes.{listed};
 ghost use Rattle.qs_ops.specs.declared.answer.Cause.{Cause};
 ghost use Rattle.qs_step.specs.State.{NodeValue, Work, here, work_on};
 ghost use Rattle.qs_tm.specs.Manager as tm;
@@ -55,15 +57,15 @@ ghost use Rattle.qs_tm.specs.Participant.{is_forgotten};
 ghost use Rattle.qs_tm.specs.declared.participant.Participant.{Participant};
 
 /// What a rule of settling is given stands before it: what its home has not committed the machine has not; a home decides what it began
-/// since it started; each cause that is kept the machine finds too; what is settled is committed, or its Commit finds no room; and of
+/// since it started; each cause that is kept the machine finds too; what is unanimous is committed, or its Commit finds no room; and of
 /// what is forgotten the machine has nothing due.
 pub fn settling_is_given()
     ensures undone { (stamp : ℕ) (before : BookValue) (size : ℕ) (nodes : ℕ → NodeValue) (n : ℕ) (work : Work) → StandsBy stamp before size nodes n work → (tid : Tid) → IsUndone size nodes n work tid → IsUncommitted stamp before work tid }
     ensures decides { (stamp : ℕ) (before : BookValue) (size : ℕ) (nodes : ℕ → NodeValue) (n : ℕ) (work : Work) → StandsBy stamp before size nodes n work → (tid : Tid) (part : Participant) → tm.part_of tid work.node.manager ≡ Some part → part.engage.home ≡ true → part.outcome ≡ None → MayDecide stamp before work tid }
     ensures causes { (stamp : ℕ) (before : BookValue) (size : ℕ) (nodes : ℕ → NodeValue) (n : ℕ) (work : Work) → StandsBy stamp before size nodes n work → (tid : Tid) (part : Participant) → tm.part_of tid work.node.manager ≡ Some part → (cause : Cause) → IsTrueCause (book_at stamp before work) tid cause → HasCause stamp before work tid cause }
     ensures passes { (stamp : ℕ) (before : BookValue) (size : ℕ) (nodes : ℕ → NodeValue) (n : ℕ) (work : Work) → StandsBy stamp before size nodes n work → (tid : Tid) (part : Participant) → tm.part_of tid work.node.manager ≡ Some part → IsUndone size nodes n work tid → MayPass stamp before work tid part }
-    ensures commits { (stamp : ℕ) (before : BookValue) (size : ℕ) (nodes : ℕ → NodeValue) (n : ℕ) (work : Work) → Stands stamp before size nodes n work → (tid : Tid) (part : Participant) → tm.part_of tid work.node.manager ≡ Some part → part.engage.home ≡ true → part.outcome ≡ None → part.asked ≡ true → IsSettledAll (book_at stamp before work) tid → MayCommit stamp before work tid }
-    ensures forgets { (stamp : ℕ) (before : BookValue) (size : ℕ) (nodes : ℕ → NodeValue) (n : ℕ) (work : Work) → Stands stamp before size nodes n work → (tid : Tid) (part : Participant) → tm.part_of tid work.node.manager ≡ Some part → part.engage.home ≡ false → is_forgotten part ≡ true → MayForget stamp before work tid }
+    ensures commits { (stamp : ℕ) (before : BookValue) (size : ℕ) (nodes : ℕ → NodeValue) (n : ℕ) (work : Work) → Stands stamp before size nodes n work → (tid : Tid) (part : Participant) → tm.part_of tid work.node.manager ≡ Some part → part.engage.home ≡ true → part.outcome ≡ None → ((tx : TransactionValue) → find_transaction (book_at stamp before work) tid ≡ Some tx → is_unanimous tx ≡ true) → length (listed part.told) < work.node.setting.nodes → MayCommit stamp before work tid }
+    ensures forgets { (stamp : ℕ) (before : BookValue) (size : ℕ) (nodes : ℕ → NodeValue) (n : ℕ) (work : Work) → Stands stamp before size nodes n work → (tid : Tid) (part : Participant) → tm.part_of tid work.node.manager ≡ Some part → part.engage.home ≡ false → is_forgotten part ≡ true → IsIdle part → MayForget stamp before work tid }
 {}
 
 /// Each transaction is settled with what it is given, and what stands goes on.
@@ -149,5 +151,5 @@ pub fn channels_hold_what_is_so()
 
 /// Whatever event comes to a node of a world, it comes as it is given, by what the world holds of scripts and channels.
 pub fn world_gives_events()
-    ensures { (o : Opening) (book : BookValue) (world : World) (n stamp free : ℕ) → IsOpening o → WorldGives o book world n free → (source : Source) (event : Event) → event_of world n stamp source ≡ Some event → ComesTo book event (work_on (world.hosts n).node free) }
+    ensures { (o : Opening) (book : BookValue) (world : World) (n stamp free : ℕ) → IsOpening o → (source : Source) → WorldGives o book world n free source → (event : Event) → event_of world n stamp source ≡ Some event → ComesTo book event (work_on (world.hosts n).node free) }
 {}

@@ -41,6 +41,7 @@ ghost use Rattle.qs_world.specs.World.{Host};
 ghost use Rattle.qs_lawful.specs.Holds.{Holds};
 ghost use Rattle.qs_lawful.specs.Logged.{HoldsHost, IsTrueEvent, KeepsLogs};
 ghost use Rattle.qs_lawful.specs.Logs.{found_votes, HoldsStopped};
+ghost use Rattle.qs_lawful.specs.Saying.{EachCommitEnters, EachCommitIsSaid, EachCommitSays, EachEndKeepsSaid, EachEndSays, EachKeepsSaid, EachLearnerIsHeld, EachLearningEnters, EachMadeIsSaid, EachPendingIsHeld, EachPlainEnters, EachQuietSays, EachVoteEnters, EachVoteIsSaid, EachVoteOnce, EachVoteSays};
 
 /// A server votes: a vote that it can commit stands in the log with its Prepare, of every other vote the log says nothing.
 pub fn vote_keeps_the_log()
@@ -72,6 +73,37 @@ pub fn stopped_node_may_restart()
     ensures stopped { (opened : List Opened) (history : List Entry) → IsCoherent opened → IsLawful (opening opened) history → (n : ℕ) (manager : Manager) (disk waiting : List Record) → HoldsHost n (book_after (opening opened) history) manager disk waiting → (stamp : ℕ) (cause : CrashCause) → broken (book_after (opening opened) history) (entry_of n stamp (acts.Crash cause)) ≡ None → HoldsHost n (effect (book_after (opening opened) history) (entry_of n stamp (acts.Crash cause))) manager disk waiting }
     ensures found { (opened : List Opened) (history : List Entry) → IsCoherent opened → IsLawful (opening opened) history → (n : ℕ) (manager : Manager) (disk waiting : List Record) → (h : HoldsHost n (book_after (opening opened) history) manager disk waiting) → HoldsStopped n (book_after (opening opened) history) h.state (recovery disk) }
     ensures restarted { (opened : List Opened) (history : List Entry) → IsCoherent opened → IsLawful (opening opened) history → (n : ℕ) (manager : Manager) (disk waiting : List Record) → HoldsHost n (book_after (opening opened) history) manager disk waiting → (state : NodeValue) → slice_get (book_after (opening opened) history).nodes n ≡ Some state → (inc : ℕ) → nat_lt state.inc inc ≡ true → broken_restart n (book_after (opening opened) history) state inc (found_votes (recovery disk)) (recovery disk).committed ≡ None }
+{}
+
+/// What a log says of contents and changes goes on by entries of its node and the record beside them: by entries that touch neither
+/// committed contents nor what is on record; by an end of a transaction's records; by a vote and its Prepare, where the log has no
+/// Commit of the transaction; and by a transaction that all servers of the node learn to be committed, and its Commit, where what
+/// the log has of it is in doubt.
+pub fn log_says_what_is_entered()
+    ensures stays { EachKeepsSaid }
+    ensures ended { EachEndKeepsSaid }
+    ensures voted { EachVoteIsSaid }
+    ensures committed { EachCommitIsSaid }
+    ensures whole { EachMadeIsSaid }
+    ensures once { EachVoteOnce }
+{}
+
+/// So it does, in a run, by each entry that puts nothing on record and takes nothing off; as a vote of changes that are pending is
+/// entered with its Prepare; and as the servers that are still to learn it learn that a transaction is committed, with its Commit, or
+/// with none where the log has nothing in doubt of it. What a node has pending is so, and those that its node has still to tell are they,
+/// where the machine holds what the node has; so the rule by which a server votes recoverable leaves what the log says as the machine
+/// has it, and so do rules that make no record, or the end of a transaction's records, and rules that make a Commit.
+pub fn log_says_votes_and_commits()
+    ensures plain { EachPlainEnters }
+    ensures voted { EachVoteEnters }
+    ensures committed { EachCommitEnters }
+    ensures learnt { EachLearningEnters }
+    ensures pending { EachPendingIsHeld }
+    ensures learners { EachLearnerIsHeld }
+    ensures rule { EachVoteSays }
+    ensures quiet { EachQuietSays }
+    ensures ends { EachEndSays }
+    ensures commits { EachCommitSays }
 {}
 
 /// What another node does, a crash and a restart of it too, leaves what is held of the log of a node.

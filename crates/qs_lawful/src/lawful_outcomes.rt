@@ -20,7 +20,7 @@ ghost use Rattle.qs_journal.specs.declared.script_line.ScriptLine.{ScriptLine};
 ghost use Rattle.qs_machine.specs.Book.{BookValue, find_transaction};
 ghost use Rattle.qs_machine.specs.Clauses.{is_cause, is_fresh};
 ghost use Rattle.qs_machine.specs.Lawful.{broken};
-ghost use Rattle.qs_machine.specs.Transaction.{TransactionValue, is_open, is_outcome};
+ghost use Rattle.qs_machine.specs.Transaction.{TransactionValue, is_open, is_outcome, is_unanimous};
 ghost use Rattle.qs_tm.specs.Manager as tm;
 ghost use Rattle.qs_tm.specs.Participant.{is_answered_by, is_by_files};
 ghost use Rattle.qs_tm.specs.declared.participant.Outstanding.{Outstanding};
@@ -37,7 +37,6 @@ ghost use Rattle.qs_step.specs.Answering.{inquiry_came, was_committed};
 ghost use Rattle.qs_step.specs.Asking.{refusal_came};
 ghost use Rattle.qs_world.specs.Posting.{entry_of};
 ghost use Rattle.qs_lawful.specs.Entering.{HoldsWork, IsAborted, book_at};
-ghost use Rattle.qs_lawful.specs.Places.{Facts, IsSettled, HoldsPlaces};
 
 /// The servers of a node that knows the outcome get their notices: endings first where it is aborted, then each that is to learn
 /// it learns it, in order of classes.
@@ -66,9 +65,9 @@ pub fn begin_command_is_lawful()
     ensures { (stamp : ℕ) (before : BookValue) (work : Work) (line : ScriptLine) → HoldsWork stamp before work → line.command ≡ commands.Begin → lookup (is_at (client_cmp line.client)) work.node.commands ≡ Some (record { line = line; issued = None }) → is_fresh (book_at stamp before work).labels line.label ≡ true → HoldsWork stamp before (begin_command line work) }
 {}
 
-/// A home commits a transaction for which commit is asked, where what all places hold of it is settled.
+/// A home commits a transaction that is unanimous.
 pub fn commit_is_lawful()
-    ensures { (stamp : ℕ) (before : BookValue) (work : Work) (tid : Tid) (part : Participant) (tx : TransactionValue) (h : HoldsWork stamp before work) → tm.part_of tid work.node.manager ≡ Some part → find_transaction (book_at stamp before work) tid ≡ Some tx → tid.home ≡ work.node.setting.node → tid.inc ≡ work.node.setting.inc → part.outcome ≡ None → ((client : ClientNo) → tx.owner ≡ Some client → is_some (slice_get (book_at stamp before work).owners client.0) ≡ true) → (w : Facts) → part.asked ≡ true → IsSettled w → HoldsPlaces tx w → HoldsWork stamp before (decide tid outcomes.Commit None work) }
+    ensures { (stamp : ℕ) (before : BookValue) (work : Work) (tid : Tid) (part : Participant) (tx : TransactionValue) (h : HoldsWork stamp before work) → tm.part_of tid work.node.manager ≡ Some part → find_transaction (book_at stamp before work) tid ≡ Some tx → tid.home ≡ work.node.setting.node → tid.inc ≡ work.node.setting.inc → part.outcome ≡ None → ((client : ClientNo) → tx.owner ≡ Some client → is_some (slice_get (book_at stamp before work).owners client.0) ≡ true) → is_unanimous tx ≡ true → HoldsWork stamp before (decide tid outcomes.Commit None work) }
 {}
 
 /// A home aborts a transaction for a cause that the machine finds.

@@ -24,7 +24,7 @@ ghost use Rattle.qs_tm.specs.declared.participant.Participant.{Participant};
 ghost use Rattle.qs_engage.specs.Engage.{last_number, peer_of};
 ghost use Rattle.qs_step.specs.Asking.{closer_came};
 ghost use Rattle.qs_step.specs.Voting.{change_count, issue_note};
-ghost use Rattle.qs_tm.specs.Participant.{awaits_note, has_noted};
+ghost use Rattle.qs_tm.specs.Participant.{awaits_note, has_noted, is_undecided};
 ghost use Rattle.qs_step.specs.Bringing.{answer, enter, log, member_here, send};
 ghost use Rattle.qs_step.specs.Commands.{ask};
 ghost use Rattle.qs_step.specs.Requests.{issue_away, issue_here, local_count};
@@ -64,7 +64,7 @@ pub fn issue_here_is_lawful()
 
 /// Another node of the run answers for what was sent to it, and no more: that is counted, where the transaction is undecided here.
 pub fn counting_is_lawful()
-    ensures { (stamp : ℕ) (before : BookValue) (work : Work) → HoldsWork stamp before work → (peer : NodeNo) (tid : Tid) (up_to : ℕ) (told : List NodeNo) → (peer.0 == work.node.setting.node.0) ≡ false → nat_lt peer.0 work.node.setting.nodes ≡ true → ((part : Participant) → tm.part_of tid work.node.manager ≡ Some part → up_to ≤ (peer_of part.engage peer).sent) → HoldsWork stamp before (closer_came peer tid up_to told work) }
+    ensures { (stamp : ℕ) (before : BookValue) (work : Work) → HoldsWork stamp before work → (peer : NodeNo) (tid : Tid) (up_to : ℕ) (told : List NodeNo) → (peer.0 == work.node.setting.node.0) ≡ false → nat_lt peer.0 work.node.setting.nodes ≡ true → ((part : Participant) → tm.part_of tid work.node.manager ≡ Some part → is_undecided part ≡ true → up_to ≤ (peer_of part.engage peer).sent) → HoldsWork stamp before (closer_came peer tid up_to told work) }
 {}
 
 /// A request goes to a server of another node, and whoever was asked asks on: whether it crosses the transaction there or not, its

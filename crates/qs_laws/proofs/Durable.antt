@@ -59,16 +59,16 @@ use Rattle.qs_laws.proofs.Unanimous.{Commits, alike_back, step_commits}
 -- ---- what an act does at the member
 
 -- the member makes this vote
-abbrev IsVote : Tid → Member → Act → Type 0
+abbrev pub IsVote : Tid → Member → Act → Type 0
 IsVote tid member act = (ballot : Vote) × (covers : ℕ) × (act ≡ acts.Vote tid member ballot covers)
 
-abbrev IsLearn : Tid → Member → Act → Type 0
+abbrev pub IsLearn : Tid → Member → Act → Type 0
 IsLearn tid member act = (outcome : Outcome) × (act ≡ acts.Learn tid member outcome)
 
-abbrev IsRestart : ℕ → ℕ → Act → Type 0
+abbrev pub IsRestart : ℕ → ℕ → Act → Type 0
 IsRestart n here act = (inc : ℕ) × (pend : List Found) × (done : List Tid) × (act ≡ acts.Restart inc pend done) × (here ≡ n)
 
-abbrev IsServe : Tid → Member → Act → Type 0
+abbrev pub IsServe : Tid → Member → Act → Type 0
 IsServe tid member act = (from : NodeNo) × (n : ℕ) × (reply : Reply) × (act ≡ acts.Serve tid member from n reply)
 
 abbrev recorded : Option Mark → Option OnRecord
@@ -76,7 +76,7 @@ recorded None = None
 recorded (Some mark) = mark.rec
 
 -- nothing of what the member learnt is left
-learnt_none : (b : Bool) (tid : Tid) (v : NodeValue) → IsTidy v
+pub learnt_none : (b : Bool) (tid : Tid) (v : NodeValue) → IsTidy v
     → (pending_at (doubts_after tid (number b) (learn_node outcomes.Commit tid (number b) v)) tid (number b) ≡ []) × (record_of (doubts_after tid (number b) (learn_node outcomes.Commit tid (number b) v)) tid (number b) ≡ None)
 learnt_none true tid v tidy =
     (ap (λ (o : Option Share). (unwrap_or o nothing_held).changes) (removed tid_cmp at_exact tid v.files.shares tidy.files), removed voter_cmp voter_exact (voter tid 0) v.records tidy.records)
@@ -96,7 +96,7 @@ module _ (tid : Tid) (member : Member) where
       let e : (t ≡ tid) × (other ≡ member) = share_is t other h in
       (ballot, covers, ap (λ (x : Tid). acts.Vote x other ballot covers) e.0 ∙ ap (λ (m : Member). acts.Vote tid m ballot covers) e.1)
 
-  going : (here : ℕ) (act : Act) → lets_go tid member here act ≡ true → IsVote tid member act ⊎ (IsLearn tid member act ⊎ IsRestart member.node.0 here act)
+  pub going : (here : ℕ) (act : Act) → lets_go tid member here act ≡ true → IsVote tid member act ⊎ (IsLearn tid member act ⊎ IsRestart member.node.0 here act)
   going here (acts.Vote t other votes.ReadOnly covers) h = inl (vote_is t other votes.ReadOnly covers h)
   going here (acts.Learn t other outcome) h =
       let e : (t ≡ tid) × (other ≡ member) = share_is t other h in
@@ -108,13 +108,13 @@ module _ (tid : Tid) (member : Member) where
   voting (acts.Vote t other ballot covers) h = vote_is t other ballot covers h
   voting act h = absurd (cc h)
 
-  serving : (act : Act) → serves_on tid member act ≡ true → IsServe tid member act
+  pub serving : (act : Act) → serves_on tid member act ≡ true → IsServe tid member act
   serving (acts.Serve t other from n reply) h =
       let e : (t ≡ tid) × (other ≡ member) = share_is t other h in
       (from, n, reply, ap (λ (x : Tid). acts.Serve x other from n reply) e.0 ∙ ap (λ (m : Member). acts.Serve tid m from n reply) e.1)
   serving act h = absurd (cc h)
 
-  none_served : (book : BookValue) (act : Act) → serves_on tid member act ≡ false → change_served book tid member act ≡ []
+  pub none_served : (book : BookValue) (act : Act) → serves_on tid member act ≡ false → change_served book tid member act ≡ []
   none_served book (acts.Serve t other from n reply) h = rw h refl
   none_served book act h = refl
 
@@ -183,7 +183,7 @@ module _ (tid : Tid) (member : Member) where
       let was : IsCommitted book tid = acted_back book entry (acts.Learn tid member outcome) is (alike.by_learn entry.node.0 tid member outcome book) now in
       is ∙ ap (λ (o : Outcome). acts.Learn tid member o) (commit_outcome outcome (sym cell ∙ was))
 
-  learn_gone : (book : BookValue) (entry : Entry) → keeps_contents member.server.0 ≡ true → AllTidy book.nodes → broken book entry ≡ None → entry.act ≡ acts.Learn tid member outcomes.Commit → IsGone (effect book entry) tid member
+  pub learn_gone : (book : BookValue) (entry : Entry) → keeps_contents member.server.0 ≡ true → AllTidy book.nodes → broken book entry ≡ None → entry.act ≡ acts.Learn tid member outcomes.Commit → IsGone (effect book entry) tid member
   learn_gone book entry keeps tidy h is =
       let at : (node : NodeValue) × (slice_get book.nodes entry.node.0 ≡ Some node) × (broken_act book entry.stamp entry.node.0 node (acts.Learn tid member outcomes.Commit) ≡ None) =
       lawful_node book entry (acts.Learn tid member outcomes.Commit) is (λ node. refl) h in
@@ -211,7 +211,7 @@ module _ (tid : Tid) (member : Member) where
 
   -- ---- an entry
 
-  kept_step : (book : BookValue) (entry : Entry) (changes : List Op) → keeps_contents member.server.0 ≡ true → Inv book → AllTidy book.nodes → Ready book tid member → broken book entry ≡ None → IsCommitted (effect book entry) tid
+  pub kept_step : (book : BookValue) (entry : Entry) (changes : List Op) → keeps_contents member.server.0 ≡ true → Inv book → AllTidy book.nodes → Ready book tid member → broken book entry ≡ None → IsCommitted (effect book entry) tid
       → IsKept book tid member changes → (Applies book entry tid member changes × IsGone (effect book entry) tid member) ⊎ IsKept (effect book entry) tid member changes
   kept_step book entry changes keeps i tidy r h now k = by (lets_go tid member entry.node.0 entry.act) refl
     where
@@ -229,7 +229,7 @@ module _ (tid : Tid) (member : Member) where
       by true is = goes (going entry.node.0 entry.act is)
       by false is = inr (stays (rests book entry keeps i r h now is))
 
-  gone_step : (book : BookValue) (entry : Entry) → keeps_contents member.server.0 ≡ true → Inv book → AllTidy book.nodes → Ready book tid member → broken book entry ≡ None → IsCommitted (effect book entry) tid
+  pub gone_step : (book : BookValue) (entry : Entry) → keeps_contents member.server.0 ≡ true → Inv book → AllTidy book.nodes → Ready book tid member → broken book entry ≡ None → IsCommitted (effect book entry) tid
       → IsGone book tid member → IsGone (effect book entry) tid member
   gone_step book entry keeps i tidy r h now gone = by (lets_go tid member entry.node.0 entry.act) refl
     where
@@ -248,12 +248,12 @@ module _ (tid : Tid) (member : Member) where
   -- ---- a history
 
   -- what holds of a book from the commit on
-  record Settled (book : BookValue) : Type 0 where
+  pub record Settled (book : BookValue) : Type 0 where
     pub inv : Inv book
     pub tidy : AllTidy book.nodes
     pub ready : Ready book tid member
 
-  step_settled : (book : BookValue) (entry : Entry) → Settled book → broken book entry ≡ None → IsCommitted (effect book entry) tid → Settled (effect book entry)
+  pub step_settled : (book : BookValue) (entry : Entry) → Settled book → broken book entry ≡ None → IsCommitted (effect book entry) tid → Settled (effect book entry)
   step_settled book entry s h now = record {
     inv = (stepped book entry s.inv h).inv;
     tidy = step_tidy book entry s.tidy;
@@ -287,7 +287,7 @@ module _ (tid : Tid) (member : Member) where
       durable_by changes book entry entries keeps s now lawful k
       (λ still. durable_from entries changes (effect book entry) keeps (step_settled book entry s lawful.0 now) now lawful.1 still)
 
-ran_tidy : (entries : List Entry) (book : BookValue) → AllTidy book.nodes → AllTidy (book_after book entries).nodes
+pub ran_tidy : (entries : List Entry) (book : BookValue) → AllTidy book.nodes → AllTidy (book_after book entries).nodes
 ran_tidy [] book all = all
 ran_tidy (entry ∷ entries) book all = ran_tidy entries (effect book entry) (step_tidy book entry all)
 

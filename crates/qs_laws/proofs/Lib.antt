@@ -5,6 +5,14 @@ pub mod Alikes
 pub mod Outcomes
 pub mod Restarts
 pub mod Steps
+pub mod FoundParts
+pub mod OnRecord
+pub mod StillToLearn
+pub mod Unserved
+pub mod NotPending
+pub mod LearningOpens
+pub mod Unlearnt
+pub mod LearnsAll
 pub mod Openings
 pub mod Histories
 pub mod Stills

@@ -35,7 +35,7 @@ use Rattle.qs_laws.proofs.Takes.{some_same}
 use Rattle.qs_laws.proofs.Tidy.{AllTidy, step_tidy}
 
 -- a restart, as its effect on the book
-effect_restart : (book : BookValue) (entry : Entry) (here inc : ℕ) (pend : List Found) (done : List Tid) → entry.act ≡ acts.Restart inc pend done → entry.node.0 ≡ here
+pub effect_restart : (book : BookValue) (entry : Entry) (here inc : ℕ) (pend : List Found) (done : List Tid) → entry.act ≡ acts.Restart inc pend done → entry.node.0 ≡ here
     → effect book entry ≡ record (restart here inc pend done book) { stamp = entry.stamp; node = entry.node.0; place = book.place + 1 }
 effect_restart book entry here inc pend done is e =
     ap (λ (a : Act). record (effect_act entry.stamp entry.node.0 a book) { stamp = entry.stamp; node = entry.node.0; place = book.place + 1 }) is

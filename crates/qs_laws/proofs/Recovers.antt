@@ -154,7 +154,7 @@ module _ (here : ℕ) (mid : BookValue) (s : ℕ) (done : List Tid) (tid : Tid)
       ap (λ (x : TableValue). (share_of x tid).changes) (fold-append kept t (keep_found here mid s done found) (flat_map (keep_found here mid s done) pend))
       ∙ none_pending pend (fold kept t (keep_found here mid s done found)) (keeps_none found t nothing)
 
-reopened_none : (b : Bool) (here inc : ℕ) (pend : List Found) (done : List Tid) (mid : BookValue) (v : NodeValue) (tid : Tid)
+pub reopened_none : (b : Bool) (here inc : ℕ) (pend : List Found) (done : List Tid) (mid : BookValue) (v : NodeValue) (tid : Tid)
     → ((found : Found) → is_kept_at here mid (number b) done found ≡ true → same_tid found.tid tid ≡ true → changes_at here mid (number b) found.tid ≡ [])
     → pending_at (restarted_node (reopened here inc pend done mid) done v) tid (number b) ≡ []
 reopened_none true here inc pend done mid v tid none =
@@ -168,7 +168,7 @@ reopened_none false here inc pend done mid v tid none =
     without : NodeValue → Tid → NodeValue
     without w t = without_records w t
 
-kept_apart : (here : ℕ) (mid : BookValue) (s : ℕ) (done : List Tid) (found : Found) → is_kept_at here mid s done found ≡ true → is_among done found.tid ≡ false
+pub kept_apart : (here : ℕ) (mid : BookValue) (s : ℕ) (done : List Tid) (found : Found) → is_kept_at here mid s done found ≡ true → is_among done found.tid ≡ false
 kept_apart here mid s done found h =
     by (is_among done found.tid) (crossed_in (find_transaction mid found.tid) (member_at here s)) (right_of (found.server.0 == s) (not (is_among done found.tid || crossed_in (find_transaction mid found.tid) (member_at here s))) h)
   where

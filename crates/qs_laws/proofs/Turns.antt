@@ -93,7 +93,7 @@ module _ (tid : Tid) where
   pub kept_by : (P : TransactionValue → Type 0) (book : BookValue) (t : Tid) (f : TransactionValue → TransactionValue) → ((tx : TransactionValue) → P tx → P (f tx)) → Stands tid P book → Stands tid P (with_transaction t f book)
   kept_by P book t f keeps s = turn P P book t f (record { own = λ same tx found p. keeps tx p; other = λ apart tx p. p }) s
 
-  kept_all : {A : Type 0} (P : TransactionValue → Type 0) (f : BookValue → A → BookValue) → ((book : BookValue) (x : A) → Stands tid P book → Stands tid P (f book x)) → (xs : List A) (book : BookValue) → Stands tid P book → Stands tid P (fold f book xs)
+  pub kept_all : {A : Type 0} (P : TransactionValue → Type 0) (f : BookValue → A → BookValue) → ((book : BookValue) (x : A) → Stands tid P book → Stands tid P (f book x)) → (xs : List A) (book : BookValue) → Stands tid P book → Stands tid P (fold f book xs)
   kept_all P f each [] book s = s
   kept_all P f each (x ∷ xs) book s = kept_all P f each xs (f book x) (each book x s)
 
@@ -114,7 +114,7 @@ module _ (tid : Tid) where
         kept_if P (is_some (record_at here book t server)) (with_transaction t (with_learnt (member_at here server)) book) book
         (kept_by P book t (with_learnt (member_at here server)) (v.learnt (member_at here server)) s) s
 
-    kept_commit : (book : BookValue) (t : Tid) → Stands tid P book → Stands tid P (commit_found here book t)
+    pub kept_commit : (book : BookValue) (t : Tid) → Stands tid P book → Stands tid P (commit_found here book t)
     kept_commit book t s =
         kept_if P (is_open_here here t (find_transaction last t)) (decide t outcomes.Commit None last) last (kept_decide t outcomes.Commit None last at_last) at_last
       where
@@ -124,14 +124,14 @@ module _ (tid : Tid) where
         at_last : Stands tid P last
         at_last = kept_learn t 6 (learn_found here t 1 (learn_found here t 0 book)) (kept_learn t 1 (learn_found here t 0 book) (kept_learn t 0 book s))
 
-    kept_vote : (done : List Tid) (book : BookValue) (found : Found) → Stands tid P book → Stands tid P (vote_found here inc done book found)
+    pub kept_vote : (done : List Tid) (book : BookValue) (found : Found) → Stands tid P book → Stands tid P (vote_found here inc done book found)
     kept_vote done book found s =
         kept_if P (is_among done found.tid) book (with_transaction found.tid f book) s (kept_by P book found.tid f (v.found found.server.0 found.covers (pending_of (record_at here book found.tid found.server.0))) s)
       where
         f : TransactionValue → TransactionValue
         f = found_at (member_at here found.server.0) inc found.covers (pending_of (record_at here book found.tid found.server.0))
 
-    kept_abort : (old : ℕ) (book : BookValue) (seq : ℕ) → Stands tid P book → Stands tid P (abort_begun here old book seq)
+    pub kept_abort : (old : ℕ) (book : BookValue) (seq : ℕ) → Stands tid P book → Stands tid P (abort_begun here old book seq)
     kept_abort old book seq s =
         kept_if P (is_open_here here (begun_tid here old seq) (find_transaction book (begun_tid here old seq))) (decide (begun_tid here old seq) outcomes.Abort (Some (causes.Home old)) book) book
         (kept_decide (begun_tid here old seq) outcomes.Abort (Some (causes.Home old)) book s) s

@@ -3,6 +3,7 @@ pub mod Durable
 pub mod Endings
 pub mod Gone
 pub mod Laws
+pub mod Learning
 pub mod Lives
 pub mod Served
 pub mod Standing

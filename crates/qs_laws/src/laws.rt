@@ -22,6 +22,7 @@ ghost use Rattle.qs_machine.specs.declared.opened.Opened.{Opened};
 ghost use Rattle.qs_laws.specs.Durable.{IsDurable};
 ghost use Rattle.qs_laws.specs.Served.{held_at, crossed_at, changes_served, keeps_contents, IsHolding, NeverVotes, HasApplied, IsLogged, PendsAgain, CommitsOnce};
 ghost use Rattle.qs_laws.specs.Unanimity.{IsUnanimous};
+ghost use Rattle.qs_laws.specs.Learning.{EachLearnsAll, EachPendingLearns, EachPendsAsRecorded};
 ghost use Rattle.qs_laws.specs.Laws.{IsCoherent, IsCommitted, IsDecided, IsTrueAnswer, TakesCommitted, LeavesCommitted, may_take};
 
 /// A transaction has one outcome: its cell, once decided, never changes; every member learns the outcome that the cell
@@ -83,4 +84,14 @@ pub fn committed_changes_are_durable()
 pub fn a_commit_is_unanimous()
     ensures decided { (opened : List Opened) (before after : List Entry) (entry : Entry) (tid : Tid) → IsCoherent opened → IsLawful (opening opened) (before ++ (entry ∷ after)) → entry.act ≡ acts.Decide tid outcomes.Commit None → IsUnanimous tid before }
     ensures committed { (opened : List Opened) (before after : List Entry) (entry : Entry) (tid : Tid) → IsCoherent opened → IsLawful (opening opened) (before ++ (entry ∷ after)) → cell_of_transaction (find_transaction (book_after (opening opened) before) tid) ≡ Some cells.Open → IsCommitted (effect (book_after (opening opened) before) entry) tid → IsUnanimous tid before }
+{}
+
+/// What is committed is learnt. Of a committed transaction files and audit of a node have pending just what is on record of it there: all of
+/// it, or nothing any more. And what they have pending of a transaction that is not aborted, and is not crossed there, they have still to
+/// learn the end of, in the last incarnation of their node. So where each of them that may learn it learns commit, they commit all that was on
+/// record, once, and nothing of it is left on record.
+pub fn what_is_pending_is_to_be_learnt()
+    ensures recorded { EachPendsAsRecorded }
+    ensures learns { EachPendingLearns }
+    ensures learnt { EachLearnsAll }
 {}

@@ -13,7 +13,7 @@ pub use endings::{
 pub use laws::{
     a_commit_covers_what_was_served, a_commit_is_unanimous, a_restart_keeps_what_is_on_record,
     committed_changes_are_durable, nothing_of_an_aborted_transaction, one_outcome,
-    served_changes_are_kept,
+    served_changes_are_kept, what_is_pending_is_to_be_learnt,
 };
 pub use opening::coherent_logs_open_soundly;
 pub use servers::servers_go_by_the_rules;

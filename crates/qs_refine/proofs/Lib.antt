@@ -208,6 +208,7 @@ pub mod CommandStands
 pub mod OwnReplies
 pub mod ServeCounts
 pub mod ServeFirst
+pub mod ServeRoom
 pub mod ServeFrames
 pub mod ServeStands
 pub mod StepGoes
@@ -300,7 +301,9 @@ pub mod PreparedKept
 pub mod PreparedHeld
 pub mod PreparedSteps
 pub mod CutsAlone
+pub mod CutRecords
 pub mod CutsKept
+pub mod MeetsAlone
 pub mod CommitIdles
 pub mod PassedOver
 pub mod ToCome

@@ -34,12 +34,12 @@ use Rattle.qs_step.specs.declared.state.OpenCommand.{OpenCommand}
 use Rattle.qs_refine.specs.CutLaws.{is_prepare_of, is_commit_of}
 use Rattle.qs_refine.specs.Sound.{is_engaged}
 use Rattle.qs_refine.specs.Tidy.{Stage, IsStage, IsTidy}
-use Rattle.qs_refine.specs.Walks.{Reads, Keeps, MayLog, MayForget, is_decided, keeps_prepared}
+use Rattle.qs_refine.specs.Walks.{Reads, Keeps, MayLog, MayForget, TicksOn, is_decided, keeps_prepared}
 use Rattle.qs_refine.proofs.Maps.{lookup_put_apart}
 use Rattle.qs_refine.proofs.Others.{key_apart}
 use Rattle.qs_refine.proofs.SoundHolds.{is_held}
 use Rattle.qs_refine.proofs.SoundKnown.{same_is}
-use Rattle.qs_refine.proofs.TidyKeeps.{tidy_keeps}
+use Rattle.qs_refine.proofs.TidyKeeps.{tidy_keeps, tidy_ticks}
 use Rattle.qs_refine.proofs.TidyReads.{tidy_reads}
 use Rattle.qs_refine.proofs.WalkSettles.{doings_put}
 use Rattle.qs_refine.proofs.PreparedKept.{KeptIn, NotedIn, either, one_more, held_lasts, decided_lasts, engaged_held, kept_on, kept_still, part_kept, of_part, logs, met_kept, aborted_kept, forgets}
@@ -198,6 +198,9 @@ module _ (t : Tid) where
       aged = λ age work i. r.aged age work i.0;
     }
 
+    pub both_ticks : TicksOn Both
+    both_ticks work i = (tidy_ticks c work i.0, still work (with_manager tm.tick work) refl refl refl i.1)
+
     pub both_keeps : Keeps c.past c.begun c.met c.setting.node c.setting.nodes Both
     both_keeps = record {
       enter = λ act work i. (k.enter act work i.0, still work (Rattle.qs_step.specs.Bringing.enter act work) refl refl refl i.1);
@@ -218,7 +221,6 @@ module _ (t : Tid) where
       );
       learn = λ tid outcome work away i. (k.learn tid outcome work away i.0, of_one tid (outcome_rules.took_outcome outcome) work (λ q _. held_lasts.takes outcome q) (λ q _. decided_lasts.takes outcome q) i.1);
       forget = λ tid part work known may i. (k.forget tid part work known may i.0, forgotten c.setting.node tid part work known may i.1);
-      tick = λ work i. (k.tick work i.0, still work (with_manager tm.tick work) refl refl refl i.1);
       enqueue = λ server delivery work begun i. (k.enqueue server delivery work begun i.0, still work (with_queues (ipc.enqueue server delivery) work) refl refl refl i.1);
       next = λ server work i. (k.next server work i.0, still work (with_queues (ipc.after_next server) work) refl refl refl i.1);
       drop = λ tid work i. (k.drop tid work i.0, still work (with_queues (drop_counts tid) work) refl refl refl i.1);

@@ -31,7 +31,7 @@ use Rattle.qs_refine.specs.SoundSteps.{begun}
 use Rattle.qs_refine.specs.Steadies.{IsSteadyWorld, MachineGives}
 use Rattle.qs_refine.specs.Tidy.{Stage, IsStage, IsTidy}
 use Rattle.qs_refine.proofs.BeginKeeps.{begin_keeps}
-use Rattle.qs_refine.proofs.PreparedHeld.{LoggedWell, Both, both_reads, both_keeps}
+use Rattle.qs_refine.proofs.PreparedHeld.{LoggedWell, Both, both_reads, both_keeps, both_ticks}
 use Rattle.qs_refine.proofs.SoundHappen.{happen_sound}
 use Rattle.qs_refine.proofs.SoundRestart.{begin_incarnation_sound}
 use Rattle.qs_refine.proofs.SteadyBegins.{ComesFit, c, stage, begun_tidy, comes_may, comes_on}
@@ -40,7 +40,7 @@ use Rattle.qs_refine.proofs.StillSteps.{begins_in, may_on}
 use Rattle.qs_refine.proofs.TidyHappens.{happen_tidy}
 use Rattle.qs_refine.proofs.TurnCommands.{any_wider}
 use Rattle.qs_refine.proofs.WalkSettles.{settle_walk}
-use Rattle.qs_refine.proofs.WalkSteps.{happen_walk, answer_waiting_walk}
+use Rattle.qs_refine.proofs.WalkSteps.{happen_walk, answer_waiting_walk, may_tick}
 
 -- ---- what begins logs nothing
 
@@ -118,7 +118,7 @@ module _ (t : Tid) where
     still : (event : Event) → begins_in event ≡ false → ComesFit world steady n free low up event → MachineGives event first → LoggedWell t (step_work node event free)
     still event none fit gives = (settles (c world steady n free low up) (stage world steady n free low up) (happen event first) (sound event fit gives)
         (happen_walk s.past s.begun s.met s.setting.node s.setting.nodes (Both t s (stage world steady n free low up)) (both_reads t s (stage world steady n free low up)) (both_keeps t s (stage world steady n free low up)) event first
-        (may_on s (stage world steady n free low up) event none (comes_on world steady n free low up event fit)) (begun_tidy world steady n free low up, first_held))).1
+        (may_on s (stage world steady n free low up) event none (comes_on world steady n free low up event fit)) (may_tick (Both t s (stage world steady n free low up)) (both_ticks t s (stage world steady n free low up)) event) (begun_tidy world steady n free low up, first_held))).1
       where
         s : Stage
         s = c world steady n free low up

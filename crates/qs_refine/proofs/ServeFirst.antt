@@ -1,28 +1,26 @@
 -- What waits first at a server: an operation of its own; and another transaction's request, which is served, leaves this one standing.
-use Rattle.std.proofs.Common.{◌≡◌, ℕ, ◌+◌, ◌≤◌, Bool, true, false, List, [], ◌∷◌, drop, Option, Some, None, refl, sym, subst, ap, ◌∙◌, arith}
+use Rattle.std.proofs.Common.{◌≡◌, ℕ, Bool, true, false, List, [], ◌∷◌, Some, refl, sym, subst, ap, arith}
 use Rattle.std.specs.BTreeMap.{is_at}
 use Rattle.std.specs.List.{list_all}
 use Rattle.std.proofs.lemmas.Bool.Decides.{nat_tests}
 use Rattle.qs_base.specs.Order.{same_tid}
 use Rattle.qs_base.specs.declared.identifiers.ServerNo.{ServerNo}
 use Rattle.qs_base.specs.declared.identifiers.Tid.{Tid}
-use Rattle.qs_engage.specs.Engage.{last_number}
 use Rattle.qs_ipc.specs.Ipc as ipc
 use Rattle.qs_ipc.specs.Ipc.{IpcValue, queue_at, server_cmp}
 use Rattle.qs_ipc.specs.Queue.{first_of}
 use Rattle.qs_ipc.specs.declared.delivery.Delivery.{Delivery}
-use Rattle.qs_tm.specs.Participant.{member_of}
-use Rattle.qs_step.specs.Serving.{serve_or_drop, serve_next}
-use Rattle.qs_step.specs.State.{NodeValue, Work, with_queues}
+use Rattle.qs_step.specs.Serving.{serve_next}
+use Rattle.qs_step.specs.State.{NodeValue, Work}
 use Rattle.qs_agree.specs.World as machine
 use Rattle.qs_agree.specs.World.{World}
 use Rattle.qs_refine.specs.Faces.{Face, ShowsFace}
-use Rattle.qs_refine.specs.ServeWhole.{CanCount}
 use Rattle.qs_refine.specs.Shows.{Scene}
 use Rattle.qs_refine.specs.Sights.{server_no}
 use Rattle.qs_refine.specs.Sound.{is_sound_queue, is_sound_delivery}
 use Rattle.qs_refine.specs.Stands.{Stands}
-use Rattle.qs_refine.proofs.ServeFrames.{first_is, next_leaves, next_kinds}
+use Rattle.qs_refine.proofs.ServeFrames.{next_leaves, next_kinds}
+use Rattle.qs_refine.proofs.ServeRoom.{turn_is}
 use Rattle.qs_refine.proofs.SettleStands.{stands_left}
 use Rattle.qs_refine.proofs.SoundParts.{and_both}
 use Rattle.qs_refine.proofs.SoundServe.{serve_next_sound}
@@ -75,20 +73,7 @@ aborted_waits f waits q w aborted is = record {
 }
 
 module _ (t : Tid) (scene : Scene) (n : ℕ) (server : ServerNo) (d : Delivery) (work : Work) (w : World) (is : Stands t scene n work w) (next : ipc.next server work.node.queues ≡ Some d) where
-  pub waiting_is : (queue_at work.node.queues server).waiting ≡ d ∷ drop 1 (queue_at work.node.queues server).waiting
-  waiting_is = first_is (queue_at work.node.queues server).waiting d next
-
-  pub turn_is : serve_next work server ≡ serve_or_drop server d (with_queues (ipc.after_next server) work)
-  turn_is = ap (λ (o : Option Delivery). elim o [ None ↦ work | Some d ↦ serve_or_drop server d (with_queues (ipc.after_next server) work) ]) next
-
   -- one of another transaction
   pub other_served : same_tid t d.tid ≡ false → Stands t scene n (serve_next work server) w
-  other_served apart = stands_left t scene n work (serve_next work server) w (subst (λ (k : Work). Leaves t work k) (sym turn_is) (next_leaves t server d apart work next))
+  other_served apart = stands_left t scene n work (serve_next work server) w (subst (λ (k : Work). Leaves t work k) (sym (turn_is server d work next)) (next_leaves t server d apart work next))
       (serve_next_sound work server is.sound) (next_kinds work server is.kinds) is
-
-  -- which can count as before
-  pub other_counts : same_tid t d.tid ≡ false → CanCount t work → CanCount t (serve_next work server)
-  other_counts apart can part s known below waits = subst (λ (k : ℕ). (member_of part (server_no s)).served + k ≤ last_number) (sym (left.node.around.waits s)) (can part s (sym left.node.part ∙ known) below (subst (λ (k : ℕ). 1 ≤ k) (left.node.around.waits s) waits))
-    where
-      left : Leaves t work (serve_next work server)
-      left = subst (λ (k : Work). Leaves t work k) (sym turn_is) (next_leaves t server d apart work next)

@@ -1,5 +1,5 @@
 -- All that waits is served, and what stood of a transaction stands.
-use Rattle.std.proofs.Common.{◌≡◌, ◌⊎◌, inl, inr, ℕ, ◌+◌, ◌<◌, ◌≤◌, ◌==◌, ◌&&◌, ◌||◌, not, nat_lt, Bool, true, false, List, [], ◌∷◌, drop, Option, Some, None, is_some, fold, refl, sym, subst, ap, ◌∙◌, arith, if◌then◌else◌}
+use Rattle.std.proofs.Common.{◌≡◌, ◌⊎◌, inl, inr, ℕ, ◌<◌, ◌≤◌, ◌==◌, ◌&&◌, ◌||◌, not, nat_lt, Bool, true, false, List, [], ◌∷◌, drop, Option, Some, None, is_some, fold, refl, sym, subst, ap, ◌∙◌, arith, if◌then◌else◌}
 use Rattle.std.specs.Prelude.{is_none}
 use Rattle.std.proofs.lemmas.Bool.{eqb-true}
 use Rattle.std.proofs.lemmas.Bool.Decides.{nat_tests}
@@ -9,10 +9,9 @@ use Rattle.qs_base.specs.declared.identifiers.Outcome.{Outcome}
 use Rattle.qs_base.specs.declared.identifiers.Outcome.TheVariants as outcomes
 use Rattle.qs_base.specs.declared.identifiers.ServerNo.{ServerNo}
 use Rattle.qs_base.specs.declared.identifiers.Tid.{Tid}
-use Rattle.qs_engage.specs.Engage.{last_number}
 use Rattle.qs_ipc.specs.Ipc as ipc
 use Rattle.qs_ipc.specs.Ipc.{IpcValue, queue_at, server_cmp}
-use Rattle.qs_ipc.specs.Queue.{count_of, is_for}
+use Rattle.qs_ipc.specs.Queue.{is_for}
 use Rattle.qs_ipc.specs.declared.delivery.Delivery.{Delivery}
 use Rattle.qs_ops.specs.Members.{class_of}
 use Rattle.qs_ops.specs.declared.reply.Reply.{Reply}
@@ -27,26 +26,21 @@ use Rattle.qs_refine.specs.Faces.{Face}
 use Rattle.qs_refine.specs.NodeFaces.{face, waiting_at}
 use Rattle.qs_refine.specs.ServeWhole.{CanCount, ServeAllGoes}
 use Rattle.qs_refine.specs.Shows.{Scene, sight_during}
-use Rattle.qs_refine.specs.Sights.{Sight, ShowsSight, server_no}
+use Rattle.qs_refine.specs.Sights.{Sight, ShowsSight}
 use Rattle.qs_refine.specs.Sound.{is_sound_delivery, may_be_served}
 use Rattle.qs_refine.specs.Stands.{Stands, GoesOn}
 use Rattle.qs_refine.specs.Steps.{Goes}
 use Rattle.qs_refine.proofs.OwnReplies.{OfServer, OfClient, own_replies}
-use Rattle.qs_refine.proofs.Queues.{waits_next, waits_first}
-use Rattle.qs_refine.proofs.ServeFrames.{first_is, next_leaves, next_kinds}
+use Rattle.qs_refine.proofs.ServeFrames.{next_leaves, next_kinds}
 use Rattle.qs_refine.proofs.SettleStands.{stands_itself, goes_further, whole_known}
 use Rattle.qs_refine.proofs.SoundKnown.{same_is}
 use Rattle.qs_refine.proofs.SoundParts.{and_both}
 use Rattle.qs_refine.proofs.SoundServe.{serve_next_sound}
 use Rattle.qs_refine.proofs.SoundViews.{seen}
-use Rattle.std.specs.Prelude.{slice_index_or}
 use Rattle.qs_ops.specs.Server.{reply_of}
 use Rattle.qs_ops.specs.declared.reply.Reply.TheVariants as replies
-use Rattle.qs_tm.specs.Members.{no_member}
 use Rattle.qs_tm.specs.Participant as participant
-use Rattle.qs_tm.specs.declared.members.MemberPart.{MemberPart}
 use Rattle.qs_step.specs.Serving.{serve}
-use Rattle.qs_agree.specs.World.{with_at}
 use Rattle.qs_refine.specs.Places.{place}
 use Rattle.qs_refine.specs.Steps.{Knows}
 use Rattle.qs_refine.proofs.Alike.{SameFace, same_itself, found_itself, sight_alike}
@@ -56,20 +50,17 @@ use Rattle.qs_refine.proofs.Keeping.{nothing_goes}
 use Rattle.qs_refine.proofs.PassCarried.{Carried}
 use Rattle.qs_refine.proofs.Reading.{part_known}
 use Rattle.qs_refine.proofs.Refaced.{refaced}
-use Rattle.qs_refine.proofs.Same.{tid_same}
-use Rattle.qs_refine.proofs.ServeCounts.{KeepsCounts, served_outcome, served_superior, served_prepared, served_other, served_here, serve_counts}
+use Rattle.qs_refine.proofs.ServeCounts.{KeepsCounts, served_outcome, served_superior, served_prepared, serve_counts}
 use Rattle.qs_refine.proofs.ServeGoes.{serve_law, lend_law}
 use Rattle.qs_refine.proofs.SettleRules.{beside, beside_apart, stands_on, clear_carried, answers_carried}
 use Rattle.qs_refine.proofs.SoundHolds.{known_sound}
 use Rattle.qs_refine.proofs.SoundMembers.{vote_covers}
-use Rattle.qs_refine.proofs.ServeFirst.{delivery_sound, with_waits, aborted_waits, turn_is, other_served, other_counts}
+use Rattle.qs_refine.proofs.ServeFirst.{delivery_sound, with_waits, aborted_waits, other_served}
+use Rattle.qs_refine.proofs.ServeRoom.{IsSized, next_counts, turn_is, unfull, waits_here}
 
 -- ---- its own
 
 module _ (scene : Scene) (n : ℕ) (server : ServerNo) (d : Delivery) (work : Work) (w : World) (is : Stands d.tid scene n work w) (next : ipc.next server work.node.queues ≡ Some d) where
-  waits_here : (queue_at work.node.queues (server_no server.0)).waiting ≡ d ∷ drop 1 (queue_at work.node.queues server).waiting
-  waits_here = first_is (queue_at work.node.queues server).waiting d next
-
   abbrev left : Work
   left = with_queues (ipc.after_next server) work
 
@@ -80,13 +71,7 @@ module _ (scene : Scene) (n : ℕ) (server : ServerNo) (d : Delivery) (work : Wo
       (both.0, (and_both (may_be_served work.node d.tid) (nat_lt d.from.0 work.node.setting.nodes) both.1).0)
 
   next_left : Leaves (beside d.tid) work (serve_next work server)
-  next_left = subst (λ (k : Work). Leaves (beside d.tid) work k) (sym (turn_is d.tid scene n server d work w is next)) (next_leaves (beside d.tid) server d (beside_apart d.tid) work next)
-
-  same_waits : (r : ℕ) → waiting_at left.node d.tid r ≡ with_at (λ k. waiting_at work.node d.tid k) server.0 (count_of d.tid (drop 1 (queue_at work.node.queues server).waiting)) r
-  same_waits r = waits_next d.tid server.0 r d (drop 1 (queue_at work.node.queues server).waiting) work.node.queues waits_here
-
-  one_more : waiting_at work.node d.tid server.0 ≡ count_of d.tid (drop 1 (queue_at work.node.queues server).waiting) + 1
-  one_more = waits_first d.tid server.0 server.0 d (drop 1 (queue_at work.node.queues server).waiting) work.node.queues waits_here (tid_same d.tid)
+  next_left = subst (λ (k : Work). Leaves (beside d.tid) work k) (sym (turn_is server d work next)) (next_leaves (beside d.tid) server d (beside_apart d.tid) work next)
 
   -- ---- it is dropped where abort is known
 
@@ -98,7 +83,7 @@ module _ (scene : Scene) (n : ℕ) (server : ServerNo) (d : Delivery) (work : Wo
     fewer = with_waits (x.face n) (λ r. waiting_at left.node d.tid r)
 
     dropped_is : serve_next work server ≡ left
-    dropped_is = turn_is d.tid scene n server d work w is next ∙ ap (λ (b : Bool). if b then elim (reply_here server d.tid d.op left.node) [ None ↦ left | Some reply ↦ serve server d reply left ] else left) off
+    dropped_is = turn_is server d work next ∙ ap (λ (b : Bool). if b then elim (reply_here server d.tid d.op left.node) [ None ↦ left | Some reply ↦ serve server d reply left ] else left) off
       where
         off : may_serve d.tid left ≡ false
         off = ap (λ (o : Option Participant). elim o [ None ↦ false | Some p ↦ is_undecided p ]) known ∙ ap is_none aborted
@@ -129,18 +114,6 @@ module _ (scene : Scene) (n : ℕ) (server : ServerNo) (d : Delivery) (work : Wo
     pub dropped : GoesOn d.tid scene n (serve_next work server) w
     dropped = decided_stands d.tid scene n work (serve_next work server) w is part known outcomes.Abort aborted keeps dropped_goes next_left (serve_next_sound work server) (next_kinds work server)
 
-    pub dropped_counts : CanCount d.tid work → CanCount d.tid (serve_next work server)
-    dropped_counts can = subst (λ (k : Work). CanCount d.tid k) (sym dropped_is) (λ p s its_part below waits. rw (same_waits s) (by p s (s == server.0) refl (can p s its_part below) (rw (same_waits s) at waits)))
-      where
-        by : (p : Participant) (s : ℕ) (b : Bool) → (s == server.0) ≡ b → (1 ≤ waiting_at work.node d.tid s → (member_of p (server_no s)).served + waiting_at work.node d.tid s ≤ last_number)
-            → 1 ≤ (if b then count_of d.tid (drop 1 (queue_at work.node.queues server).waiting) else waiting_at work.node d.tid s)
-            → (member_of p (server_no s)).served + (if b then count_of d.tid (drop 1 (queue_at work.node.queues server).waiting) else waiting_at work.node d.tid s) ≤ last_number
-        by p s true same counted waits = less ((member_of p (server_no s)).served) (waiting_at work.node d.tid s) (count_of d.tid (drop 1 (queue_at work.node.queues server).waiting)) (ap (λ (k : ℕ). waiting_at work.node d.tid k) (eqb-true s server.0 same) ∙ one_more) counted
-          where
-            less : (a b c : ℕ) → b ≡ c + 1 → (1 ≤ b → a + b ≤ last_number) → a + c ≤ last_number
-            less a b c e f = let g = f (omega (arith, e)) in omega (arith, e, g)
-        by p s false other counted waits = counted waits
-
   -- ---- it is served
 
   module _ (part : Participant) (known : part_of d.tid work ≡ Some part) (undecided : part.outcome ≡ None) (can : CanCount d.tid work) where
@@ -150,22 +123,9 @@ module _ (scene : Scene) (n : ℕ) (server : ServerNo) (d : Delivery) (work : Wo
     open_now : may_serve d.tid left ≡ true
     open_now = ap (λ (o : Option Participant). elim o [ None ↦ false | Some p ↦ is_undecided p ]) known ∙ ap is_none undecided
 
-    -- the request that comes next is one that waits
-    here_counted : server.0 < 7 → (member_of part (server_no server.0)).served + waiting_at work.node d.tid server.0 ≤ last_number
-    here_counted below = can part server.0 known below (some (waiting_at work.node d.tid server.0) (count_of d.tid (drop 1 (queue_at work.node.queues server).waiting)) one_more)
-      where
-        some : (a b : ℕ) → a ≡ b + 1 → 1 ≤ a
-        some a b e = omega (arith, e)
-
-    unfull : server.0 < 7 → ((member_of part (server_no server.0)).served == last_number) ≡ false
-    unfull below = not_last (member_of part (server_no server.0)).served (waiting_at work.node d.tid server.0) (count_of d.tid (drop 1 (queue_at work.node.queues server).waiting)) one_more (here_counted below)
-      where
-        not_last : (a b c : ℕ) → b ≡ c + 1 → a + b ≤ last_number → (a == last_number) ≡ false
-        not_last a b c e f = grind (arith, nat_tests, e, f)
-
     module _ (reply : Reply) (replies : reply_here server d.tid d.op work.node ≡ Some reply) where
       served_is : serve_next work server ≡ serve server d reply left
-      served_is = turn_is d.tid scene n server d work w is next
+      served_is = turn_is server d work next
           ∙ (ap (λ (b : Bool). if b then elim (reply_here server d.tid d.op left.node) [ None ↦ left | Some reply ↦ serve server d reply left ] else left) open_now
           ∙ ap (λ (o : Option Reply). elim o [ None ↦ left | Some reply ↦ serve server d reply left ]) replies)
 
@@ -185,50 +145,21 @@ module _ (scene : Scene) (n : ℕ) (server : ServerNo) (d : Delivery) (work : Wo
       served_on goes = stands_on d.tid scene n work (serve_next work server) w is goes next_left (serve_next_sound work server) (next_kinds work server)
           (clear_carried d.tid scene n work (serve_next work server) w is part known undecided carried) (answers_carried d.tid scene n work (serve_next work server) w is part known undecided carried)
 
-      still_counts : CanCount d.tid (serve_next work server)
-      still_counts = subst (λ (k : Work). CanCount d.tid k) (sym served_is) (λ p s its_part below waits. subst (λ (q : Participant). (member_of q (server_no s)).served + waiting_at (serve server d reply left).node d.tid s ≤ last_number) (some_same counts.next p (sym counts.known ∙ its_part)) (counted s below waits))
-        where
-          some_same : (a b : Participant) → Some a ≡ Some b → a ≡ b
-          some_same a b e = cc e
-
-          waits_now : (s : ℕ) → waiting_at (serve server d reply left).node d.tid s ≡ with_at (λ k. waiting_at work.node d.tid k) server.0 (count_of d.tid (drop 1 (queue_at work.node.queues server).waiting)) s
-          waits_now s = ap (λ (queues : IpcValue). count_of d.tid (queue_at queues (server_no s)).waiting) counts.queues ∙ same_waits s
-
-          served_now : (s : ℕ) → (member_of counts.next (server_no s)).served ≡ (member_of (participant.served server part) (server_no s)).served
-          served_now s = ap (λ (list : List MemberPart). (slice_index_or list s no_member).served) counts.members
-
-          counted : (s : ℕ) → s < 7 → 1 ≤ waiting_at (serve server d reply left).node d.tid s → (member_of counts.next (server_no s)).served + waiting_at (serve server d reply left).node d.tid s ≤ last_number
-          counted s below waits = rw (served_now s, waits_now s) (by (s == server.0) refl (rw (waits_now s) at waits))
-            where
-              by : (b : Bool) → (s == server.0) ≡ b → 1 ≤ (if b then count_of d.tid (drop 1 (queue_at work.node.queues server).waiting) else waiting_at work.node d.tid s)
-                  → (member_of (participant.served server part) (server_no s)).served + (if b then count_of d.tid (drop 1 (queue_at work.node.queues server).waiting) else waiting_at work.node d.tid s) ≤ last_number
-              by true same more = at s (eqb-true s server.0 same) below
-                where
-                  room : (a b c e : ℕ) → b ≡ c + 1 → e ≡ a + 1 → a + b ≤ last_number → e + c ≤ last_number
-                  room a b c e f g h = omega (arith, f, g, h)
-
-                  at : (k : ℕ) → k ≡ server.0 → k < 7 → (member_of (participant.served server part) (server_no k)).served + count_of d.tid (drop 1 (queue_at work.node.queues server).waiting) ≤ last_number
-                  at k here under = subst (λ (j : ℕ). (member_of (participant.served server part) (server_no j)).served + count_of d.tid (drop 1 (queue_at work.node.queues server).waiting) ≤ last_number) (sym here)
-                      (room (member_of part (server_no server.0)).served (waiting_at work.node d.tid server.0) (count_of d.tid (drop 1 (queue_at work.node.queues server).waiting)) (member_of (participant.served server part) (server_no server.0)).served one_more
-                      (served_here server part (subst (λ (j : ℕ). server.0 < j) (sym knows.whole.members) (subst (λ (j : ℕ). j < 7) here under)) (unfull (subst (λ (j : ℕ). j < 7) here under)))
-                      (here_counted (subst (λ (j : ℕ). j < 7) here under)))
-              by false other more = subst (λ (m : MemberPart). m.served + waiting_at work.node d.tid s ≤ last_number) (sym (served_other server part s (λ same. grind (arith, nat_tests, other, same)))) (can part s known below more)
-
       -- a server of the node replies, or a client takes a loan
       by_server : OfServer server.0 d.tid d.op → Goes d.tid scene n (serve_next work server) w
-      by_server own = serve_law d.tid scene n server.0 d (drop 1 (queue_at work.node.queues server).waiting) reply work part w is.shown is.at knows (waits_here, refl, replies, undecided) own.below
-          (unfull own.below) (vote_covers work.node d.tid part (known_sound d.tid work.node part known is.sound) server) own.no_loan
+      by_server own = serve_law d.tid scene n server.0 d (drop 1 (queue_at work.node.queues server).waiting) reply work part w is.shown is.at knows (waits_here server d work next, refl, replies, undecided) own.below
+          (unfull server d work next can part known own.below) (vote_covers work.node d.tid part (known_sound d.tid work.node part known is.sound) server) own.no_loan
 
       by_client : OfClient server.0 d.op → Goes d.tid scene n (serve_next work server) w
-      by_client own = lend_law d.tid scene n server.0 d (drop 1 (queue_at work.node.queues server).waiting) reply own.client work part w is.shown is.at knows (waits_here, refl, replies, undecided) (omega (arith, own.above)) (activity server.0 own.above) own.lends
+      by_client own = lend_law d.tid scene n server.0 d (drop 1 (queue_at work.node.queues server).waiting) reply own.client work part w is.shown is.at knows (waits_here server d work next, refl, replies, undecided) (omega (arith, own.above)) (activity server.0 own.above) own.lends
         where
           activity : (s : ℕ) → 32 ≤ s → class_of s ≡ classes.Activity
           activity s above = grind (arith, nat_tests, above)
 
     -- it has a reply
-    replied : OfServer server.0 d.tid d.op ⊎ OfClient server.0 d.op → (o : Option Reply) → reply_here server d.tid d.op work.node ≡ o → GoesOn d.tid scene n (serve_next work server) w × CanCount d.tid (serve_next work server)
-    replied (inl own) (Some reply) replies = (served_on reply replies (by_server reply replies own), still_counts reply replies)
-    replied (inr own) (Some reply) replies = (served_on reply replies (by_client reply replies own), still_counts reply replies)
+    replied : OfServer server.0 d.tid d.op ⊎ OfClient server.0 d.op → (o : Option Reply) → reply_here server d.tid d.op work.node ≡ o → GoesOn d.tid scene n (serve_next work server) w
+    replied (inl own) (Some reply) replies = served_on reply replies (by_server reply replies own)
+    replied (inr own) (Some reply) replies = served_on reply replies (by_client reply replies own)
     replied (inl own) None none = absurd (never none)
       where
         never : reply_here server d.tid d.op work.node ≡ None → ⊥
@@ -258,19 +189,19 @@ module _ (scene : Scene) (n : ℕ) (server : ServerNo) (d : Delivery) (work : Wo
                 empty : Some replies.Done ≡ None → ⊥
                 empty e = cc e
 
-    pub served : GoesOn d.tid scene n (serve_next work server) w × CanCount d.tid (serve_next work server)
+    pub served : GoesOn d.tid scene n (serve_next work server) w
     served = replied (own_replies server.0 d.tid d.op its.0) (reply_here server d.tid d.op work.node) refl
 
   -- whatever is known of it
-  pub own_served : CanCount d.tid work → GoesOn d.tid scene n (serve_next work server) w × CanCount d.tid (serve_next work server)
+  pub own_served : CanCount d.tid work → GoesOn d.tid scene n (serve_next work server) w
   own_served can = by (part_of d.tid work) refl its.1
     where
-      decided : (part : Participant) → part_of d.tid work ≡ Some part → (o : Option Outcome) → part.outcome ≡ o → (is_none o || is_abort o) ≡ true → GoesOn d.tid scene n (serve_next work server) w × CanCount d.tid (serve_next work server)
+      decided : (part : Participant) → part_of d.tid work ≡ Some part → (o : Option Outcome) → part.outcome ≡ o → (is_none o || is_abort o) ≡ true → GoesOn d.tid scene n (serve_next work server) w
       decided part known None undecided may = served part known undecided can
-      decided part known (Some outcomes.Abort) aborted may = (dropped part known aborted, dropped_counts part known aborted can)
+      decided part known (Some outcomes.Abort) aborted may = dropped part known aborted
       decided part known (Some outcomes.Commit) committed may = absurd (cc may)
 
-      by : (o : Option Participant) → part_of d.tid work ≡ o → ◌≡◌ {A = Bool} (elim o [ None ↦ false | Some p ↦ is_undecided p || is_abort p.outcome ]) true → GoesOn d.tid scene n (serve_next work server) w × CanCount d.tid (serve_next work server)
+      by : (o : Option Participant) → part_of d.tid work ≡ o → ◌≡◌ {A = Bool} (elim o [ None ↦ false | Some p ↦ is_undecided p || is_abort p.outcome ]) true → GoesOn d.tid scene n (serve_next work server) w
       by None none may = absurd (cc may)
       by (Some part) known may = decided part known part.outcome refl may
 
@@ -280,9 +211,12 @@ module _ (t : Tid) (scene : Scene) (n : ℕ) where
   next_stands : (server : ServerNo) (work : Work) (w : World) → CanCount t work → Stands t scene n work w → GoesOn t scene n (serve_next work server) w × CanCount t (serve_next work server)
   next_stands server work w can is = by (ipc.next server work.node.queues) refl
     where
+      sized : (k : Tid) → Stands k scene n work w → IsSized k work
+      sized k stands part known = (whole_known k scene n work w stands part known).whole.members
+
       picked : (d : Delivery) → ipc.next server work.node.queues ≡ Some d → (b : Bool) → same_tid t d.tid ≡ b → GoesOn t scene n (serve_next work server) w × CanCount t (serve_next work server)
-      picked d next true same = subst (λ (k : Tid). Stands k scene n work w → CanCount k work → GoesOn k scene n (serve_next work server) w × CanCount k (serve_next work server)) (sym (same_is t d.tid same)) (λ own. own_served scene n server d work w own next) is can
-      picked d next false apart = (record { next = w; leads = record { events = []; run = refl }; stands = other_served t scene n server d work w is next apart }, other_counts t scene n server d work w is next apart can)
+      picked d next true same = subst (λ (k : Tid). Stands k scene n work w → CanCount k work → GoesOn k scene n (serve_next work server) w × CanCount k (serve_next work server)) (sym (same_is t d.tid same)) (λ own can. (own_served scene n server d work w own next can, next_counts d.tid work server (sized d.tid own) can)) is can
+      picked d next false apart = (record { next = w; leads = record { events = []; run = refl }; stands = other_served t scene n server d work w is next apart }, next_counts t work server (sized t is) can)
 
       by : (o : Option Delivery) → ipc.next server work.node.queues ≡ o → GoesOn t scene n (serve_next work server) w × CanCount t (serve_next work server)
       by None none = subst (λ (k : Work). GoesOn t scene n k w × CanCount t k) (sym (ap (λ (o : Option Delivery). elim o [ None ↦ work | Some d ↦ serve_or_drop server d (with_queues (ipc.after_next server) work) ]) none)) (stands_itself t scene n work w is, can)

@@ -14,9 +14,9 @@ use Rattle.qs_refine.proofs.SoundHappen.{happen_sound}
 use Rattle.qs_refine.proofs.SoundRestart.{begin_incarnation_sound}
 use Rattle.qs_refine.proofs.SteadyBegins.{ComesFit, c, stage, begun_tidy, comes_may, comes_on}
 use Rattle.qs_refine.proofs.TidyHappens.{MayComeOn, settles_tidy}
-use Rattle.qs_refine.proofs.TidyKeeps.{tidy_keeps}
+use Rattle.qs_refine.proofs.TidyKeeps.{tidy_keeps, tidy_ticks}
 use Rattle.qs_refine.proofs.TidyReads.{tidy_reads}
-use Rattle.qs_refine.proofs.WalkSteps.{happen_walk}
+use Rattle.qs_refine.proofs.WalkSteps.{happen_walk, may_tick}
 
 abbrev pub begins_in : Event → Bool
 begins_in (events.Command client line label command) = begins_one command
@@ -34,7 +34,7 @@ module _ (s : Stage) (its : IsStage s) where
   may_on events.Tick none may = tt
 
   happen_still : (event : Event) (work : Work) → begins_in event ≡ false → MayComeOn s its event → IsTidy s work → IsTidy s (happen event work)
-  happen_still event work none may t = happen_walk s.past s.begun s.met s.setting.node s.setting.nodes (IsTidy s) (tidy_reads s its) (tidy_keeps s its) event work (may_on event none may) t
+  happen_still event work none may t = happen_walk s.past s.begun s.met s.setting.node s.setting.nodes (IsTidy s) (tidy_reads s its) (tidy_keeps s its) event work (may_on event none may) (may_tick (IsTidy s) (tidy_ticks s) event) t
 
 pub step_still : (world : World) (steady : IsSteadyWorld world) (n free : ℕ) (low : n < world.size) (up : world.channels.up n ≡ true) (event : Event) → begins_in event ≡ false → ComesFit world steady n free low up event
     → MachineGives event (begun (world.hosts n).node free) → IsTidy (c world steady n free low up) (step_work (world.hosts n).node event free)

@@ -29,7 +29,7 @@ use Rattle.qs_refine.specs.Walks.{begins_one, is_run}
 use Rattle.qs_refine.proofs.SoundBegin.{all_last}
 use Rattle.qs_refine.proofs.SoundParts.{both_and}
 use Rattle.qs_refine.proofs.TidyBegins.{Widens, begun_tidy, begun_runs, out_wide}
-use Rattle.qs_refine.proofs.TidyKeeps.{tidy_keeps}
+use Rattle.qs_refine.proofs.TidyKeeps.{tidy_keeps, tidy_ticks}
 use Rattle.qs_refine.proofs.TidyReads.{tidy_reads}
 use Rattle.qs_refine.proofs.WalkSettles.{settle_walk}
 use Rattle.qs_refine.proofs.WalkSteps.{happen_walk, answer_waiting_walk}
@@ -144,7 +144,7 @@ module _ (c : Stage) (stage : IsStage c) where
       abbrev_line command = record { client = client; line = line; label = label; command = command }
 
       walk : (command : Command) → may_command c.setting.nodes command ≡ true → begins_one command ≡ false → IsTidy c (happen (events.Command client line label command) work)
-      walk command may none = happen_walk c.past c.begun c.met c.setting.node c.setting.nodes (IsTidy c) (tidy_reads c stage) (tidy_keeps c stage) (events.Command client line label command) work (may, none) t
+      walk command may none = happen_walk c.past c.begun c.met c.setting.node c.setting.nodes (IsTidy c) (tidy_reads c stage) (tidy_keeps c stage) (events.Command client line label command) work (may, none) tt t
 
       by : (command : Command) → may_command c.setting.nodes command ≡ true → IsTidy c (happen (events.Command client line label command) work) ⊎ IsTidy d (happen (events.Command client line label command) work)
       by commands.Begin may = begin_command_tidy d later (record { client = client; line = line; label = label; command = commands.Begin }) (with_command (record { client = client; line = line; label = label; command = commands.Begin }) work)
@@ -154,10 +154,10 @@ module _ (c : Stage) (stage : IsStage c) where
       by commands.Take may = inl (walk commands.Take may refl)
       by commands.Yield may = inl (walk commands.Yield may refl)
       by (commands.Request member op) may = inl (walk (commands.Request member op) may refl)
-  happen_tidy d later (events.Received peer message) work may t = inl (happen_walk c.past c.begun c.met c.setting.node c.setting.nodes (IsTidy c) (tidy_reads c stage) (tidy_keeps c stage) (events.Received peer message) work may t)
-  happen_tidy d later events.ServeAll work may t = inl (happen_walk c.past c.begun c.met c.setting.node c.setting.nodes (IsTidy c) (tidy_reads c stage) (tidy_keeps c stage) events.ServeAll work may t)
-  happen_tidy d later (events.PeerRestarted peer old new) work may t = inl (happen_walk c.past c.begun c.met c.setting.node c.setting.nodes (IsTidy c) (tidy_reads c stage) (tidy_keeps c stage) (events.PeerRestarted peer old new) work may t)
-  happen_tidy d later events.Tick work may t = inl (happen_walk c.past c.begun c.met c.setting.node c.setting.nodes (IsTidy c) (tidy_reads c stage) (tidy_keeps c stage) events.Tick work may t)
+  happen_tidy d later (events.Received peer message) work may t = inl (happen_walk c.past c.begun c.met c.setting.node c.setting.nodes (IsTidy c) (tidy_reads c stage) (tidy_keeps c stage) (events.Received peer message) work may tt t)
+  happen_tidy d later events.ServeAll work may t = inl (happen_walk c.past c.begun c.met c.setting.node c.setting.nodes (IsTidy c) (tidy_reads c stage) (tidy_keeps c stage) events.ServeAll work may tt t)
+  happen_tidy d later (events.PeerRestarted peer old new) work may t = inl (happen_walk c.past c.begun c.met c.setting.node c.setting.nodes (IsTidy c) (tidy_reads c stage) (tidy_keeps c stage) (events.PeerRestarted peer old new) work may tt t)
+  happen_tidy d later events.Tick work may t = inl (happen_walk c.past c.begun c.met c.setting.node c.setting.nodes (IsTidy c) (tidy_reads c stage) (tidy_keeps c stage) events.Tick work may (tidy_ticks c) t)
 
   -- the node settles, and commands that stayed open are answered
   pub settles_tidy : (work : Work) → is_sound work.node ≡ true → IsTidy c work → IsTidy c (answer_waiting (settle work))

@@ -31,7 +31,7 @@ use Rattle.qs_tm.specs.Outcomes as outcome_rules
 use Rattle.qs_refine.specs.Begun.{fits, fits_record, may_command}
 use Rattle.qs_refine.specs.Sound.{is_owned_label}
 use Rattle.qs_refine.specs.Tidy.{Stage, IsStage, IsTidy, IsTidyNode, is_tidy_label, is_tidy_loan, is_tidy_command, is_tidy_sending, is_tidy_record}
-use Rattle.qs_refine.specs.Walks.{Keeps, IsPlain, MayForget, same_kind}
+use Rattle.qs_refine.specs.Walks.{Keeps, IsPlain, MayForget, TicksOn, same_kind}
 use Rattle.qs_refine.proofs.Entries.{all_changed_value, all_inserted, all_but_removed}
 use Rattle.qs_refine.proofs.ServerKinds.{kind_kept}
 use Rattle.qs_refine.proofs.SoundBegin.{all_last}
@@ -239,6 +239,9 @@ module _ (c : Stage) where
   may_forget tid part work (inl away) = inl away.0
   may_forget tid part work (inr committed) = inr committed.0
 
+  pub tidy_ticks : TicksOn (IsTidy c)
+  tidy_ticks work t = node_tidy c work _ refl (tick_tidy c work.node t.node) t
+
   pub tidy_keeps : IsStage c → Keeps c.past c.begun c.met c.setting.node c.setting.nodes (IsTidy c)
   tidy_keeps stage = record {
     enter = λ act work t. out_tidy work (Rattle.qs_step.specs.Bringing.enter act work) refl refl refl t;
@@ -255,7 +258,6 @@ module _ (c : Stage) where
     decide = λ tid outcome cause work homed open_now t. node_tidy c work _ refl (decide_tidy c work.node t.node tid outcome cause homed open_now) t;
     learn = λ tid outcome work away t. node_tidy c work _ refl (learn_tidy c work.node t.node tid outcome away) t;
     forget = λ tid part work known may t. node_tidy c work _ refl (forget_tidy c work.node t.node tid part known (may_forget tid part work may)) t;
-    tick = λ work t. node_tidy c work _ refl (tick_tidy c work.node t.node) t;
     enqueue = enqueue_tidy c;
     next = next_tidy c;
     drop = drop_tidy c;

@@ -1,6 +1,7 @@
 -- A tidy node stays tidy through the first step of an incarnation, where who is committed is at home.
-use Rattle.std.proofs.Common.{◌≡◌, inl, inr, Bool, true, false, List, [], ◌∷◌, fold, Option, Some, None, refl, sym, ap, subst, ◌∙◌, if◌then◌else◌}
+use Rattle.std.proofs.Common.{◌≡◌, ℕ, inl, inr, Bool, true, false, List, [], ◌∷◌, fold, Option, Some, None, refl, sym, ap, subst, ◌∙◌, if◌then◌else◌}
 use Rattle.std.specs.Prelude.{◌⊎◌}
+use Rattle.qs_base.specs.declared.identifiers.NodeNo.{NodeNo}
 use Rattle.qs_base.specs.declared.identifiers.Outcome.{Outcome}
 use Rattle.qs_base.specs.declared.identifiers.Outcome.TheVariants as outcomes
 use Rattle.qs_base.specs.declared.identifiers.ServerNo.{ServerNo}
@@ -18,6 +19,7 @@ use Rattle.qs_tm.specs.Outcomes as outcome_rules
 use Rattle.qs_tm.specs.declared.manager.Manager.{Manager}
 use Rattle.qs_tm.specs.declared.participant.Participant.{Participant}
 use Rattle.qs_refine.specs.Tidy.{Stage, IsStage, IsTidy, IsTidyNode}
+use Rattle.qs_refine.specs.Walks.{Keeps, Reads}
 use Rattle.qs_refine.proofs.PartsAfter.{IsSame, IsChanged, changed_seen}
 use Rattle.qs_refine.proofs.SoundRules.{send_node, sends_node}
 use Rattle.qs_refine.proofs.TidyKeeps.{tidy_keeps}
@@ -66,36 +68,46 @@ resume_homed work tid homed = by (part_of tid work)
     by None = homed
     by (Some part) = at part part.outcome
 
-module _ (c : Stage) (stage : IsStage c) where
-  resumes_tidy : (tids : List Tid) (work : Work) → HomedIn work → IsTidy c work → IsTidy c (fold resume_tid work tids)
-  resumes_tidy [] work homed t = t
-  resumes_tidy (tid ∷ tids) work homed t = resumes_tidy tids (resume_tid work tid) (resume_homed work tid homed)
-      (resume_tid_walk c.past c.begun c.met c.setting.node c.setting.nodes (IsTidy c) (tidy_reads c stage) (tidy_keeps c stage) work tid (homed tid) t)
+-- so each fact that is kept by what a step does stands after it, where it stands as it begins
+module _ (P Q : Tid → Bool) (R : NodeNo → Bool) (me : NodeNo) (nodes : ℕ) (I : Work → Type 0) (reads : Reads P Q R me nodes I) (keeps : Keeps P Q R me nodes I) where
+  resumes_walk : (tids : List Tid) (work : Work) → HomedIn work → I work → I (fold resume_tid work tids)
+  resumes_walk [] work homed i = i
+  resumes_walk (tid ∷ tids) work homed i = resumes_walk tids (resume_tid work tid) (resume_homed work tid homed) (resume_tid_walk P Q R me nodes I reads keeps work tid (homed tid) i)
 
-  -- a step begins with nothing done
-  pub resume_tidy : (work : Work) → IsTidyNode c work.node → (work.node.is_first ≡ true → CommitsAtHome work.node.manager) → work.out.messages ≡ [] → work.out.records ≡ [] → IsTidy c (begin_incarnation work)
-  resume_tidy work n homed messages records = by work.node.is_first refl
+  pub resume_walk : (work : Work) → (work.node.is_first ≡ true → CommitsAtHome work.node.manager) → (work.node.is_first ≡ true → I (with_node (λ node. record node { is_first = false }) work)) → (work.node.is_first ≡ false → I work) → I (begin_incarnation work)
+  resume_walk work homed first later = by work.node.is_first refl
     where
-      by : (b : Bool) → work.node.is_first ≡ b → IsTidy c (if b then fold resume_tid (with_node (λ node. record node { is_first = false }) work) (known_tids work) else work)
-      by true first = resumes_tidy (known_tids work) (with_node (λ node. record node { is_first = false }) work) (homed first) (record {
-        node = record {
-          setting = n.setting;
-          own = n.own;
-          inc = n.inc;
-          count = n.count;
-          ordered = n.ordered;
-          known = n.known;
-          apart = n.apart;
-          waiting = n.waiting;
-          labels = n.labels;
-          loans = n.loans;
-          outcomes = n.outcomes;
-          commands = n.commands;
-          kinds = n.kinds;
-          committed = n.committed;
-          crossed = record { owned = n.crossed.owned; commits = n.crossed.commits; fresh = n.crossed.fresh; pasts = n.crossed.pasts; earlier = n.crossed.earlier };
-        };
-        begun = refl;
-        out = record { messages = rw messages refl; records = rw records refl };
-      })
-      by false first = record { node = n; begun = first; out = record { messages = rw messages refl; records = rw records refl } }
+      by : (b : Bool) → work.node.is_first ≡ b → I (if b then fold resume_tid (with_node (λ node. record node { is_first = false }) work) (known_tids work) else work)
+      by true is = resumes_walk (known_tids work) (with_node (λ node. record node { is_first = false }) work) (homed is) (first is)
+      by false is = later is
+
+module _ (c : Stage) (stage : IsStage c) where
+  -- a step begins with nothing done
+  pub first_tidy : (work : Work) → IsTidyNode c work.node → work.out.messages ≡ [] → work.out.records ≡ [] → IsTidy c (with_node (λ node. record node { is_first = false }) work)
+  first_tidy work n messages records = record {
+    node = record {
+      setting = n.setting;
+      own = n.own;
+      inc = n.inc;
+      count = n.count;
+      ordered = n.ordered;
+      known = n.known;
+      apart = n.apart;
+      waiting = n.waiting;
+      labels = n.labels;
+      loans = n.loans;
+      outcomes = n.outcomes;
+      commands = n.commands;
+      kinds = n.kinds;
+      committed = n.committed;
+      crossed = record { owned = n.crossed.owned; commits = n.crossed.commits; fresh = n.crossed.fresh; pasts = n.crossed.pasts; earlier = n.crossed.earlier };
+    };
+    begun = refl;
+    out = record { messages = rw messages refl; records = rw records refl };
+  }
+
+  pub later_tidy : (work : Work) → IsTidyNode c work.node → work.node.is_first ≡ false → work.out.messages ≡ [] → work.out.records ≡ [] → IsTidy c work
+  later_tidy work n later messages records = record { node = n; begun = later; out = record { messages = rw messages refl; records = rw records refl } }
+
+  pub resume_tidy : (work : Work) → IsTidyNode c work.node → (work.node.is_first ≡ true → CommitsAtHome work.node.manager) → work.out.messages ≡ [] → work.out.records ≡ [] → IsTidy c (begin_incarnation work)
+  resume_tidy work n homed messages records = resume_walk c.past c.begun c.met c.setting.node c.setting.nodes (IsTidy c) (tidy_reads c stage) (tidy_keeps c stage) work homed (λ first. first_tidy work n messages records) (λ later. later_tidy work n later messages records)

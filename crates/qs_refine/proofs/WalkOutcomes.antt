@@ -49,7 +49,7 @@ module _ (P Q : Tid → Bool) (R : NodeNo → Bool) (me : NodeNo) (nodes : ℕ) 
 
   notify_walk : (tid : Tid) (notice : Notice) (server : ServerNo) (work : Work) → I work → I (notify tid notice server work)
   notify_walk tid notice server work i =
-      keeps.part tid (outcome_rules.settled server) (change_server server (λ value. after_notice value tid notice) work) (λ part. record { home = refl; superior = refl; asked = refl; outcome = refl; log = refl })
+      keeps.part tid (outcome_rules.settled server) (change_server server (λ value. after_notice value tid notice) work) (λ part. record { home = refl; superior = refl; asked = refl; outcome = refl; log = refl; begun = refl })
       (keeps.serve server (λ value. after_notice value tid notice) work (λ value. notice_kind value tid notice) i)
 
   pub end_members_walk : (tid : Tid) (work : Work) → I work → I (end_members tid work)
@@ -106,16 +106,17 @@ module _ (P Q : Tid → Bool) (R : NodeNo → Bool) (me : NodeNo) (nodes : ℕ) 
   kept_then_logged None tid outcome cause work = refl
   kept_then_logged (Some rec) tid outcome cause work = refl
 
-  pub decide_walk : (tid : Tid) (outcome : Outcome) (cause : Option Cause) (work : Work) → is_homed P me tid ≡ true → (outcome ≡ outcomes.Commit → tm.told_of tid false is_undecided work.node.manager ≡ true) → I work → I (decide tid outcome cause work)
-  decide_walk tid outcome cause work homed open_now i = sends_walk P Q R me nodes I reads keeps (tm.decision tid outcome work.node.manager).tell (messages.Tell tid outcome) _ (λ node. homed)
+  -- once the node and its owner know the outcome
+  pub decided_walk : (tid : Tid) (outcome : Outcome) (cause : Option Cause) (work : Work) → is_homed P me tid ≡ true → I (keep_outcome tid outcome cause (with_manager (tm.decide tid outcome) work)) → I (decide tid outcome cause work)
+  decided_walk tid outcome cause work homed kept = sends_walk P Q R me nodes I reads keeps (tm.decision tid outcome work.node.manager).tell (messages.Tell tid outcome) _ (λ node. homed)
       (notices_walk tid outcome _ (keeps.enter (acts.Decide tid outcome cause) _ logged))
     where
-      kept : I (keep_outcome tid outcome cause (with_manager (tm.decide tid outcome) work))
-      kept = keeps.decide tid outcome cause work homed open_now i
-
       logged : I (keep_outcome tid outcome cause (log_if (tm.decision tid outcome work.node.manager).rec (with_manager (tm.decide tid outcome) work)))
       logged = subst I (kept_then_logged (tm.decision tid outcome work.node.manager).rec tid outcome cause (with_manager (tm.decide tid outcome) work))
           (log_if_walk (tm.decision tid outcome work.node.manager).rec _ (λ rec is. decided_fits tid outcome rec homed (part_of tid work) is) (λ rec is. decided_may tid outcome cause rec work (part_of tid work) refl is) kept)
+
+  pub decide_walk : (tid : Tid) (outcome : Outcome) (cause : Option Cause) (work : Work) → is_homed P me tid ≡ true → (outcome ≡ outcomes.Commit → tm.told_of tid false is_undecided work.node.manager ≡ true) → I work → I (decide tid outcome cause work)
+  decide_walk tid outcome cause work homed open_now i = decided_walk tid outcome cause work homed (keeps.decide tid outcome cause work homed open_now i)
 
   pub decide_commit_walk : (tid : Tid) (work : Work) → is_homed P me tid ≡ true → tm.told_of tid false is_undecided work.node.manager ≡ true → I work → I (decide_commit tid work)
   decide_commit_walk tid work homed open_now i = by (tm.need_past tid work.room work.node.manager)
@@ -193,7 +194,7 @@ module _ (P Q : Tid → Bool) (R : NodeNo → Bool) (me : NodeNo) (nodes : ℕ) 
       told = with_manager (tm.acknowledged tid peer) work
 
       taken : I told
-      taken = keeps.part tid (outcome_rules.acknowledged peer) work (λ part. record { home = refl; superior = refl; asked = refl; outcome = refl; log = refl }) i
+      taken = keeps.part tid (outcome_rules.acknowledged peer) work (λ part. record { home = refl; superior = refl; asked = refl; outcome = refl; log = refl; begun = refl }) i
 
       logged : I (log (records.End tid) told)
       logged = keeps.log (records.End tid) told (reads.known tid part work i known) tt taken
@@ -205,10 +206,10 @@ module _ (P Q : Tid → Bool) (R : NodeNo → Bool) (me : NodeNo) (nodes : ℕ) 
 
   take_names_walk : (tid : Tid) (further : List NodeNo) (work : Work) → is_homed P me tid ≡ true → I work → I (take_names tid further work)
   take_names_walk tid further work homed i = sends_walk P Q R me nodes I reads keeps (listed (tm.new_names tid further work.node.manager)) (messages.Tell tid outcomes.Abort) _ (λ node. homed)
-      (keeps.part tid (outcome_rules.take_names tid.home further) work (λ part. record { home = refl; superior = refl; asked = refl; outcome = refl; log = refl }) i)
+      (keeps.part tid (outcome_rules.take_names tid.home further) work (λ part. record { home = refl; superior = refl; asked = refl; outcome = refl; log = refl; begun = refl }) i)
 
   keep_told_walk : (tid : Tid) (peer : NodeNo) (work : Work) → P tid ≡ true → part_of tid work ≡ None → I work → I (keep_abort_told tid peer work)
-  keep_told_walk tid peer work its none i = keeps.part tid (outcome_rules.add_tell peer) (with_manager (tm.keep_abort tid) work) (λ part. record { home = refl; superior = refl; asked = refl; outcome = refl; log = refl })
+  keep_told_walk tid peer work its none i = keeps.part tid (outcome_rules.add_tell peer) (with_manager (tm.keep_abort tid) work) (λ part. record { home = refl; superior = refl; asked = refl; outcome = refl; log = refl; begun = refl })
       (keeps.keep_abort tid work its none i)
 
   pub told_came_walk : (peer : NodeNo) (tid : Tid) (further : List NodeNo) (work : Work) → P tid ≡ true → I work → I (told_came peer tid further work)
@@ -229,10 +230,10 @@ module _ (P Q : Tid → Bool) (R : NodeNo → Bool) (me : NodeNo) (nodes : ℕ) 
   inquiry_came_walk peer tid work its i = if_walk P Q R me nodes I reads keeps (same_node tid.home (here work)) (λ is. by (here_home P Q R me nodes I reads keeps tid true work i is) (part_of tid work) refl) (λ is. i)
     where
       known_as : same_node tid.home me ≡ true → (o : Option Outcome) → I (answer_known peer tid o work)
-      known_as homed None = keeps.part tid (participant.add_told peer) work (λ part. record { home = refl; superior = refl; asked = refl; outcome = refl; log = refl }) i
+      known_as homed None = keeps.part tid (participant.add_told peer) work (λ part. record { home = refl; superior = refl; asked = refl; outcome = refl; log = refl; begun = refl }) i
       known_as homed (Some outcomes.Commit) = keeps.send peer (messages.Tell tid outcomes.Commit) work (λ low. both_and (P tid) _ its homed) i
       known_as homed (Some outcomes.Abort) = keeps.send peer (messages.Tell tid outcomes.Abort) _ (λ low. both_and (P tid) _ its homed)
-          (keeps.part tid (outcome_rules.add_tell peer) work (λ part. record { home = refl; superior = refl; asked = refl; outcome = refl; log = refl }) i)
+          (keeps.part tid (outcome_rules.add_tell peer) work (λ part. record { home = refl; superior = refl; asked = refl; outcome = refl; log = refl; begun = refl }) i)
 
       by : same_node tid.home me ≡ true → (o : Option Participant) → part_of tid work ≡ o → I (elim o [ None ↦ answer_unknown peer tid work | Some part ↦ answer_known peer tid part.outcome work ])
       by homed None none = if_walk P Q R me nodes I reads keeps (was_committed tid work.node) (λ is. keeps.send peer (messages.Tell tid outcomes.Commit) work (λ low. both_and (P tid) _ its homed) i)

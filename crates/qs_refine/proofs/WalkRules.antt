@@ -46,8 +46,8 @@ served_plain server part = by ((participant.member_of part server).served == las
         else record (participant.with_member server (record (participant.member_of part server) { served = (participant.member_of part server).served + 1; fresh = true }) part) {
           involved = part.involved || is_told_class (class_here server);
         })
-    by true = record { home = refl; superior = refl; asked = refl; outcome = refl; log = refl }
-    by false = record { home = refl; superior = refl; asked = refl; outcome = refl; log = refl }
+    by true = record { home = refl; superior = refl; asked = refl; outcome = refl; log = refl; begun = refl }
+    by false = record { home = refl; superior = refl; asked = refl; outcome = refl; log = refl; begun = refl }
 
 -- one more was sent
 sent_plain : (to : NodeNo) (part : Participant) → IsPlain part (participant.sent to part)
@@ -58,8 +58,8 @@ sent_plain to part = by ((Rattle.qs_engage.specs.Engage.peer_of part.engage to).
           else Rattle.qs_engage.specs.Engage.with_peer to (record (Rattle.qs_engage.specs.Engage.peer_of part.engage to) { sent = (Rattle.qs_engage.specs.Engage.peer_of part.engage to).sent + 1 }) part.engage;
       involved = true;
     })
-    by true = record { home = refl; superior = refl; asked = refl; outcome = refl; log = refl }
-    by false = record { home = refl; superior = refl; asked = refl; outcome = refl; log = refl }
+    by true = record { home = refl; superior = refl; asked = refl; outcome = refl; log = refl; begun = refl }
+    by false = record { home = refl; superior = refl; asked = refl; outcome = refl; log = refl; begun = refl }
 
 module _ (P Q : Tid → Bool) (R : NodeNo → Bool) (me : NodeNo) (nodes : ℕ) (I : Work → Type 0) (reads : Reads P Q R me nodes I) (keeps : Keeps P Q R me nodes I) where
   pub fold_walk : {X : Type 0} (f : Work → X → Work) → ((work : Work) (x : X) → I work → I (f work x)) → (xs : List X) (work : Work) → I work → I (fold f work xs)
@@ -83,7 +83,7 @@ module _ (P Q : Tid → Bool) (R : NodeNo → Bool) (me : NodeNo) (nodes : ℕ) 
   enqueue_walk server delivery work its i = if_walk (is_for server delivery.op) (λ is. keeps.enqueue server delivery work its i) (λ is. i)
 
   enter_issue_walk : (tid : Tid) (request : Outstanding) (op : Op) (work : Work) → I work → I (enter_issue tid request op work)
-  enter_issue_walk tid request op work i = keeps.part tid (participant.issued request) _ (λ part. record { home = refl; superior = refl; asked = refl; outcome = refl; log = refl }) (keeps.enter _ work i)
+  enter_issue_walk tid request op work i = keeps.part tid (participant.issued request) _ (λ part. record { home = refl; superior = refl; asked = refl; outcome = refl; log = refl; begun = refl }) (keeps.enter _ work i)
 
   ask_on_walk : (b : Bool) (tid : Tid) (to : NodeNo) (work : Work) → Q tid ≡ true → I work → I (ask_on b tid to work)
   ask_on_walk false tid to work its i = i
@@ -118,7 +118,7 @@ module _ (P Q : Tid → Bool) (R : NodeNo → Bool) (me : NodeNo) (nodes : ℕ) 
 
   take_reply_walk : (tid : Tid) (reply : Reply) (request : Outstanding) (work : Work) → I work → I (take_reply tid reply request work)
   take_reply_walk tid reply request work i = if_walk (is_by_files request)
-      (λ is. keeps.part tid (participant.note_served request.count) work (λ part. record { home = refl; superior = refl; asked = refl; outcome = refl; log = refl }) i)
+      (λ is. keeps.part tid (participant.note_served request.count) work (λ part. record { home = refl; superior = refl; asked = refl; outcome = refl; log = refl; begun = refl }) i)
       (λ is. if_walk (waits_as tid request.member request.number (lookup (is_at (client_cmp (client_of request.issuer))) work.node.commands)) (λ is. keeps.answer (client_of request.issuer) _ work i) (λ is. i))
 
   pub reply_came_walk : (tid : Tid) (member : Member) (number : ℕ) (reply : Reply) (work : Work) → I work → I (reply_came tid member number reply work)
@@ -127,7 +127,7 @@ module _ (P Q : Tid → Bool) (R : NodeNo → Bool) (me : NodeNo) (nodes : ℕ) 
       by : (o : Option Outstanding) → I (elim o [ None ↦ work | Some request ↦ take_reply tid reply request (with_manager (tm.drop_waiting tid member number) work) ])
       by None = i
       by (Some request) = take_reply_walk tid reply request (with_manager (tm.drop_waiting tid member number) work)
-          (keeps.part tid (participant.drop_waiting member number) work (λ part. record { home = refl; superior = refl; asked = refl; outcome = refl; log = refl }) i)
+          (keeps.part tid (participant.drop_waiting member number) work (λ part. record { home = refl; superior = refl; asked = refl; outcome = refl; log = refl; begun = refl }) i)
 
   -- ---- requests that come
 
@@ -215,12 +215,12 @@ module _ (P Q : Tid → Bool) (R : NodeNo → Bool) (me : NodeNo) (nodes : ℕ) 
       from part known None none is = absurd (cc (is))
 
   pub closer_came_walk : (peer : NodeNo) (tid : Tid) (up_to : ℕ) (told : List NodeNo) (work : Work) → I work → I (closer_came peer tid up_to told work)
-  closer_came_walk peer tid up_to told work i = undecided_walk tid (λ part. count peer tid up_to told) work (λ part known open_now. keeps.enter _ _ (keeps.part tid (participant.counted tid.home peer up_to told) work (λ part. record { home = refl; superior = refl; asked = refl; outcome = refl; log = refl }) i)) i
+  closer_came_walk peer tid up_to told work i = undecided_walk tid (λ part. count peer tid up_to told) work (λ part known open_now. keeps.enter _ _ (keeps.part tid (participant.counted tid.home peer up_to told) work (λ part. record { home = refl; superior = refl; asked = refl; outcome = refl; log = refl; begun = refl }) i)) i
 
   pub block_walk : (tid : Tid) (cause : Cause) (work : Work) → I work → I (block tid cause work)
   block_walk tid cause work i =
-      keeps.part tid (participant.add_cause cause) (with_manager (tm.refused tid) work) (λ part. record { home = refl; superior = refl; asked = refl; outcome = refl; log = refl })
-      (keeps.part tid participant.refused work (λ part. record { home = refl; superior = refl; asked = refl; outcome = refl; log = refl }) i)
+      keeps.part tid (participant.add_cause cause) (with_manager (tm.refused tid) work) (λ part. record { home = refl; superior = refl; asked = refl; outcome = refl; log = refl; begun = refl })
+      (keeps.part tid participant.refused work (λ part. record { home = refl; superior = refl; asked = refl; outcome = refl; log = refl; begun = refl }) i)
 
   pub refusal_came_walk : (tid : Tid) (cause : Cause) (work : Work) → (P tid && nat_lt tid.home.0 nodes) ≡ true → I work → I (refusal_came tid cause work)
   refusal_came_walk tid cause work fit i = by (part_of tid work)

@@ -119,7 +119,7 @@ module _ (P Q : Tid → Bool) (R : NodeNo → Bool) (me : NodeNo) (nodes : ℕ) 
 
       entered : (ballot : Vote) → I (enter_vote tid server ballot work)
       entered ballot = keeps.enter _ _ (keeps.doing tid (λ doings. record doings { voted = true }) _ (λ doings is. is)
-          (keeps.part tid (participant.voted (member_here work server) ballot (served_count tid server work)) _ (λ part. record { home = refl; superior = refl; asked = refl; outcome = refl; log = refl })
+          (keeps.part tid (participant.voted (member_here work server) ballot (served_count tid server work)) _ (λ part. record { home = refl; superior = refl; asked = refl; outcome = refl; log = refl; begun = refl })
           (keeps.serve server (λ value. after_vote value tid ballot) work (λ value. vote_kind value tid ballot) i)))
 
       by : (ballot : Vote) → (ballot ≡ votes.Recoverable → is_recoverable server.0 ≡ true) → I (vote_with tid server ballot work)
@@ -183,7 +183,7 @@ module _ (P Q : Tid → Bool) (R : NodeNo → Bool) (me : NodeNo) (nodes : ℕ) 
   refuse_walk : (tid : Tid) (part : Participant) (work : Work) → part_of tid work ≡ Some part → I work → I (refuse_rule tid part work)
   refuse_walk tid part work known i = if_walk P Q R me nodes I reads keeps part.engage.home (λ home. first part.causes home)
       (λ away. fold_walk P Q R me nodes I reads keeps (send_refusal tid (refusal_goes_to tid part)) (λ w cause j. keeps.send _ (messages.VotedAbort tid cause) w (λ low. refused part.engage.superior refl low) j) part.causes _
-      (keeps.part tid participant.take_causes work (λ part. record { home = refl; superior = refl; asked = refl; outcome = refl; log = refl }) i))
+      (keeps.part tid participant.take_causes work (λ part. record { home = refl; superior = refl; asked = refl; outcome = refl; log = refl; begun = refl }) i))
     where
       refused : (o : Option NodeNo) → part.engage.superior ≡ o → nat_lt (Rattle.std.proofs.Common.unwrap_or o tid.home).0 nodes ≡ true → (P tid && nat_lt tid.home.0 nodes) ≡ true
       refused None none low = both_and (P tid) _ (reads.known tid part work i known) low
@@ -229,7 +229,7 @@ module _ (P Q : Tid → Bool) (R : NodeNo → Bool) (me : NodeNo) (nodes : ℕ) 
   -- ---- another node restarted
 
   restarted_plain : (peer : NodeNo) (part : Participant) → IsPlain part (participant.restarted peer part)
-  restarted_plain peer part = record { home = refl; superior = refl; asked = refl; outcome = refl; log = refl }
+  restarted_plain peer part = record { home = refl; superior = refl; asked = refl; outcome = refl; log = refl; begun = refl }
 
   notice_tid_walk : (peer : NodeNo) (old new : ℕ) (work : Work) (tid : Tid) → I work → I (notice_tid peer old new work tid)
   notice_tid_walk peer old new work tid i = by (part_of tid work) refl

@@ -41,11 +41,19 @@ use Rattle.qs_step.specs.declared.event.Event.TheVariants as events
 use Rattle.qs_step.specs.declared.state.Issued.{Issued}
 use Rattle.qs_step.specs.declared.state.OpenCommand.{OpenCommand}
 use Rattle.qs_refine.specs.Begun.{fits, may_command}
-use Rattle.qs_refine.specs.Walks.{Reads, Keeps, is_homed, is_run, MayStepOn, begins_one}
+use Rattle.qs_refine.specs.Walks.{Reads, Keeps, is_homed, is_run, MayStepOn, MayTick, TicksOn, begins_one}
 use Rattle.qs_refine.proofs.SoundParts.{and_both, both_and}
 use Rattle.qs_refine.proofs.WalkRules.{fold_walk, if_walk, issue_as_walk, reply_came_walk, request_came_walk, serve_all_walk, undecided_walk, become_asked_walk, ask_came_walk, closer_came_walk, refusal_came_walk}
 use Rattle.qs_refine.proofs.WalkOutcomes.{decide_walk, tell_came_walk, told_came_walk, inquiry_came_walk}
 use Rattle.qs_refine.proofs.WalkSettles.{peer_restarted_walk}
+
+-- where time goes on in any case
+pub may_tick : (I : Work → Type 0) → TicksOn I → (event : Event) → MayTick event I
+may_tick I on (events.Command client line label command) = tt
+may_tick I on (events.Received peer message) = tt
+may_tick I on events.ServeAll = tt
+may_tick I on (events.PeerRestarted peer old new) = tt
+may_tick I on events.Tick = on
 
 module _ (P Q : Tid → Bool) (R : NodeNo → Bool) (me : NodeNo) (nodes : ℕ) (I : Work → Type 0) (reads : Reads P Q R me nodes I) (keeps : Keeps P Q R me nodes I) where
   -- ---- what clients command
@@ -168,14 +176,14 @@ module _ (P Q : Tid → Bool) (R : NodeNo → Bool) (me : NodeNo) (nodes : ℕ) 
   message_walk peer (messages.Told tid further) work met fit i = told_came_walk P Q R me nodes I reads keeps peer tid further work (and_both (P tid) _ fit).0 i
   message_walk peer (messages.Inquire tid) work met fit i = inquiry_came_walk P Q R me nodes I reads keeps peer tid work (and_both (P tid) _ fit).0 i
 
-  tick_walk : (work : Work) → I work → I (tick work)
-  tick_walk work i = by work.node.setting.age
+  tick_walk : (work : Work) → TicksOn I → I work → I (tick work)
+  tick_walk work on i = by work.node.setting.age
     where
       after : Work
       after = with_manager tm.tick (change_server timers_no (λ value. record value { timers = ticked value.timers }) (enter acts.Tick work))
 
       ticking : I after
-      ticking = keeps.tick _ (keeps.serve timers_no (λ value. record value { timers = ticked value.timers }) _ (λ value. refl) (keeps.enter acts.Tick work i))
+      ticking = on _ (keeps.serve timers_no (λ value. record value { timers = ticked value.timers }) _ (λ value. refl) (keeps.enter acts.Tick work i))
 
       each : (age : ℕ) (tids : List Tid) → list_all (is_homed P me) tids ≡ true → (w : Work) → I w → I (fold (abort_old age) w tids)
       each age [] all w j = j
@@ -187,12 +195,12 @@ module _ (P Q : Tid → Bool) (R : NodeNo → Bool) (me : NodeNo) (nodes : ℕ) 
       by None = ticking
       by (Some age) = each age (tm.aged age after.node.manager) (reads.aged age after ticking) after ticking
 
-  pub happen_walk : (event : Event) (work : Work) → MayStepOn P Q R me nodes event → I work → I (happen event work)
-  happen_walk (events.Command client line label command) work may i = command_came_walk (record { client = client; line = line; label = label; command = command }) work may.0 may.1 i
-  happen_walk (events.Received peer message) work may i = message_walk peer message work may.0 may.1 i
-  happen_walk events.ServeAll work may i = serve_all_walk P Q R me nodes I reads keeps work i
-  happen_walk (events.PeerRestarted peer old new) work may i = peer_restarted_walk P Q R me nodes I reads keeps peer old new work i
-  happen_walk events.Tick work may i = tick_walk work i
+  pub happen_walk : (event : Event) (work : Work) → MayStepOn P Q R me nodes event → MayTick event I → I work → I (happen event work)
+  happen_walk (events.Command client line label command) work may on i = command_came_walk (record { client = client; line = line; label = label; command = command }) work may.0 may.1 i
+  happen_walk (events.Received peer message) work may on i = message_walk peer message work may.0 may.1 i
+  happen_walk events.ServeAll work may on i = serve_all_walk P Q R me nodes I reads keeps work i
+  happen_walk (events.PeerRestarted peer old new) work may on i = peer_restarted_walk P Q R me nodes I reads keeps peer old new work i
+  happen_walk events.Tick work may on i = tick_walk work on i
 
   -- ---- commands that stay open
 

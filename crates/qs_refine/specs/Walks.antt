@@ -76,13 +76,14 @@ pub record Reads (P Q : Tid → Bool) (R : NodeNo → Bool) (me : NodeNo) (nodes
 
 -- ---- what keeps it
 
--- a change of what is kept of a transaction that leaves its home, its superior, whether it is asked, its outcome and what the log has of it
+-- a change of what is kept of a transaction that leaves its home, its superior, whether it is asked, its outcome, what the log has of it and when it began
 pub record IsPlain (old new : Participant) : Type 0 where
   pub home : new.engage.home ≡ old.engage.home
   pub superior : new.engage.superior ≡ old.engage.superior
   pub asked : new.asked ≡ old.asked
   pub outcome : new.outcome ≡ old.outcome
   pub log : new.log ≡ old.log
+  pub begun : new.begun_at ≡ old.begun_at
 
 abbrev pub same_kind : (ServerValue → ServerValue) → Type 0
 same_kind f = (value : ServerValue) → (f value).kind ≡ value.kind
@@ -124,7 +125,6 @@ pub record Keeps (P Q : Tid → Bool) (R : NodeNo → Bool) (me : NodeNo) (nodes
       → I work → I (keep_outcome tid outcome cause (with_manager (tm.decide tid outcome) work))
   pub learn : (tid : Tid) (outcome : Outcome) (work : Work) → same_node tid.home me ≡ false → I work → I (with_manager (tm.took_outcome tid outcome) work)
   pub forget : (tid : Tid) (part : Participant) (work : Work) → part_of tid work ≡ Some part → MayForget me tid part work → I work → I (with_manager (tm.forget tid) work)
-  pub tick : (work : Work) → I work → I (with_manager tm.tick work)
   -- what waits
   pub enqueue : (server : ServerNo) (delivery : Delivery) (work : Work) → Q delivery.tid ≡ true → I work → I (with_queues (ipc.enqueue server delivery) work)
   pub next : (server : ServerNo) (work : Work) → I work → I (with_queues (ipc.after_next server) work)
@@ -155,3 +155,11 @@ MayStepOn P Q R me nodes (events.Received peer message) = (R peer ≡ true) × (
 MayStepOn P Q R me nodes events.ServeAll = ⊤
 MayStepOn P Q R me nodes (events.PeerRestarted peer old new) = ⊤
 MayStepOn P Q R me nodes events.Tick = ⊤
+
+-- time goes on as a tick comes, and in no other event
+abbrev pub TicksOn : (Work → Type 0) → Type 0
+TicksOn I = (work : Work) → I work → I (with_manager tm.tick work)
+
+abbrev pub MayTick : Event → (Work → Type 0) → Type 0
+MayTick events.Tick I = TicksOn I
+MayTick event I = ⊤

@@ -1,0 +1,20 @@
+use Rattle.qs_every_run.proofs.LeftOutcomes.{begin_leaves}
+use Rattle.qs_every_run.proofs.LeftSteps.{rest_leaves, settle_leaves}
+use Rattle.qs_every_run.proofs.PlacedAmid.{left_on}
+use Rattle.qs_every_run.proofs.PlacedIssue.{issued_away, issued_here}
+use Rattle.qs_every_run.proofs.PlacedServe.{serve_placed}
+use Rattle.qs_every_run.proofs.PlacedVotes.{vote_placed, yield_placed}
+use Rattle.qs_every_run.proofs.placed.rules.Goals as goal
+
+pub returns : goal.returns
+returns c = record {
+  left = λ t base knows n stamp before work new i l. left_on t base knows n stamp before i work new l;
+  begins = begin_leaves;
+  others = λ t tid work far. settle_leaves t tid far work;
+  rest = rest_leaves;
+  issues_here = λ t base knows n stamp before work request op is fits own apart. issued_here t base knows n stamp before is.inv request op work is.here is.in_run fits own is.up apart;
+  issues_away = λ t base knows n stamp before work request op is in_run other reach apart. issued_away t base knows n stamp before is.inv request op work is.here is.in_run in_run other reach apart;
+  serves = λ t base knows n stamp before work server delivery reply is first own fits. serve_placed t base knows n stamp before is.inv server delivery reply work is.here is.in_run is.up first own fits is.inc;
+  votes = λ t base knows n stamp before work server ballot is for_it. vote_placed t base knows n stamp before is.inv work is.here is.in_run is.up is.inc server ballot for_it;
+  yields = λ t base knows n stamp before work client is. yield_placed t base knows n stamp before is.inv work is.here is.in_run is.up is.inc client;
+}

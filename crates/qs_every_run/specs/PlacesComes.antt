@@ -1,0 +1,33 @@
+-- What all places hold as a message comes: it is off its way, and a request of the transaction waits at its server.
+use Rattle.std.specs.Prelude.{◌≡◌, ℕ, true, false, List, [], Some}
+use Rattle.qs_base.specs.declared.identifiers.Member.{Member}
+use Rattle.qs_base.specs.declared.identifiers.ServerNo.{ServerNo}
+use Rattle.qs_base.specs.declared.identifiers.Tid.{Tid}
+use Rattle.qs_engage.specs.Nodes.{same_node}
+use Rattle.qs_ipc.specs.Queue.{is_for}
+use Rattle.qs_laws.proofs.Outcomes.{Inv}
+use Rattle.qs_machine.specs.Book.{BookValue}
+use Rattle.qs_ops.specs.declared.operation.Op.{Op}
+use Rattle.qs_packet.specs.declared.message.Message.TheVariants as messages
+use Rattle.qs_step.specs.Serving.{is_dropped, request_came}
+use Rattle.qs_step.specs.State.{Work, here, part_of}
+use Rattle.qs_world.specs.Moves.{Handed, node_no, taken_by}
+use Rattle.qs_world.specs.Posting.{next_parcel}
+use Rattle.qs_world.specs.World.{Parcel, World}
+use Rattle.qs_lawful.specs.Parcels.{is_asking_for}
+use Rattle.qs_every_run.specs.Placed.{field_of}
+use Rattle.qs_every_run.specs.PlacesAmid.{PlacedAmid}
+use Rattle.qs_every_run.specs.PlacesEnds.{taken}
+use Rattle.qs_every_run.specs.PlacesRules.{AreLawful}
+
+-- one that asks for nothing of it
+abbrev pub MessageComes : Type 0
+MessageComes = (t : Tid) (world : World) (n m stamp : ℕ) (before : BookValue) (work : Work) (parcel : Parcel) → next_parcel world n m ≡ Some parcel → ((server : ServerNo) (number : ℕ) → is_asking_for t server number parcel.message ≡ [])
+    → PlacedAmid t (field_of world) (world.channels.peer n) n stamp before work → PlacedAmid t (field_of (taken world n (Handed m))) ((taken_by world n (Handed m)).peer n) n stamp before work
+
+-- a request of it, that is not dropped
+abbrev pub RequestComes : Type 0
+RequestComes = (t : Tid) (world : World) (n m stamp : ℕ) (before : BookValue) (work : Work) (label : List ℕ) (member : Member) (number : ℕ) (issuer : ServerNo) (op : Op) (parcel : Parcel) → Inv before → next_parcel world n m ≡ Some parcel
+    → parcel.message ≡ messages.Request t label member number issuer op → is_for member.server op ≡ true → is_dropped (same_node t.home (here work)) (part_of t work) ≡ false → AreLawful n stamp before (request_came (node_no m) t label member number op work)
+    → PlacedAmid t (field_of world) (world.channels.peer n) n stamp before work
+    → PlacedAmid t (field_of (taken world n (Handed m))) ((taken_by world n (Handed m)).peer n) n stamp before (request_came (node_no m) t label member number op work)
