@@ -82,7 +82,6 @@ pub mod Clauses
 pub mod Issuing
 pub mod FoundOnce
 pub mod Restarting
-pub mod Unanimity
 pub mod Faces
 pub mod Steps
 pub mod Asking
