@@ -111,7 +111,7 @@ module _ (P : Opening → World → Type 0) (owed : Owed P) (unanimous : AfterSt
   committed_on tid was = by (find_transaction book tid) refl
     where
       by : (x : Option TransactionValue) → find_transaction book tid ≡ x → HasCommitted now tid
-      by None none = absurd (let is : cell_of_transaction (find_transaction book tid) ≡ Some cells.Commit = was in cc (none, is, ap cell_of_transaction none))
+      by None none = absurd (cc (was, ap cell_of_transaction none))
       by (Some tx) found = let p = aside (n + 1) (turned n (n + 1) (next_apart n)) tid tx found in ap cell_of_transaction p.1 ∙ (ap (λ (c : Cell). Some c) (p.2.shut (shut tx.cell cell)) ∙ ap (λ (c : Cell). Some c) cell)
         where
           some : Some tx.cell ≡ Some cells.Commit → tx.cell ≡ cells.Commit
