@@ -261,6 +261,7 @@ pub mod BesideActs
 pub mod BesideGoes
 pub mod BesidePlain
 pub mod NoteTexts
+pub mod IssuedNotes
 pub mod BesideIssue
 pub mod BesideOwn
 pub mod BesideClocks
@@ -270,6 +271,7 @@ pub mod BesideVote
 pub mod BesideVoted
 pub mod BesideNotice
 pub mod BesideLearnt
+pub mod DecidedOutcomes
 pub mod BesideDecide
 pub mod BesideKnown
 pub mod BesideReply
