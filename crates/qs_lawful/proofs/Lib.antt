@@ -249,6 +249,7 @@ pub mod SaidEntries
 pub mod SaidHeld
 pub mod SaidVoting
 pub mod SaidRules
+pub mod SaidCommits
 pub mod SaidStays
 pub mod ParcelsKept
 pub mod GivenEvents
