@@ -107,3 +107,4 @@ pub mod TriedOwingRuns
 pub mod ServesGo
 pub mod StepsGo
 pub mod StepsWhole
+pub mod PlacesJoined

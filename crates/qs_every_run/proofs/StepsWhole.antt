@@ -110,7 +110,7 @@ module _ (D : Type 0) (t : Tid) (world : World) (n stamp free : ℕ) (before : B
 
   -- ---- the whole
 
-  module _ (source : Source) (event : Event) (comes : event_of world n stamp source ≡ Some event) (order : AreInOrder (taken_by world n source) n) (amid : IsAmid (field_of world) n stamp before first) (well : StepsWell D t world n stamp free before source event)
+  module _ (source : Source) (event : Event) (comes : event_of world n stamp source ≡ Some event) (order : AreInOrder (taken_by world n source) n) (early : IsAmid (field_of world) n stamp before (work_on node free)) (well : StepsWell D t world n stamp free before source event)
       (lawful : IsLawful before (entries_of n stamp (effects_of node event free).entries)) where
     abbrev base : Field
     base = field_of (taken world n source)
@@ -133,10 +133,13 @@ module _ (D : Type 0) (t : Tid) (world : World) (n stamp free : ℕ) (before : B
         (goes_fold D t base knows n stamp before (WaitsWell D t base knows n stamp before) wait_on (λ work client waits. wait_goes_on D t base knows n stamp before work client waits) (waiting_clients (settle done)) (settle done) well.waits)
 
     done_lawful : AreLawful n stamp before done
-    done_lawful = lawful_then t base knows n stamp before amid.inv done last ends.extends.more ends.extends.entries lawful
+    done_lawful = lawful_then t base knows n stamp before early.inv done last ends.extends.more ends.extends.entries lawful
 
     first_lawful : AreLawful n stamp before first
-    first_lawful = lawful_then t base knows n stamp before amid.inv first done came.extends.more came.extends.entries done_lawful
+    first_lawful = lawful_then t base knows n stamp before early.inv first done came.extends.more came.extends.entries done_lawful
+
+    amid : IsAmid (field_of world) n stamp before first
+    amid = amid_on D t (field_of world) (world.channels.peer n) n stamp before (work_on node free) first (extends_of t (work_on node free) first (begin_leaves t (work_on node free))) first_lawful early
 
     begun : D ⊎ Here t (OpenPlaced t (field_of world)) before → HoldsOr D t (field_of world) (world.channels.peer n) n stamp before first
     begun (inl doomed) = inl doomed
@@ -150,4 +153,4 @@ module _ (D : Type 0) (t : Tid) (world : World) (n stamp free : ℕ) (before : B
     whole placed = after (ends.on lawful (amid_on D t base knows n stamp before first done came.extends done_lawful (came.amid amid)) (came.on done_lawful amid (begun placed)))
 
 pub step_places : StepPlaces
-step_places w t world n stamp free before source event comes order amid well lawful placed = whole (IsDoomed w) t world n stamp free before source event comes order amid well lawful placed
+step_places w t world n stamp free before source event comes order early well lawful placed = whole (IsDoomed w) t world n stamp free before source event comes order early well lawful placed

@@ -26,3 +26,4 @@ pub mod PlacesLaws
 pub mod Born
 pub mod CutCommits
 pub mod TriedOwing
+pub mod PlacesJoined

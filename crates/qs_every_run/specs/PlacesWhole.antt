@@ -12,7 +12,7 @@ use Rattle.qs_packet.specs.declared.message.Message.{Message}
 use Rattle.qs_packet.specs.declared.message.Message.TheVariants as messages
 use Rattle.qs_step.specs.Serving.{is_dropped, may_serve, reply_here, serve_all, serve_next}
 use Rattle.qs_step.specs.Settling.{due_tids, settle, settle_tid}
-use Rattle.qs_step.specs.State.{Work, here, part_of, with_queues}
+use Rattle.qs_step.specs.State.{Work, here, part_of, with_queues, work_on}
 use Rattle.qs_step.specs.Step.{effects_of, wait_on, waiting_clients, with_command}
 use Rattle.qs_step.specs.declared.event.Event.{Event}
 use Rattle.qs_step.specs.declared.event.Event.TheVariants as events
@@ -65,7 +65,7 @@ pub record StepsWell (D : Type 0) (t : Tid) (world : World) (n stamp free : ℕ)
 
 abbrev pub StepPlaces : Type 0
 StepPlaces = (w : machine.World) (t : Tid) (world : World) (n stamp free : ℕ) (before : BookValue) (source : Source) (event : Event) → event_of world n stamp source ≡ Some event → AreInOrder (taken_by world n source) n
-    → IsAmid (field_of world) n stamp before (first_work (world.hosts n).node free) → StepsWell (IsDoomed w) t world n stamp free before source event
+    → IsAmid (field_of world) n stamp before (work_on (world.hosts n).node free) → StepsWell (IsDoomed w) t world n stamp free before source event
     → IsLawful before (entries_of n stamp (effects_of (world.hosts n).node event free).entries)
     → IsDoomed w ⊎ Here t (OpenPlaced t (field_of world)) before
     → IsDoomed w ⊎ Here t (OpenPlaced t (field_of (step_with world n stamp free source (Some event)))) (book_after before (entries_of n stamp (effects_of (world.hosts n).node event free).entries))

@@ -4,6 +4,7 @@ ghost use Rattle.qs_every_run.specs.PlacesRules.{LeftGoesOn, BeginLeaves, Others
 ghost use Rattle.qs_every_run.specs.PlacesCommits.{WorldShowsField, HomeCommitsUnanimous};
 ghost use Rattle.qs_every_run.specs.PlacesComes.{MessageComes, RequestComes};
 ghost use Rattle.qs_every_run.specs.PlacesWhole.{ServeAllGoes, StepPlaces};
+ghost use Rattle.qs_every_run.specs.PlacesJoined.{WholeStepPlaces};
 ghost use Rattle.qs_every_run.specs.PlacesGo.{IssueGoes, SettleGoes, CommandGoes, WaitGoes};
 ghost use Rattle.qs_every_run.specs.PlacesEnds.{StepBegins, StepEnds};
 ghost use Rattle.qs_every_run.specs.PlacedLaws.{ReadyFree, FreeAgrees, QuietUnanimous, CommittedFree, CommittedWays, CommittedKeeps, CommittedUnanimous};
@@ -74,4 +75,9 @@ pub fn goes()
     ensures waits { WaitGoes }
     ensures serves { ServeAllGoes }
     ensures whole { StepPlaces }
+{}
+
+/// So it goes on through a whole step of a world in which all stands together, where the step finds what it needs or the transaction is doomed.
+pub fn whole_steps()
+    ensures { WholeStepPlaces }
 {}

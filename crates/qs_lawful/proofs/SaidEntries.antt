@@ -1,5 +1,5 @@
 -- What a log says of contents and changes goes on by a vote that enters with its Prepare, and by servers that learn commit, with its Commit.
-use Rattle.std.proofs.Common.{◌≡◌, inl, inr, ℕ, ◌==◌, ◌&&◌, ◌++◌, Bool, true, false, List, [], ◌∷◌, length, Option, Some, None, refl, sym, ap, subst, ◌∙◌, arith, is_some, nat_lt}
+use Rattle.std.proofs.Common.{◌≡◌, inl, inr, ℕ, ◌==◌, ◌&&◌, ◌++◌, Bool, true, false, List, [], ◌∷◌, length, Option, Some, None, refl, sym, ap, subst, ◌∙◌, arith, nat_lt}
 use Rattle.std.proofs.lemmas.Bool.Decides.{nat_tests}
 use Rattle.std.proofs.lemmas.List.Sums.{fold-append}
 use Rattle.std.specs.Prelude.{slice_get}
@@ -33,7 +33,7 @@ use Rattle.qs_machine.specs.Lawful.{IsLawful, book_after, broken, effect}
 use Rattle.qs_machine.specs.Nodes as machine
 use Rattle.qs_machine.specs.Nodes.{changes_of, record_of, voter, voter_cmp}
 use Rattle.qs_machine.specs.Opening.{opening}
-use Rattle.qs_machine.specs.Restart.{count_of, is_among, member_at}
+use Rattle.qs_machine.specs.Restart.{is_among, member_at}
 use Rattle.qs_machine.specs.declared.opened.Opened.{Opened}
 use Rattle.qs_machine.specs.declared.state.OnRecord.{OnRecord}
 use Rattle.qs_machine.specs.declared.state.Voter.{Voter}
@@ -47,7 +47,7 @@ use Rattle.qs_world.specs.Posting.{entry_of}
 use Rattle.qs_lawful.specs.Logged.{HasCommitted, HoldsLogged, IsMarked, IsRecordSafe, is_plain}
 use Rattle.qs_lawful.specs.Logs.{Every}
 use Rattle.qs_lawful.specs.Said.{IsAsRecorded, IsMadeBy, IsRecorded}
-use Rattle.qs_lawful.specs.Saying.{AreCommitted, AreInDoubt, ArePending, HoldsMade, KeepsSaid, LearnsHere, MayCommitHere, PutsVote, SaidAfter, StaysCrossed}
+use Rattle.qs_lawful.specs.Saying.{AreCommitted, AreInDoubt, ArePending, HoldsMade, KeepsSaid, MayCommitHere, SaidAfter, StaysCrossed}
 use Rattle.qs_lawful.proofs.FoundMembers.{every_two}
 use Rattle.qs_lawful.proofs.FoundOnce.{votes_once_in}
 use Rattle.qs_lawful.proofs.LogActs.{plain_facets, with_facet}

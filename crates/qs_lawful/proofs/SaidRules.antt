@@ -1,11 +1,10 @@
 -- The rules of a step that make no record, or only the end of a transaction's records, leave what the log says of contents and changes.
-use Rattle.std.proofs.Common.{◌≡◌, ℕ, ◌++◌, List, [], ◌∷◌, Option, Some, refl, sym, ap, subst, ◌∙◌}
+use Rattle.std.proofs.Common.{◌≡◌, ℕ, ◌++◌, List, [], ◌∷◌, sym, ap, subst}
 use Rattle.qs_journal.specs.declared.entry.Act.{Act}
 use Rattle.qs_laws.proofs.Outcomes.{Inv}
 use Rattle.qs_laws.proofs.Steps.{stepped}
 use Rattle.qs_machine.specs.Book.{BookValue}
 use Rattle.qs_machine.specs.Lawful.{IsLawful, book_after, effect}
-use Rattle.qs_machine.specs.Nodes as machine
 use Rattle.qs_record.specs.declared.record.Record.{Record}
 use Rattle.qs_record.specs.declared.record.Record.TheVariants as made
 use Rattle.qs_restart.specs.Recovery.{Recovery, found_record, recovery}
@@ -14,7 +13,7 @@ use Rattle.qs_world.specs.Posting.{entries_of, entry_of}
 use Rattle.qs_lawful.specs.Entering.{book_at, entries_so_far}
 use Rattle.qs_lawful.specs.Logged.{IsPlain}
 use Rattle.qs_lawful.specs.Logs.{Every}
-use Rattle.qs_lawful.specs.Saying.{HoldsMade, IsEnd, SaidAfter, SaidAt}
+use Rattle.qs_lawful.specs.Saying.{IsEnd, SaidAfter, SaidAt}
 use Rattle.qs_lawful.proofs.LogKeeps.{book_is, inv_at, lawful_before, lawful_since}
 use Rattle.qs_lawful.proofs.LogMarks.{one_more}
 use Rattle.qs_lawful.proofs.SaidEntries.{plain_enters_at}
