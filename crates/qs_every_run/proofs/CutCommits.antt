@@ -1,4 +1,4 @@
--- Each Commit that a step leaves in its node's log is of what the step committed, which stood and was unanimous before, or was committed before.
+-- What a step leaves in its node's log, of what the machine had before it. Each Commit is of what the step committed, which stood and was unanimous before, or was committed before.
 use Rattle.std.proofs.Common.{◌≡◌, inr, ℕ, ◌+◌, ◌==◌, ◌||◌, ◌++◌, Bool, true, false, List, [], ◌∷◌, Option, Some, None, refl, sym, ap, subst, ◌∙◌, arith, if◌then◌else◌}
 use Rattle.std.proofs.lemmas.Bool.Decides.{nat_tests}
 use Rattle.std.specs.List.{list_any}
@@ -12,11 +12,11 @@ use Rattle.qs_machine.specs.Book.{BookValue, cell_of_transaction, find_transacti
 use Rattle.qs_machine.specs.Lawful.{IsLawful}
 use Rattle.qs_machine.specs.Nodes as machine
 use Rattle.qs_machine.specs.Restart.{is_committed}
-use Rattle.qs_machine.specs.Transaction.{TransactionValue}
+use Rattle.qs_machine.specs.Transaction.{TransactionValue, is_open}
 use Rattle.qs_machine.specs.declared.transaction.Cell.{Cell}
 use Rattle.qs_machine.specs.declared.transaction.Cell.TheVariants as cells
 use Rattle.qs_record.specs.declared.record.Record.{Record}
-use Rattle.qs_restart.specs.Recovery.{recovery}
+use Rattle.qs_restart.specs.Recovery.{Prepared, recovery}
 use Rattle.qs_step.specs.Step.{after_step, effects_of}
 use Rattle.qs_step.specs.declared.event.Event.{Event}
 use Rattle.qs_world.specs.Histories.{book_of, opened_from}
@@ -26,8 +26,9 @@ use Rattle.qs_world.specs.World.{Opening, World}
 use Rattle.qs_refine.proofs.Moving.{up_taken}
 use Rattle.qs_refine.proofs.Posted.{up_all}
 use Rattle.qs_lawful.specs.Lasting.{Lasts}
-use Rattle.qs_lawful.specs.Logged.{HasCommitted}
+use Rattle.qs_lawful.specs.Logged.{HasCommitted, IsMarked}
 use Rattle.qs_lawful.specs.Logs.{Every, IsCommitLogged}
+use Rattle.qs_lawful.specs.Said.{IsApart, IsUndone}
 use Rattle.qs_lawful.specs.Worlds.{HoldsNodeAt, HoldsUp}
 use Rattle.qs_lawful.proofs.AsideGoes.{GoesAside, goes_aside}
 use Rattle.qs_lawful.proofs.CoherentOpenings.{opens_soundly}
@@ -36,7 +37,7 @@ use Rattle.qs_lawful.proofs.LastsOpening.{lasts_first, lasts_ran}
 use Rattle.qs_lawful.proofs.LastsWell.{LastsWell}
 use Rattle.qs_lawful.proofs.NumberedLogs.{opened_numbered, opening_named}
 use Rattle.qs_every_run.specs.Agrees.{MakesStep}
-use Rattle.qs_every_run.specs.CutCommits.{EachKeepsCommits}
+use Rattle.qs_every_run.specs.CutCommits.{EachKeepsCommits, EachKeepsVotes, KeptVotes}
 use Rattle.qs_every_run.specs.Joined.{Joined, book_in}
 use Rattle.qs_every_run.specs.JoinedOwed.{AfterStep, Owed, StaysUnanimousThen, book_then}
 use Rattle.qs_every_run.specs.JoinedPlaces.{PlacesAt}
@@ -91,21 +92,50 @@ module _ (P : Opening → World → Type 0) (owed : Owed P) (unanimous : AfterSt
       picked : (b : Bool) → b ≡ true → (if b then stepped_host stamp (after_step (world.hosts n).node event free) (effects_of (world.hosts n).node event free) (world.hosts n) else world.hosts n).log ≡ log_after (world.hosts n) (effects_of (world.hosts n).node event free)
       picked b is = rw is refl
 
+  up : HoldsUp n now at.state (after.hosts n)
+  up = at.runs ups
+
   -- what the log has then is committed after the step
   committed_then : (tid : Tid) → list_any (same_tid tid) (recovery log).committed ≡ true → HasCommitted now tid
   committed_then tid among = every_made now n up.log.state lasts_now up.log.there (recovery (after.hosts n).log).committed up.log.on_disk.commits tid (subst (λ (rs : List Record). list_any (same_tid tid) (recovery rs).committed ≡ true) (sym logs) among)
+
+  aside : (k : ℕ) → (k == n) ≡ false → (tid : Tid) (tx : TransactionValue) → find_transaction book tid ≡ Some tx → (later : TransactionValue) × (find_transaction now tid ≡ Some later) × GoesAside k tid tx later
+  aside k far tid tx found = goes_aside k (step_entries P owed o world j n stamp free source event makes) book well lawful (all (effects_of (world.hosts n).node event free).entries) tid tx found
     where
-      up : HoldsUp n now at.state (after.hosts n)
-      up = at.runs ups
+      all : (acts : List Act) → Every (λ (entry : Entry). (entry.node.0 == k) ≡ false) (entries_of n stamp acts)
+      all [] = tt
+      all (act ∷ acts) = (turned k n far, all acts)
+
+  -- what was committed is
+  committed_on : (tid : Tid) → HasCommitted book tid → HasCommitted now tid
+  committed_on tid was = by (find_transaction book tid) refl
+    where
+      by : (x : Option TransactionValue) → find_transaction book tid ≡ x → HasCommitted now tid
+      by None none = absurd (cc (was, ap cell_of_transaction none))
+      by (Some tx) found = let p = aside (n + 1) (turned n (n + 1) (next_apart n)) tid tx found in ap cell_of_transaction p.1 ∙ (ap (λ (c : Cell). Some c) (p.2.shut (shut tx.cell cell)) ∙ ap (λ (c : Cell). Some c) cell)
+        where
+          some : Some tx.cell ≡ Some cells.Commit → tx.cell ≡ cells.Commit
+          some e = cc e
+
+          cell : tx.cell ≡ cells.Commit
+          cell = some (sym (ap cell_of_transaction found) ∙ was)
+
+          shut : (c : Cell) → c ≡ cells.Commit → is_open c ≡ false
+          shut c is = rw is refl
+
+  keeps_votes_so : KeptVotes n book (recovery log)
+  keeps_votes_so = record {
+    kinds = subst (λ (rs : List Record). Every (λ (vote : Prepared). machine.is_recoverable vote.server.0 ≡ true) (recovery rs).prepared) logs up.log.on_disk.kinds;
+    marked = subst (λ (rs : List Record). Every (IsMarked (recovery rs)) (recovery rs).prepared) logs up.log.on_disk.marked;
+    apart = subst (λ (rs : List Record). Every (IsApart (recovery rs)) (recovery rs).prepared) logs up.on_disk.apart;
+    undone = each (recovery log).prepared (subst (λ (rs : List Record). Every (IsUndone n now) (recovery rs).prepared) logs up.on_disk.undone);
+  }
+    where
+      each : (votes : List Prepared) → Every (IsUndone n now) votes → Every (IsUndone n book) votes
+      each [] all = tt
+      each (vote ∷ votes) all = (λ home named doubt was. all.0 home named doubt (committed_on vote.tid was), each votes all.1)
 
   module _ (tid : Tid) (done : HasCommitted now tid) where
-    aside : (k : ℕ) → (k == n) ≡ false → (tx : TransactionValue) → find_transaction book tid ≡ Some tx → (later : TransactionValue) × (find_transaction now tid ≡ Some later) × GoesAside k tid tx later
-    aside k far tx found = goes_aside k (step_entries P owed o world j n stamp free source event makes) book well lawful (all (effects_of (world.hosts n).node event free).entries) tid tx found
-      where
-        all : (acts : List Act) → Every (λ (entry : Entry). (entry.node.0 == k) ≡ false) (entries_of n stamp acts)
-        all [] = tt
-        all (act ∷ acts) = (turned k n far, all acts)
-
     cell_then : (later : TransactionValue) → find_transaction now tid ≡ Some later → later.cell ≡ cells.Commit
     cell_then later there = one (sym (ap cell_of_transaction there) ∙ done)
       where
@@ -114,12 +144,12 @@ module _ (P : Opening → World → Type 0) (owed : Owed P) (unanimous : AfterSt
 
     of_cell : (tx : TransactionValue) → find_transaction book tid ≡ Some tx → (c : Cell) → tx.cell ≡ c → is_committed n tid (Some tx) ≡ true
     of_cell tx found cells.Commit is = rw is refl
-    of_cell tx found cells.Abort is = absurd (let p = aside (n + 1) (turned n (n + 1) (next_apart n)) tx found in let stays : p.0.cell ≡ tx.cell = p.2.shut (rw is refl) in let then_is : p.0.cell ≡ cells.Commit = cell_then p.0 p.1 in cc (is, stays, then_is))
+    of_cell tx found cells.Abort is = absurd (let p = aside (n + 1) (turned n (n + 1) (next_apart n)) tid tx found in let stays : p.0.cell ≡ tx.cell = p.2.shut (rw is refl) in let then_is : p.0.cell ≡ cells.Commit = cell_then p.0 p.1 in cc (is, stays, then_is))
     of_cell tx found cells.Open is = by (tid.home.0 == n) refl
       where
         by : (b : Bool) → (tid.home.0 == n) ≡ b → is_committed n tid (Some tx) ≡ true
         by true near = rw (is, near, unanimous_earlier tid n stamp (world.hosts n).node event free book well.inv lawful done tx found (rw is refl)) refl
-        by false far = absurd (let p = aside tid.home.0 far tx found in let stays : p.0.cell ≡ tx.cell = p.2.cell refl in let then_is : p.0.cell ≡ cells.Commit = cell_then p.0 p.1 in cc (is, stays, then_is))
+        by false far = absurd (let p = aside tid.home.0 far tid tx found in let stays : p.0.cell ≡ tx.cell = p.2.cell refl in let then_is : p.0.cell ≡ cells.Commit = cell_then p.0 p.1 in cc (is, stays, then_is))
 
     of_found : (x : Option TransactionValue) → find_transaction book tid ≡ x → is_committed n tid x ≡ true
     of_found None none = absurd (stood_earlier tid n stamp (world.hosts n).node event free book well.inv lawful done none)
@@ -144,3 +174,6 @@ module _ (P : Opening → World → Type 0) (owed : Owed P) (unanimous : AfterSt
 
 pub keeps_commits : EachKeepsCommits PlacesAt
 keeps_commits owed o world n stamp free source event j makes state = keeps PlacesAt owed (steps_stay_unanimous owed) o world n stamp free source event j makes state
+
+pub keeps_votes : EachKeepsVotes PlacesAt
+keeps_votes owed o world n stamp free source event j makes = keeps_votes_so PlacesAt owed (steps_stay_unanimous owed) o world n stamp free source event j makes

@@ -1,16 +1,31 @@
--- What the log of a node has committed once a step of it is cut off with its batch kept: the machine has it committed, or its home was to decide it and it is unanimous.
-use Rattle.std.specs.Prelude.{ℕ}
+-- What the log of a node says once a step of it is cut off with its batch kept, of what the machine had before the step.
+use Rattle.std.specs.Prelude.{◌≡◌, ℕ, true}
+use Rattle.qs_machine.specs.Book.{BookValue}
 use Rattle.qs_machine.specs.Nodes as machine
-use Rattle.qs_restart.specs.Recovery.{recovery}
+use Rattle.qs_restart.specs.Recovery.{Prepared, Recovery, recovery}
 use Rattle.qs_step.specs.Step.{effects_of}
 use Rattle.qs_step.specs.declared.event.Event.{Event}
 use Rattle.qs_world.specs.Moves.{Source, log_after}
 use Rattle.qs_world.specs.World.{Opening, World}
+use Rattle.qs_lawful.specs.Logged.{IsMarked}
 use Rattle.qs_lawful.specs.Logs.{Every, IsCommitLogged}
+use Rattle.qs_lawful.specs.Said.{IsApart, IsUndone}
 use Rattle.qs_every_run.specs.Agrees.{MakesStep}
 use Rattle.qs_every_run.specs.Joined.{Joined, book_in}
 use Rattle.qs_every_run.specs.JoinedOwed.{Owed}
 
+-- the machine has what it has committed, or its home was to decide it and it is unanimous
 abbrev pub EachKeepsCommits : (Opening → World → Type 0) → Type 0
 EachKeepsCommits P = Owed P → (o : Opening) (world : World) (n stamp free : ℕ) (source : Source) (event : Event) → Joined P o world → MakesStep world n stamp source event
     → (state : machine.NodeValue) → Every (IsCommitLogged n (book_in o world) state) (recovery (log_after (world.hosts n) (effects_of (world.hosts n).node event free))).committed
+
+-- each vote is of a member that keeps its votes in a log; where a Commit stands behind it it is among the Commits, and otherwise none stands before it; and what is in doubt at its home is not committed
+pub record KeptVotes (n : ℕ) (book : BookValue) (log : Recovery) : Type 0 where
+  pub kinds : Every (λ (vote : Prepared). machine.is_recoverable vote.server.0 ≡ true) log.prepared
+  pub marked : Every (IsMarked log) log.prepared
+  pub apart : Every (IsApart log) log.prepared
+  pub undone : Every (IsUndone n book) log.prepared
+
+abbrev pub EachKeepsVotes : (Opening → World → Type 0) → Type 0
+EachKeepsVotes P = Owed P → (o : Opening) (world : World) (n stamp free : ℕ) (source : Source) (event : Event) → Joined P o world → MakesStep world n stamp source event
+    → KeptVotes n (book_in o world) (recovery (log_after (world.hosts n) (effects_of (world.hosts n).node event free)))

@@ -4,7 +4,7 @@ ghost use Rattle.qs_every_run.specs.JoinedPlaces.{PlacesAt};
 ghost use Rattle.qs_every_run.specs.PlacesLaws.{PlacesGoOn};
 ghost use Rattle.qs_every_run.specs.JoinedRuns.{EachMoveJoined, EachOpensJoined, EachRunJoined, EachRunLawful};
 ghost use Rattle.qs_every_run.specs.Joined.{RunningAt};
-ghost use Rattle.qs_every_run.specs.CutCommits.{EachKeepsCommits};
+ghost use Rattle.qs_every_run.specs.CutCommits.{EachKeepsCommits, EachKeepsVotes};
 ghost use Rattle.qs_every_run.specs.Firsts.{CommitsStood, CommitsUnanimous, StepsCommitFirst, StepsVoteFirst};
 ghost use Rattle.qs_every_run.specs.JoinedOwed.{Opens};
 ghost use Rattle.qs_every_run.specs.RiseLaws.{EachRiseKeepsBeside, EachRisesRunning};
@@ -66,7 +66,8 @@ pub fn steps_commit_first()
 {}
 
 /// Where a step is cut off with its batch kept, each Commit of the log that is left is of what the machine has committed, or is unanimous and was
-/// for that home to decide.
+/// for that home to decide; and its votes are marked as its Commits are, and none that is in doubt at its home is committed.
 pub fn kept_batches_are_settled()
-    ensures { EachKeepsCommits PlacesAt }
+    ensures commits { EachKeepsCommits PlacesAt }
+    ensures votes { EachKeepsVotes PlacesAt }
 {}

@@ -1,5 +1,5 @@
 -- What a log says of contents and changes goes on by a vote that enters with its Prepare, and by servers that learn commit, with its Commit.
-use Rattle.std.proofs.Common.{◌≡◌, inl, inr, ℕ, ◌==◌, ◌&&◌, ◌++◌, Bool, true, false, List, [], ◌∷◌, length, Option, Some, None, refl, sym, ap, subst, ◌∙◌, arith, is_some, nat_lt}
+use Rattle.std.proofs.Common.{◌≡◌, inl, inr, ℕ, ◌==◌, ◌&&◌, ◌++◌, Bool, true, false, List, [], ◌∷◌, length, Option, Some, None, refl, sym, ap, subst, ◌∙◌, arith, nat_lt}
 use Rattle.std.proofs.lemmas.Bool.Decides.{nat_tests}
 use Rattle.std.proofs.lemmas.List.Sums.{fold-append}
 use Rattle.std.specs.Prelude.{slice_get}
@@ -33,7 +33,7 @@ use Rattle.qs_machine.specs.Lawful.{IsLawful, book_after, broken, effect}
 use Rattle.qs_machine.specs.Nodes as machine
 use Rattle.qs_machine.specs.Nodes.{changes_of, record_of, voter, voter_cmp}
 use Rattle.qs_machine.specs.Opening.{opening}
-use Rattle.qs_machine.specs.Restart.{count_of, is_among, member_at}
+use Rattle.qs_machine.specs.Restart.{is_among, member_at}
 use Rattle.qs_machine.specs.declared.opened.Opened.{Opened}
 use Rattle.qs_machine.specs.declared.state.OnRecord.{OnRecord}
 use Rattle.qs_machine.specs.declared.state.Voter.{Voter}
@@ -47,7 +47,7 @@ use Rattle.qs_world.specs.Posting.{entry_of}
 use Rattle.qs_lawful.specs.Logged.{HasCommitted, HoldsLogged, IsMarked, IsRecordSafe, is_plain}
 use Rattle.qs_lawful.specs.Logs.{Every}
 use Rattle.qs_lawful.specs.Said.{IsAsRecorded, IsMadeBy, IsRecorded}
-use Rattle.qs_lawful.specs.Saying.{AreCommitted, AreInDoubt, ArePending, HoldsMade, KeepsSaid, LearnsHere, MayCommitHere, PutsVote, SaidAfter, StaysCrossed}
+use Rattle.qs_lawful.specs.Saying.{AreCommitted, AreInDoubt, ArePending, HoldsMade, KeepsSaid, MayCommitHere, SaidAfter, StaysCrossed}
 use Rattle.qs_lawful.proofs.FoundMembers.{every_two}
 use Rattle.qs_lawful.proofs.FoundOnce.{votes_once_in}
 use Rattle.qs_lawful.proofs.LogActs.{plain_facets, with_facet}
@@ -75,23 +75,23 @@ stays_crossed here entries book i lawful tid server clean = by (crossed_in (find
 
 -- ---- an entry that puts nothing on record and takes nothing off
 
-module _ (opened : List Opened) (history : List Entry) (stamp here : ℕ) (state : machine.NodeValue) (act : Act) (log : Recovery) (coherent : IsCoherent opened) (lawful : IsLawful (opening opened) history) (there : slice_get (book_after (opening opened) history).nodes here ≡ Some state)
-    (plain : is_plain act ≡ true) (enters : broken (book_after (opening opened) history) (entry_of here stamp act) ≡ None) (h : HoldsMade here (book_after (opening opened) history) state log) where
+module _ (start : BookValue) (i : Inv start) (stamp here : ℕ) (state : machine.NodeValue) (act : Act) (log : Recovery) (there : slice_get start.nodes here ≡ Some state)
+    (plain : is_plain act ≡ true) (enters : broken start (entry_of here stamp act) ≡ None) (h : HoldsMade here start state log) where
   abbrev now : BookValue
-  now = effect (book_after (opening opened) history) (entry_of here stamp act)
+  now = effect start (entry_of here stamp act)
 
-  keeps_of : (next : machine.NodeValue) → facet next ≡ facet state → KeepsSaid here (book_after (opening opened) history) now state next
+  keeps_of : (next : machine.NodeValue) → facet next ≡ facet state → KeepsSaid here start now state next
   keeps_of next same = record {
     files = record { contents = sym (ap (λ (f : Facet). f.files) same); notes = sym (ap (λ (f : Facet). f.file_notes) same) };
     audit = record { contents = sym (ap (λ (f : Facet). f.audit_files) same); notes = sym (ap (λ (f : Facet). f.notes) same) };
     records = λ tid server. ap (λ (f : Facet). lookup (is_at (voter_cmp (voter tid server))) f.records) same;
-    crossed = stays_crossed here (entry_of here stamp act ∷ []) (book_after (opening opened) history) (inv_is opened history coherent lawful) (enters, tt);
+    crossed = stays_crossed here (entry_of here stamp act ∷ []) start i (enters, tt);
   }
 
-  pub plain_enters : SaidAfter here now log
-  plain_enters =
-      let at : (node : machine.NodeValue) × (slice_get now.nodes here ≡ Some node) × (facet node ≡ facet state) = with_facet (slice_get now.nodes here) (facet state) (plain_facets stamp here act (book_after (opening opened) history) plain here ∙ ap (option_map facet) there) in
-      record { state = at.0; there = at.1; said = keeps_said here (book_after (opening opened) history) now state at.0 log (keeps_of at.0 at.2) h }
+  pub plain_enters_at : SaidAfter here now log
+  plain_enters_at =
+      let at : (node : machine.NodeValue) × (slice_get now.nodes here ≡ Some node) × (facet node ≡ facet state) = with_facet (slice_get now.nodes here) (facet state) (plain_facets stamp here act start plain here ∙ ap (option_map facet) there) in
+      record { state = at.0; there = at.1; said = keeps_said here start now state at.0 log (keeps_of at.0 at.2) h }
 
 -- ---- a vote
 

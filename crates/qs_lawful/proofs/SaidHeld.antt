@@ -1,8 +1,7 @@
 -- In the middle of a step what a node has pending is what the machine has, and the servers that it has still to tell how a transaction ends
 -- are those that are still to learn it.
-use Rattle.std.proofs.Common.{◌≡◌, ℕ, ◌==◌, ◌&&◌, ◌||◌, ◌++◌, not, Bool, true, false, List, [], ◌∷◌, length, Option, Some, None, refl, sym, ap, subst, ◌∙◌, arith, is_some}
+use Rattle.std.proofs.Common.{◌≡◌, ℕ, ◌==◌, ◌||◌, ◌++◌, not, Bool, true, false, List, [], ◌∷◌, length, Option, Some, None, refl, sym, ap, subst, ◌∙◌, arith, is_some}
 use Rattle.std.proofs.lemmas.Bool.Decides.{nat_tests}
-use Rattle.std.specs.Prelude.{slice_get}
 use Rattle.std.specs.List.{filter, list_any}
 use Rattle.qs_base.specs.declared.identifiers.NodeNo.{NodeNo}
 use Rattle.qs_base.specs.declared.identifiers.ServerNo.{ServerNo}
@@ -15,8 +14,6 @@ use Rattle.qs_machine.specs.Restart.{member_at}
 use Rattle.qs_machine.specs.Transaction.{TransactionValue, is_commit, may_learn_still, part_of}
 use Rattle.qs_ops.specs.Server.{changes_in}
 use Rattle.qs_ops.specs.Servers.{files_no}
-use Rattle.qs_ops.specs.Table.{TableValue, share_of}
-use Rattle.qs_ops.specs.declared.operation.Op.{Op}
 use Rattle.qs_ops.specs.declared.share.Share.{Share}
 use Rattle.qs_servers.specs.Servers.{server_at}
 use Rattle.qs_step.specs.State.{NodeValue}
@@ -26,7 +23,7 @@ use Rattle.qs_tm.specs.Participant.{is_due_at, learners, member_of, servers_due}
 use Rattle.qs_ops.specs.Members.{class_of}
 use Rattle.qs_tm.specs.declared.participant.Due.TheVariants as dues
 use Rattle.qs_tm.specs.declared.participant.Participant.{Participant}
-use Rattle.qs_lawful.specs.Face.{Face, face_of, is_held, part_in, part_or_new}
+use Rattle.qs_lawful.specs.Face.{face_of, is_held, part_in, part_or_new}
 use Rattle.qs_lawful.specs.Holds.{Holds, HoldsAt}
 use Rattle.qs_lawful.specs.Saying.{ArePending}
 use Rattle.qs_lawful.specs.Tables.{is_seen, seen_in}

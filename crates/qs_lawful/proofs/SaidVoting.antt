@@ -1,10 +1,9 @@
 -- The rule by which a server votes recoverable leaves what the log says of contents and changes as the machine has it.
-use Rattle.std.proofs.Common.{◌≡◌, inl, inr, ℕ, ◌&&◌, ◌||◌, ◌++◌, not, Bool, true, false, List, [], ◌∷◌, Option, Some, None, refl, sym, ap, subst, ◌∙◌}
+use Rattle.std.proofs.Common.{◌≡◌, inl, inr, ℕ, ◌&&◌, ◌++◌, not, Bool, true, false, List, [], ◌∷◌, Option, Some, None, refl, sym, ap, subst, ◌∙◌}
 use Rattle.std.proofs.lemmas.List.Sums.{fold-append}
 use Rattle.std.specs.Prelude.{slice_get}
 use Rattle.qs_base.specs.Order.{same_tid}
 use Rattle.qs_base.specs.declared.identifiers.Member.{Member}
-use Rattle.qs_base.specs.declared.identifiers.NodeNo.{NodeNo}
 use Rattle.qs_base.specs.declared.identifiers.ServerNo.{ServerNo}
 use Rattle.qs_base.specs.declared.identifiers.Tid.{Tid}
 use Rattle.qs_base.proofs.Same.{same_tid-true}
@@ -28,7 +27,7 @@ use Rattle.qs_ops.specs.declared.server.Kind.TheVariants as kinds
 use Rattle.qs_ops.specs.declared.vote.Vote.TheVariants as votes
 use Rattle.qs_record.specs.declared.record.Record.{Record}
 use Rattle.qs_record.specs.declared.record.Record.TheVariants as made
-use Rattle.qs_restart.specs.Recovery.{Recovery, found_record, nothing_said, recovery}
+use Rattle.qs_restart.specs.Recovery.{found_record, nothing_said, recovery}
 use Rattle.qs_servers.specs.Servers.{ServersValue, server_at, with_server}
 use Rattle.qs_step.specs.Bringing.{member_here}
 use Rattle.qs_step.specs.State.{Work, here, part_of}
@@ -40,7 +39,7 @@ use Rattle.qs_lawful.specs.Holds.{Holds}
 use Rattle.qs_lawful.specs.Lasting.{Lasts}
 use Rattle.qs_lawful.specs.Logged.{HasCommitted, HoldsLogged, HoldsLogs, IsCommitMade}
 use Rattle.qs_lawful.specs.Logs.{Every}
-use Rattle.qs_lawful.specs.Saying.{ArePending, HoldsMade, SaidAfter, SaidAt}
+use Rattle.qs_lawful.specs.Saying.{HoldsMade, SaidAfter, SaidAt}
 use Rattle.qs_lawful.proofs.LogActs.{acting}
 use Rattle.qs_lawful.proofs.LogKeeps.{book_is, inv_at, lawful_before, lawful_since}
 use Rattle.qs_lawful.proofs.LogMarks.{one_more}

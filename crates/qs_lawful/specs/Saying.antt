@@ -1,9 +1,10 @@
 -- How what a log says of contents and changes goes on by entries of its node and the record beside them: by entries that touch
 -- neither; by an end of a transaction's records; by a vote and its Prepare; and by a transaction that its servers learn to be
 -- committed, and its Commit.
-use Rattle.std.specs.Prelude.{◌≡◌, ℕ, true, false, ◌&&◌, ◌==◌, ◌++◌, List, [], ◌∷◌, None, Some, length, map, nat_lt, slice_get}
+use Rattle.std.specs.Prelude.{◌≡◌, ℕ, true, false, ◌&&◌, ◌==◌, ◌++◌, List, [], ◌∷◌, None, Some, length, map, nat_lt, slice_get, ⊤}
 use Rattle.qs_base.specs.Order.{same_tid}
 use Rattle.qs_base.specs.declared.identifiers.NodeNo.{NodeNo}
+use Rattle.qs_base.specs.declared.identifiers.Outcome.TheVariants as outcomes
 use Rattle.qs_base.specs.declared.identifiers.ServerNo.{ServerNo}
 use Rattle.qs_base.specs.declared.identifiers.Tid.{Tid}
 use Rattle.qs_journal.specs.declared.entry.Act.{Act}
@@ -31,11 +32,11 @@ use Rattle.qs_step.specs.Voting.{vote_with}
 use Rattle.qs_tm.specs.Manager as tm
 use Rattle.qs_tm.specs.Participant.{learners}
 use Rattle.qs_tm.specs.declared.participant.Participant.{Participant}
-use Rattle.qs_world.specs.Posting.{entry_of}
+use Rattle.qs_world.specs.Posting.{entries_of, entry_of}
 use Rattle.qs_lawful.specs.Entering.{book_at, entries_so_far}
 use Rattle.qs_lawful.specs.Holds.{Holds}
 use Rattle.qs_lawful.specs.Lasting.{Lasts}
-use Rattle.qs_lawful.specs.Logged.{HasCommitted, HoldsLogged, HoldsLogs, is_plain}
+use Rattle.qs_lawful.specs.Logged.{HasCommitted, HoldsLogged, HoldsLogs, IsPlain, is_plain}
 use Rattle.qs_lawful.specs.Logs.{Every, found_of}
 use Rattle.qs_lawful.specs.Said.{HoldsSaid, IsApart, IsAsRecorded, IsMadeBy, IsUndone, SameContents}
 
@@ -169,3 +170,33 @@ abbrev pub EachVoteSays : Type 0
 EachVoteSays = (opened : List Opened) (history : List Entry) → IsCoherent opened → IsLawful (opening opened) history → (stamp : ℕ) (disk waiting : List Record) (tid : Tid) (server : ServerNo) (work : Work) (part : Participant) → part_of tid work ≡ Some part → part.outcome ≡ None
     → keeps_contents server.0 ≡ true → Lasts (book_at stamp (book_after (opening opened) history) work) → IsLawful (book_after (opening opened) history) (entries_so_far stamp (vote_with tid server votes.Recoverable work)) → HoldsLogs stamp (book_after (opening opened) history) disk waiting work
     → Holds stamp (book_at stamp (book_after (opening opened) history) work) work.node → SaidAt stamp (book_after (opening opened) history) disk waiting work → SaidAt stamp (book_after (opening opened) history) disk waiting (vote_with tid server votes.Recoverable work)
+
+-- rules that make no record, and put nothing on record and take nothing off
+abbrev pub EachQuietSays : Type 0
+EachQuietSays = (opened : List Opened) (history : List Entry) → IsCoherent opened → IsLawful (opening opened) history → (stamp : ℕ) (disk waiting : List Record) (work new : Work) (more : List Act) → new.out.entries ≡ work.out.entries ++ more → Every IsPlain more
+    → new.out.records ≡ work.out.records → new.node.setting ≡ work.node.setting → IsLawful (book_after (opening opened) history) (entries_so_far stamp new) → SaidAt stamp (book_after (opening opened) history) disk waiting work → SaidAt stamp (book_after (opening opened) history) disk waiting new
+
+-- or that end a transaction's records
+abbrev pub IsEnd : Record → Type 0
+IsEnd (made.Aborted tid) = ⊤
+IsEnd (made.End tid) = ⊤
+IsEnd other = ⊥
+
+abbrev pub EachEndSays : Type 0
+EachEndSays = (opened : List Opened) (history : List Entry) → IsCoherent opened → IsLawful (opening opened) history → (stamp : ℕ) (disk waiting : List Record) (work new : Work) (more : List Act) (rec : Record) → new.out.entries ≡ work.out.entries ++ more → Every IsPlain more → IsEnd rec
+    → new.out.records ≡ work.out.records ++ rec ∷ [] → new.node.setting ≡ work.node.setting → IsLawful (book_after (opening opened) history) (entries_so_far stamp new) → SaidAt stamp (book_after (opening opened) history) disk waiting work → SaidAt stamp (book_after (opening opened) history) disk waiting new
+
+-- a rule by which the servers of the node learn that a transaction is committed, behind entries that put nothing on record, with its Commit
+abbrev pub learn_all : NodeNo → Tid → List ServerNo → List Act
+learn_all node tid servers = map (λ (server : ServerNo). acts.Learn tid (record { node = node; server = server }) outcomes.Commit) servers
+
+abbrev pub book_then : ℕ → BookValue → Work → List Act → BookValue
+book_then stamp before work front = book_after (book_at stamp before work) (entries_of (here work).0 stamp front)
+
+abbrev pub EachCommitSays : Type 0
+EachCommitSays = (opened : List Opened) (history : List Entry) → IsCoherent opened → IsLawful (opening opened) history → (stamp : ℕ) (disk waiting : List Record) (work new : Work) (tid : Tid) (front : List Act) (servers : List ServerNo) (told : List NodeNo)
+    → new.out.entries ≡ work.out.entries ++ (front ++ learn_all (here work) tid servers) → Every IsPlain front → new.out.records ≡ work.out.records ++ made.Commit tid told ∷ [] → new.node.setting ≡ work.node.setting
+    → nat_lt (here work).0 (length opened) ≡ true → nat_lt tid.home.0 (length opened) ≡ true → IsLawful (book_after (opening opened) history) (entries_so_far stamp new) → HasCommitted (book_then stamp (book_after (opening opened) history) work front) tid
+    → ((state : machine.NodeValue) → slice_get (book_then stamp (book_after (opening opened) history) work front).nodes (here work).0 ≡ Some state → AllLearn (book_then stamp (book_after (opening opened) history) work front) tid (here work).0 state servers)
+    → AreInDoubt tid (recovery (disk ++ (waiting ++ work.out.records))) → HoldsLogs stamp (book_after (opening opened) history) disk waiting work → SaidAt stamp (book_after (opening opened) history) disk waiting work
+    → SaidAt stamp (book_after (opening opened) history) disk waiting new
