@@ -19,7 +19,7 @@ module _ (t : Tid) (server : ServerNo) (number : ℕ) where
   abbrev ask : List Parcel → ℕ
   ask ps = asked t server number (map message_of ps)
 
-  ask_more : (xs ys : List Parcel) → ask (xs ++ ys) ≡ ask xs + ask ys
+  pub ask_more : (xs ys : List Parcel) → ask (xs ++ ys) ≡ ask xs + ask ys
   ask_more xs ys = ap (asked t server number) (mapped xs ys) ∙ asked_more t server number (map message_of xs) (map message_of ys)
     where
       mapped : (xs ys : List Parcel) → map message_of (xs ++ ys) ≡ map message_of xs ++ map message_of ys

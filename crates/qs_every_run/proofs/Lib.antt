@@ -107,4 +107,5 @@ pub mod TriedOwingRuns
 pub mod ServesGo
 pub mod StepsGo
 pub mod StepsWhole
+pub mod NoticeComes
 pub mod PlacesJoined

@@ -2,7 +2,7 @@
 ghost use Rattle.qs_every_run.specs.StopLaws.{StopsPlaced, CutPlaced, StopHolds, CutHolds};
 ghost use Rattle.qs_every_run.specs.PlacesRules.{LeftGoesOn, BeginLeaves, OthersLeave, RestLeaves, IssueHereGoesOn, IssueAwayGoesOn, ServeGoesOn, VoteGoesOn, YieldGoesOn};
 ghost use Rattle.qs_every_run.specs.PlacesCommits.{WorldShowsField, HomeCommitsUnanimous};
-ghost use Rattle.qs_every_run.specs.PlacesComes.{MessageComes, RequestComes};
+ghost use Rattle.qs_every_run.specs.PlacesComes.{MessageComes, NoticeComes, RequestComes};
 ghost use Rattle.qs_every_run.specs.PlacesWhole.{ServeAllGoes, StepPlaces};
 ghost use Rattle.qs_every_run.specs.PlacesJoined.{WholeStepPlaces};
 ghost use Rattle.qs_every_run.specs.PlacesGo.{IssueGoes, SettleGoes, CommandGoes, WaitGoes};
@@ -63,6 +63,7 @@ pub fn ends()
     ensures ends { StepEnds }
     ensures comes { MessageComes }
     ensures requests { RequestComes }
+    ensures notices { NoticeComes }
 {}
 
 /// From a rule of a step to the next, whichever it is, what all places hold goes on or the transaction is doomed: as a request is issued, and as a
