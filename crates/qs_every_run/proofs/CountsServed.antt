@@ -1,5 +1,5 @@
 -- Where all that waits at a node can be counted, each request can be counted at its turn.
-use Rattle.std.proofs.Common.{◌≡◌, ℕ, ◌<◌, ◌≤◌, ◌==◌, ◌&&◌, Bool, true, false, List, [], ◌∷◌, length, Some, fold, nat_lt, refl, sym, ap, subst, ◌∙◌, arith, if◌then◌else◌}
+use Rattle.std.proofs.Common.{◌≡◌, ℕ, ◌<◌, ◌≤◌, ◌==◌, ◌&&◌, Bool, true, false, List, [], ◌∷◌, length, fold, nat_lt, refl, sym, ap, subst, ◌∙◌, arith, if◌then◌else◌}
 use Rattle.std.proofs.lemmas.Bool.{eqb-true}
 use Rattle.std.proofs.lemmas.Bool.Decides.{nat_tests}
 use Rattle.qs_base.specs.declared.identifiers.ServerNo.{ServerNo}
@@ -11,7 +11,6 @@ use Rattle.qs_machine.specs.Book.{BookValue}
 use Rattle.qs_step.specs.Restarts.{known_tids, resume_tid}
 use Rattle.qs_step.specs.Serving.{serve_next}
 use Rattle.qs_step.specs.State.{NodeValue, Work, with_node, work_on}
-use Rattle.qs_step.specs.declared.event.Event.TheVariants as events
 use Rattle.qs_world.specs.Moves.{Queues, may_serve}
 use Rattle.qs_world.specs.World.{World}
 use Rattle.qs_refine.specs.NodeFaces.{waiting_at}

@@ -6,7 +6,7 @@ use Rattle.std.specs.Prelude.{slice_get}
 use Rattle.qs_base.specs.declared.identifiers.NodeNo.{NodeNo}
 use Rattle.qs_base.specs.declared.identifiers.ServerNo.{ServerNo}
 use Rattle.qs_base.specs.declared.identifiers.Tid.{Tid}
-use Rattle.qs_engage.specs.Nodes.{all_nodes, listed, no_nodes, same_node}
+use Rattle.qs_engage.specs.Nodes.{same_node}
 use Rattle.qs_kept.specs.declared.kept.Kept.{Kept}
 use Rattle.qs_machine.specs.Book.{BookValue, cell_of_transaction, find_transaction}
 use Rattle.qs_machine.specs.Clauses.{note_text}

@@ -1,55 +1,47 @@
--- All that stands together of a world stands after a whole step, and after a crash: what the machines and the nodes are known to keep, and what is owed.
-use Rattle.std.proofs.Common.{◌≡◌, ℕ, ◌<◌, ◌==◌, Bool, true, false, List, [], ◌∷◌, ◌++◌, Option, Some, refl, sym, ap, subst, ◌∙◌, arith, if◌then◌else◌}
-use Rattle.std.specs.Prelude.{slice_get}
+-- All that stands together of a world stands after a whole step: what the machines and the nodes are known to keep, and what is owed.
+use Rattle.std.proofs.Common.{◌≡◌, ℕ, ◌≤◌, ◌<◌, ◌==◌, Bool, true, false, List, ◌++◌, Option, refl, sym, ap, subst, ◌∙◌, arith, if◌then◌else◌, [], None}
 use Rattle.std.proofs.lemmas.Bool.{eqb-true}
 use Rattle.std.proofs.lemmas.List.Sums.{fold-append}
 use Rattle.std.proofs.lemmas.Bool.Decides.{nat_tests}
-use Rattle.qs_channels.specs.Channels as channel
-use Rattle.qs_journal.specs.declared.entry.Act.TheVariants as acts
-use Rattle.qs_journal.specs.declared.entry.CrashCause.{CrashCause}
 use Rattle.qs_journal.specs.declared.entry.Entry.{Entry}
 use Rattle.qs_base.specs.declared.identifiers.Tid.{Tid}
 use Rattle.qs_machine.specs.Book.{BookValue, find_transaction}
 use Rattle.qs_machine.specs.Lawful.{IsLawful, book_after}
 use Rattle.qs_machine.specs.Restart.{is_among}
-use Rattle.qs_machine.specs.Transaction.{TransactionValue}
 use Rattle.qs_record.specs.declared.record.Record.{Record}
 use Rattle.qs_restart.specs.Recovery.{Recovery, found_record, nothing_said, recovery}
 use Rattle.qs_step.specs.State.{NodeValue}
 use Rattle.qs_step.specs.Step.{after_step, effects_of}
 use Rattle.qs_step.specs.declared.event.Effects.{Effects}
 use Rattle.qs_step.specs.declared.event.Event.{Event}
-use Rattle.qs_world.specs.Histories.{book_of, opened_from}
-use Rattle.qs_world.specs.Moves.{Move, Source, Step, log_after, may_move, moved, step_with, stepped_host, stopped, stopped_host, taken_by}
-use Rattle.qs_world.specs.Posting.{entry_of}
+use Rattle.qs_world.specs.Histories.{book_of}
+use Rattle.qs_world.specs.Moves.{Move, Source, Step, log_after, may_move, moved, step_with, stepped_host, taken_by}
 use Rattle.qs_world.specs.World.{Host, Opening, World}
 use Rattle.qs_refine.proofs.Moving.{up_taken}
 use Rattle.qs_refine.proofs.Posted.{up_all}
 use Rattle.qs_refine.proofs.ShownBegins.{each_begun_shown}
 use Rattle.qs_refine.proofs.ShownMoves.{move_shown}
-use Rattle.qs_refine.proofs.StepAll.{node_stopped}
-use Rattle.qs_lawful.specs.Beside.{HasOwner, HoldsBeside, is_committed_at}
+use Rattle.qs_lawful.specs.Beside.{HoldsBeside}
+use Rattle.qs_lawful.specs.Face.{waiting_at}
 use Rattle.qs_lawful.specs.NodeFacts.{HasNodeFacts}
 use Rattle.qs_lawful.specs.Parcels.{HoldsChannels, HoldsWays}
 use Rattle.qs_lawful.specs.Scripts.{HoldsScripts}
-use Rattle.qs_lawful.specs.WorldLaws.{StopsWell}
-use Rattle.qs_lawful.specs.Worlds.{HoldsNodeAt, HoldsWorld}
-use Rattle.qs_lawful.proofs.AsideBesides.{keeps_others_beside}
-use Rattle.qs_lawful.proofs.CoherentOpenings.{opens_soundly}
-use Rattle.qs_lawful.proofs.NumberedLogs.{opened_numbered}
+use Rattle.qs_lawful.specs.Worlds.{HoldsWorld}
 use Rattle.qs_lawful.proofs.OpenedCommits.{stays_among}
-use Rattle.qs_lawful.proofs.ParcelsKept.{channels_moved}
-use Rattle.qs_lawful.proofs.ScriptsLike.{crash_scripts}
-use Rattle.qs_lawful.proofs.WaysOn.{crash_ways}
 use Rattle.qs_every_run.specs.Agrees.{MakesStep, nodes_in}
-use Rattle.qs_every_run.specs.Joined.{ChannelsAt, FactsAt, HeldAt, HomesAt, HomesHave, HoldsRunning, Joined, LoggedAt, OwnersAt, RunningAt, ScriptsAt, WaysAt, book_in}
-use Rattle.qs_every_run.specs.JoinedOwed.{Owed}
+use Rattle.qs_every_run.specs.Joined.{ChannelsAt, FactsAt, HeldAt, HomesAt, HomesHave, HoldsRunning, Joined, ClocksAt, LoggedAt, OwnersAt, RunningAt, ScriptsAt, WaysAt, book_in, ClientsAt, KeepsBackUnmet, QueuedAt}
+use Rattle.qs_every_run.specs.JoinedOwed.{Owed, AfterStep, StaysUnanimousThen}
+use Rattle.qs_every_run.proofs.BornMoves.{born_moved}
 use Rattle.qs_every_run.proofs.JoinedFacts.{steps_facts}
 use Rattle.qs_every_run.proofs.JoinedHeld as held_proofs
 use Rattle.qs_every_run.proofs.JoinedHomes.{homes_after}
-use Rattle.qs_every_run.proofs.JoinedParts.{book_on, channels_later, lawful_on}
+use Rattle.qs_every_run.proofs.JoinedParts.{book_on, lawful_on}
+use Rattle.qs_every_run.proofs.JoinedClocks.{step_on_time}
+use Rattle.qs_every_run.proofs.ClientsGo.{clients_then, scripts_then}
+use Rattle.qs_every_run.proofs.JoinedWays.{lasts_now, steps_ways}
+use Rattle.qs_every_run.proofs.KeptBack.{none_before, nothing_waits, step_unmet}
 use Rattle.qs_every_run.proofs.StaysWorlds.{steps_keep_logged}
-use Rattle.qs_every_run.proofs.JoinedSteps.{step_at, step_entries, step_journal, step_lawful, step_low, step_up}
+use Rattle.qs_every_run.proofs.JoinedSteps.{step_at, step_entries, step_holds, step_journal, step_lawful, step_low, step_up}
 
 -- what a step appends leaves the Commits that the log had
 pub log_goes_on : (host : Host) (out : Effects) (tid : Tid) → is_among (recovery host.log).committed tid ≡ true → is_among (recovery (log_after host out)).committed tid ≡ true
@@ -69,16 +61,20 @@ pub record Known (o : Opening) (world new : World) : Type 0 where
   pub homes : HomesAt o new
   pub owners : OwnersAt o new
   pub logged : LoggedAt new
+  pub clocks : ClocksAt new
   pub channels : ChannelsAt o new
+  pub unmet : KeepsBackUnmet new.channels
+  pub queued : QueuedAt o new
   pub ways : WaysAt o new
+  pub clients : ClientsAt new
   pub scripts : ScriptsAt o new
 
-module _ (P : Opening → World → Type 0) (owed : Owed P) (o : Opening) (world : World) (j : Joined P o world) where
+module _ (P : Opening → World → Type 0) (owed : Owed P) (unanimous : AfterStep P StaysUnanimousThen) (o : Opening) (world : World) (j : Joined P o world) where
   abbrev book : BookValue
   book = book_in o world
 
-  pub then_joined : (move : Move) → may_move world move ≡ true → Known o world (moved move world) → Joined P o (moved move world)
-  then_joined move may k = record {
+  pub then_joined : (move : Move) → may_move world move ≡ true → Known o world (moved move world) → P o (moved move world) → Joined P o (moved move world)
+  then_joined move may k places = record {
     opens = j.opens;
     size = k.size ∙ j.size;
     lawful = k.lawful;
@@ -89,10 +85,15 @@ module _ (P : Opening → World → Type 0) (owed : Owed P) (o : Opening) (world
     homes = k.homes;
     owners = k.owners;
     logged = k.logged;
+    clocks = k.clocks;
+    born = born_moved o world j.born move may;
     channels = k.channels;
+    unmet = k.unmet;
+    queued = k.queued;
     ways = k.ways;
+    clients = k.clients;
     scripts = k.scripts;
-    places = owed.places o world move tt j may k.lawful;
+    places = places;
   }
 
   -- ---- a whole step
@@ -137,16 +138,16 @@ module _ (P : Opening → World → Type 0) (owed : Owed P) (o : Opening) (world
 
     held_then : HeldAt o new
     held_then = subst (λ (b : BookValue). HoldsWorld b new) (sym (book_on o world new entries journal))
-        (subst (λ (w : World). HoldsWorld (book_after book entries) w) (sym (ap (step_with world n stamp free source) makes.comes)) (held_proofs.held_then P owed o world j n stamp free source event makes))
+        (subst (λ (w : World). HoldsWorld (book_after book entries) w) (sym (ap (step_with world n stamp free source) makes.comes)) (held_proofs.held_then P owed unanimous o world j n stamp free source event makes))
 
     runs_then : RunningAt o new
     runs_then k low on = subst (λ (b : BookValue). HoldsRunning b (new.hosts k).node) (sym (book_on o world new entries journal)) (by (k == n) refl)
       where
         by : (b : Bool) → (k == n) ≡ b → HoldsRunning (book_after book entries) (new.hosts k).node
         by true near = subst (λ (i : ℕ). HoldsRunning (book_after book entries) (new.hosts i).node) (sym (eqb-true k n near))
-            (subst (λ (m : NodeValue). HoldsRunning (book_after book entries) m) (sym own_then) (held_proofs.own_running P owed o world j n stamp free source event makes))
+            (subst (λ (m : NodeValue). HoldsRunning (book_after book entries) m) (sym own_then) (held_proofs.own_running P owed unanimous o world j n stamp free source event makes))
         by false far = subst (λ (m : NodeValue). HoldsRunning (book_after book entries) m) (sym (same k far))
-            (held_proofs.other_running P owed o world j n stamp free source event makes k far (subst (λ (s : ℕ). k < s) sized low) (sym (ap (λ (f : ℕ → Bool). f k) ups) ∙ on))
+            (held_proofs.other_running P owed unanimous o world j n stamp free source event makes k far (subst (λ (s : ℕ). k < s) sized low) (sym (ap (λ (f : ℕ → Bool). f k) ups) ∙ on))
 
     low_then : n < new.size
     low_then = subst (λ (s : ℕ). n < s) (sym sized) (step_low P owed o world j n stamp free source event makes)
@@ -166,6 +167,21 @@ module _ (P : Opening → World → Type 0) (owed : Owed P) (o : Opening) (world
         (homes_after book world.size (nodes_in world) (nodes_in new) n stamp (effects_of (world.hosts n).node event free).entries (step_at P owed o world j n stamp free source event makes) (held_then.nodes n low_then).node same
         (step_lawful P owed o world j n stamp free source event makes)
         (subst (λ (b : BookValue). HoldsBeside b (new.hosts n).node) (book_on o world new entries journal) (runs_then n low_then runs).beside) j.homes))
+
+    -- of what the machine does not know nothing waits: at its own node by the step, at others since it knows on what it knew
+    queued_then : QueuedAt o new
+    queued_then k low tid server none = by (k == n) refl
+      where
+        none_now : find_transaction (book_after book entries) tid ≡ None
+        none_now = subst (λ (b : BookValue). find_transaction b tid ≡ None) (book_on o world new entries journal) none
+
+        own : waiting_at (after_step (world.hosts n).node event free) tid server ≡ []
+        own = nothing_waits stamp (book_after book entries) (after_step (world.hosts n).node event free) (step_holds P owed o world j n stamp free source event makes) tid server none_now
+
+        by : (b : Bool) → (k == n) ≡ b → waiting_at (new.hosts k).node tid server ≡ []
+        by true near = subst (λ (i : ℕ). waiting_at (new.hosts i).node tid server ≡ []) (sym (eqb-true k n near)) (subst (λ (m : NodeValue). waiting_at m tid server ≡ []) (sym own_then) own)
+        by false far = subst (λ (m : NodeValue). waiting_at m tid server ≡ []) (sym (same k far))
+            (j.queued k (subst (λ (s : ℕ). k < s) sized low) tid server (none_before entries book (lasts_now o world j.opens j.lawful) (step_lawful P owed o world j n stamp free source event makes) tid none_now))
 
     own_log : (new.hosts n).log ≡ log_after (world.hosts n) (effects_of (world.hosts n).node event free)
     own_log = ap (λ (e : Option Event). ((step_with world n stamp free source e).hosts n).log) makes.comes ∙ picked (n == n) (grind (arith, nat_tests))
@@ -189,6 +205,26 @@ module _ (P : Opening → World → Type 0) (owed : Owed P) (o : Opening) (world
             (subst (λ (m : NodeValue). is_among m.committed tid ≡ true) own_then (subst (λ (i : ℕ). is_among (new.hosts i).node.committed tid ≡ true) (eqb-true k n near) among))))))
         by false far = subst (λ (rs : List Record). is_among (recovery rs).committed tid ≡ true) (sym (same_log k far)) (j.logged k (subst (λ (s : ℕ). k < s) sized low) tid (subst (λ (m : NodeValue). is_among m.committed tid ≡ true) (same k far) among))
 
+    clocks_then : ClocksAt new
+    clocks_then k low = by (k == n) refl
+      where
+        stamps : (m : ℕ) → m ≡ n → (new.hosts m).stamp ≡ stamp
+        stamps m same = ap (λ (e : Option Event). ((step_with world n stamp free source e).hosts m).stamp) makes.comes ∙ picked (m == n) (grind (arith, nat_tests, same))
+          where
+            picked : (b : Bool) → b ≡ true → (if b then stepped_host stamp (after_step (world.hosts n).node event free) (effects_of (world.hosts n).node event free) (world.hosts n) else world.hosts m).stamp ≡ stamp
+            picked b is = rw is refl
+
+        same_stamp : (k == n) ≡ false → (new.hosts k).stamp ≡ (world.hosts k).stamp
+        same_stamp far = ap (λ (e : Option Event). ((step_with world n stamp free source e).hosts k).stamp) makes.comes ∙ picked (k == n) far
+          where
+            picked : (b : Bool) → b ≡ false → (if b then stepped_host stamp (after_step (world.hosts n).node event free) (effects_of (world.hosts n).node event free) (world.hosts n) else world.hosts k).stamp ≡ (world.hosts k).stamp
+            picked b is = rw is refl
+
+        by : (b : Bool) → (k == n) ≡ b → (new.hosts k).node.manager.ticks ≤ (new.hosts k).stamp
+        by true near = subst (λ (t : ℕ). (new.hosts k).node.manager.ticks ≤ t) (sym (stamps k (eqb-true k n near))) (subst (λ (i : ℕ). (new.hosts i).node.manager.ticks ≤ stamp) (sym (eqb-true k n near)) (subst (λ (m : NodeValue). m.manager.ticks ≤ stamp) (sym own_then)
+            (step_on_time P o world j n stamp free source event makes)))
+        by false far = subst (λ (t : ℕ). (new.hosts k).node.manager.ticks ≤ t) (sym (same_stamp far)) (subst (λ (m : NodeValue). m.manager.ticks ≤ (world.hosts k).stamp) (sym (same k far)) (j.clocks k (subst (λ (s : ℕ). k < s) sized low)))
+
     pub step_joined : Joined P o new
     step_joined = then_joined step may (record {
       size = sized;
@@ -199,78 +235,12 @@ module _ (P : Opening → World → Type 0) (owed : Owed P) (o : Opening) (world
       homes = homes_then;
       owners = (runs_then n low_then runs).beside.owners;
       logged = logged_then;
+      clocks = clocks_then;
       channels = subst (λ (b : BookValue). HoldsChannels b new.size new.channels) (sym (book_on o world new entries journal))
-          (subst (λ (w : World). HoldsChannels (book_after book entries) w.size w.channels) (sym (ap (step_with world n stamp free source) makes.comes)) (held_proofs.channels_then P owed o world j n stamp free source event makes));
-      ways = owed.steps_ways o world step tt j may lawful_then;
-      scripts = owed.steps_scripts o world step tt j may lawful_then;
-    })
-
-  -- ---- a crash, whatever it leaves in the log
-
-  module _ (n stamp : ℕ) (cause : CrashCause) (log : List Record) (move : Move) (may : may_move world move ≡ true) (is : moved move world ≡ stopped world n stamp cause log) (longer : (tid : Tid) → is_among (recovery (world.hosts n).log).committed tid ≡ true → is_among (recovery log).committed tid ≡ true)
-      (well : StopsWell book (moved move world) n stamp cause) where
-    abbrev after : World
-    after = stopped world n stamp cause log
-
-    crashed : StopsWell book after n stamp cause
-    crashed = subst (λ (w : World). StopsWell book w n stamp cause) is well
-
-    abbrev entry : Entry
-    entry = entry_of n stamp (acts.Crash cause)
-
-    crash_lawful : IsLawful (book_of o) after.journal
-    crash_lawful = lawful_on o world after (entry ∷ []) refl j.lawful crashed.lawful
-
-    crash_homes : HomesAt o after
-    crash_homes tid tx found committed in_run = subst (λ (node : NodeValue). is_committed_at node tid ≡ true) (sym (node_stopped world n stamp cause log tid.home.0))
-        (j.homes tid tx (ap (λ (b : BookValue). find_transaction b tid) (sym (book_on o world after (entry ∷ []) refl)) ∙ found) committed in_run)
-
-    -- of the others that run
-    crash_running : RunningAt o after
-    crash_running k low on = by (k == n) refl on
-      where
-        by : (b : Bool) → (k == n) ≡ b → (if b then false else world.channels.up k) ≡ true → HoldsRunning (book_in o after) (after.hosts k).node
-        by true near off = absurd (cc off)
-        by false far runs = subst (λ (m : NodeValue). HoldsRunning (book_in o after) m) (sym (node_stopped world n stamp cause log k)) (record {
-          beside = keeps_others_beside (opened_from o 0 o.size) world.journal (entry ∷ []) (opens_soundly o j.opens) (opened_numbered o 0 o.size) crash_lawful (world.hosts k).node
-              (record { far = λ at. other k n far (sym (at ∙ its.node)); of_step = tt; answers = tt }, tt) ((λ tid label client begins. absurd (cc begins)), tt)
-              (λ state there. held_proofs.runs_at book world k its runs state (subst (λ (i : ℕ). slice_get book.nodes i ≡ Some state) its.node there)) (j.running k low runs).beside;
-          young = (j.running k low runs).young;
-        })
-          where
-            its : HoldsNodeAt book world k
-            its = j.held.nodes k low
-
-            other : (a b : ℕ) → (a == b) ≡ false → a ≡ b → ⊥
-            other a b off same = let here : (a == b) ≡ true = grind (arith, nat_tests, same) in let both : true ≡ false = sym here ∙ off in cc (both)
-
-    crash_owners : OwnersAt o after
-    crash_owners = subst (λ (b : BookValue). (tid : Tid) (tx : TransactionValue) → find_transaction b tid ≡ Some tx → HasOwner b tx) (sym (book_on o world after (entry ∷ []) refl)) (λ tid tx found. j.owners tid tx found)
-
-    crash_logged : LoggedAt after
-    crash_logged k low tid among = by (k == n) refl
-      where
-        had : (i : ℕ) → i ≡ k → is_among (recovery (world.hosts i).log).committed tid ≡ true
-        had i same = j.logged i (subst (λ (x : ℕ). x < world.size) (sym same) low) tid (subst (λ (x : ℕ). is_among (world.hosts x).node.committed tid ≡ true) (sym same) (subst (λ (m : NodeValue). is_among m.committed tid ≡ true) (node_stopped world n stamp cause log k) among))
-
-        by : (b : Bool) → (k == n) ≡ b → is_among (recovery (if b then stopped_host stamp log (world.hosts n) else world.hosts k).log).committed tid ≡ true
-        by true near = longer tid (had n (sym (eqb-true k n near)))
-        by false far = had k refl
-
-    known : Known o world after
-    known = record {
-      size = refl;
-      lawful = crash_lawful;
-      held = subst (λ (b : BookValue). HoldsWorld b after) (sym (book_on o world after (entry ∷ []) refl)) crashed.holds;
-      facts = λ k low. subst HasNodeFacts (sym (node_stopped world n stamp cause log k)) (j.facts k low);
-      running = crash_running;
-      homes = crash_homes;
-      owners = crash_owners;
-      logged = crash_logged;
-      channels = channels_later o world after (entry ∷ []) j.opens refl crash_lawful world.size after.channels (channels_moved book world.size (channel.Crash n) world.channels tt j.channels);
-      ways = subst (λ (b : BookValue). HoldsWays b after) (sym (book_on o world after (entry ∷ []) refl)) (crash_ways book world n stamp cause log j.ways);
-      scripts = subst (λ (b : BookValue). HoldsScripts o b after) (sym (book_on o world after (entry ∷ []) refl)) (crash_scripts o book world n stamp cause log j.scripts);
-    }
-
-    pub crash_joined : Joined P o (moved move world)
-    crash_joined = then_joined move may (subst (λ (w : World). Known o world w) (sym is) known)
+          (subst (λ (w : World). HoldsChannels (book_after book entries) w.size w.channels) (sym (ap (step_with world n stamp free source) makes.comes)) (held_proofs.channels_then P owed unanimous o world j n stamp free source event makes));
+      unmet = subst (λ (w : World). KeepsBackUnmet w.channels) (sym (ap (step_with world n stamp free source) makes.comes)) (step_unmet world n stamp source event makes.comes (effects_of (world.hosts n).node event free).messages j.unmet);
+      queued = queued_then;
+      ways = subst (λ (b : BookValue). HoldsWays b new) (sym (book_on o world new entries journal)) (steps_ways P o world n stamp free source event j makes (step_lawful P owed o world j n stamp free source event makes));
+      clients = clients_then P o world j n stamp free source event makes;
+      scripts = subst (λ (b : BookValue). HoldsScripts o b new) (sym (book_on o world new entries journal)) (scripts_then P o world j n stamp free source event makes);
+    }) (owed.places o world step tt j may lawful_then)

@@ -26,7 +26,7 @@ use Rattle.qs_lawful.proofs.FactsStages.{step_keeps}
 use Rattle.qs_lawful.proofs.GivenByWorld.{line_comes}
 
 -- a test of each number below one
-below_all : (count : ℕ) (test : ℕ → Bool) (k : ℕ) → each_below count test ≡ true → nat_lt k count ≡ true → test k ≡ true
+pub below_all : (count : ℕ) (test : ℕ → Bool) (k : ℕ) → each_below count test ≡ true → nat_lt k count ≡ true → test k ≡ true
 below_all zero test k all below = absurd (no k below)
   where
     no : (i : ℕ) → nat_lt i 0 ≡ true → ⊥
@@ -75,7 +75,7 @@ rises_facts node inc found same facts = opened_facts node.manager.alloc (record 
 
 module _ (o : Opening) (opens : IsOpening o) (book : Rattle.qs_machine.specs.Book.BookValue) (world : World) (n stamp free : ℕ) (scripts : HoldsScripts o book world) (sized : world.size ≡ o.size) (low : n < world.size) (up : world.channels.up n ≡ true)
     (nodes : (world.hosts n).node.setting.nodes ≡ world.size) where
-  formed : (k : ℕ) → nat_lt k 64 ≡ true → list_all (is_line world.size k (labels_begun (o.clients k).1)) (o.clients k).1 ≡ true
+  pub formed : (k : ℕ) → nat_lt k 64 ≡ true → list_all (is_line world.size k (labels_begun (o.clients k).1)) (o.clients k).1 ≡ true
   formed k small = subst (λ (size : ℕ). list_all (is_line size k (labels_begun (o.clients k).1)) (o.clients k).1 ≡ true) (sym sized)
       (and_both (are_rising 0 (o.clients k).1) _ (and_both (nat_lt (o.clients k).0 o.size) _ (below_all 64 (λ k. is_script o.size k (o.clients k)) k opens.scripts small)).1).1
 

@@ -1,5 +1,5 @@
 -- A step of a world in which all stands together is given all that it needs.
-use Rattle.std.proofs.Common.{◌≡◌, ℕ, ◌<◌, true, false, Some, refl, sym, ap, subst, ◌∙◌, arith, nat_lt}
+use Rattle.std.proofs.Common.{◌≡◌, ℕ, true, Some, refl, sym, subst, arith}
 use Rattle.std.proofs.lemmas.Bool.Decides.{nat_tests}
 use Rattle.qs_step.specs.State.{NodeValue, work_on}
 use Rattle.qs_step.specs.declared.event.Event.{Event}
@@ -10,8 +10,8 @@ use Rattle.qs_world.specs.World.{Opening, World}
 use Rattle.qs_refine.proofs.EachMay.{from_client, from_node, from_notice}
 use Rattle.qs_refine.proofs.MoveGoes.{StepMay, step_may}
 use Rattle.qs_lawful.specs.Agreed.{StepAgrees}
+use Rattle.qs_lawful.specs.BesideStep.{HappensSo}
 use Rattle.qs_lawful.specs.Coming.{ComesTo}
-use Rattle.qs_lawful.specs.Given.{AtEach}
 use Rattle.qs_lawful.specs.GivenStep.{MayStep, first_work}
 use Rattle.qs_lawful.specs.Holds.{Holds}
 use Rattle.qs_lawful.specs.StepOn.{StepOn}
@@ -25,8 +25,10 @@ use Rattle.qs_every_run.specs.Joined.{HoldsRunning, Joined, book_in}
 use Rattle.qs_every_run.specs.JoinedOwed.{Owed}
 use Rattle.qs_every_run.proofs.AgreesEach.{steady}
 use Rattle.qs_every_run.proofs.AgreesPasses.{stages_sound}
+use Rattle.qs_every_run.proofs.JoinedClocks.{tick_room}
+use Rattle.qs_every_run.proofs.JoinedGone.{finds_gone}
+use Rattle.qs_every_run.proofs.JoinedLogged.{logged_by_log}
 use Rattle.qs_every_run.proofs.CountsServed.{room_before, room_first}
-use Rattle.qs_every_run.proofs.JoinedLogged.{logged_so}
 
 module _ (P : Opening → World → Type 0) (owed : Owed P) (o : Opening) (world : World) (j : Joined P o world) (n stamp free : ℕ) (source : Source) (event : Event) (makes : MakesStep world n stamp source event)
     (holds : Holds stamp (book_in o world) (world.hosts n).node) (agreed : StepAgrees stamp (book_in o world) world.size (nodes_in world) n (world.hosts n).node event free) where
@@ -64,6 +66,15 @@ module _ (P : Opening → World → Type 0) (owed : Owed P) (o : Opening) (world
     young = running.young;
   }) event makes.comes
 
+  -- what comes is so
+  so : (e : Event) → event ≡ e → HappensSo stamp (book_in o world) event (first_work node free)
+  so (events.Command client line label command) is = subst (λ (x : Event). HappensSo stamp (book_in o world) x (first_work node free)) (sym is) tt
+  so (events.Received peer message) is = subst (λ (x : Event). HappensSo stamp (book_in o world) x (first_work node free)) (sym is) tt
+  so events.ServeAll is = subst (λ (x : Event). HappensSo stamp (book_in o world) x (first_work node free)) (sym is) tt
+  so (events.PeerRestarted peer old new) is = subst (λ (x : Event). HappensSo stamp (book_in o world) x (first_work node free)) (sym is)
+      (finds_gone P owed o world j n stamp free source peer old new (subst (λ (x : Event). MakesStep world n stamp source x) is makes) holds)
+  so events.Tick is = subst (λ (x : Event). HappensSo stamp (book_in o world) x (first_work node free)) (sym is) (tick_room P o world j n stamp free source event makes)
+
   pub step_on : StepOn stamp (book_in o world) world.size (nodes_in world) n node event free
   step_on = record {
     at = at.node;
@@ -73,10 +84,10 @@ module _ (P : Opening → World → Type 0) (owed : Owed P) (o : Opening) (world
     in_run = record { opened = opened_from o 0 o.size; history = world.journal; coherent = opens_soundly o j.opens; lawful = j.lawful; is = refl };
     beside = running.beside;
     holds = holds;
-    logged = logged_so (book_in o world) n at.state (world.hosts n) (in_runs o world.journal j.opens j.lawful) (at.runs its.runs) (j.logged n its.low);
+    logged = logged_by_log (book_in o world) n at.state (world.hosts n) (in_runs o world.journal j.opens j.lawful) (at.runs its.runs) (j.logged n its.low);
     comes = comes;
     room = λ served. room_first world j.shown n free its.low (subst (λ (s : Source). may_serve node s ≡ true) (serves source refl makes.comes served) its.serves) stamp (book_in o world) (stages_sound world n stamp free source event j.shown makes).first;
-    so = owed.comes_so o world n stamp free source event j makes;
+    so = so event refl;
     agreed = agreed;
     rooms = owed.rooms o world n stamp free source event j makes;
   }

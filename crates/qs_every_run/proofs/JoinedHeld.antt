@@ -8,11 +8,12 @@ use Rattle.qs_journal.specs.declared.entry.Act.{Act}
 use Rattle.qs_journal.specs.declared.entry.Entry.{Entry}
 use Rattle.qs_laws.proofs.InRun.{ran_run}
 use Rattle.qs_laws.proofs.Steps.{after_both}
-use Rattle.qs_machine.specs.Book.{BookValue, inc_at}
+use Rattle.qs_machine.specs.Book.{BookValue}
 use Rattle.qs_machine.specs.Lawful.{IsLawful, book_after}
 use Rattle.qs_machine.specs.Nodes as machine
 use Rattle.qs_packet.specs.declared.message.Message.{Message}
 use Rattle.qs_packet.specs.declared.message.Message.TheVariants as messages
+use Rattle.qs_restart.specs.Recovery.{recovery}
 use Rattle.qs_step.specs.State.{NodeValue}
 use Rattle.qs_step.specs.Step.{after_step, effects_of}
 use Rattle.qs_step.specs.declared.event.Event.{Event}
@@ -28,7 +29,7 @@ use Rattle.qs_refine.proofs.Moving.{inc_taken, up_taken}
 use Rattle.qs_refine.proofs.Posted.{inc_all, up_all}
 use Rattle.qs_refine.proofs.SteadyFrom.{steady_gives}
 use Rattle.qs_lawful.specs.Amid.{InRun, IsSent}
-use Rattle.qs_lawful.specs.Aside.{AnswersElsewhere, IsAside, IsOfStep}
+use Rattle.qs_lawful.specs.Aside.{AnswersElsewhere, IsAside, IsOfStep, StaysUnanimous}
 use Rattle.qs_lawful.specs.Beside.{HoldsBeside}
 use Rattle.qs_lawful.specs.Holds.{Holds, is_next}
 use Rattle.qs_lawful.specs.Logged.{HoldsHost, IsTrueEvent}
@@ -49,8 +50,8 @@ use Rattle.qs_lawful.proofs.SameSettings.{step_same}
 use Rattle.qs_lawful.proofs.StopsWhole.{back_by, next_by}
 use Rattle.qs_every_run.specs.Agrees.{MakesStep}
 use Rattle.qs_every_run.specs.Joined.{HoldsRunning, Joined, book_in}
-use Rattle.qs_every_run.specs.JoinedOwed.{HasOwner, Owed, book_then, entries_in}
-use Rattle.qs_every_run.proofs.JoinedActs.{no_restart}
+use Rattle.qs_every_run.specs.JoinedOwed.{AfterStep, HasOwner, Owed, StaysUnanimousThen, book_then, entries_in}
+use Rattle.qs_every_run.proofs.ClientsGo.{answers_aside, begins_owned, of_steps}
 use Rattle.qs_every_run.proofs.JoinedKept.{step_clients}
 use Rattle.qs_every_run.proofs.JoinedParts.{lawful_both}
 use Rattle.qs_every_run.proofs.StaysWorlds.{steps_young}
@@ -94,7 +95,7 @@ holds_next stamp s book node h next = record {
   waits = h.waits;
 }
 
-module _ (P : Opening → World → Type 0) (owed : Owed P) (o : Opening) (world : World) (j : Joined P o world) (n stamp free : ℕ) (source : Source) (event : Event) (makes : MakesStep world n stamp source event) where
+module _ (P : Opening → World → Type 0) (owed : Owed P) (unanimous : AfterStep P StaysUnanimousThen) (o : Opening) (world : World) (j : Joined P o world) (n stamp free : ℕ) (source : Source) (event : Event) (makes : MakesStep world n stamp source event) where
   abbrev node : NodeValue
   node = (world.hosts n).node
 
@@ -201,21 +202,14 @@ module _ (P : Opening → World → Type 0) (owed : Owed P) (o : Opening) (world
 
   -- ---- the others
 
-  of_steps : Every IsOfStep (effects_of node event free).entries
-  of_steps = no_restart n stamp (effects_of node event free).entries old lawful (inc_of_node now held.state (subst (λ (k : ℕ). slice_get now.nodes k ≡ Some held.state) node_is held.there)
-      ∙ (held.same.inc ∙ (ap (λ (s : Setting). s.inc) setting_is ∙ (j.shown.steady.seated.inc n low ∙ (sym at.inc_is ∙ sym (inc_of_node old at.state at.there))))))
-    where
-      inc_of_node : (b : BookValue) (state : machine.NodeValue) → slice_get b.nodes n ≡ Some state → inc_at b (record { 0 = n }) ≡ state.inc
-      inc_of_node b state there = ap (λ (o : Option machine.NodeValue). elim o [ None ↦ 0 | Some s ↦ s.inc ]) there
-
   asides : (k : ℕ) → (k == n) ≡ false → k < world.size → Every (IsAside k (world.hosts k).node) entries
-  asides k far k_low = all_aside k n stamp (world.hosts k).node (effects_of node event free).entries far (both_of IsOfStep (AnswersElsewhere (world.hosts k).node) (effects_of node event free).entries of_steps (owed.steps_answers o world n stamp free source event j makes lawful k far k_low))
+  asides k far k_low = all_aside k n stamp (world.hosts k).node (effects_of node event free).entries far (both_of IsOfStep (AnswersElsewhere (world.hosts k).node) (effects_of node event free).entries (of_steps P o world j n stamp free source event makes) (answers_aside P o world j n stamp free source event makes k far k_low))
 
   other : (k : ℕ) → (k == n) ≡ false → k < world.size → HoldsNodeOf now world.size k (inc_of world k) (world.channels.up k) (world.hosts k)
   other k far k_low = subst (λ (b : BookValue). HoldsNodeOf b world.size k (inc_of world k) (world.channels.up k) (world.hosts k)) (after_both world.journal entries (book_of o))
       (keeps_others (opened_from o 0 o.size) world.journal entries (opens_soundly o j.opens) (opened_numbered o 0 o.size) whole world.size k (inc_of world k) (world.channels.up k) (world.hosts k)
       (asides k far k_low)
-      (λ off. owed.steps_unanimous o world n stamp free source event j makes lawful k far k_low off)
+      (λ off. subst (λ (b : BookValue). StaysUnanimous k (recovery (world.hosts k).log) old b) (sym (after_both world.journal entries (book_of o))) (unanimous o world n stamp free source event j makes lawful k far k_low off))
       (record { node = j.held.nodes k k_low; issued = λ on. issued_held old (world.hosts k).node (j.running k k_low on).beside })).node
 
   -- what is said of those that run
@@ -231,7 +225,7 @@ module _ (P : Opening → World → Type 0) (owed : Owed P) (o : Opening) (world
     beside = subst (λ (b : BookValue). HoldsBeside b (world.hosts k).node) (after_both world.journal entries (book_of o))
         (keeps_others_beside (opened_from o 0 o.size) world.journal entries (opens_soundly o j.opens) (opened_numbered o 0 o.size) whole (world.hosts k).node
         (subst (λ (i : ℕ). Every (IsAside i (world.hosts k).node) entries) (sym its.node) (asides k far k_low))
-        (all_entries (HasOwner old) n stamp (effects_of node event free).entries (owed.steps_owned o world n stamp free source event j makes lawful))
+        (all_entries (HasOwner old) n stamp (effects_of node event free).entries (begins_owned P o world j n stamp free source event makes))
         (λ state there. runs_at old world k its on state (subst (λ (i : ℕ). slice_get old.nodes i ≡ Some state) its.node there)) (j.running k k_low on).beside);
     young = (j.running k k_low on).young;
   }

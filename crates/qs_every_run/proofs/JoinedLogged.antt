@@ -1,5 +1,5 @@
--- The Commits that a node's log had as it opened are the machine's.
-use Rattle.std.proofs.Common.{◌≡◌, ◌⊎◌, inl, inr, ℕ, ◌<◌, ◌==◌, ◌||◌, Bool, true, false, List, [], ◌∷◌, Some, refl, sym, ap, subst, ◌∙◌}
+-- The Commits that a node's log had as it opened are the machine's, since its log has them for good.
+use Rattle.std.proofs.Common.{◌≡◌, inl, inr, ℕ, ◌||◌, Bool, true, false, List, [], ◌∷◌, Some, refl, sym, subst}
 use Rattle.std.specs.List.{list_any}
 use Rattle.std.specs.Prelude.{slice_get}
 use Rattle.qs_base.proofs.Same.{same_tid-true}
@@ -11,7 +11,7 @@ use Rattle.qs_restart.specs.Recovery.{recovery}
 use Rattle.qs_world.specs.World.{Host}
 use Rattle.qs_lawful.specs.BesideStep.{AreCommitted}
 use Rattle.qs_lawful.specs.Lasting.{Lasts}
-use Rattle.qs_lawful.specs.Logged.{HasCommitted, HoldsLogged, IsCommitMade}
+use Rattle.qs_lawful.specs.Logged.{HasCommitted, IsCommitMade}
 use Rattle.qs_lawful.specs.Logs.{Every}
 use Rattle.qs_lawful.specs.Worlds.{HoldsUp}
 use Rattle.qs_every_run.specs.Joined.{IsLogged}
@@ -29,6 +29,6 @@ every_made book n state lasts there (t ∷ tids) made tid is = by (same_tid tid 
     by true same here rest = subst (HasCommitted book) (sym (same_tid-true tid t same)) (of made.0)
     by false other later rest = rest later
 
--- so is each that the log had as its node opened, since the log has it for good
-pub logged_so : (book : BookValue) (n : ℕ) (state : machine.NodeValue) (host : Host) → Lasts book → HoldsUp n book state host → IsLogged host.node host.log → AreCommitted book host.node
-logged_so book n state host lasts up logged tid is = every_made book n up.log.state lasts up.log.there (recovery host.log).committed up.log.on_disk.commits tid (logged tid is)
+-- what its log had as the node opened, its log has
+pub logged_by_log : (book : BookValue) (n : ℕ) (state : machine.NodeValue) (host : Host) → Lasts book → HoldsUp n book state host → IsLogged host.node host.log → AreCommitted book host.node
+logged_by_log book n state host lasts up logged tid is = every_made book n up.log.state lasts up.log.there (recovery host.log).committed up.log.on_disk.commits tid (logged tid is)

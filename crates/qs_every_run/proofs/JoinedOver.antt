@@ -1,6 +1,7 @@
 -- All stands together as a run begins, and over the run; so the run's history is lawful.
 use Rattle.std.proofs.Common.{◌≡◌, ℕ, ◌<◌, ◌≤◌, ◌==◌, true, List, [], ◌∷◌, refl, sym, subst, arith}
 use Rattle.std.proofs.lemmas.Bool.Decides.{nat_tests}
+use Rattle.qs_step.specs.Opening.{recovered_of}
 use Rattle.qs_world.specs.Histories.{book_of}
 use Rattle.qs_world.specs.Moves.{Move, moved}
 use Rattle.qs_world.specs.Runs.{Run}
@@ -11,13 +12,16 @@ use Rattle.qs_lawful.proofs.OpenedWorld.{world_held}
 use Rattle.qs_every_run.specs.Joined.{Joined}
 use Rattle.qs_every_run.specs.JoinedOwed.{Owed}
 use Rattle.qs_every_run.specs.JoinedRuns.{EachOpensJoined, EachRunJoined, EachRunLawful}
+use Rattle.qs_every_run.specs.PlacesLaws.{GoesOn}
+use Rattle.qs_every_run.proofs.BornMoves.{born_start}
 use Rattle.qs_every_run.proofs.JoinedFacts.{opens_facts}
+use Rattle.qs_every_run.proofs.JoinedClocks.{opens_on_time}
 use Rattle.qs_every_run.proofs.JoinedHomes.{own_has}
 use Rattle.qs_every_run.proofs.JoinedMoves.{each_move_joined}
 use Rattle.qs_every_run.proofs.OpensRunning.{opens_owned, opens_running}
 
-pub each_opens_joined : (P : Opening → World → Type 0) → EachOpensJoined P
-each_opens_joined P owed o opens = record {
+pub each_opens_joined : (P : Opening → World → Type 0) → GoesOn P → EachOpensJoined P
+each_opens_joined P goes owed o opens = record {
   opens = opens;
   size = refl;
   lawful = tt;
@@ -29,24 +33,33 @@ each_opens_joined P owed o opens = record {
       own_has (book_of o) ((start o).hosts tid.home.0).node tid.home.0 ((world_held o opens).nodes tid.home.0 low).node (opens_running o opens tid.home.0 low refl).beside tid tx found committed (itself tid.home.0);
   owners = opens_owned o opens;
   logged = λ n low tid among. among;
+  clocks = λ n low. none ((start o).hosts n).node.manager.ticks (opens_on_time o.alloc (o.settings n) (recovered_of (o.logs n)));
+  born = born_start o;
   channels = record { posted = λ n m i j. tt; waits = λ n m. tt; known = λ n m. least ((start o).channels.inc m) };
+  unmet = λ n m some. refl;
+  queued = λ n low tid server none. refl;
   ways = opens_ways o opens;
+  clients = λ n low client command there. absurd (cc there);
   scripts = opens_scripts o opens;
-  places = owed.opens_places o opens;
+  places = goes.opens o opens;
 }
   where
     itself : (k : ℕ) → (k == k) ≡ true
     itself k = grind (arith, nat_tests)
 
+    none : (t : ℕ) → t ≡ 0 → t ≤ 0
+    none t is = grind (arith, is)
+
     least : (k : ℕ) → 0 ≤ k
     least k = grind (arith)
 
-over : (P : Opening → World → Type 0) → Owed P → (o : Opening) (moves : List Move) (old new : World) → Joined P o old → Run old moves new → Joined P o new
-over P owed o [] old new j run = subst (λ (w : World). Joined P o w) (sym run) j
-over P owed o (move ∷ moves) old new j run = over P owed o moves (moved move old) new (each_move_joined P owed o old move j run.0) run.1
+module _ (P : Opening → World → Type 0) (goes : GoesOn P) where
+  over : Owed P → (o : Opening) (moves : List Move) (old new : World) → Joined P o old → Run old moves new → Joined P o new
+  over owed o [] old new j run = subst (λ (w : World). Joined P o w) (sym run) j
+  over owed o (move ∷ moves) old new j run = over owed o moves (moved move old) new (each_move_joined P goes owed o old move j run.0) run.1
 
-pub each_run_joined : (P : Opening → World → Type 0) → EachRunJoined P
-each_run_joined P owed o moves new opens run = over P owed o moves (start o) new (each_opens_joined P owed o opens) run
+  pub each_run_joined : EachRunJoined P
+  each_run_joined owed o moves new opens run = over owed o moves (start o) new (each_opens_joined P goes owed o opens) run
 
-pub each_run_lawful : (P : Opening → World → Type 0) → EachRunLawful P
-each_run_lawful P owed o moves new opens run = (each_run_joined P owed o moves new opens run).lawful
+  pub each_run_lawful : EachRunLawful P
+  each_run_lawful owed o moves new opens run = (each_run_joined owed o moves new opens run).lawful

@@ -185,21 +185,47 @@ module _ (world : World) (steady : IsSteadyWorld world) (n free : ℕ) (low : n 
       age = λ age limit. subst (λ (t : ℕ). t - part.begun_at < age) (sym s.ticks) (y.age age (ap (λ (x : Setting). x.age) (sym setting) ∙ limit));
     }
 
-    pub step_young : (event : Event) → ComesFit world steady n free low up event → MachineGives event first → (after_step node event free).setting ≡ node.setting → AreYoung (after_step node event free)
-    step_young event fit gives setting = by event refl
+    -- as the step begins
+    start : At (YoungBy node.manager.ticks) (Says node.manager.ticks) before first
+    start = first_stays (YoungBy node.manager.ticks) (Says node.manager.ticks) first_young refl
+
+    pub first_ticks : first.node.manager.ticks ≡ node.manager.ticks
+    first_ticks = start.1.ticks
+
+    -- the time after it, and what is young then
+    record Timed (event : Event) : Type 0 where
+      pub time : ℕ
+      pub once : time ≤ node.manager.ticks + 1
+      pub stays : Stays (YoungBy time) (Says time) node.committed (step_work node event free)
+
+    step_timed : (event : Event) → ComesFit world steady n free low up event → MachineGives event first → Timed event
+    step_timed event fit gives = by event refl
       where
-        start : At (YoungBy node.manager.ticks) (Says node.manager.ticks) before first
-        start = first_stays (YoungBy node.manager.ticks) (Says node.manager.ticks) first_young refl
+        more : (t : ℕ) → t ≤ t + 1
+        more t = grind (arith)
 
-        still : MayTick event (Both (YoungBy node.manager.ticks) (Says node.manager.ticks) node.committed before its) → AreYoung (after_step node event free)
-        still on = of_stays node.manager.ticks event (step_stays (YoungBy node.manager.ticks) (Says node.manager.ticks) event fit gives (done_stays (YoungBy node.manager.ticks) (Says node.manager.ticks) event fit on new_young start)) setting
+        at_most : (t : ℕ) → min (t + 1) (2 ^ 64 - 1) ≤ t + 1
+        at_most t = grind (arith, nat_tests)
 
-        ticked : event ≡ events.Tick → AreYoung (after_step node event free)
-        ticked is = of_stays next event (step_stays (YoungBy next) (Says next) event fit gives (inl (subst (λ (e : Event). At (YoungBy next) (Says next) before (happen e first)) (sym is) (tick_young node.committed before its node.manager.ticks room first start)))) setting
+        still : MayTick event (Both (YoungBy node.manager.ticks) (Says node.manager.ticks) node.committed before its) → Timed event
+        still on = record { time = node.manager.ticks; once = more node.manager.ticks; stays = step_stays (YoungBy node.manager.ticks) (Says node.manager.ticks) event fit gives (done_stays (YoungBy node.manager.ticks) (Says node.manager.ticks) event fit on new_young start) }
 
-        by : (e : Event) → event ≡ e → AreYoung (after_step node event free)
+        ticked : event ≡ events.Tick → Timed event
+        ticked is = record {
+          time = next;
+          once = at_most node.manager.ticks;
+          stays = step_stays (YoungBy next) (Says next) event fit gives (inl (subst (λ (e : Event). At (YoungBy next) (Says next) before (happen e first)) (sym is) (tick_young node.committed before its node.manager.ticks room first start)));
+        }
+
+        by : (e : Event) → event ≡ e → Timed event
         by (events.Command client line label command) is = still (subst (λ (e : Event). MayTick e (Both (YoungBy node.manager.ticks) (Says node.manager.ticks) node.committed before its)) (sym is) tt)
         by (events.Received peer message) is = still (subst (λ (e : Event). MayTick e (Both (YoungBy node.manager.ticks) (Says node.manager.ticks) node.committed before its)) (sym is) tt)
         by events.ServeAll is = still (subst (λ (e : Event). MayTick e (Both (YoungBy node.manager.ticks) (Says node.manager.ticks) node.committed before its)) (sym is) tt)
         by (events.PeerRestarted peer old new) is = still (subst (λ (e : Event). MayTick e (Both (YoungBy node.manager.ticks) (Says node.manager.ticks) node.committed before its)) (sym is) tt)
         by events.Tick is = ticked is
+
+    pub step_young : (event : Event) → ComesFit world steady n free low up event → MachineGives event first → (after_step node event free).setting ≡ node.setting → AreYoung (after_step node event free)
+    step_young event fit gives setting = let t = step_timed event fit gives in of_stays t.time event t.stays setting
+
+    pub step_ticks : (event : Event) → ComesFit world steady n free low up event → MachineGives event first → (after_step node event free).manager.ticks ≤ node.manager.ticks + 1
+    step_ticks event fit gives = let t = step_timed event fit gives in subst (λ (time : ℕ). time ≤ node.manager.ticks + 1) (sym t.stays.ticks) t.once

@@ -209,4 +209,4 @@ module _ (tid : Tid) (book : BookValue) (tx : TransactionValue) (world : World) 
     where
       by : IsDoomed v ⊎ EachPlaced tid new tx.requests → IsDoomed v ⊎ Placed tid tx new
       by (inl doomed) = inl doomed
-      by (inr requests) = inr (record { requests = requests; lives = lives tx.parts placed.lives; unrefused = placed.unrefused; uncrossed = placed.uncrossed })
+      by (inr requests) = inr (record { numbers = placed.numbers; members = placed.members; requests = requests; lives = lives tx.parts placed.lives; unrefused = placed.unrefused; uncrossed = placed.uncrossed })

@@ -29,9 +29,10 @@ use Rattle.qs_lawful.specs.Holds.{Holds}
 use Rattle.qs_lawful.specs.Parcels.{pending}
 use Rattle.qs_every_run.specs.Placed.{message_of, field_of, Placed}
 use Rattle.qs_every_run.specs.PlacedLaws.{IsFree}
-use Rattle.qs_every_run.specs.StopLaws.{IsApart, StopsPlaced, CutPlaced, StopHolds, CutHolds}
+use Rattle.qs_every_run.specs.StopLaws.{StopsPlaced, CutPlaced, StopHolds, CutHolds}
 use Rattle.qs_every_run.proofs.CommitsPlaced.{idle_free, none_decided}
 use Rattle.qs_every_run.proofs.StoppedFields.{placed_then}
+use Rattle.qs_every_run.proofs.UnanimousPlaced.{unanimous_placed}
 
 module _ (tid : Tid) (book : BookValue) (tx : TransactionValue) (world : World) (n stamp : ℕ) (cause : CrashCause) (log : List Record) (w : machine.World) (goes : StopsAlone tid world (stopped world n stamp cause log) n w)
     (is : IsShownWorld world) (all : ShowsAll tid world w) (n_in : n < world.size) (on : world.channels.up n ≡ true) (found : find_transaction book tid ≡ Some tx) (undecided : is_open tx.cell ≡ true) (next : ℕ) (h : Holds next book (world.hosts n).node) where
@@ -125,13 +126,11 @@ stops_placed tid book tx world n stamp cause log w goes is all n_in on found und
 -- ---- with a record of it kept
 
 pub cut_placed : CutPlaced
-cut_placed tid book tx world n stamp cause log w goes is all n_in on found undecided next h decides (inl doomed) = inl (doom_stays w goes.goes.next doomed goes.goes.leads)
-cut_placed tid book tx world n stamp cause log w goes is all n_in on found undecided next h decides (inr placed) = by goes.fate
+cut_placed tid book tx world n stamp cause log w leaves goes is all n_in on found undecided next h decides (inl doomed) = inl (doom_stays w goes.goes.next doomed goes.goes.leads)
+cut_placed tid book tx world n stamp cause log w leaves goes is all n_in on found undecided next h decides (inr placed) = by goes.fate
   where
-    apart : IsApart tid world n → IsDoomed goes.goes.next ⊎ Placed tid tx (field_of (stopped world n stamp cause log))
-    apart its = placed_then tid book tx world n stamp cause log goes.goes.next is n_in on found undecided next h its.free
-        (λ k i k_in has. absurd (let none : has_request (all_said tid (map message_of (pending world.channels k n i (world.channels.inc n)))) ≡ false = its.to_it k i k_in in cc (has, none)))
-        (λ m m_in unknown has. absurd (let none : has_request (all_said tid (map message_of (world.channels.waits n m))) ≡ false = its.by_it m m_in unknown in cc (has, none))) placed
+    After : Type 0
+    After = IsDoomed goes.goes.next ⊎ Placed tid tx (field_of (stopped world n stamp cause log))
 
     face : ShowsFace (face_at (world.hosts n).node tid) (place n (world.channels.inc n)) w
     face = all.seen.shown.faces n n_in on
@@ -139,19 +138,19 @@ cut_placed tid book tx world n stamp cause log w goes is all n_in on found undec
     off : w.cell ≡ Committed → (face_at (world.hosts n).node tid).on ≡ false
     off committed = never (face_at (world.hosts n).node tid).on (λ so. engaged_is_open w (place n (world.channels.inc n)) all.seen.lawful.reached (face.engaged ∙ so) committed)
 
-    decided : w.cell ≡ Committed → IsApart tid world n
-    decided committed = record {
-      free = idle_free tid (world.hosts n).node (off_idle tid (world.hosts n).node ((steady world is).sound n n_in).node (off committed) (none_decided next book tid tx (world.hosts n).node h found undecided));
-      to_it = λ k i k_in. commit_clear tid (sight tid (scene_of world)) w all.seen.lawful committed all.seen.shown k i n k_in n_in on;
-      by_it = λ m m_in unknown. commit_unmet tid (sight tid (scene_of world)) w all.seen.lawful committed all.seen.shown n m n_in m_in on unknown;
-    }
+    -- decided before: nobody is engaged, and nothing is on its way
+    decided : w.cell ≡ Committed → After
+    decided committed = placed_then tid book tx world n stamp cause log goes.goes.next is n_in on found undecided next h
+        (idle_free tid (world.hosts n).node (off_idle tid (world.hosts n).node ((steady world is).sound n n_in).node (off committed) (none_decided next book tid tx (world.hosts n).node h found undecided)))
+        (λ k i k_in has. absurd (let none : has_request (all_said tid (map message_of (pending world.channels k n i (world.channels.inc n)))) ≡ false = commit_clear tid (sight tid (scene_of world)) w all.seen.lawful committed all.seen.shown k i n k_in n_in on in cc (has, none)))
+        (λ m m_in unknown has. absurd (let none : has_request (all_said tid (map message_of (world.channels.waits n m))) ≡ false = commit_unmet tid (sight tid (scene_of world)) w all.seen.lawful committed all.seen.shown n m n_in m_in on unknown in cc (has, none))) placed
 
-    of_cell : (o : Outcome) → w.cell ≡ o → goes.goes.next.cell ≡ Committed → IsDoomed goes.goes.next ⊎ Placed tid tx (field_of (stopped world n stamp cause log))
-    of_cell Open open_now committed = apart (decides open_now committed)
-    of_cell Committed before committed = apart (decided before)
+    of_cell : (o : Outcome) → w.cell ≡ o → goes.goes.next.cell ≡ Committed → After
+    of_cell Open open_now committed = inr (unanimous_placed tid tx (field_of world) (field_of (stopped world n stamp cause log)) refl (decides open_now committed) placed)
+    of_cell Committed before committed = decided before
     of_cell Aborted aborted committed = inl (doom_stays w goes.goes.next (abort_dooms w all.seen.lawful.reached aborted) goes.goes.leads)
 
-    by : IsDoomed goes.goes.next ⊎ (goes.goes.next.cell ≡ Committed) → IsDoomed goes.goes.next ⊎ Placed tid tx (field_of (stopped world n stamp cause log))
+    by : IsDoomed goes.goes.next ⊎ (goes.goes.next.cell ≡ Committed) → After
     by (inl doomed) = inl doomed
     by (inr committed) = of_cell w.cell refl committed
 
@@ -161,4 +160,4 @@ pub stop_holds : StopHolds
 stop_holds tid book world n stamp cause log w goes is all n_in on next h places tx found undecided = stops_placed tid book tx world n stamp cause log w goes is all n_in on found undecided next h (places tx found undecided)
 
 pub cut_holds : CutHolds
-cut_holds tid book world n stamp cause log w goes is all n_in on next h decides places tx found undecided = cut_placed tid book tx world n stamp cause log w goes is all n_in on found undecided next h decides (places tx found undecided)
+cut_holds tid book world n stamp cause log w leaves goes is all n_in on next h decides places tx found undecided = cut_placed tid book tx world n stamp cause log w leaves goes is all n_in on found undecided next h (λ open_now committed. decides open_now committed tx found undecided) (places tx found undecided)

@@ -1,23 +1,30 @@
 -- What the reference machine, the agreement machine and the nodes have together of a world that a run leads to.
-use Rattle.std.specs.Prelude.{◌≡◌, ℕ, ◌<◌, true, List, Some, nat_lt}
+use Rattle.std.specs.Prelude.{◌≡◌, ℕ, ◌≤◌, ◌<◌, true, List, Some, nat_lt, []}
+use Rattle.std.specs.BTreeMap.{is_at}
+use Rattle.std.specs.Map.{lookup}
+use Rattle.qs_base.specs.declared.identifiers.ClientNo.{ClientNo}
 use Rattle.qs_base.specs.declared.identifiers.Tid.{Tid}
+use Rattle.qs_channels.specs.Channels.{Channels}
 use Rattle.qs_machine.specs.Book.{BookValue, find_transaction}
 use Rattle.qs_machine.specs.Lawful.{IsLawful, book_after}
 use Rattle.qs_machine.specs.Restart.{is_among}
 use Rattle.qs_machine.specs.Transaction.{TransactionValue, is_commit}
 use Rattle.qs_record.specs.declared.record.Record.{Record}
 use Rattle.qs_restart.specs.Recovery.{recovery}
-use Rattle.qs_step.specs.State.{NodeValue}
+use Rattle.qs_step.specs.State.{NodeValue, client_cmp}
+use Rattle.qs_step.specs.declared.state.OpenCommand.{OpenCommand}
 use Rattle.qs_world.specs.Histories.{book_of}
+use Rattle.qs_world.specs.Moves.{client_count}
 use Rattle.qs_world.specs.Openings.{IsOpening}
-use Rattle.qs_world.specs.World.{Opening, World}
+use Rattle.qs_world.specs.World.{Opening, Parcel, World}
 use Rattle.qs_refine.specs.ShownWorlds.{IsShownWorld}
 use Rattle.qs_lawful.specs.Beside.{HasOwner, HoldsBeside, is_committed_at}
 use Rattle.qs_lawful.specs.NodeFacts.{AreYoung, HasNodeFacts}
-use Rattle.qs_lawful.specs.Parcels.{HoldsChannels, HoldsWays}
+use Rattle.qs_lawful.specs.Parcels.{HoldsChannels, HoldsWays, WaitsForKnown}
 use Rattle.qs_lawful.specs.Scripts.{HoldsScripts}
 use Rattle.qs_lawful.specs.Worlds.{HoldsWorld}
 use Rattle.qs_every_run.specs.Agrees.{nodes_in}
+use Rattle.qs_every_run.specs.Born.{BornAt}
 
 -- the machine after what the world's journal has
 abbrev pub book_in : Opening → World → BookValue
@@ -58,11 +65,31 @@ IsLogged node log = (tid : Tid) → is_among node.committed tid ≡ true → is_
 abbrev pub LoggedAt : World → Type 0
 LoggedAt world = (n : ℕ) → n < world.size → IsLogged (world.hosts n).node (world.hosts n).log
 
+-- each tick of a node has a stamp of its own, so its clock shows its stamp at most
+abbrev pub ClocksAt : World → Type 0
+ClocksAt world = (n : ℕ) → n < world.size → (world.hosts n).node.manager.ticks ≤ (world.hosts n).stamp
+
 abbrev pub ChannelsAt : Opening → World → Type 0
 ChannelsAt o world = HoldsChannels (book_in o world) world.size world.channels
 
 abbrev pub WaysAt : Opening → World → Type 0
 WaysAt o world = HoldsWays (book_in o world) world
+
+-- what a node keeps back is for those of whom it knows no incarnation
+abbrev pub KeepsBackUnmet : Channels Parcel → Type 0
+KeepsBackUnmet c = (n m : ℕ) → 1 ≤ c.peer n m → c.waits n m ≡ []
+
+-- whether a node runs or not, nothing waits at it of what the machine does not know
+abbrev pub QueuedAt : Opening → World → Type 0
+QueuedAt o world = (n : ℕ) → n < world.size → WaitsForKnown (book_in o world) (world.hosts n).node
+
+-- what a node has in hand, whether it runs or not, is of clients of its own
+pub record IsOwnClient (world : World) (n : ℕ) (client : ClientNo) : Type 0 where
+  pub small : nat_lt client.0 client_count ≡ true
+  pub at : (world.clients client.0).at ≡ n
+
+abbrev pub ClientsAt : World → Type 0
+ClientsAt world = (n : ℕ) → n < world.size → (client : ClientNo) (command : OpenCommand) → lookup (is_at (client_cmp client)) (world.hosts n).node.commands ≡ Some command → IsOwnClient world n client
 
 abbrev pub ScriptsAt : Opening → World → Type 0
 ScriptsAt o world = HoldsScripts o (book_in o world) world
@@ -80,7 +107,12 @@ pub record Joined (P : Opening → World → Type 0) (o : Opening) (world : Worl
   pub homes : HomesAt o world
   pub owners : OwnersAt o world
   pub logged : LoggedAt world
+  pub clocks : ClocksAt world
+  pub born : BornAt o world
   pub channels : ChannelsAt o world
+  pub unmet : KeepsBackUnmet world.channels
+  pub queued : QueuedAt o world
   pub ways : WaysAt o world
+  pub clients : ClientsAt world
   pub scripts : ScriptsAt o world
   pub places : P o world

@@ -1,5 +1,5 @@
 -- What is still to be shown so that every run is lawful: each is a law of its own, of a run's beginning, of what a step is given, or of what a move keeps.
-use Rattle.std.specs.Prelude.{◌≡◌, ℕ, ◌<◌, ◌==◌, ◌&&◌, ◌++◌, ⊤, Bool, true, false, List, None, Some, is_some, slice_get}
+use Rattle.std.specs.Prelude.{◌≡◌, ℕ, ◌<◌, ◌==◌, ◌&&◌, ◌++◌, ⊤, true, false, List, None, Some, is_some, slice_get, Bool}
 use Rattle.std.specs.List.{list_any}
 use Rattle.qs_base.specs.declared.identifiers.ClientNo.{ClientNo}
 use Rattle.qs_base.specs.declared.identifiers.NodeNo.{NodeNo}
@@ -10,32 +10,40 @@ use Rattle.qs_journal.specs.declared.entry.CrashCause.{CrashCause}
 use Rattle.qs_journal.specs.declared.entry.Entry.{Entry}
 use Rattle.qs_kept.specs.Keeping.{is_label_of}
 use Rattle.qs_kept.specs.declared.kept.Begun.{Begun}
+use Rattle.qs_laws.specs.Gone.{stands_open}
 use Rattle.qs_machine.specs.Book.{BookValue, find_transaction}
 use Rattle.qs_machine.specs.Lawful.{IsLawful, book_after}
 use Rattle.qs_machine.specs.Nodes as machine
-use Rattle.qs_machine.specs.Transaction.{TransactionValue, is_unanimous}
+use Rattle.qs_machine.specs.Transaction.{TransactionValue, is_open, is_unanimous}
 use Rattle.qs_restart.specs.Recovery.{recovery}
 use Rattle.qs_step.specs.Settling.{due_tids, is_quiet, may_answer, pass_rule, settle_tid, try}
 use Rattle.qs_step.specs.State.{Work, doings_of}
 use Rattle.qs_step.specs.Step.{after_step, effects_of}
 use Rattle.qs_step.specs.declared.event.Event.{Event}
+use Rattle.qs_step.specs.declared.event.Event.TheVariants as events
 use Rattle.qs_tm.specs.Manager as tm
+use Rattle.qs_tm.specs.Participant.{is_owed_by}
 use Rattle.qs_tm.specs.declared.participant.Participant.{Participant}
 use Rattle.qs_world.specs.Histories.{book_of}
-use Rattle.qs_world.specs.Moves.{Cut, Move, Source, Step, log_after, may_move, moved, waiting_after}
+use Rattle.qs_world.specs.Moves.{Cut, Move, Source, Step, cut_log, event_of, log_after, may_move, moved, stopped, waiting_after}
 use Rattle.qs_world.specs.Openings.{IsOpening}
 use Rattle.qs_world.specs.Posting.{entries_of}
-use Rattle.qs_world.specs.World.{Opening, World, start}
-use Rattle.qs_lawful.specs.Aside.{AnswersElsewhere, KeepsUnanimous}
-use Rattle.qs_lawful.specs.BesideStep.{HappensSo, HasCountRoom}
+use Rattle.qs_world.specs.World.{Opening, World, inc_of, start}
+use Rattle.qs_agree.specs.World as agreement
+use Rattle.qs_agree.specs.World.{Open, Committed}
+use Rattle.qs_refine.specs.Begun.{has_begun}
+use Rattle.qs_refine.specs.CutLaws.{CutsOff}
+use Rattle.qs_refine.specs.EachMove.{ShowsAll}
+use Rattle.qs_lawful.specs.Aside.{StaysUnanimous}
+use Rattle.qs_lawful.specs.BesideStep.{HasCountRoom}
 use Rattle.qs_lawful.specs.Entering.{book_at}
 use Rattle.qs_lawful.specs.Given.{AtEach}
-use Rattle.qs_lawful.specs.GivenStep.{done_work, first_work}
+use Rattle.qs_lawful.specs.GivenStep.{done_work}
 use Rattle.qs_lawful.specs.Logs.{Every}
 use Rattle.qs_lawful.specs.Said.{HoldsSaid}
 use Rattle.qs_lawful.specs.WorldLaws.{StopsWell}
 use Rattle.qs_every_run.specs.Agrees.{MakesStep}
-use Rattle.qs_every_run.specs.Joined.{Joined, ScriptsAt, WaysAt, book_in}
+use Rattle.qs_every_run.specs.Joined.{Joined, book_in}
 
 -- ---- as a run begins
 
@@ -53,9 +61,10 @@ abbrev pub EachCommitsSettled : (Opening → World → Type 0) → Type 0
 EachCommitsSettled P = (o : Opening) (world : World) (n stamp free : ℕ) (source : Source) (event : Event) → Joined P o world → MakesStep world n stamp source event
     → AtEach (CommitsSettled stamp (book_in o world)) settle_tid (done_work (world.hosts n).node event free) (due_tids (done_work (world.hosts n).node event free))
 
--- what comes is so: what a node owes that restarted the machine finds gone, and ticks have room
-abbrev pub EachComesSo : (Opening → World → Type 0) → Type 0
-EachComesSo P = (o : Opening) (world : World) (n stamp free : ℕ) (source : Source) (event : Event) → Joined P o world → MakesStep world n stamp source event → HappensSo stamp (book_in o world) event (first_work (world.hosts n).node free)
+-- what a node owes that restarted, of what is undecided, stands open in the history
+abbrev pub EachOwesOpen : (Opening → World → Type 0) → Type 0
+EachOwesOpen P = (o : Opening) (world : World) (n stamp : ℕ) (source : Source) (peer : NodeNo) (old new : ℕ) → Joined P o world → MakesStep world n stamp source (events.PeerRestarted peer old new)
+    → (tid : Tid) (part : Participant) → tm.part_of tid (world.hosts n).node.manager ≡ Some part → part.outcome ≡ None → is_owed_by peer part ≡ true → stands_open tid peer world.journal ≡ true
 
 -- where a vote pass is due, the count of changes has room
 abbrev pub EachCountsRoom : (Opening → World → Type 0) → Type 0
@@ -66,6 +75,15 @@ EachCountsRoom P = (o : Opening) (world : World) (n stamp free : ℕ) (source : 
 abbrev pub EachKeepsItsBatch : (Opening → World → Type 0) → Type 0
 EachKeepsItsBatch P = (o : Opening) (world : World) (n stamp free : ℕ) (source : Source) (cause : CrashCause) → Joined P o world → may_move world (Cut n stamp free source true cause) ≡ true
     → StopsWell (book_in o world) (moved (Cut n stamp free source true cause) world) n stamp cause
+
+-- what a home decided in a step that is cut off, with a record of it on the disk, was unanimous before: it decides in no step that asked, served, voted or took a loan back
+abbrev pub CutsUnanimous : Opening → World → ℕ → ℕ → ℕ → Bool → CrashCause → Event → Type 0
+CutsUnanimous o world n stamp free is_kept cause event = (tid : Tid) (w : agreement.World) (goes : CutsOff tid (after_step (world.hosts n).node event free) (stopped world n stamp cause (cut_log (world.hosts n) is_kept (effects_of (world.hosts n).node event free))) w) → has_begun world tid ≡ true → ShowsAll tid world w
+    → w.cell ≡ Open → goes.goes.next.cell ≡ Committed → (tx : TransactionValue) → find_transaction (book_in o world) tid ≡ Some tx → is_open tx.cell ≡ true → is_unanimous tx ≡ true
+
+abbrev pub EachCutUnanimous : (Opening → World → Type 0) → Type 0
+EachCutUnanimous P = (o : Opening) (world : World) (n stamp free : ℕ) (source : Source) (is_kept : Bool) (cause : CrashCause) (event : Event) → Joined P o world → may_move world (Cut n stamp free source is_kept cause) ≡ true → event_of world n stamp source ≡ Some event
+    → CutsUnanimous o world n stamp free is_kept cause event
 
 -- ---- a whole step: the world that the machine has after it
 
@@ -95,20 +113,13 @@ SaidThen o world n stamp free event = (state : machine.NodeValue) → slice_get 
     → HoldsSaid n (book_then o world n stamp free event) state (recovery (log_after (world.hosts n) (effects_of (world.hosts n).node event free) ++ waiting_after (world.hosts n) (effects_of (world.hosts n).node event free)))
     × HoldsSaid n (book_then o world n stamp free event) state (recovery (log_after (world.hosts n) (effects_of (world.hosts n).node event free)))
 
--- it answers no client that has a command in hand at another node
-abbrev pub AnswersAside : Opening → World → ℕ → ℕ → ℕ → Event → Type 0
-AnswersAside o world n stamp free event = (k : ℕ) → (k == n) ≡ false → k < world.size → Every (AnswersElsewhere (world.hosts k).node) (effects_of (world.hosts n).node event free).entries
-
 -- what begins has an owner
 abbrev pub HasOwner : BookValue → Act → Type 0
 HasOwner book act = (tid : Tid) (label : List ℕ) (client : ClientNo) → act ≡ acts.Begin tid label client → is_some (slice_get book.owners client.0) ≡ true
 
-abbrev pub BeginsOwned : Opening → World → ℕ → ℕ → ℕ → Event → Type 0
-BeginsOwned o world n stamp free event = Every (HasOwner (book_in o world)) (effects_of (world.hosts n).node event free).entries
-
--- what is unanimous, and open at a home that is down, stays unanimous
+-- what the log of a home that is down has committed, and is open and unanimous, stays unanimous
 abbrev pub StaysUnanimousThen : Opening → World → ℕ → ℕ → ℕ → Event → Type 0
-StaysUnanimousThen o world n stamp free event = (k : ℕ) → (k == n) ≡ false → k < world.size → world.channels.up k ≡ false → KeepsUnanimous k (book_in o world) (entries_in world n stamp free event)
+StaysUnanimousThen o world n stamp free event = (k : ℕ) → (k == n) ≡ false → k < world.size → world.channels.up k ≡ false → StaysUnanimous k (recovery (world.hosts k).log) (book_in o world) (book_then o world n stamp free event)
 
 -- ---- moves whose entries are lawful, by kind
 
@@ -116,27 +127,26 @@ abbrev pub IsStep : Move → Type 0
 IsStep (Step n stamp free source) = ⊤
 IsStep move = ⊥
 
+-- a crash, a restart or a first meeting
+abbrev pub IsBetweenSteps : Move → Type 0
+IsBetweenSteps (Step n stamp free source) = ⊥
+IsBetweenSteps move = ⊤
+
 abbrev pub Keeps : (Opening → World → Type 0) → (Move → Type 0) → (Opening → World → Type 0) → Type 0
 Keeps P kind X = (o : Opening) (world : World) (move : Move) → kind move → Joined P o world → may_move world move ≡ true → IsLawful (book_of o) (moved move world).journal → X o (moved move world)
 
 -- ---- all that is owed
 
 pub record Owed (P : Opening → World → Type 0) : Type 0 where
-  -- as a run begins
-  pub opens_places : Opens P
   -- what a step is given
   pub commits : EachCommitsSettled P
-  pub comes_so : EachComesSo P
+  pub owes_open : EachOwesOpen P
   pub rooms : EachCountsRoom P
   -- after a whole step
   pub steps_labels : AfterStep P LabelsOwned
   pub steps_said : AfterStep P SaidThen
-  pub steps_answers : AfterStep P AnswersAside
-  pub steps_unanimous : AfterStep P StaysUnanimousThen
-  pub steps_owned : AfterStep P BeginsOwned
-  pub steps_ways : Keeps P IsStep WaysAt
-  pub steps_scripts : Keeps P IsStep ScriptsAt
+  -- what all places hold of each transaction
+  pub places : Keeps P IsStep P
   -- after a crash
   pub keeps_its_batch : EachKeepsItsBatch P
-  -- what all places hold of each transaction
-  pub places : Keeps P (λ (move : Move). ⊤) P
+  pub cuts_unanimous : EachCutUnanimous P

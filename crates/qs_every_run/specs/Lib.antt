@@ -3,9 +3,15 @@ pub mod PlacedLaws
 pub mod StopLaws
 pub mod Agrees
 pub mod Joined
+pub mod Traces
+pub mod Answering
 pub mod JoinedOwed
 pub mod JoinedPlaces
+pub mod StepLaws
 pub mod JoinedRuns
 pub mod RiseLaws
 pub mod Stays
 pub mod StaysLaws
+pub mod PlacesLaws
+pub mod Born
+pub mod TriedOwing

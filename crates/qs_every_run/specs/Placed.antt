@@ -6,10 +6,11 @@ use Rattle.qs_base.specs.declared.identifiers.Class.TheVariants as classes
 use Rattle.qs_base.specs.declared.identifiers.ClientNo.{ClientNo}
 use Rattle.qs_base.specs.declared.identifiers.ServerNo.{ServerNo}
 use Rattle.qs_base.specs.declared.identifiers.Tid.{Tid}
+use Rattle.qs_laws.proofs.Rising.{IsRising}
 use Rattle.qs_ops.specs.Members.{class_of, is_two_phase}
 use Rattle.qs_ops.specs.Servers.{client_no}
 use Rattle.qs_machine.specs.Book.{BookValue, find_transaction}
-use Rattle.qs_machine.specs.Transaction.{TransactionValue, agrees, is_empty, is_open, is_standing, part_of}
+use Rattle.qs_machine.specs.Transaction.{TransactionValue, agrees, is_empty, is_open, is_standing, life_cmp, part_of, request_cmp}
 use Rattle.qs_machine.specs.declared.transaction.Life.{Life}
 use Rattle.qs_machine.specs.declared.transaction.Part.{Part}
 use Rattle.qs_machine.specs.declared.transaction.Request.{Request}
@@ -106,6 +107,8 @@ EachLives tx field (entry ∷ entries) = IsLife tx field entry.0 entry.1 × Each
 -- ---- all of it
 
 pub record Placed (tid : Tid) (tx : TransactionValue) (field : Field) : Type 0 where
+  pub numbers : IsRising request_cmp tx.requests  -- each number of a link once
+  pub members : IsRising life_cmp tx.parts  -- and each life
   pub requests : EachPlaced tid field tx.requests
   pub lives : EachLives tx field tx.parts
   pub unrefused : is_empty tx.refusals ≡ true

@@ -1,27 +1,24 @@
 -- A node stops: a transaction that was so placed is so placed then, or doomed.
-use Rattle.std.specs.Prelude.{◌≡◌, ◌⊎◌, ℕ, ◌<◌, true, false, List, [], ◌∷◌, map, Some}
+use Rattle.std.specs.Prelude.{◌≡◌, ◌⊎◌, ℕ, ◌<◌, true, List, [], ◌∷◌, Some}
 use Rattle.qs_base.specs.declared.identifiers.Tid.{Tid}
 use Rattle.qs_journal.specs.declared.entry.Act.TheVariants as acts
 use Rattle.qs_journal.specs.declared.entry.CrashCause.{CrashCause}
 use Rattle.qs_machine.specs.Book.{BookValue, find_transaction}
 use Rattle.qs_machine.specs.Lawful.{book_after}
-use Rattle.qs_machine.specs.Transaction.{TransactionValue, is_open}
+use Rattle.qs_machine.specs.Transaction.{TransactionValue, is_open, is_unanimous}
 use Rattle.qs_record.specs.declared.record.Record.{Record}
+use Rattle.qs_step.specs.State.{NodeValue}
 use Rattle.qs_world.specs.Moves.{stopped}
 use Rattle.qs_world.specs.Posting.{entry_of}
 use Rattle.qs_world.specs.World.{World}
 use Rattle.qs_agree.specs.World as machine
 use Rattle.qs_agree.specs.Doomed.{IsDoomed}
 use Rattle.qs_agree.specs.World.{Open, Committed}
-use Rattle.qs_refine.specs.CommitLaws.{has_request}
 use Rattle.qs_refine.specs.CutLaws.{StopsAlone, CutsOff}
 use Rattle.qs_refine.specs.EachMove.{ShowsAll}
-use Rattle.qs_refine.specs.Messages.{all_said}
 use Rattle.qs_refine.specs.ShownWorlds.{IsShownWorld}
 use Rattle.qs_lawful.specs.Holds.{Holds}
-use Rattle.qs_lawful.specs.Parcels.{pending}
-use Rattle.qs_every_run.specs.Placed.{message_of, field_of, Placed, HoldsPlaced}
-use Rattle.qs_every_run.specs.PlacedLaws.{IsFree}
+use Rattle.qs_every_run.specs.Placed.{field_of, Placed, HoldsPlaced}
 
 -- with nothing of a step kept of it
 abbrev pub StopsPlaced : Type 0
@@ -29,19 +26,13 @@ StopsPlaced = (tid : Tid) (book : BookValue) (tx : TransactionValue) (world : Wo
     → IsShownWorld world → ShowsAll tid world w → n < world.size → world.channels.up n ≡ true → find_transaction book tid ≡ Some tx → is_open tx.cell ≡ true → (next : ℕ) → Holds next book (world.hosts n).node
     → IsDoomed w ⊎ Placed tid tx (field_of world) → IsDoomed goes.goes.next ⊎ Placed tid tx (field_of (stopped world n stamp cause log))
 
--- ---- cut off with a record of it kept
+-- ---- cut off with a record of it kept: the whole step would have left the node so
 
--- the node is free of it, nothing of it is on its way to it, and it keeps nothing of it back
-pub record IsApart (tid : Tid) (world : World) (n : ℕ) : Type 0 where
-  pub free : IsFree tid (world.hosts n).node
-  pub to_it : (k i : ℕ) → k < world.size → has_request (all_said tid (map message_of (pending world.channels k n i (world.channels.inc n)))) ≡ false
-  pub by_it : (m : ℕ) → m < world.size → world.channels.peer n m ≡ 0 → has_request (all_said tid (map message_of (world.channels.waits n m))) ≡ false
-
--- where that step decided the commit its node was so as it began: the home decides in no step that served, voted or took a loan back
+-- where that step decided the commit it was unanimous before: the home decides in no step that asked, served, voted or took a loan back
 abbrev pub CutPlaced : Type 0
-CutPlaced = (tid : Tid) (book : BookValue) (tx : TransactionValue) (world : World) (n stamp : ℕ) (cause : CrashCause) (log : List Record) (w : machine.World) (goes : CutsOff tid (stopped world n stamp cause log) w)
+CutPlaced = (tid : Tid) (book : BookValue) (tx : TransactionValue) (world : World) (n stamp : ℕ) (cause : CrashCause) (log : List Record) (w : machine.World) (leaves : NodeValue) (goes : CutsOff tid leaves (stopped world n stamp cause log) w)
     → IsShownWorld world → ShowsAll tid world w → n < world.size → world.channels.up n ≡ true → find_transaction book tid ≡ Some tx → is_open tx.cell ≡ true → (next : ℕ) → Holds next book (world.hosts n).node
-    → (w.cell ≡ Open → goes.goes.next.cell ≡ Committed → IsApart tid world n)
+    → (w.cell ≡ Open → goes.goes.next.cell ≡ Committed → is_unanimous tx ≡ true)
     → IsDoomed w ⊎ Placed tid tx (field_of world) → IsDoomed goes.goes.next ⊎ Placed tid tx (field_of (stopped world n stamp cause log))
 
 -- ---- and the reference machine enters the crash
@@ -55,7 +46,7 @@ StopHolds = (tid : Tid) (book : BookValue) (world : World) (n stamp : ℕ) (caus
     → HoldsPlaced tid book (field_of world) w → HoldsPlaced tid (book_stopped book n stamp cause) (field_of (stopped world n stamp cause log)) goes.goes.next
 
 abbrev pub CutHolds : Type 0
-CutHolds = (tid : Tid) (book : BookValue) (world : World) (n stamp : ℕ) (cause : CrashCause) (log : List Record) (w : machine.World) (goes : CutsOff tid (stopped world n stamp cause log) w)
+CutHolds = (tid : Tid) (book : BookValue) (world : World) (n stamp : ℕ) (cause : CrashCause) (log : List Record) (w : machine.World) (leaves : NodeValue) (goes : CutsOff tid leaves (stopped world n stamp cause log) w)
     → IsShownWorld world → ShowsAll tid world w → n < world.size → world.channels.up n ≡ true → (next : ℕ) → Holds next book (world.hosts n).node
-    → (w.cell ≡ Open → goes.goes.next.cell ≡ Committed → IsApart tid world n)
+    → (w.cell ≡ Open → goes.goes.next.cell ≡ Committed → (tx : TransactionValue) → find_transaction book tid ≡ Some tx → is_open tx.cell ≡ true → is_unanimous tx ≡ true)
     → HoldsPlaced tid book (field_of world) w → HoldsPlaced tid (book_stopped book n stamp cause) (field_of (stopped world n stamp cause log)) goes.goes.next

@@ -1,10 +1,12 @@
 //! Every run of the world of nodes is lawful, as far as it is owed.
+ghost use Rattle.qs_every_run.specs.StepLaws.{AnswersAside, BeginsOwned, InStep, KeepsClients, KeepsScripts, KeepsWays};
 ghost use Rattle.qs_every_run.specs.JoinedPlaces.{PlacesAt};
+ghost use Rattle.qs_every_run.specs.PlacesLaws.{PlacesGoOn};
 ghost use Rattle.qs_every_run.specs.JoinedRuns.{EachMoveJoined, EachOpensJoined, EachRunJoined, EachRunLawful};
 ghost use Rattle.qs_every_run.specs.Joined.{RunningAt};
 ghost use Rattle.qs_every_run.specs.JoinedOwed.{Opens};
 ghost use Rattle.qs_every_run.specs.RiseLaws.{EachRiseKeepsBeside, EachRisesRunning};
-ghost use Rattle.qs_every_run.specs.StaysLaws.{StepsKeepLogged, StepsYoung};
+ghost use Rattle.qs_every_run.specs.StaysLaws.{StepsKeepLogged, StepsTickOnce, StepsYoung};
 
 /// From what is still to be shown, which stands in one record: all that the machines and the nodes have together stands as a run begins, over
 /// old logs too that a restart can take up, and after each move; so each run's history is lawful.
@@ -26,9 +28,28 @@ pub fn restart_leaves_what_stands_beside()
     ensures { EachRiseKeepsBeside }
 {}
 
+/// What all places hold of each transaction stands as a run begins, and after a crash, a restart and a first meeting, if a step that was cut off
+/// decided nothing that was not unanimous before it. And what the log of a home that is down has committed stays unanimous through a step of
+/// another node.
+pub fn places_go_on()
+    ensures { PlacesGoOn }
+{}
+
+/// A step of a node and its clients: each transaction that begins has an owner, no client is answered that has a command in hand at another node,
+/// what is in hand is of clients of the node, and the machine has the scripts of all clients after it. And where its entries are lawful, each request
+/// that is on its way stands in the machine in the order of numbers, behind those that wait.
+pub fn steps_keep_what_comes()
+    ensures owned { InStep PlacesAt BeginsOwned }
+    ensures aside { InStep PlacesAt AnswersAside }
+    ensures clients { InStep PlacesAt KeepsClients }
+    ensures scripts { InStep PlacesAt KeepsScripts }
+    ensures ways { InStep PlacesAt KeepsWays }
+{}
+
 /// A whole step of a node leaves what its home has not decided younger than the age limit: what becomes that old at a tick it aborts in that
-/// step. And it leaves the Commits that the log had as the node opened.
+/// step. Its clock moves by one tick at most; and it leaves the Commits that the log had as the node opened.
 pub fn steps_leave_the_young()
     ensures young { StepsYoung }
+    ensures ticks { StepsTickOnce }
     ensures logged { StepsKeepLogged }
 {}

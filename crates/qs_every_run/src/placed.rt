@@ -20,7 +20,7 @@ pub fn commits()
 {}
 
 /// A node stops, between two steps or in one of which nothing is kept of it: it is doomed then, or so placed still. So it is where a record
-/// of it is kept, if a home that decided it in that step was free of it as the step began.
+/// of it is kept, if it was unanimous before where that step decided it.
 pub fn stops()
     ensures placed { StopsPlaced }
     ensures cut { CutPlaced }

@@ -40,7 +40,7 @@ use Rattle.qs_lawful.specs.Tables.{is_seen}
 use Rattle.qs_lawful.proofs.Quiet.{waits_quiet, quiet, at_quiet, all_heard, heard_nodes, heard_owners}
 use Rattle.qs_lawful.proofs.Steps.{next_again}
 
-client_exact : (c d : ClientNo) → is_at (client_cmp c) d ≡ true → c ≡ d
+pub client_exact : (c d : ClientNo) → is_at (client_cmp c) d ≡ true → c ≡ d
 client_exact c d = by (client_cmp c d) refl
   where
     by : (r : Ordering) → client_cmp c d ≡ r → is_at (client_cmp c) d ≡ true → c ≡ d

@@ -1,4 +1,4 @@
--- Each lawful entry that another node makes in a step leaves what the machine has of the log of a node that is down.
+-- Each lawful entry that another node makes in a step leaves what the machine has of the log of a node that is down, but for its Commits.
 use Rattle.std.proofs.Common.{◌≡◌, ◌⊎◌, inl, inr, ℕ, ◌≤◌, ◌==◌, ◌&&◌, ◌||◌, Bool, true, false, List, Option, Some, None, refl, sym, ap, subst, ◌∙◌, arith, if◌then◌else◌}
 use Rattle.std.proofs.lemmas.Bool.Decides.{nat_tests}
 use Rattle.std.specs.Prelude.{slice_get, slice_set}
@@ -15,8 +15,8 @@ use Rattle.qs_machine.specs.Clauses.{link_to}
 use Rattle.qs_machine.specs.Lawful.{broken, effect_act}
 use Rattle.qs_machine.specs.Nodes as machine
 use Rattle.qs_machine.specs.Nodes.{crossed_node, crossed_server}
-use Rattle.qs_machine.specs.Restart.{could_vote, is_among, is_committed, may_be_lost, member_at}
-use Rattle.qs_machine.specs.Transaction.{TransactionValue, has_learnt, is_abort, is_commit, is_open, is_unanimous, issued, part_of}
+use Rattle.qs_machine.specs.Restart.{could_vote, is_among, may_be_lost, member_at}
+use Rattle.qs_machine.specs.Transaction.{TransactionValue, has_learnt, is_abort, is_open, issued, part_of}
 use Rattle.qs_machine.specs.declared.state.OnRecord.{OnRecord}
 use Rattle.qs_machine.specs.declared.state.Voter.{Voter}
 use Rattle.qs_machine.specs.declared.transaction.Cell.{Cell}
@@ -24,15 +24,14 @@ use Rattle.qs_machine.specs.declared.transaction.Cell.TheVariants as cells
 use Rattle.qs_machine.specs.declared.transaction.RequestNo.{RequestNo}
 use Rattle.qs_ops.specs.declared.operation.Op.{Op}
 use Rattle.qs_restart.specs.Recovery.{Prepared, Recovery}
-use Rattle.qs_lawful.specs.Aside.{IsOfStep, StaysUnanimous}
-use Rattle.qs_lawful.specs.Logs.{HoldsStopped, IsCommitLogged, IsCutVote, IsRecordKept, IsVoteLogged, found_of}
+use Rattle.qs_lawful.specs.Aside.{IsOfStep}
+use Rattle.qs_lawful.specs.Logs.{IsCutVote, IsRecordKept, IsVoteLogged, found_of}
 use Rattle.qs_lawful.proofs.AsideActs.{IsQuiet, there_same}
 use Rattle.qs_lawful.proofs.AsideBook.{Goes, cell_away, goes_on, new}
 use Rattle.qs_lawful.proofs.AsideKept.{home_far}
 use Rattle.qs_lawful.proofs.AsideTid.{part_same}
 use Rattle.qs_lawful.proofs.Crossing.{waiting_nodes}
 use Rattle.qs_lawful.proofs.LastsWell.{LastsWell}
-use Rattle.qs_lawful.proofs.LogFrames.{every_on}
 use Rattle.qs_lawful.proofs.AsideThen.{could_then}
 
 and_both : (a b : Bool) → (a && b) ≡ true → (a ≡ true) × (b ≡ true)
@@ -155,53 +154,19 @@ module _ (book : BookValue) (entry : Entry) (w : LastsWell book) (h : broken boo
           of next g true a = subst (λ (c : Cell). (is_abort c || (is_open c && (tid.home.0 == k))) ≡ true) (sym (cell_shut tid tx next g (shut tx.cell a))) (rw a refl)
           of next g false a = subst (λ (c : Cell). (is_abort c || (is_open c && (tid.home.0 == k))) ≡ true) (sym (same_cell tid tx next g (and_both (is_open tx.cell) (tid.home.0 == k) (rw a at e)).1)) e
 
-  module _ (unanimous : StaysUnanimous k book after) where
-    commit_on : (tid : Tid) → IsCommitLogged k book s tid → IsCommitLogged k after s tid
-    commit_on tid (inl is) = inl is
-    commit_on tid (inr is) = inr (by (find_transaction book tid) refl is)
-      where
-        by : (o : Option TransactionValue) → find_transaction book tid ≡ o → is_committed k tid o ≡ true → is_committed k tid (find_transaction after tid) ≡ true
-        by None nothing e = absurd (cc e)
-        by (Some tx) had e =
-            let p = goes_on book entry w h tid tx had in
-            ap (is_committed k tid) p.1 ∙ of p.0 p.1 p.2 (is_commit tx.cell) refl
-          where
-            shut : (c : Cell) → is_commit c ≡ true → is_open c ≡ false
-            shut cells.Commit e = refl
-            shut cells.Open e = absurd (cc e)
-            shut cells.Abort e = absurd (cc e)
+  learnt_on : (tid : Tid) (tx next : TransactionValue) → Goes book entry w h tid tx next → (m : Member) → (has_learnt tx m ≡ true) ⊎ (is_among s.committed tid ≡ true) → (has_learnt next m ≡ true) ⊎ (is_among s.committed tid ≡ true)
+  learnt_on tid tx next g m (inl is) = inl (has_learnt_on tid tx next g m is)
+  learnt_on tid tx next g m (inr is) = inr is
 
-            of : (next : TransactionValue) → find_transaction after tid ≡ Some next → Goes book entry w h tid tx next → (b : Bool) → is_commit tx.cell ≡ b → (is_commit next.cell || ((is_open next.cell && (tid.home.0 == k)) && is_unanimous next)) ≡ true
-            of next found g true a = subst (λ (c : Cell). (is_commit c || ((is_open c && (tid.home.0 == k)) && is_unanimous next)) ≡ true) (sym (cell_shut tid tx next g (shut tx.cell a))) (rw a refl)
-            of next found g false a = subst (λ (c : Cell). (is_commit c || ((is_open c && (tid.home.0 == k)) && is_unanimous next)) ≡ true) (sym (same_cell tid tx next g one.1)) (rw (a, one.0, one.1) (unanimous tid tx next had found (no_is tid.home.0 k one.1) one.0 two.1))
-              where
-                two : ((is_open tx.cell && (tid.home.0 == k)) ≡ true) × (is_unanimous tx ≡ true)
-                two = and_both (is_open tx.cell && (tid.home.0 == k)) (is_unanimous tx) (rw a at e)
+  pub vote_on : (said : Recovery) (v : Prepared) → IsVoteLogged k book s said v ⊎ IsCutVote k book s v → IsVoteLogged k after s said v ⊎ IsCutVote k after s v
+  vote_on said v (inl (inl on)) = inl (inl on)
+  vote_on said v (inl (inr a)) =
+      let p = goes_on book entry w h v.tid a.tx a.found in
+      inl (inr (record { tx = p.0; found = p.1; has_commit = a.has_commit; learnt = learnt_on v.tid a.tx p.0 p.2 (member_at k v.server.0) a.learnt }))
+  vote_on said v (inr c) =
+      let p = goes_on book entry w h v.tid c.tx c.found in
+      inr (record { tx = p.0; found = p.1; could = could_same v.tid c.tx p.0 p.2 (found_of v) ∙ c.could })
 
-                one : (is_open tx.cell ≡ true) × ((tid.home.0 == k) ≡ true)
-                one = and_both (is_open tx.cell) (tid.home.0 == k) two.0
-
-    pub stopped_on : (said : Recovery) → HoldsStopped k book s said → HoldsStopped k after s said
-    stopped_on said c = record {
-      kinds = c.kinds;
-      votes = every_on (λ (v : Prepared). IsVoteLogged k book s said v ⊎ IsCutVote k book s v) (λ (v : Prepared). IsVoteLogged k after s said v ⊎ IsCutVote k after s v) vote_on said.prepared c.votes;
-      kept = every_on (IsRecordKept k book said) (IsRecordKept k after said) kept_record s.records c.kept;
-      commits = every_on (IsCommitLogged k book s) (IsCommitLogged k after s) commit_on said.committed c.commits;
-    }
-      where
-        learnt_on : (tid : Tid) (tx next : TransactionValue) → Goes book entry w h tid tx next → (m : Member) → (has_learnt tx m ≡ true) ⊎ (is_among s.committed tid ≡ true) → (has_learnt next m ≡ true) ⊎ (is_among s.committed tid ≡ true)
-        learnt_on tid tx next g m (inl is) = inl (has_learnt_on tid tx next g m is)
-        learnt_on tid tx next g m (inr is) = inr is
-
-        vote_on : (v : Prepared) → IsVoteLogged k book s said v ⊎ IsCutVote k book s v → IsVoteLogged k after s said v ⊎ IsCutVote k after s v
-        vote_on v (inl (inl on)) = inl (inl on)
-        vote_on v (inl (inr a)) =
-            let p = goes_on book entry w h v.tid a.tx a.found in
-            inl (inr (record { tx = p.0; found = p.1; has_commit = a.has_commit; learnt = learnt_on v.tid a.tx p.0 p.2 (member_at k v.server.0) a.learnt }))
-        vote_on v (inr c) =
-            let p = goes_on book entry w h v.tid c.tx c.found in
-            inr (record { tx = p.0; found = p.1; could = could_same v.tid c.tx p.0 p.2 (found_of v) ∙ c.could })
-
-        kept_record : (e : Voter × OnRecord) → IsRecordKept k book said e → IsRecordKept k after said e
-        kept_record e (inl is) = inl (lost_on e.0.tid is)
-        kept_record e (inr is) = inr is
+  pub record_on : (said : Recovery) (e : Voter × OnRecord) → IsRecordKept k book said e → IsRecordKept k after said e
+  record_on said e (inl is) = inl (lost_on e.0.tid is)
+  record_on said e (inr is) = inr is

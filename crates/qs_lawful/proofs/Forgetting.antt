@@ -53,7 +53,7 @@ forgotten_at tid n p (q ∷ qs) = by (nat_lt q.0.0 n) (forgotten_at tid n p qs)
     by true more = of (p q.0) refl (forgotten tid q.1) refl more
     by false more = of (p q.0) refl q.1 refl more
 
-dropped_waiting : (tid : Tid) (queues : IpcValue) (server : ServerNo) → (queue_at (drop_counts tid queues) server).waiting ≡ (queue_at queues server).waiting
+pub dropped_waiting : (tid : Tid) (queues : IpcValue) (server : ServerNo) → (queue_at (drop_counts tid queues) server).waiting ≡ (queue_at queues server).waiting
 dropped_waiting tid queues server = by (ipc.waits tid queues)
   where
     by : (b : Bool) → (queue_at (if b then queues else ipc.forget tid queues) server).waiting ≡ (queue_at queues server).waiting

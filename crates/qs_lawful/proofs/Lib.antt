@@ -23,6 +23,7 @@ pub mod AsideNode
 pub mod AsideKept
 pub mod AsideThen
 pub mod AsideDown
+pub mod AsideGoes
 pub mod AsideLeft
 pub mod AsideWhole
 pub mod AsideBeside
@@ -81,7 +82,6 @@ pub mod Clauses
 pub mod Issuing
 pub mod FoundOnce
 pub mod Restarting
-pub mod Unanimity
 pub mod Faces
 pub mod Steps
 pub mod Asking
@@ -262,6 +262,7 @@ pub mod BesideActs
 pub mod BesideGoes
 pub mod BesidePlain
 pub mod NoteTexts
+pub mod IssuedNotes
 pub mod BesideIssue
 pub mod BesideOwn
 pub mod BesideClocks
@@ -271,6 +272,7 @@ pub mod BesideVote
 pub mod BesideVoted
 pub mod BesideNotice
 pub mod BesideLearnt
+pub mod DecidedOutcomes
 pub mod BesideDecide
 pub mod BesideKnown
 pub mod BesideReply

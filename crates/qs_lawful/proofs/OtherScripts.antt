@@ -46,7 +46,7 @@ waiting_labels tid issuer member book = by (is_client_no issuer.server.0)
     by false = refl
 
 -- what a step begins has a label of its own, and nothing else makes one
-fresh_on : (stamp here : ℕ) (act : Act) → IsOfStep act → (labels : List (List ℕ)) → BeginsNone labels act → (book : BookValue) → Every (IsFresh book) labels → Every (IsFresh (effect_act stamp here act book)) labels
+pub fresh_on : (stamp here : ℕ) (act : Act) → IsOfStep act → (labels : List (List ℕ)) → BeginsNone labels act → (book : BookValue) → Every (IsFresh book) labels → Every (IsFresh (effect_act stamp here act book)) labels
 fresh_on stamp here act of_step labels none book all = by act of_step none
   where
     same : (now : BookValue) → now.labels ≡ book.labels → Every (IsFresh now) labels

@@ -42,7 +42,7 @@ use Rattle.qs_lawful.proofs.Silent.{Fewer, NoneMore, at_fewer}
 
 -- ---- what waits is marked
 
-marked_at : (peer : NodeNo) (p : ServerNo → Bool) (queues : IpcValue) → (unwrap_or (lookup p (map (mark_queue peer) queues)) no_queue).waiting ≡ map (mark_stale peer) (unwrap_or (lookup p queues) no_queue).waiting
+pub marked_at : (peer : NodeNo) (p : ServerNo → Bool) (queues : IpcValue) → (unwrap_or (lookup p (map (mark_queue peer) queues)) no_queue).waiting ≡ map (mark_stale peer) (unwrap_or (lookup p queues) no_queue).waiting
 marked_at peer p [] = refl
 marked_at peer p (q ∷ qs) = by (p q.0) refl (marked_at peer p qs)
   where
@@ -52,14 +52,14 @@ marked_at peer p (q ∷ qs) = by (p q.0) refl (marked_at peer p qs)
     by false is more = rw is more
 
 -- a mark leaves whose a request is, its number and its operation
-marked_of : (peer : NodeNo) (t : Tid) (d : Delivery) → is_of t (mark_stale peer d) ≡ is_of t d
+pub marked_of : (peer : NodeNo) (t : Tid) (d : Delivery) → is_of t (mark_stale peer d) ≡ is_of t d
 marked_of peer t d = by (d.from.0 == peer.0)
   where
     by : (b : Bool) → is_of t (if b then record d { stale = true } else d) ≡ is_of t d
     by true = refl
     by false = refl
 
-marked_number : (peer : NodeNo) (at : RequestNo) (d : Delivery) → is_numbered at (mark_stale peer d) ≡ is_numbered at d
+pub marked_number : (peer : NodeNo) (at : RequestNo) (d : Delivery) → is_numbered at (mark_stale peer d) ≡ is_numbered at d
 marked_number peer at d = by (d.from.0 == peer.0)
   where
     by : (b : Bool) → is_numbered at (if b then record d { stale = true } else d) ≡ is_numbered at d
@@ -73,7 +73,7 @@ marked_op peer d = by (d.from.0 == peer.0)
     by true = refl
     by false = refl
 
-filter_marked : (peer : NodeNo) (p : Delivery → Bool) → ((d : Delivery) → p (mark_stale peer d) ≡ p d) → (ds : List Delivery) → filter p (map (mark_stale peer) ds) ≡ map (mark_stale peer) (filter p ds)
+pub filter_marked : (peer : NodeNo) (p : Delivery → Bool) → ((d : Delivery) → p (mark_stale peer d) ≡ p d) → (ds : List Delivery) → filter p (map (mark_stale peer) ds) ≡ map (mark_stale peer) (filter p ds)
 filter_marked peer p same [] = refl
 filter_marked peer p same (d ∷ ds) = by (p d) refl (filter_marked peer p same ds)
   where
@@ -81,7 +81,7 @@ filter_marked peer p same (d ∷ ds) = by (p d) refl (filter_marked peer p same 
     by true is more = rw (same d ∙ is, is) (ap (λ (xs : List Delivery). mark_stale peer d ∷ xs) more)
     by false is more = rw (same d ∙ is, is) more
 
-map_marked : (peer : NodeNo) (ds : List Delivery) → map (λ (d : Delivery). d.op) (map (mark_stale peer) ds) ≡ map (λ (d : Delivery). d.op) ds
+pub map_marked : (peer : NodeNo) (ds : List Delivery) → map (λ (d : Delivery). d.op) (map (mark_stale peer) ds) ≡ map (λ (d : Delivery). d.op) ds
 map_marked peer [] = refl
 map_marked peer (d ∷ ds) = ap (λ (op : Op). op ∷ map (λ (d : Delivery). d.op) (map (mark_stale peer) ds)) (marked_op peer d) ∙ ap (λ (ops : List Op). d.op ∷ ops) (map_marked peer ds)
 
@@ -124,7 +124,7 @@ module _ (stamp : ℕ) (before : BookValue) (peer : NodeNo) where
         by None k = k
         by (Some tx) k = record { whole = k.whole; due = k.due; within = λ server at near. subst (λ (ops : List Op). IsWithin ops (standing_ops tx at node.setting.node server)) (sym (ops_same t server at)) (k.within server at near); once = k.once; fits = k.fits }
 
-    by_marks : HoldsWork stamp before (with_queues (ipc.mark_queues peer) work)
+    pub by_marks : HoldsWork stamp before (with_queues (ipc.mark_queues peer) work)
     by_marks = kept_on stamp before work (with_queues (ipc.mark_queues peer) work) h refl refl
         (held_on stamp book book node new h.holds (record { setting = refl; at = refl; in_inc = refl }) refl h.holds.state (record { up = refl; inc = refl; begun = refl; format = refl })
         h.holds.order refl h.holds.there (λ t is. is)
@@ -173,7 +173,7 @@ module _ (stamp : ℕ) (before : BookValue) (peer : NodeNo) (old new_inc : ℕ) 
       by None = by_inquire (find_gone peer old tid part work) (by_gone work h tid part) tid part
       by (Some outcome) = by_decided work h tid outcome part
 
-  by_tid : (work : Work) → HoldsWork stamp before work → (tid : Tid) → HoldsWork stamp before (notice_tid peer old new_inc work tid)
+  pub by_tid : (work : Work) → HoldsWork stamp before work → (tid : Tid) → HoldsWork stamp before (notice_tid peer old new_inc work tid)
   by_tid work h tid = by (tm.part_of tid work.node.manager) refl
     where
       by : (o : Option Participant) → tm.part_of tid work.node.manager ≡ o → HoldsWork stamp before (elim o [ None ↦ work | Some part ↦ notice_part peer old new_inc tid part (with_manager (tm.restarted tid peer) work) ])

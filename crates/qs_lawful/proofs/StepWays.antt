@@ -1,5 +1,5 @@
 -- A whole step of one node leaves what two others have on its way between them.
-use Rattle.std.proofs.Common.{◌≡◌, ℕ, ◌+◌, ◌-◌, ◌==◌, ◌++◌, Bool, true, false, List, [], ◌∷◌, drop, length, Option, Some, None, refl, sym, ap, subst, ◌∙◌, if◌then◌else◌}
+use Rattle.std.proofs.Common.{◌≡◌, ℕ, ◌+◌, ◌-◌, ◌==◌, ◌++◌, Bool, true, false, List, [], ◌∷◌, drop, length, Option, Some, None, refl, sym, ap, ◌∙◌, if◌then◌else◌}
 use Rattle.qs_base.specs.declared.identifiers.ServerNo.{ServerNo}
 use Rattle.qs_base.specs.declared.identifiers.Tid.{Tid}
 use Rattle.qs_channels.specs.Channels as channel
@@ -8,7 +8,6 @@ use Rattle.qs_laws.proofs.Steps.{after_both, lawful_front, lawful_rest}
 use Rattle.qs_machine.specs.Book.{BookValue, find_transaction}
 use Rattle.qs_machine.specs.Lawful.{book_after}
 use Rattle.qs_machine.specs.Opening.{opening}
-use Rattle.qs_machine.specs.Transaction.{TransactionValue}
 use Rattle.qs_step.specs.State.{NodeValue}
 use Rattle.qs_step.specs.Step.{after_step, effects_of}
 use Rattle.qs_step.specs.declared.event.Effects.{Effects}
@@ -17,8 +16,7 @@ use Rattle.qs_step.specs.declared.event.Sending.{Sending}
 use Rattle.qs_world.specs.Moves.{Commanded, Clock, Handed, Noticed, Queues, Source, Step, event_of, hand_next, moved, step_with, stepped, taken_by}
 use Rattle.qs_world.specs.Posting.{next_parcel, post_all, post_next}
 use Rattle.qs_world.specs.World.{Parcel, World}
-use Rattle.qs_lawful.specs.Face.{face_of, waiting_at}
-use Rattle.qs_lawful.specs.Holds.{HoldsAt}
+use Rattle.qs_lawful.specs.Face.{waiting_at}
 use Rattle.qs_lawful.specs.Parcels.{on_its_way, ops_of, pending_from, way_between}
 use Rattle.qs_lawful.specs.Waits.{waiting_ops}
 use Rattle.qs_lawful.specs.WayLaws.{EachStepKeepsOtherWays}
@@ -28,13 +26,13 @@ use Rattle.qs_lawful.proofs.OtherWays.{HoldsOps, entries_leave, none_of, on_way_
 
 -- ---- channels
 
-record KeepsPair (c d : Channels Parcel) (a b : ℕ) : Type 0 where
-  peer : d.peer b a ≡ c.peer b a
-  inc : d.inc ≡ c.inc
-  up : d.up ≡ c.up
-  waits : d.waits a b ≡ c.waits a b
-  posted : d.posted a b ≡ c.posted a b
-  handed : d.handed a b ≡ c.handed a b
+pub record KeepsPair (c d : Channels Parcel) (a b : ℕ) : Type 0 where
+  pub peer : d.peer b a ≡ c.peer b a
+  pub inc : d.inc ≡ c.inc
+  pub up : d.up ≡ c.up
+  pub waits : d.waits a b ≡ c.waits a b
+  pub posted : d.posted a b ≡ c.posted a b
+  pub handed : d.handed a b ≡ c.handed a b
 
 pair_self : (c : Channels Parcel) (a b : ℕ) → KeepsPair c c a b
 pair_self c a b = record { peer = refl; inc = refl; up = refl; waits = refl; posted = refl; handed = refl }
@@ -46,7 +44,7 @@ pair_then c d e a b p q = record { peer = q.peer ∙ p.peer; inc = q.inc ∙ p.i
 abbrev way_of : ℕ → (ℕ → ℕ) → List Parcel → (ℕ → ℕ → List Parcel) → (ℕ → ℕ → List Parcel) → ℕ → ℕ → List Parcel
 way_of peer inc waits posted handed a b = pending_from (λ i. drop (length (handed i (inc b))) (posted i (inc b))) peer ((inc a + 1) - peer) ++ waits
 
-way_same : (c d : Channels Parcel) (a b : ℕ) → KeepsPair c d a b → on_its_way d a b ≡ on_its_way c a b
+pub way_same : (c d : Channels Parcel) (a b : ℕ) → KeepsPair c d a b → on_its_way d a b ≡ on_its_way c a b
 way_same c d a b k =
     ap (λ x. way_of x d.inc (d.waits a b) (d.posted a b) (d.handed a b) a b) k.peer
     ∙ (ap (λ x. way_of (c.peer b a) x (d.waits a b) (d.posted a b) (d.handed a b) a b) k.inc
@@ -54,13 +52,24 @@ way_same c d a b k =
     ∙ (ap (λ x. way_of (c.peer b a) c.inc (c.waits a b) x (d.handed a b) a b) k.posted
     ∙ ap (λ x. way_of (c.peer b a) c.inc (c.waits a b) (c.posted a b) x a b) k.handed)))
 
-module _ (a b n : ℕ) (a_far : (a == n) ≡ false) (b_far : (b == n) ≡ false) where
+-- what a node posts leaves what another posts
+module _ (a b n : ℕ) (a_far : (a == n) ≡ false) where
   pair_waits : (c : Channels Parcel) (m : ℕ) (x : Parcel) → KeepsPair c (channel.moved (channel.Wait n m x) c) a b
   pair_waits c m x = record { peer = refl; inc = refl; up = refl; waits = rw a_far refl; posted = refl; handed = refl }
 
   pair_posts : (c : Channels Parcel) (m : ℕ) (x : Parcel) → KeepsPair c (channel.moved (channel.Post n m x) c) a b
   pair_posts c m x = record { peer = refl; inc = refl; up = refl; waits = refl; posted = rw a_far refl; handed = refl }
 
+  pub pair_all : (stamp : ℕ) (sendings : List Sending) (c : Channels Parcel) → KeepsPair c (post_all n stamp sendings c) a b
+  pair_all stamp [] c = pair_self c a b
+  pair_all stamp (sending ∷ sendings) c = pair_then c (post_next n stamp c sending) (post_all n stamp sendings (post_next n stamp c sending)) a b (one (c.peer n sending.to.0 == 0)) (pair_all stamp sendings (post_next n stamp c sending))
+    where
+      one : (x : Bool) → KeepsPair c (channel.moved (if x then channel.Wait n sending.to.0 (record { stamp = stamp; message = sending.message }) else channel.Post n sending.to.0 (record { stamp = stamp; message = sending.message })) c) a b
+      one true = pair_waits c sending.to.0 (record { stamp = stamp; message = sending.message })
+      one false = pair_posts c sending.to.0 (record { stamp = stamp; message = sending.message })
+
+-- and what it takes what goes to another
+module _ (a b n : ℕ) (b_far : (b == n) ≡ false) where
   pair_hands : (c : Channels Parcel) (m : ℕ) (x : Parcel) → KeepsPair c (channel.moved (channel.Hand n m x) c) a b
   pair_hands c m x = record { peer = refl; inc = refl; up = refl; waits = refl; posted = refl; handed = rw b_far (by (a == m)) }
     where
@@ -71,15 +80,7 @@ module _ (a b n : ℕ) (a_far : (a == n) ≡ false) (b_far : (b == n) ≡ false)
   pair_notices : (c : Channels Parcel) (m j : ℕ) → KeepsPair c (channel.moved (channel.Notice n m j) c) a b
   pair_notices c m j = record { peer = rw b_far refl; inc = refl; up = refl; waits = refl; posted = refl; handed = refl }
 
-  pair_all : (stamp : ℕ) (sendings : List Sending) (c : Channels Parcel) → KeepsPair c (post_all n stamp sendings c) a b
-  pair_all stamp [] c = pair_self c a b
-  pair_all stamp (sending ∷ sendings) c = pair_then c (post_next n stamp c sending) (post_all n stamp sendings (post_next n stamp c sending)) a b (one (c.peer n sending.to.0 == 0)) (pair_all stamp sendings (post_next n stamp c sending))
-    where
-      one : (x : Bool) → KeepsPair c (channel.moved (if x then channel.Wait n sending.to.0 (record { stamp = stamp; message = sending.message }) else channel.Post n sending.to.0 (record { stamp = stamp; message = sending.message })) c) a b
-      one true = pair_waits c sending.to.0 (record { stamp = stamp; message = sending.message })
-      one false = pair_posts c sending.to.0 (record { stamp = stamp; message = sending.message })
-
-  pair_taken : (world : World) (source : Source) → KeepsPair world.channels (taken_by world n source) a b
+  pub pair_taken : (world : World) (source : Source) → KeepsPair world.channels (taken_by world n source) a b
   pair_taken world (Commanded k) = pair_self world.channels a b
   pair_taken world Queues = pair_self world.channels a b
   pair_taken world Clock = pair_self world.channels a b
@@ -90,6 +91,7 @@ module _ (a b n : ℕ) (a_far : (a == n) ≡ false) (b_far : (b == n) ≡ false)
       by None = pair_self world.channels a b
       by (Some parcel) = pair_hands world.channels m parcel
 
+module _ (a b n : ℕ) (a_far : (a == n) ≡ false) (b_far : (b == n) ≡ false) where
   -- the world after a whole step
   pub record KeepsWay (world next : World) : Type 0 where
     pub way : on_its_way next.channels a b ≡ on_its_way world.channels a b
@@ -113,7 +115,7 @@ module _ (a b n : ℕ) (a_far : (a == n) ≡ false) (b_far : (b == n) ≡ false)
       }
         where
           pair : KeepsPair world.channels (post_all n stamp out.messages (taken_by world n source)) a b
-          pair = pair_then world.channels (taken_by world n source) (post_all n stamp out.messages (taken_by world n source)) a b (pair_taken world source) (pair_all stamp out.messages (taken_by world n source))
+          pair = pair_then world.channels (taken_by world n source) (post_all n stamp out.messages (taken_by world n source)) a b (pair_taken a b n b_far world source) (pair_all a b n a_far stamp out.messages (taken_by world n source))
 
       by : (o : Option Event) → KeepsWay world (step_with world n stamp free source o)
       by None = record { way = refl; node = refl; host = refl; size = refl; inc = refl; up = refl }
@@ -122,7 +124,7 @@ module _ (a b n : ℕ) (a_far : (a == n) ≡ false) (b_far : (b == n) ≡ false)
 -- ---- the whole
 
 pub step_other_ways : EachStepKeepsOtherWays
-step_other_ways opened history more coherent numbered lawful world n stamp free source own a b next a_far b_far channels here held way tid tx server number found =
+step_other_ways opened history more coherent numbered lawful world n stamp free source own a b a_far b_far channels known way tid tx server number found =
     rw (k.node, k.way) (after.stands tid tx server number (ap (λ (x : BookValue). find_transaction x tid) (sym (after_both history more (opening opened))) ∙ found))
   where
     book : BookValue
@@ -135,7 +137,7 @@ step_other_ways opened history more coherent numbered lawful world n stamp free 
     node = (world.hosts b).node
 
     empty_waiting : (t : Tid) (s : ServerNo) (number : ℕ) → find_transaction (book_after (opening opened) history) t ≡ None → waiting_ops (way_between a b number) (waiting_at (world.hosts b).node t s) ≡ []
-    empty_waiting t s number none = ap (waiting_ops (way_between a b number)) ((subst (λ (o : Option TransactionValue). HoldsAt (world.hosts b).node.setting.node (world.hosts b).node.setting.inc t o (face_of (world.hosts b).node t)) none (held.at t)).waiting s)
+    empty_waiting t s number none = ap (waiting_ops (way_between a b number)) (known t s none)
 
     before : HoldsOps (book_after (opening opened) history) a b (λ t s number. waiting_ops (way_between a b number) (waiting_at (world.hosts b).node t s) ++ ops_of t s number (on_its_way world.channels a b))
     before = record {

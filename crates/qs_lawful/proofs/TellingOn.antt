@@ -47,7 +47,7 @@ module _ {K V : Type 0} (cmp : K → K → Ordering) (p : K → Bool) where
       by true more = (rising.0, rising.1)
       by false more = (set_below e.0 v es rising.0, more)
 
-  changed_rises : (f : V → V) (es : List (K × V)) → IsRising cmp es → IsRising cmp (tm.changed_value p f es)
+  pub changed_rises : (f : V → V) (es : List (K × V)) → IsRising cmp es → IsRising cmp (tm.changed_value p f es)
   changed_rises f es rising = by (lookup p es)
     where
       by : (o : Option V) → IsRising cmp (elim o [ None ↦ es | Some v ↦ set_value p es (f v) ])

@@ -1,6 +1,6 @@
 -- What an entry of one node has to find at another node, so that it leaves all that is held of that: the notes that its files issued are noted
 -- there or waited for, and no client is answered that has a command in hand there.
-use Rattle.std.specs.Prelude.{◌≡◌, ◌≤◌, ◌⊎◌, ℕ, true, None, Some, List, [], ◌∷◌, is_some, slice_get, ⊤}
+use Rattle.std.specs.Prelude.{◌≡◌, ◌≤◌, ◌⊎◌, ℕ, true, None, Some, List, is_some, slice_get, ⊤}
 use Rattle.std.specs.Map.{lookup}
 use Rattle.std.specs.BTreeMap.{is_at}
 use Rattle.qs_base.specs.declared.identifiers.ClientNo.{ClientNo}
@@ -11,8 +11,9 @@ use Rattle.qs_journal.specs.declared.entry.Act.TheVariants as acts
 use Rattle.qs_journal.specs.declared.entry.Entry.{Entry}
 use Rattle.qs_machine.specs.Book.{BookValue, find_transaction}
 use Rattle.qs_machine.specs.Clauses.{note_text}
-use Rattle.qs_machine.specs.Lawful.{effect}
+use Rattle.qs_machine.specs.Restart.{is_among}
 use Rattle.qs_machine.specs.Transaction.{TransactionValue, is_open, is_unanimous}
+use Rattle.qs_restart.specs.Recovery.{Recovery}
 use Rattle.qs_step.specs.State.{NodeValue, client_cmp}
 use Rattle.qs_tm.specs.Participant.{awaits_note, has_noted}
 use Rattle.qs_lawful.specs.Beside.{has_issued}
@@ -45,14 +46,10 @@ pub record IsAside (k : ℕ) (node : NodeValue) (entry : Entry) : Type 0 where
   pub of_step : IsOfStep entry.act
   pub answers : AnswersElsewhere node entry.act
 
--- what is unanimous, and open at a home that is down, stays unanimous: the agreement protocol gives it
-abbrev pub StaysUnanimous : ℕ → BookValue → BookValue → Type 0
-StaysUnanimous k book new = (tid : Tid) (tx later : TransactionValue) → find_transaction book tid ≡ Some tx → find_transaction new tid ≡ Some later → tid.home.0 ≡ k → is_open tx.cell ≡ true → is_unanimous tx ≡ true → is_unanimous later ≡ true
-
--- at each of these entries
-abbrev pub KeepsUnanimous : ℕ → BookValue → List Entry → Type 0
-KeepsUnanimous k book [] = ⊤
-KeepsUnanimous k book (entry ∷ entries) = StaysUnanimous k book (effect book entry) × KeepsUnanimous k (effect book entry) entries
+-- what the log of a home that is down has a Commit of, and is open and unanimous, stays unanimous: the agreement protocol gives it
+abbrev pub StaysUnanimous : ℕ → Recovery → BookValue → BookValue → Type 0
+StaysUnanimous k said book new = (tid : Tid) (tx later : TransactionValue) → is_among said.committed tid ≡ true → find_transaction book tid ≡ Some tx → find_transaction new tid ≡ Some later → tid.home.0 ≡ k
+    → is_open tx.cell ≡ true → is_unanimous tx ≡ true → is_unanimous later ≡ true
 
 -- ---- what begins has an owner
 

@@ -7,10 +7,11 @@ use Rattle.qs_machine.specs.Lawful.{IsLawful, book_after}
 use Rattle.qs_machine.specs.Nodes as machine
 use Rattle.qs_machine.specs.Opening.{opening}
 use Rattle.qs_machine.specs.declared.opened.Opened.{Opened}
+use Rattle.qs_restart.specs.Recovery.{recovery}
 use Rattle.qs_step.specs.State.{NodeValue}
 use Rattle.qs_world.specs.Moves.{Source, Step, moved}
 use Rattle.qs_world.specs.World.{Host, World}
-use Rattle.qs_lawful.specs.Aside.{BeginsOwned, HoldsIssued, IsAside, KeepsUnanimous}
+use Rattle.qs_lawful.specs.Aside.{BeginsOwned, HoldsIssued, IsAside, StaysUnanimous}
 use Rattle.qs_lawful.specs.Beside.{HoldsBeside}
 use Rattle.qs_lawful.specs.LastingLaws.{IsNumbered}
 use Rattle.qs_lawful.specs.Logs.{Every}
@@ -27,13 +28,13 @@ pub record HoldsAside (book : BookValue) (size k inc : ℕ) (up : Bool) (host : 
 
 abbrev pub EachKeepsOthers : Type 0
 EachKeepsOthers = (opened : List Opened) (history more : List Entry) → IsCoherent opened → Every IsNumbered opened → IsLawful (opening opened) (history ++ more)
-    → (size k inc : ℕ) (up : Bool) (host : Host) → Every (IsAside k host.node) more → (up ≡ false → KeepsUnanimous k (book_after (opening opened) history) more)
+    → (size k inc : ℕ) (up : Bool) (host : Host) → Every (IsAside k host.node) more → (up ≡ false → StaysUnanimous k (recovery host.log) (book_after (opening opened) history) (book_after (opening opened) (history ++ more)))
     → HoldsAside (book_after (opening opened) history) size k inc up host → HoldsAside (book_after (opening opened) (history ++ more)) size k inc up host
 
 -- so in the world a whole step leaves each other node
 abbrev pub EachStepKeepsOtherNodes : Type 0
 EachStepKeepsOtherNodes = (opened : List Opened) (history more : List Entry) → IsCoherent opened → Every IsNumbered opened → IsLawful (opening opened) (history ++ more)
-    → (world : World) (n stamp free : ℕ) (source : Source) (k : ℕ) → (k == n) ≡ false → Every (IsAside k (world.hosts k).node) more → (world.channels.up k ≡ false → KeepsUnanimous k (book_after (opening opened) history) more)
+    → (world : World) (n stamp free : ℕ) (source : Source) (k : ℕ) → (k == n) ≡ false → Every (IsAside k (world.hosts k).node) more → (world.channels.up k ≡ false → StaysUnanimous k (recovery (world.hosts k).log) (book_after (opening opened) history) (book_after (opening opened) (history ++ more)))
     → HoldsNodeAt (book_after (opening opened) history) world k → (world.channels.up k ≡ true → HoldsIssued (book_after (opening opened) history) (world.hosts k).node)
     → HoldsNodeAt (book_after (opening opened) (history ++ more)) (moved (Step n stamp free source) world) k
 

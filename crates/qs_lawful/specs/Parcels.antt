@@ -1,5 +1,5 @@
 -- What a message says of the machine: it was so as the message was posted, and is so for good.
-use Rattle.std.specs.Prelude.{◌≡◌, ℕ, ◌+◌, ◌-◌, ◌==◌, ◌≤◌, ⊤, true, false, ◌&&◌, List, [], ◌∷◌, ◌++◌, drop, length, Some, is_some, nat_lt, zero, suc, if◌then◌else◌}
+use Rattle.std.specs.Prelude.{◌≡◌, ℕ, ◌+◌, ◌-◌, ◌==◌, ◌≤◌, ⊤, true, false, ◌&&◌, List, [], ◌∷◌, ◌++◌, drop, length, Some, None, is_some, nat_lt, zero, suc, if◌then◌else◌}
 use Rattle.std.specs.List.{flat_map, list_any}
 use Rattle.qs_base.specs.Order.{same_tid}
 use Rattle.qs_base.specs.declared.identifiers.ServerNo.{ServerNo}
@@ -102,3 +102,7 @@ HoldsWay book channels n m node = (tid : Tid) (tx : TransactionValue) (server : 
 
 abbrev pub HoldsWays : BookValue → World → Type 0
 HoldsWays book world = (n m : ℕ) → nat_lt n world.size ≡ true → nat_lt m world.size ≡ true → (n == m) ≡ false → HoldsWay book world.channels n m (world.hosts m).node
+
+-- of what the machine does not know nothing waits at a node
+abbrev pub WaitsForKnown : BookValue → NodeValue → Type 0
+WaitsForKnown book node = (tid : Tid) (server : ServerNo) → find_transaction book tid ≡ None → waiting_at node tid server ≡ []

@@ -19,11 +19,10 @@ use Rattle.qs_world.specs.Openings.{IsOpening, labels_begun, same_label}
 use Rattle.qs_world.specs.Posting.{entry_of}
 use Rattle.qs_world.specs.World.{Opening, Parcel, World, start}
 use Rattle.qs_lawful.specs.Aside.{IsOfStep}
-use Rattle.qs_lawful.specs.Holds.{Holds}
 use Rattle.qs_lawful.specs.Lasting.{Lasts}
 use Rattle.qs_lawful.specs.LastingLaws.{IsNumbered}
 use Rattle.qs_lawful.specs.Logs.{Every}
-use Rattle.qs_lawful.specs.Parcels.{HoldsChannels, HoldsWay, HoldsWays}
+use Rattle.qs_lawful.specs.Parcels.{HoldsChannels, HoldsWay, HoldsWays, WaitsForKnown}
 use Rattle.qs_lawful.specs.Scripts.{AreBehind, HoldsScripts, IsFresh}
 use Rattle.qs_lawful.specs.WorldLaws.{rise_entry}
 use Rattle.qs_lawful.specs.Worlds.{HoldsWorld}
@@ -86,12 +85,12 @@ abbrev pub EachMeetKeepsWays : Type 0
 EachMeetKeepsWays = (book : BookValue) (world : World) (n stamp m inc : ℕ) → HoldsChannels book world.size world.channels → AreSound world.channels → may_move world (Meet n stamp m inc) ≡ true → HoldsWays book world
     → HoldsWays book (moved (Meet n stamp m inc) world)
 
--- ---- a whole step: what two other nodes have on its way
+-- ---- a whole step: what two other nodes have on its way, whether they run or not
 
 abbrev pub EachStepKeepsOtherWays : Type 0
 EachStepKeepsOtherWays = (opened : List Opened) (history more : List Entry) → IsCoherent opened → Every IsNumbered opened → IsLawful (opening opened) (history ++ more)
     → (world : World) (n stamp free : ℕ) (source : Source) → Every (λ (entry : Entry). (entry.node.0 ≡ n) × IsOfStep entry.act) more
-    → (a b next : ℕ) → (a == n) ≡ false → (b == n) ≡ false → HoldsChannels (book_after (opening opened) history) world.size world.channels → (world.hosts b).node.setting.node.0 ≡ b → Holds next (book_after (opening opened) history) (world.hosts b).node
+    → (a b : ℕ) → (a == n) ≡ false → (b == n) ≡ false → HoldsChannels (book_after (opening opened) history) world.size world.channels → WaitsForKnown (book_after (opening opened) history) (world.hosts b).node
     → HoldsWay (book_after (opening opened) history) world.channels a b (world.hosts b).node
     → HoldsWay (book_after (opening opened) (history ++ more)) (moved (Step n stamp free source) world).channels a b ((moved (Step n stamp free source) world).hosts b).node
 

@@ -1,8 +1,10 @@
 -- A step is cut off with a record of a transaction on the disk: that is committed then, or never will be.
 use Rattle.std.proofs.Common.{◌≡◌, ◌⊎◌, inl, inr, ℕ, ◌<◌, ◌≤◌, ◌==◌, ◌&&◌, ◌||◌, Bool, true, false, List, [], ◌∷◌, Option, Some, None, refl, sym, ap, subst, ◌∙◌, arith, if◌then◌else◌}
+use Rattle.std.proofs.lemmas.Bool.{eqb-true}
 use Rattle.std.proofs.lemmas.Bool.Decides.{nat_tests}
 use Rattle.std.specs.List.{list_any}
 use Rattle.qs_base.specs.Order.{same_tid}
+use Rattle.qs_base.specs.declared.identifiers.NodeNo.{NodeNo}
 use Rattle.qs_base.specs.declared.identifiers.Outcome.{Outcome}
 use Rattle.qs_base.specs.declared.identifiers.Outcome.TheVariants as outcomes
 use Rattle.qs_base.specs.declared.identifiers.Tid.{Tid}
@@ -12,9 +14,10 @@ use Rattle.qs_machine.specs.Clauses.{is_crash}
 use Rattle.qs_record.specs.declared.record.Record.{Record}
 use Rattle.qs_record.specs.declared.record.Record.TheVariants as records
 use Rattle.qs_tm.specs.Manager as tm
+use Rattle.qs_engage.specs.Nodes.{same_node}
 use Rattle.qs_tm.specs.declared.participant.Participant.{Participant}
 use Rattle.qs_step.specs.State.{Work, part_of}
-use Rattle.qs_step.specs.Step.{accept, effects_of, step_work}
+use Rattle.qs_step.specs.Step.{accept, after_step, effects_of, step_work}
 use Rattle.qs_step.specs.declared.event.Event.{Event}
 use Rattle.qs_world.specs.Moves.{Source, Cut, event_of, may_step, stopped, stopped_host, cut_log, cut_with, log_after}
 use Rattle.qs_world.specs.World.{World}
@@ -29,7 +32,7 @@ use Rattle.qs_refine.specs.EachMove.{ShowsAll, KeepsDecided, AllGoes}
 use Rattle.qs_refine.specs.Faces.{Face, ShowsFace}
 use Rattle.qs_refine.specs.EventLaws.{IsCut}
 use Rattle.qs_refine.specs.MoveLaws.{AllClose, taken_scene, StepShown, ShowsWorld, is_record_of, is_cut_with}
-use Rattle.qs_refine.specs.NodeFaces.{face_at, outcome_seen}
+use Rattle.qs_refine.specs.NodeFaces.{began_here, face_at, outcome_seen}
 use Rattle.qs_refine.specs.NodeFaces as faces
 use Rattle.qs_refine.specs.Places.{place}
 use Rattle.qs_refine.specs.SaidLaws.{BeginsNew}
@@ -41,6 +44,7 @@ use Rattle.qs_refine.specs.Stands.{Stands}
 use Rattle.qs_refine.specs.StepLaws.{stepped}
 use Rattle.qs_refine.specs.Walks.{is_decided}
 use Rattle.qs_refine.proofs.Crashing as crashing
+use Rattle.qs_refine.proofs.CutRecords.{OneOf, one_of}
 use Rattle.qs_refine.proofs.EachCame.{case_of}
 use Rattle.qs_refine.proofs.EachEvent.{StepCame, step_came}
 use Rattle.qs_refine.proofs.EachMay.{each_may_come}
@@ -48,7 +52,7 @@ use Rattle.qs_refine.proofs.Facts.{invariant, lawful_on}
 use Rattle.qs_refine.proofs.Heads.{face_is}
 use Rattle.qs_refine.proofs.LaterWorlds.{commit_stays}
 use Rattle.qs_refine.proofs.MoveGoes.{StepMay, step_may}
-use Rattle.qs_refine.proofs.Moving.{whole_cut, up_taken}
+use Rattle.qs_refine.proofs.Moving.{inc_taken, whole_cut, up_taken}
 use Rattle.qs_refine.proofs.PassGoes.{engaged}
 use Rattle.qs_refine.proofs.Placing.{placed_stay}
 use Rattle.qs_refine.proofs.PreparedHeld.{LoggedWell}
@@ -63,39 +67,6 @@ use Rattle.qs_refine.proofs.StepAll.{outcome_on, kept_same, node_stopped, stays_
 use Rattle.qs_refine.proofs.StepJoined as joined
 use Rattle.qs_refine.proofs.StepMoves.{closes_on}
 use Rattle.qs_refine.proofs.TurnOn.{Turned, is_aborted_of, is_end_of}
-
--- ---- which record it is
-
--- of such lists one has it
-abbrev OneOf : Tid → List Record → Type 0
-OneOf tid rs = ((list_any (is_prepare_of tid) rs ≡ true) ⊎ (list_any (is_commit_of tid) rs ≡ true)) ⊎ ((list_any (is_aborted_of tid) rs ≡ true) ⊎ (list_any (is_end_of tid) rs ≡ true))
-
-behind : (a b : Bool) → b ≡ true → (a || b) ≡ true
-behind true b is = refl
-behind false b is = is
-
-before : (a b : Bool) → a ≡ true → (a || b) ≡ true
-before a b is = rw is refl
-
-head_is : (tid : Tid) (r : Record) (rs : List Record) → is_record_of tid r ≡ true → OneOf tid (r ∷ rs)
-head_is tid (records.Prepare u server covers changes) rs is = inl (inl (before (same_tid tid u) _ is))
-head_is tid (records.Commit u told) rs is = inl (inr (before (same_tid tid u) _ is))
-head_is tid (records.Aborted u) rs is = inr (inl (before (same_tid tid u) _ is))
-head_is tid (records.End u) rs is = inr (inr (before (same_tid tid u) _ is))
-
-tail_is : (tid : Tid) (r : Record) (rs : List Record) → OneOf tid rs → OneOf tid (r ∷ rs)
-tail_is tid r rs (inl (inl so)) = inl (inl (behind (is_prepare_of tid r) _ so))
-tail_is tid r rs (inl (inr so)) = inl (inr (behind (is_commit_of tid r) _ so))
-tail_is tid r rs (inr (inl so)) = inr (inl (behind (is_aborted_of tid r) _ so))
-tail_is tid r rs (inr (inr so)) = inr (inr (behind (is_end_of tid r) _ so))
-
-one_of : (tid : Tid) (rs : List Record) → list_any (is_record_of tid) rs ≡ true → OneOf tid rs
-one_of tid [] has = absurd (cc has)
-one_of tid (rec ∷ rs) has = by (is_record_of tid rec) refl has (one_of tid rs)
-  where
-    by : (b : Bool) → is_record_of tid rec ≡ b → (b || list_any (is_record_of tid) rs) ≡ true → (list_any (is_record_of tid) rs ≡ true → OneOf tid rs) → OneOf tid (rec ∷ rs)
-    by true is has more = head_is tid rec rs is
-    by false is has more = tail_is tid rec rs (more has)
 
 module _ (t : Tid) (world : World) (w : machine.World) (shown_world : IsShownWorld world) (has : Rattle.qs_refine.specs.Begun.has_begun world t ≡ true) (all : ShowsAll t world w)
     (n stamp free : ℕ) (source : Source) (event : Event) (cause : CrashCause) (n_in : n < world.size) (on : world.channels.up n ≡ true) (serves : Rattle.qs_world.specs.Moves.may_serve (world.hosts n).node source ≡ true) (is_event : event_of world n stamp source ≡ Some event) where
@@ -269,22 +240,38 @@ module _ (t : Tid) (world : World) (w : machine.World) (shown_world : IsShownWor
       by (inr (inl aborts)) = inl (doom_stays f v (abort_dooms f stood.lawful.reached (stood.lawful.agreed.knows_abort (place n (world.channels.inc n)) (joined.aborted_then t world w st home_in all n stamp free n_in on source event is_event came may aborts))) to_v)
       by (inr (inr ends)) = ended ends
 
+  knows : v.cell ≡ Committed → began_here work.node t ≡ true → (face_at work.node t).outcome ≡ Committed
+  knows is began = sym face.outcome ∙ (ap u.outcome at_home ∙ ((invariant u u_lawful).keeps p).home_keeps (subst (λ (k : ℕ). u.up k ≡ true) at_home face.up) ∙ is)
+    where
+      both : (same_node t.home work.node.setting.node ≡ true) × ((t.inc == work.node.setting.inc) ≡ true)
+      both = and_both (same_node t.home work.node.setting.node) (t.inc == work.node.setting.inc) began
+
+      there : t.home.0 ≡ n
+      there = eqb-true t.home.0 work.node.setting.node.0 both.0 ∙ ap (λ (k : NodeNo). k.0) stood.at.node
+
+      now : t.inc ≡ scene.inc n
+      now = eqb-true t.inc work.node.setting.inc both.1 ∙ (stood.at.inc ∙ (ap (λ (g : ℕ → ℕ). g n) came.inc ∙ sym (ap (λ (g : ℕ → ℕ). g n) (inc_taken world n source))))
+
+      at_home : p ≡ u.home
+      at_home = sym (its.0.shown.stage.home ∙ (ap (λ (k : ℕ). place k t.inc) there ∙ ap (place n) now))
+
 pub cut_goes_kept : CutGoesKept
 cut_goes_kept tid world n stamp free source is_kept cause event w may shown_world begun all comes has =
-    subst (λ (o : Option Event). CutsOff tid (cut_with world n stamp free is_kept cause o) w) (sym comes) (by is_kept has)
+    subst (λ (o : Option Event). CutsOff tid (after_step (world.hosts n).node event free) (cut_with world n stamp free is_kept cause o) w) (sym comes) (by is_kept has)
   where
     its : StepMay world n source
     its = step_may world n stamp source (and_both (may_step world n stamp source) (is_crash cause) may).0
 
     kept : (a b : Bool) → (effects_of (world.hosts n).node event free).force ≡ a → list_any (is_record_of tid) (effects_of (world.hosts n).node event free).records ≡ b → (a && b) ≡ true
-        → CutsOff tid (stopped world n stamp cause (cut_log (world.hosts n) true (effects_of (world.hosts n).node event free))) w
+        → CutsOff tid (after_step (world.hosts n).node event free) (stopped world n stamp cause (cut_log (world.hosts n) true (effects_of (world.hosts n).node event free))) w
     kept a true force some both = record {
       goes = all_goes tid world w shown_world begun all n stamp free source event cause its.low its.runs its.serves comes;
       fate = fate tid world w shown_world begun all n stamp free source event cause its.low its.runs its.serves comes some;
+      knows = knows tid world w shown_world begun all n stamp free source event cause its.low its.runs its.serves comes;
     }
     kept true false force none both = absurd (cc both)
     kept false false force none both = absurd (cc both)
 
-    by : (b : Bool) → is_cut_with tid b world n free event ≡ true → CutsOff tid (stopped world n stamp cause (cut_log (world.hosts n) b (effects_of (world.hosts n).node event free))) w
+    by : (b : Bool) → is_cut_with tid b world n free event ≡ true → CutsOff tid (after_step (world.hosts n).node event free) (stopped world n stamp cause (cut_log (world.hosts n) b (effects_of (world.hosts n).node event free))) w
     by false none = absurd (cc none)
     by true both = kept (effects_of (world.hosts n).node event free).force (list_any (is_record_of tid) (effects_of (world.hosts n).node event free).records) refl refl both

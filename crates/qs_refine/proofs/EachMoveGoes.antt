@@ -22,7 +22,9 @@ use Rattle.qs_agree.specs.World as machine
 use Rattle.qs_agree.specs.World.{Open, Committed, Aborted}
 use Rattle.qs_refine.specs.EachMove.{ShowsAll, AllGoes, KeepsDecided, MessagesFit, EachMoveGoes, ShownFits}
 use Rattle.qs_refine.specs.Links.{node_no}
+use Rattle.qs_refine.specs.MeetingLaws.{met_at}
 use Rattle.qs_refine.specs.MoveLaws.{WorldGoes}
+use Rattle.qs_refine.specs.Places.{place}
 use Rattle.qs_refine.specs.Shows.{scene_of}
 use Rattle.qs_refine.specs.Sound.{may_vote, is_list_of, has_doubt}
 use Rattle.qs_refine.specs.Steady.{IsSteady, HasBegun}
@@ -33,10 +35,10 @@ use Rattle.qs_refine.proofs.EachMay.{is_next, is_fit}
 use Rattle.qs_refine.proofs.EachMoves.{step_goes_on, cut_goes_on}
 use Rattle.qs_refine.proofs.Facts.{invariant}
 use Rattle.qs_refine.proofs.LaterWorlds.{commit_stays}
-use Rattle.qs_refine.proofs.MoveGoes.{in_run, later_in, StepMay, step_may, rises, meets}
+use Rattle.qs_refine.proofs.MoveGoes.{in_run, later_in, StepMay, step_may, rises, meets, meets_next}
 use Rattle.qs_refine.proofs.RisenFaces.{lists_from}
 use Rattle.qs_refine.proofs.SoundParts.{and_both}
-use Rattle.qs_refine.proofs.StepAll.{StaysAt, TellsAt, kept_same, goes_all, stays_stopped, node_stopped}
+use Rattle.qs_refine.proofs.StepAll.{StaysAt, TellsAt, kept_same, goes_all, goes_all_next, stays_stopped, node_stopped}
 use Rattle.qs_refine.proofs.StepMoves.{stops}
 use Rattle.qs_refine.proofs.TakenOf.{IsTakenOf, taken_of, list_home}
 use Rattle.qs_refine.proofs.TakingUp.{Known, log_taken}
@@ -142,20 +144,29 @@ module _ (t : Tid) (world : World) (w : machine.World) (steady : IsSteady world)
   -- ---- a first meeting
 
   module _ (n stamp m first_inc : ℕ) (n_in : n < world.size) (on : world.channels.up n ≡ true) (m_in : m < world.size) (other : m ≢ n) (unknown : world.channels.peer n m ≡ 0) (some : 1 ≤ first_inc) (begun_then : first_inc ≤ world.channels.inc m) where
-    meet_goes_on : AllGoes t (met world n stamp m first_inc) w
-    meet_goes_on = goes_all t world w home_in all (met world n stamp m first_inc) refl goes
-        (kept_same t world (met world n stamp m first_inc) w goes.next all goes.leads (same_node_at t.home.0 (t.home.0 == n) refl)) (λ k k_in up. inl (record { manager = picked k (k == n) refl; up = up; inc = refl }))
-      where
-        goes : WorldGoes t (met world n stamp m first_inc) w
-        goes = meets t world w steady.seated home_in all.seen n stamp m first_inc n_in on m_in other unknown some begun_then
+    met_goes : WorldGoes t (met world n stamp m first_inc) w
+    met_goes = meets t world w steady.seated home_in all.seen n stamp m first_inc n_in on m_in other unknown some begun_then
 
+    met_kept : KeepsDecided t (met world n stamp m first_inc) met_goes.next
+    met_kept = kept_same t world (met world n stamp m first_inc) w met_goes.next all met_goes.leads (same_node_at t.home.0 (t.home.0 == n) refl)
+      where
         same_node_at : (k : ℕ) (b : Bool) → (k == n) ≡ b → (if b then record (world.hosts n) { stamp = stamp } else world.hosts k).node ≡ (world.hosts k).node
         same_node_at k true is = ap (λ (j : ℕ). (world.hosts j).node) (sym (eqb-true k n is))
         same_node_at k false is = refl
 
+    met_stays : (k : ℕ) → k < world.size → (met world n stamp m first_inc).channels.up k ≡ true → StaysAt world (met world n stamp m first_inc) k ⊎ TellsAt t (met world n stamp m first_inc) k met_goes.next
+    met_stays k k_in up = inl (record { manager = picked k (k == n) refl; up = up; inc = refl })
+      where
         picked : (k : ℕ) (b : Bool) → (k == n) ≡ b → (if b then record (world.hosts n) { stamp = stamp } else world.hosts k).node.manager ≡ (world.hosts k).node.manager
         picked k true is = ap (λ (j : ℕ). (world.hosts j).node.manager) (sym (eqb-true k n is))
         picked k false is = refl
+
+    pub meet_goes_on : AllGoes t (met world n stamp m first_inc) w
+    meet_goes_on = goes_all t world w home_in all (met world n stamp m first_inc) refl met_goes met_kept met_stays
+
+    pub meet_next_is : meet_goes_on.next ≡ met_at w (place n (world.channels.inc n)) (place m first_inc)
+    unfolding meet_goes_on met_goes
+    meet_next_is = goes_all_next t world w home_in all (met world n stamp m first_inc) refl met_goes met_kept met_stays ∙ meets_next t world w steady.seated home_in all.seen n stamp m first_inc n_in on m_in other unknown some begun_then
 
 -- ---- each move
 

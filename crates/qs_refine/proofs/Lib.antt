@@ -301,7 +301,9 @@ pub mod PreparedKept
 pub mod PreparedHeld
 pub mod PreparedSteps
 pub mod CutsAlone
+pub mod CutRecords
 pub mod CutsKept
+pub mod MeetsAlone
 pub mod CommitIdles
 pub mod PassedOver
 pub mod ToCome

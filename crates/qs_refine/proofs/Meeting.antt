@@ -3,11 +3,15 @@ use Rattle.std.proofs.Common.{◌≡◌, ◌≢◌, ℕ, ◌+◌, ◌<◌, ◌�
 use Rattle.std.proofs.lemmas.Bool.{eqb-true}
 use Rattle.std.proofs.lemmas.Bool.Decides.{nat_tests}
 use Rattle.qs_agree.specs.World.{World, with_at2}
+use Rattle.qs_agree.specs.Carry.{IsLawful}
 use Rattle.qs_agree.specs.Step.{Step, Meet}
+use Rattle.qs_base.specs.declared.identifiers.Tid.{Tid}
 use Rattle.qs_refine.specs.Faces.{Face, ShowsFace, ShowsOpen}
 use Rattle.qs_refine.specs.Links.{Said, Requested, Closed, Outcome_told, Taken_in, Inquired, Link, link, waiting_link, IsLink}
-use Rattle.qs_refine.specs.MeetingLaws.{MeetGoes}
+use Rattle.qs_refine.specs.MeetingLaws.{MeetGoes, met_at}
 use Rattle.qs_refine.specs.Places.{place, known_place}
+use Rattle.qs_refine.specs.Seen.{Runs}
+use Rattle.qs_refine.specs.Sights.{Sight, ShowsSight}
 use Rattle.qs_refine.proofs.Around.{links_around, known_is, place_some}
 use Rattle.qs_refine.proofs.Facts.{invariant}
 use Rattle.qs_refine.proofs.FreshRuns.{fresh}
@@ -16,11 +20,7 @@ use Rattle.qs_refine.proofs.Still.{log_still}
 use Rattle.qs_refine.proofs.Streams.{Stays, still, within}
 
 abbrev after_meet : ℕ → ℕ → World → World
-after_meet p q old = record old {
-  peer = with_at2 old.peer p (old.node q) q;
-  posted = with_at2 old.posted p q (old.sent p (old.node q));
-  inquiry_put = with_at2 old.inquiry_put p q (old.inquiries p);
-}
+after_meet p q old = met_at old p q
 
 -- where no Covered and no VotedYes was put, it is of no account which ones might be
 unclosed : (saids : List Said) (k : Link) (closer : ℕ → ℕ) (set : ℕ → ℕ → Bool) → k.closers ≤ k.taken → IsLink (record k { closer = closer; closer_set = set }) saids → IsLink k saids
@@ -184,3 +184,9 @@ meet tid x w n m first lawful shown at m_in other unknown some begun apart = rec
             changed c e f is = grind (arith, nat_tests, is)
         by false d ec ed = els (λ is _. grind (arith, nat_tests, ec, is))
         by true false ec ed = els (λ _ is. grind (arith, nat_tests, ed, is))
+
+-- the machine then is as it says
+pub meet_next : (tid : Tid) (x : Sight) (w : World) (n m first : ℕ) (lawful : IsLawful w) (shown : ShowsSight tid x w) (at : Runs x n) (m_in : m < x.size) (other : m ≢ n) (unknown : x.knows n m ≡ 0) (some : 1 ≤ first) (begun : first ≤ x.inc m)
+    (apart : (x.face n).on ≡ true → (x.face n).is_home ≡ false → (x.face n).superior ≢ m) → (meet tid x w n m first lawful shown at m_in other unknown some begun apart).next ≡ met_at w (place n (x.inc n)) (place m first)
+unfolding meet
+meet_next tid x w n m first lawful shown at m_in other unknown some begun apart = refl

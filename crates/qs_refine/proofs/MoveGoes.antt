@@ -10,7 +10,7 @@ use Rattle.qs_step.specs.declared.event.Event.{Event}
 use Rattle.qs_world.specs.Moves.{Source, Step, Cut, Stop, Rise, Meet, event_of, step_with, cut_with, risen_host, risen, met, reopened, is_later, is_in_order, may_serve, may_step, has_begun}
 use Rattle.qs_world.specs.World.{World, known_of}
 use Rattle.qs_agree.specs.World as machine
-use Rattle.qs_refine.specs.MeetingLaws.{sight_met}
+use Rattle.qs_refine.specs.MeetingLaws.{met_at, sight_met}
 use Rattle.qs_refine.specs.MoveLaws.{IsSeated, AllClose, ShowsWorld, WorldGoes, MoveGoes}
 use Rattle.qs_refine.specs.NodeFaces.{face_at, began_here}
 use Rattle.qs_refine.specs.Places.{place}
@@ -20,7 +20,7 @@ use Rattle.qs_refine.specs.Shows.{scene_of, Shows}
 use Rattle.qs_refine.specs.Sound.{may_take_up, kept_before}
 use Rattle.qs_refine.proofs.Facts.{invariant, lawful_on}
 use Rattle.qs_refine.proofs.FreshRuns.{fresh}
-use Rattle.qs_refine.proofs.Meeting.{meet}
+use Rattle.qs_refine.proofs.Meeting.{meet, meet_next}
 use Rattle.qs_refine.proofs.Placing.{placed_stay}
 use Rattle.qs_refine.proofs.RestartGoes.{rise}
 use Rattle.qs_refine.proofs.RisenFaces.{risen_face}
@@ -114,6 +114,10 @@ module _ (tid : Tid) (world : World) (w : machine.World) (seated : IsSeated worl
         closes : (k : ℕ) → k < world.size → world.channels.up k ≡ true → (b : Bool) → (k == n) ≡ b → AllClose tid k (place k (world.channels.inc k)) met_goes.next (if b then record (world.hosts n) { stamp = stamp } else world.hosts k).waiting
         closes k k_in runs true is = rw (eqb-true k n is) (closes_on tid world w seated home_in sw met_goes.next met_goes.leads n n_in on (met_shown.faces n n_in on).up)
         closes k k_in runs false is = closes_on tid world w seated home_in sw met_goes.next met_goes.leads k k_in runs (met_shown.faces k k_in runs).up
+
+    pub meets_next : meets.next ≡ met_at w (place n (world.channels.inc n)) (place m first)
+    unfolding meets met_goes
+    meets_next = meet_next tid (x tid world w seated home_in sw) w n m first sw.lawful sw.shown (record { in_run = n_in; up = on }) m_in other unknown some begun apart
 
 -- ---- each move
 

@@ -1,23 +1,20 @@
 -- What waits first at a server: an operation of its own; and another transaction's request, which is served, leaves this one standing.
-use Rattle.std.proofs.Common.{◌≡◌, ℕ, ◌+◌, ◌≤◌, Bool, true, false, List, [], ◌∷◌, drop, Option, Some, None, refl, sym, subst, ap, ◌∙◌, arith}
+use Rattle.std.proofs.Common.{◌≡◌, ℕ, Bool, true, false, List, [], ◌∷◌, Some, refl, sym, subst, ap, arith}
 use Rattle.std.specs.BTreeMap.{is_at}
 use Rattle.std.specs.List.{list_all}
 use Rattle.std.proofs.lemmas.Bool.Decides.{nat_tests}
 use Rattle.qs_base.specs.Order.{same_tid}
 use Rattle.qs_base.specs.declared.identifiers.ServerNo.{ServerNo}
 use Rattle.qs_base.specs.declared.identifiers.Tid.{Tid}
-use Rattle.qs_engage.specs.Engage.{last_number}
 use Rattle.qs_ipc.specs.Ipc as ipc
 use Rattle.qs_ipc.specs.Ipc.{IpcValue, queue_at, server_cmp}
 use Rattle.qs_ipc.specs.Queue.{first_of}
 use Rattle.qs_ipc.specs.declared.delivery.Delivery.{Delivery}
-use Rattle.qs_tm.specs.Participant.{member_of}
-use Rattle.qs_step.specs.Serving.{serve_or_drop, serve_next}
-use Rattle.qs_step.specs.State.{NodeValue, Work, with_queues}
+use Rattle.qs_step.specs.Serving.{serve_next}
+use Rattle.qs_step.specs.State.{NodeValue, Work}
 use Rattle.qs_agree.specs.World as machine
 use Rattle.qs_agree.specs.World.{World}
 use Rattle.qs_refine.specs.Faces.{Face, ShowsFace}
-use Rattle.qs_refine.specs.ServeWhole.{CanCount}
 use Rattle.qs_refine.specs.Shows.{Scene}
 use Rattle.qs_refine.specs.Sights.{server_no}
 use Rattle.qs_refine.specs.Sound.{is_sound_queue, is_sound_delivery}

@@ -1,5 +1,5 @@
 -- All that waits is served, and what stood of a transaction stands.
-use Rattle.std.proofs.Common.{◌≡◌, ◌⊎◌, inl, inr, ℕ, ◌+◌, ◌<◌, ◌≤◌, ◌==◌, ◌&&◌, ◌||◌, not, nat_lt, Bool, true, false, List, [], ◌∷◌, drop, Option, Some, None, is_some, fold, refl, sym, subst, ap, ◌∙◌, arith, if◌then◌else◌}
+use Rattle.std.proofs.Common.{◌≡◌, ◌⊎◌, inl, inr, ℕ, ◌<◌, ◌≤◌, ◌==◌, ◌&&◌, ◌||◌, not, nat_lt, Bool, true, false, List, [], ◌∷◌, drop, Option, Some, None, is_some, fold, refl, sym, subst, ap, ◌∙◌, arith, if◌then◌else◌}
 use Rattle.std.specs.Prelude.{is_none}
 use Rattle.std.proofs.lemmas.Bool.{eqb-true}
 use Rattle.std.proofs.lemmas.Bool.Decides.{nat_tests}
@@ -9,10 +9,9 @@ use Rattle.qs_base.specs.declared.identifiers.Outcome.{Outcome}
 use Rattle.qs_base.specs.declared.identifiers.Outcome.TheVariants as outcomes
 use Rattle.qs_base.specs.declared.identifiers.ServerNo.{ServerNo}
 use Rattle.qs_base.specs.declared.identifiers.Tid.{Tid}
-use Rattle.qs_engage.specs.Engage.{last_number}
 use Rattle.qs_ipc.specs.Ipc as ipc
 use Rattle.qs_ipc.specs.Ipc.{IpcValue, queue_at, server_cmp}
-use Rattle.qs_ipc.specs.Queue.{count_of, is_for}
+use Rattle.qs_ipc.specs.Queue.{is_for}
 use Rattle.qs_ipc.specs.declared.delivery.Delivery.{Delivery}
 use Rattle.qs_ops.specs.Members.{class_of}
 use Rattle.qs_ops.specs.declared.reply.Reply.{Reply}
@@ -27,26 +26,21 @@ use Rattle.qs_refine.specs.Faces.{Face}
 use Rattle.qs_refine.specs.NodeFaces.{face, waiting_at}
 use Rattle.qs_refine.specs.ServeWhole.{CanCount, ServeAllGoes}
 use Rattle.qs_refine.specs.Shows.{Scene, sight_during}
-use Rattle.qs_refine.specs.Sights.{Sight, ShowsSight, server_no}
+use Rattle.qs_refine.specs.Sights.{Sight, ShowsSight}
 use Rattle.qs_refine.specs.Sound.{is_sound_delivery, may_be_served}
 use Rattle.qs_refine.specs.Stands.{Stands, GoesOn}
 use Rattle.qs_refine.specs.Steps.{Goes}
 use Rattle.qs_refine.proofs.OwnReplies.{OfServer, OfClient, own_replies}
-use Rattle.qs_refine.proofs.Queues.{waits_next, waits_first}
-use Rattle.qs_refine.proofs.ServeFrames.{first_is, next_leaves, next_kinds}
+use Rattle.qs_refine.proofs.ServeFrames.{next_leaves, next_kinds}
 use Rattle.qs_refine.proofs.SettleStands.{stands_itself, goes_further, whole_known}
 use Rattle.qs_refine.proofs.SoundKnown.{same_is}
 use Rattle.qs_refine.proofs.SoundParts.{and_both}
 use Rattle.qs_refine.proofs.SoundServe.{serve_next_sound}
 use Rattle.qs_refine.proofs.SoundViews.{seen}
-use Rattle.std.specs.Prelude.{slice_index_or}
 use Rattle.qs_ops.specs.Server.{reply_of}
 use Rattle.qs_ops.specs.declared.reply.Reply.TheVariants as replies
-use Rattle.qs_tm.specs.Members.{no_member}
 use Rattle.qs_tm.specs.Participant as participant
-use Rattle.qs_tm.specs.declared.members.MemberPart.{MemberPart}
 use Rattle.qs_step.specs.Serving.{serve}
-use Rattle.qs_agree.specs.World.{with_at}
 use Rattle.qs_refine.specs.Places.{place}
 use Rattle.qs_refine.specs.Steps.{Knows}
 use Rattle.qs_refine.proofs.Alike.{SameFace, same_itself, found_itself, sight_alike}
@@ -56,14 +50,13 @@ use Rattle.qs_refine.proofs.Keeping.{nothing_goes}
 use Rattle.qs_refine.proofs.PassCarried.{Carried}
 use Rattle.qs_refine.proofs.Reading.{part_known}
 use Rattle.qs_refine.proofs.Refaced.{refaced}
-use Rattle.qs_refine.proofs.Same.{tid_same}
-use Rattle.qs_refine.proofs.ServeCounts.{KeepsCounts, served_outcome, served_superior, served_prepared, served_other, served_here, serve_counts}
+use Rattle.qs_refine.proofs.ServeCounts.{KeepsCounts, served_outcome, served_superior, served_prepared, serve_counts}
 use Rattle.qs_refine.proofs.ServeGoes.{serve_law, lend_law}
 use Rattle.qs_refine.proofs.SettleRules.{beside, beside_apart, stands_on, clear_carried, answers_carried}
 use Rattle.qs_refine.proofs.SoundHolds.{known_sound}
 use Rattle.qs_refine.proofs.SoundMembers.{vote_covers}
 use Rattle.qs_refine.proofs.ServeFirst.{delivery_sound, with_waits, aborted_waits, other_served}
-use Rattle.qs_refine.proofs.ServeRoom.{IsSized, next_counts, same_waits, turn_is, unfull, waits_here}
+use Rattle.qs_refine.proofs.ServeRoom.{IsSized, next_counts, turn_is, unfull, waits_here}
 
 -- ---- its own
 

@@ -90,6 +90,11 @@ pub goes_all : (t : Tid) (world : World) (w : machine.World) (home_in : t.home.0
     → ((k : ℕ) → k < world.size → after.channels.up k ≡ true → StaysAt world after k ⊎ TellsAt t after k goes.next) → AllGoes t after w
 goes_all t world w home_in all after sized goes then_kept each_node = all_goes t world w home_in all after goes.next goes.leads sized goes.shown then_kept each_node
 
+pub goes_all_next : (t : Tid) (world : World) (w : machine.World) (home_in : t.home.0 < world.size) (all : ShowsAll t world w) (after : World) (sized : after.size ≡ world.size) (goes : WorldGoes t after w) (then_kept : KeepsDecided t after goes.next)
+    (each_node : (k : ℕ) → k < world.size → after.channels.up k ≡ true → StaysAt world after k ⊎ TellsAt t after k goes.next) → (goes_all t world w home_in all after sized goes then_kept each_node).next ≡ goes.next
+unfolding goes_all all_goes
+goes_all_next t world w home_in all after sized goes then_kept each_node = refl
+
 -- ---- a node stops: the others stay, and so does what it keeps
 
 pub stays_stopped : (world : World) (n stamp : ℕ) (cause : CrashCause) (log : List Record) (k : ℕ) → (stopped world n stamp cause log).channels.up k ≡ true → StaysAt world (stopped world n stamp cause log) k

@@ -5,6 +5,8 @@ use Rattle.qs_base.specs.declared.identifiers.Tid.{Tid}
 use Rattle.qs_journal.specs.declared.entry.CrashCause.{CrashCause}
 use Rattle.qs_record.specs.declared.record.Record.{Record}
 use Rattle.qs_record.specs.declared.record.Record.TheVariants as records
+use Rattle.qs_step.specs.State.{NodeValue}
+use Rattle.qs_step.specs.Step.{after_step}
 use Rattle.qs_step.specs.declared.event.Event.{Event}
 use Rattle.qs_world.specs.Moves.{Source, Cut, Stop, event_of, may_move, moved}
 use Rattle.qs_world.specs.World.{World}
@@ -14,6 +16,7 @@ use Rattle.qs_agree.specs.Doomed.{IsDoomed}
 use Rattle.qs_refine.specs.Begun.{has_begun}
 use Rattle.qs_refine.specs.EachMove.{ShowsAll, AllGoes}
 use Rattle.qs_refine.specs.MoveLaws.{is_cut_with}
+use Rattle.qs_refine.specs.NodeFaces.{began_here, face_at}
 use Rattle.qs_refine.specs.Places.{place}
 use Rattle.qs_refine.specs.ShownWorlds.{IsShownWorld}
 
@@ -49,12 +52,14 @@ abbrev pub CutGoesAlone : Type 0
 CutGoesAlone = (tid : Tid) (world : World) (n stamp free : ℕ) (source : Source) (is_kept : Bool) (cause : CrashCause) (event : Event) (w : machine.World) → may_move world (Cut n stamp free source is_kept cause) ≡ true → IsShownWorld world → has_begun world tid ≡ true → ShowsAll tid world w
     → event_of world n stamp source ≡ Some event → is_cut_with tid is_kept world n free event ≡ false → StopsAlone tid world (moved (Cut n stamp free source is_kept cause) world) n w
 
--- ---- a record of it is kept: it is committed, or never will be: a node says Yes in a later step than it logs a Prepare, and so its place died engaged
+-- ---- a record of it is kept: it is committed, or never will be: a node says Yes in a later step than it logs a Prepare, and so its place died engaged.
+-- Where it began at the node, that would have known the commit after the whole step
 
-pub record CutsOff (tid : Tid) (after : World) (w : machine.World) : Type 0 where
+pub record CutsOff (tid : Tid) (node : NodeValue) (after : World) (w : machine.World) : Type 0 where
   pub goes : AllGoes tid after w
   pub fate : IsDoomed goes.next ⊎ (goes.next.cell ≡ Committed)
+  pub knows : goes.next.cell ≡ Committed → began_here node tid ≡ true → (face_at node tid).outcome ≡ Committed
 
 abbrev pub CutGoesKept : Type 0
 CutGoesKept = (tid : Tid) (world : World) (n stamp free : ℕ) (source : Source) (is_kept : Bool) (cause : CrashCause) (event : Event) (w : machine.World) → may_move world (Cut n stamp free source is_kept cause) ≡ true → IsShownWorld world → has_begun world tid ≡ true → ShowsAll tid world w
-    → event_of world n stamp source ≡ Some event → is_cut_with tid is_kept world n free event ≡ true → CutsOff tid (moved (Cut n stamp free source is_kept cause) world) w
+    → event_of world n stamp source ≡ Some event → is_cut_with tid is_kept world n free event ≡ true → CutsOff tid (after_step (world.hosts n).node event free) (moved (Cut n stamp free source is_kept cause) world) w

@@ -40,6 +40,7 @@ pub mod Lists
 pub mod SaidLaws
 pub mod MoveLaws
 pub mod CutLaws
+pub mod MeetLaws
 pub mod CommitLaws
 pub mod OpenLaws
 pub mod JoinLaws

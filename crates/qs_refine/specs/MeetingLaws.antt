@@ -1,7 +1,7 @@
 -- The law of a first meeting, over all that is seen of a transaction.
 use Rattle.std.specs.Prelude.{◌≡◌, ◌≢◌, ℕ, ◌<◌, ◌≤◌, ◌==◌, ◌&&◌, true, false, [], if◌then◌else◌}
 use Rattle.qs_base.specs.declared.identifiers.Tid.{Tid}
-use Rattle.qs_agree.specs.World.{World}
+use Rattle.qs_agree.specs.World.{World, with_at2}
 use Rattle.qs_agree.specs.Carry.{IsLawful}
 use Rattle.qs_refine.specs.Seen.{Runs, SightGoes}
 use Rattle.qs_refine.specs.Sights.{Sight, ShowsSight, with_at4}
@@ -12,6 +12,14 @@ sight_met x n m first = record x {
   knows = λ a b. if (a == n) && (b == m) then first else x.knows a b;
   said = with_at4 x.said n (x.inc n) m first (x.unmet n m);
   unmet = λ a b. if (a == n) && (b == m) then [] else x.unmet a b;
+}
+
+-- place p knows place q, and all that it sent to that node is put for it
+abbrev pub met_at : World → ℕ → ℕ → World
+met_at w p q = record w {
+  peer = with_at2 w.peer p (w.node q) q;
+  posted = with_at2 w.posted p q (w.sent p (w.node q));
+  inquiry_put = with_at2 w.inquiry_put p q (w.inquiries p);
 }
 
 -- the node does not answer to the other one yet: Meet

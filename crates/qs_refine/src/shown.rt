@@ -1,6 +1,7 @@
 //! Worlds in which each transaction that has begun is shown, so that a move asks nothing.
 ghost use Rattle.qs_refine.specs.CommitLaws.{OffIdle, CommitIdle, CommitClear, CommitUnmet};
 ghost use Rattle.qs_refine.specs.CutLaws.{StopGoesAlone, CutGoesAlone, CutGoesKept};
+ghost use Rattle.qs_refine.specs.MeetLaws.{MeetGoesAlone};
 ghost use Rattle.qs_refine.specs.Listed.{StartListed, MoveListed, SteadyGives};
 ghost use Rattle.qs_refine.specs.ShownWorlds.{ShownFit, ShownGives, ShownGoes, BegunStays, MoveShown, RunShown, ShownRunGoes};
 
@@ -34,6 +35,12 @@ pub fn stops()
     ensures alone { StopGoesAlone }
     ensures lost { CutGoesAlone }
     ensures kept { CutGoesKept }
+{}
+
+/// A node gets to know a first incarnation of another: its place knows that place then and has all put for it that it had sent, and nothing else
+/// happens.
+pub fn meets()
+    ensures { MeetGoesAlone }
 {}
 
 /// A node that is not engaged is idle for what it has not decided: nothing waits there, nothing is lent, and no vote is due. Once commit

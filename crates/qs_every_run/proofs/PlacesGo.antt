@@ -1,0 +1,8 @@
+-- What the induction over a run takes for granted of what all places hold, put together.
+use Rattle.qs_every_run.specs.PlacesLaws.{PlacesGoOn}
+use Rattle.qs_every_run.proofs.PlacesBegin.{opens_places}
+use Rattle.qs_every_run.proofs.PlacesKept.{keeps_places}
+use Rattle.qs_every_run.proofs.StepUnanimous.{steps_stay_unanimous}
+
+pub places_go : PlacesGoOn
+places_go = record { opens = opens_places; between = keeps_places; unanimous = steps_stay_unanimous }

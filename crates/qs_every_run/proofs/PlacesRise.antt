@@ -1,0 +1,158 @@
+-- What all places hold through a restart: what is undecided after it was so before, and is doomed, or so placed as before.
+use Rattle.std.proofs.Common.{◌≡◌, ◌⊎◌, inl, inr, ℕ, ◌+◌, ◌<◌, ◌==◌, ◌&&◌, ◌||◌, not, Bool, true, false, List, [], ◌∷◌, Some, refl, sym, ap, subst, ◌∙◌, arith, nat_lt, nat_le, if◌then◌else◌}
+use Rattle.std.proofs.lemmas.Bool.{eqb-true}
+use Rattle.std.proofs.lemmas.Bool.Decides.{nat_tests}
+use Rattle.qs_base.specs.declared.identifiers.Tid.{Tid}
+use Rattle.qs_journal.specs.declared.entry.Entry.{Entry}
+use Rattle.qs_journal.specs.declared.entry.Found.{Found}
+use Rattle.qs_machine.specs.Book.{BookValue, find_transaction}
+use Rattle.qs_machine.specs.Nodes.{is_recoverable}
+use Rattle.qs_machine.specs.Restart.{restart}
+use Rattle.qs_machine.specs.Transaction.{TransactionValue, is_empty, is_open, life_cmp, request_cmp}
+use Rattle.qs_machine.specs.declared.transaction.Request.{Request}
+use Rattle.qs_machine.specs.declared.transaction.RequestNo.{RequestNo}
+use Rattle.qs_restart.specs.Recovery.{names_transaction, recovery}
+use Rattle.qs_restart.specs.declared.recovered.Recovered.{Recovered}
+use Rattle.qs_step.specs.Opening.{recovered_of}
+use Rattle.qs_world.specs.Moves.{Rise, is_in_order, may_move, moved, risen_host}
+use Rattle.qs_world.specs.World.{Opening, World}
+use Rattle.qs_agree.specs.Doomed.{IsDoomed}
+use Rattle.qs_agree.proofs.Doomed.{doom_stays}
+use Rattle.qs_refine.specs.Begun.{has_begun}
+use Rattle.qs_refine.specs.EachMove.{AllGoes}
+use Rattle.qs_refine.specs.ShownWorlds.{IsShown, IsShownWorld}
+use Rattle.qs_refine.proofs.ShownBegins.{each_begun_shown}
+use Rattle.qs_refine.proofs.ShownMoves.{home_in_run, move_shown, shown_goes}
+use Rattle.qs_refine.proofs.MoveGoes.{in_run}
+use Rattle.qs_refine.proofs.SoundParts.{and_both}
+use Rattle.qs_lawful.specs.Lasting.{Lasts}
+use Rattle.qs_lawful.specs.Logs.{Every, found_votes}
+use Rattle.qs_lawful.specs.WorldLaws.{rise_entry}
+use Rattle.qs_lawful.proofs.LastsAlways.{in_runs}
+use Rattle.qs_lawful.proofs.Turning.{stood}
+use Rattle.qs_every_run.specs.Joined.{Joined, book_in}
+use Rattle.qs_every_run.specs.JoinedPlaces.{PlacedOf, PlacesAt}
+use Rattle.qs_every_run.specs.Placed.{IsPlaced, Placed, field_of}
+use Rattle.qs_every_run.proofs.Entries.{each_on}
+use Rattle.qs_every_run.proofs.JoinedParts.{book_on}
+use Rattle.qs_every_run.proofs.PlacedTx.{EachBare, IsBare, PlacedIn, placed_in, placed_of}
+use Rattle.qs_every_run.proofs.PlacesBegin.{begun_down}
+use Rattle.qs_every_run.proofs.RestartPlaced.{Goes, Keeps, KeepsTx, restart_keeps, votes_kinds}
+use Rattle.qs_every_run.proofs.RisenFields.{inc_now, life_on, request_on, up_now}
+
+module _ (o : Opening) (world : World) (j : Joined PlacesAt o world) (n stamp inc : ℕ) (may : may_move world (Rise n stamp inc) ≡ true) where
+  abbrev book : BookValue
+  book = book_in o world
+
+  abbrev after : World
+  after = moved (Rise n stamp inc) world
+
+  abbrev found : Recovered
+  found = recovered_of (world.hosts n).log
+
+  abbrev entry : Entry
+  entry = rise_entry world n stamp inc
+
+  abbrev pend : List Found
+  pend = found_votes (recovery (world.hosts n).log)
+
+  not_so : (b : Bool) → not b ≡ true → b ≡ false
+  not_so true is = absurd (cc is)
+  not_so false is = refl
+
+  off : world.channels.up n ≡ false
+  off = not_so (world.channels.up n) (and_both (not (world.channels.up n)) _ may).0
+
+  tests : (is_in_order world n stamp ≡ true) × (nat_lt (world.channels.inc n) inc ≡ true)
+  tests = and_both (is_in_order world n stamp) (nat_lt (world.channels.inc n) inc) (and_both (not (world.channels.up n)) _ may).1
+
+  n_in : n < world.size
+  n_in = in_run world n stamp tests.0
+
+  later : world.channels.inc n < inc
+  later = let less : nat_lt (world.channels.inc n) inc ≡ true = tests.1 in grind (arith, nat_tests, less)
+
+  shown : IsShownWorld after
+  shown = move_shown world (Rise n stamp inc) may j.shown (each_begun_shown world (Rise n stamp inc) may j.shown)
+
+  lasts : Lasts book
+  lasts = in_runs o world.journal j.opens j.lawful
+
+  kinds : Every (λ (f : Found). is_recoverable f.server.0 ≡ true) pend
+  kinds = votes_kinds (recovery (world.hosts n).log).prepared ((j.held.nodes n n_in).stopped off).log.kinds
+
+  goes : Goes (field_of after) book (book_in o after)
+  goes = subst (λ (b : BookValue). Goes (field_of after) book b) (sym (book_on o world after (entry ∷ []) refl)) (record { none = r.none; goes = r.goes })
+    where
+      r : Goes (field_of after) book (restart n inc pend (recovery (world.hosts n).log).committed book)
+      r = restart_keeps (field_of after) n inc n_in (up_now tid_any world n stamp inc found n_in off later) (inc_now tid_any world n stamp inc found n_in off later) pend (recovery (world.hosts n).log).committed kinds book
+        where
+          tid_any : Tid
+          tid_any = record { home = record { 0 = 0 }; inc = 0; seq = 0 }
+
+  module _ (tid : Tid) (begun : has_begun after tid ≡ true) where
+    abbrev k : ℕ
+    k = tid.home.0
+
+    its : IsShown tid after
+    its = shown.shown tid begun
+
+    low : k < world.size
+    low = home_in_run after shown tid begun
+
+    was_so : (later_tx : TransactionValue) → find_transaction (book_in o after) tid ≡ Some later_tx → (tx : TransactionValue) × (find_transaction book tid ≡ Some tx) × KeepsTx (field_of after) tx later_tx
+    was_so later_tx is = stood (Keeps (field_of after)) book (book_in o after) goes tid later_tx is
+
+    -- what has begun elsewhere had begun before
+    begun_away : (k == n) ≡ false → has_begun world tid ≡ true
+    begun_away far = picked (k == n) far begun
+      where
+        picked : (b : Bool) → b ≡ false
+            → (names_transaction tid && (nat_lt k world.size && (nat_lt tid.inc (if (if b then true else world.channels.up k) then (if b then inc else world.channels.inc k) else (if b then inc else world.channels.inc k) + 1)
+            || ((tid.inc == (if (if b then true else world.channels.up k) then (if b then inc else world.channels.inc k) else (if b then inc else world.channels.inc k) + 1)) && nat_le tid.seq (if (if b then true else world.channels.up k) then (if b then risen_host stamp inc found (world.hosts n) else world.hosts k).node.manager.begun else 0))))) ≡ true
+            → has_begun world tid ≡ true
+        picked false is so = so
+        picked true is so = absurd (cc is)
+
+    unbegun : has_begun world tid ≡ false → (b : Bool) → (k == n) ≡ b → (later_tx : TransactionValue) → find_transaction (book_in o after) tid ≡ Some later_tx → is_open later_tx.cell ≡ true → ⊥
+    unbegun none false far later_tx is undecided = absurd (let was : has_begun world tid ≡ true = begun_away far in cc (none, was))
+    unbegun none true near later_tx is undecided =
+        let p = was_so later_tx is in
+        absurd (let was : has_begun world tid ≡ true = begun_down book world lasts j.held tid p.0 p.1 (p.2.undecided undecided) low (subst (λ (i : ℕ). world.channels.up i ≡ false) (sym (eqb-true k n near)) off) in cc (none, was))
+
+    placed_then : (tx later_tx : TransactionValue) → KeepsTx (field_of after) tx later_tx → Placed tid tx (field_of world) → Placed tid later_tx (field_of after)
+    placed_then tx later_tx keeps placed = placed_of tid later_tx (field_of after) (ap is_empty keeps.refusals ∙ placed.unrefused) (ap is_empty keeps.crossed ∙ placed.uncrossed)
+        (record { numbers = subst (Rattle.qs_laws.proofs.Rising.IsRising request_cmp) (sym keeps.requests) in_old.numbers; members = parts.0; each = subst (λ (rs : List (RequestNo × List Request)). Rattle.qs_every_run.proofs.Entries.Each request_cmp (IsPlaced tid (field_of after)) rs) (sym keeps.requests) requests; bare = parts.1 })
+      where
+        in_old : PlacedIn tid (field_of world) tx.requests tx.parts
+        in_old = placed_in tid tx (field_of world) placed
+
+        requests : Rattle.qs_every_run.proofs.Entries.Each request_cmp (IsPlaced tid (field_of after)) tx.requests
+        requests = each_on request_cmp (IsPlaced tid (field_of world)) (IsPlaced tid (field_of after)) (λ at rs. request_on tid world n stamp inc found n_in off later at rs) tx.requests in_old.each
+
+        bare : EachBare (field_of after) tx.parts
+        bare = each_on life_cmp (IsBare (field_of world)) (IsBare (field_of after)) (λ l part. life_on tid world n stamp inc found n_in off later l part) tx.parts in_old.bare
+
+        parts : Rattle.qs_laws.proofs.Rising.IsRising life_cmp later_tx.parts × EachBare (field_of after) later_tx.parts
+        parts = keeps.parts in_old.members bare
+
+    pub rise_places : PlacedOf tid o after
+    rise_places = by (has_begun world tid) refl
+      where
+        by : (b : Bool) → has_begun world tid ≡ b → PlacedOf tid o after
+        by false none = record { machine = its.machine; shows = its.shows; placed = λ later_tx is undecided. absurd (unbegun none (k == n) refl later_tx is undecided) }
+        by true was = record { machine = on.next; shows = on.shown; placed = λ later_tx is undecided. of later_tx is undecided (was_so later_tx is) }
+          where
+            p : PlacedOf tid o world
+            p = j.places tid was
+
+            on : AllGoes tid after p.machine
+            on = shown_goes tid world (Rise n stamp inc) p.machine may j.shown was p.shows
+
+            of : (later_tx : TransactionValue) → find_transaction (book_in o after) tid ≡ Some later_tx → is_open later_tx.cell ≡ true → (tx : TransactionValue) × (find_transaction book tid ≡ Some tx) × KeepsTx (field_of after) tx later_tx
+                → IsDoomed on.next ⊎ Placed tid later_tx (field_of after)
+            of later_tx is undecided (tx, had, keeps) = at (p.placed tx had (keeps.undecided undecided))
+              where
+                at : IsDoomed p.machine ⊎ Placed tid tx (field_of world) → IsDoomed on.next ⊎ Placed tid later_tx (field_of after)
+                at (inl doomed) = inl (doom_stays p.machine on.next doomed on.leads)
+                at (inr placed) = inr (placed_then tx later_tx keeps placed)

@@ -1,0 +1,5 @@
+use Rattle.qs_every_run.proofs.PlacesGo.{places_go}
+use Rattle.qs_every_run.proofs.joined_runs.places_go_on.Goals as goal
+
+pub returns : goal.returns
+returns c = places_go

@@ -1,0 +1,36 @@
+-- The laws of a step, of clients and of what is on its way: what begins has an owner, who is answered has nothing in hand at another node, and
+-- scripts and ways go on.
+use Rattle.std.specs.Prelude.{◌≡◌, ◌<◌, ℕ, ◌==◌, false}
+use Rattle.qs_machine.specs.Lawful.{IsLawful, book_after}
+use Rattle.qs_step.specs.Step.{effects_of}
+use Rattle.qs_step.specs.declared.event.Event.{Event}
+use Rattle.qs_world.specs.Moves.{Source, Step, moved}
+use Rattle.qs_world.specs.Posting.{entries_of}
+use Rattle.qs_world.specs.World.{Opening, World}
+use Rattle.qs_lawful.specs.Aside.{AnswersElsewhere}
+use Rattle.qs_lawful.specs.Logs.{Every}
+use Rattle.qs_lawful.specs.Parcels.{HoldsWays}
+use Rattle.qs_lawful.specs.Scripts.{HoldsScripts}
+use Rattle.qs_every_run.specs.Agrees.{MakesStep}
+use Rattle.qs_every_run.specs.Joined.{ClientsAt, Joined, book_in}
+use Rattle.qs_every_run.specs.JoinedOwed.{HasOwner}
+
+abbrev pub InStep : (Opening → World → Type 0) → (Opening → World → ℕ → ℕ → ℕ → Source → Event → Type 0) → Type 0
+InStep P X = (o : Opening) (world : World) (n stamp free : ℕ) (source : Source) (event : Event) → Joined P o world → MakesStep world n stamp source event → X o world n stamp free source event
+
+abbrev pub BeginsOwned : Opening → World → ℕ → ℕ → ℕ → Source → Event → Type 0
+BeginsOwned o world n stamp free source event = Every (HasOwner (book_in o world)) (effects_of (world.hosts n).node event free).entries
+
+abbrev pub AnswersAside : Opening → World → ℕ → ℕ → ℕ → Source → Event → Type 0
+AnswersAside o world n stamp free source event = (k : ℕ) → (k == n) ≡ false → k < world.size → Every (AnswersElsewhere (world.hosts k).node) (effects_of (world.hosts n).node event free).entries
+
+abbrev pub KeepsClients : Opening → World → ℕ → ℕ → ℕ → Source → Event → Type 0
+KeepsClients o world n stamp free source event = ClientsAt (moved (Step n stamp free source) world)
+
+abbrev pub KeepsScripts : Opening → World → ℕ → ℕ → ℕ → Source → Event → Type 0
+KeepsScripts o world n stamp free source event = HoldsScripts o (book_after (book_in o world) (entries_of n stamp (effects_of (world.hosts n).node event free).entries)) (moved (Step n stamp free source) world)
+
+-- where its entries are lawful
+abbrev pub KeepsWays : Opening → World → ℕ → ℕ → ℕ → Source → Event → Type 0
+KeepsWays o world n stamp free source event = IsLawful (book_in o world) (entries_of n stamp (effects_of (world.hosts n).node event free).entries)
+    → HoldsWays (book_after (book_in o world) (entries_of n stamp (effects_of (world.hosts n).node event free).entries)) (moved (Step n stamp free source) world)
