@@ -28,7 +28,7 @@ use Rattle.qs_world.specs.Histories.{book_of}
 use Rattle.qs_world.specs.Moves.{Cut, Move, Source, Step, cut_log, event_of, log_after, may_move, moved, stopped, waiting_after}
 use Rattle.qs_world.specs.Openings.{IsOpening}
 use Rattle.qs_world.specs.Posting.{entries_of}
-use Rattle.qs_world.specs.World.{Opening, World, inc_of, start}
+use Rattle.qs_world.specs.World.{Opening, World, start}
 use Rattle.qs_agree.specs.World as agreement
 use Rattle.qs_agree.specs.World.{Open, Committed}
 use Rattle.qs_refine.specs.Begun.{has_begun}
