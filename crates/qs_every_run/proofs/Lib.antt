@@ -73,3 +73,6 @@ pub mod PlacesGo
 pub mod BornMoves
 pub mod KeptAfter
 pub mod JoinedKept
+pub mod StoodIdle
+pub mod LabelsKept
+pub mod LabelsMoves

@@ -2,7 +2,7 @@
 use Rattle.std.proofs.Common.{◌≡◌, ℕ, Bool, true, false, List, [], ◌∷◌, ◌++◌, Option, Some, None, refl, sym, subst, ◌∙◌}
 use Rattle.std.specs.BTreeMap.{insert_entry, is_at}
 use Rattle.std.specs.Map.{lookup, remove_entry}
-use Rattle.std.specs.Prelude.{if◌then◌else◌}
+use Rattle.std.specs.Prelude.{if◌then◌else◌, is_none}
 use Rattle.std.proofs.lemmas.Cmp.{tied_itself, nat_cmp_total}
 use Rattle.qs_base.specs.declared.identifiers.ClientNo.{ClientNo}
 use Rattle.qs_base.specs.declared.identifiers.Member.{Member}
@@ -56,7 +56,7 @@ use Rattle.qs_tm.specs.Outcomes.{told_with_own}
 use Rattle.qs_tm.specs.Participant.{is_forgotten}
 use Rattle.qs_tm.specs.declared.manager.BeginFault.{BeginFault}
 use Rattle.qs_tm.specs.declared.manager.BeginFault.TheVariants as faults
-use Rattle.qs_every_run.specs.Traces.{IsKept, TakesIn, Trace, answered, entered, fresh_command, trace_of}
+use Rattle.qs_every_run.specs.Traces.{IsKept, TakesIn, Trace, answered, entered, fresh_command, noted, trace_of}
 use Rattle.qs_every_run.proofs.TraceRules as rules
 use Rattle.qs_every_run.proofs.TraceTold as told
 
@@ -93,12 +93,13 @@ module _ (P : Trace → Type 0) (k : IsKept P) where
         }
       ]))
       began None none = absurd (cc (sym waits ∙ none))
-      began (Some command) there = subst (λ (c : OpenCommand). P (answered line.client c answers.Done (entered (acts.Begin (tm.next_tid work.node.manager) line.label line.client) (trace_of work)))) (one (sym waits ∙ there))
+      began (Some command) there = subst (λ (c : OpenCommand). P (answered line.client c answers.Done (entered (acts.Begin (tm.next_tid work.node.manager) line.label line.client) (noted (record { label = line.label; tid = Some (tm.next_tid work.node.manager); owner = Some line.client }) (trace_of work))))) (one (sym waits ∙ there))
           (k.begins (trace_of work) line (tm.next_tid work.node.manager) waits is h)
 
       by : (fault : Option BeginFault) → P (trace_of (begin_or_refuse line fault work))
       by None = began (lookup (is_at (client_cmp line.client)) work.node.commands) refl
-      by (Some (faults.LogFull need room)) = rules.answer_keeps P k line.client (answers.LogFull need room) (put_label (record { label = line.label; tid = None; owner = Some line.client }) work) h
+      by (Some (faults.LogFull need room)) = rules.answer_keeps P k line.client (answers.LogFull need room) (put_label (record { label = line.label; tid = None; owner = Some line.client }) work)
+          (k.refuses (trace_of work) line h)
       by (Some (faults.Last value)) = h
       by (Some faults.NoMemory) = h
 
@@ -246,8 +247,11 @@ module _ (P Q : Trace → Type 0) (p : IsKept P) (q : IsKept Q) where
         engaged : Work
         engaged = engage tid peer number (learn_label label tid work)
 
+        told : P (trace_of (learn_label label tid work))
+        told = rules.if_keeps P p (is_none (label_at label work.node)) (put_label (record { label = label; tid = Some tid; owner = None }) work) work work (λ new. t.learns (trace_of work) peer tid label member number issuer op is) (λ known h. h) h
+
         kept : P (trace_of engaged)
-        kept = rules.engage_keeps P p peer tid label number work h
+        kept = rules.engage_keeps P p peer tid number (learn_label label tid work) told
 
         taken : (b : Bool) → Q (trace_of (if b then with_queues (ipc.enqueue member.server (record { tid = tid; from = peer; number = number; op = op; stale = false })) engaged else engaged))
         taken true = t.takes (trace_of engaged) peer tid label member number issuer op is kept

@@ -2,6 +2,7 @@ pub mod Placed
 pub mod PlacedLaws
 pub mod StopLaws
 pub mod Agrees
+pub mod Labels
 pub mod Joined
 pub mod Traces
 pub mod Answering

@@ -1,9 +1,10 @@
 //! Every run of the world of nodes is lawful, as far as it is owed.
-ghost use Rattle.qs_every_run.specs.StepLaws.{AnswersAside, BeginsOwned, InStep, KeepsClients, KeepsScripts, KeepsWays};
+ghost use Rattle.qs_every_run.specs.StepLaws.{AnswersAside, BeginsOwned, InStep, KeepsClients, KeepsLabels, KeepsScripts, KeepsWays};
 ghost use Rattle.qs_every_run.specs.JoinedPlaces.{PlacesAt};
 ghost use Rattle.qs_every_run.specs.PlacesLaws.{PlacesGoOn};
 ghost use Rattle.qs_every_run.specs.JoinedRuns.{EachMoveJoined, EachOpensJoined, EachRunJoined, EachRunLawful};
 ghost use Rattle.qs_every_run.specs.Joined.{RunningAt};
+ghost use Rattle.qs_every_run.specs.Labels.{RequestsOwned};
 ghost use Rattle.qs_every_run.specs.JoinedOwed.{Opens};
 ghost use Rattle.qs_every_run.specs.RiseLaws.{EachRiseKeepsBeside, EachRisesRunning};
 ghost use Rattle.qs_every_run.specs.StaysLaws.{StepsKeepLogged, StepsTickOnce, StepsYoung};
@@ -52,4 +53,11 @@ pub fn steps_leave_the_young()
     ensures young { StepsYoung }
     ensures ticks { StepsTickOnce }
     ensures logged { StepsKeepLogged }
+{}
+
+/// What has a request and a home in the run began in the run, so it has an owner. And each label of a transaction of its own that a node keeps after
+/// a step is kept as its owner's: no request that comes home tells of another.
+pub fn labels_stay_owned()
+    ensures requests { RequestsOwned }
+    ensures labels { InStep PlacesAt KeepsLabels }
 {}
