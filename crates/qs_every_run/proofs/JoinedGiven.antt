@@ -26,6 +26,7 @@ use Rattle.qs_every_run.specs.JoinedOwed.{Owed}
 use Rattle.qs_every_run.proofs.AgreesEach.{steady}
 use Rattle.qs_every_run.proofs.AgreesPasses.{stages_sound}
 use Rattle.qs_every_run.proofs.JoinedClocks.{tick_room}
+use Rattle.qs_every_run.proofs.JoinedGone.{finds_gone}
 use Rattle.qs_every_run.proofs.JoinedLogged.{logged_by_log}
 use Rattle.qs_every_run.proofs.CountsServed.{room_before, room_first}
 
@@ -71,7 +72,7 @@ module _ (P : Opening → World → Type 0) (owed : Owed P) (o : Opening) (world
   so (events.Received peer message) is = subst (λ (x : Event). HappensSo stamp (book_in o world) x (first_work node free)) (sym is) tt
   so events.ServeAll is = subst (λ (x : Event). HappensSo stamp (book_in o world) x (first_work node free)) (sym is) tt
   so (events.PeerRestarted peer old new) is = subst (λ (x : Event). HappensSo stamp (book_in o world) x (first_work node free)) (sym is)
-      (owed.finds_gone o world n stamp free source peer old new j (subst (λ (x : Event). MakesStep world n stamp source x) is makes))
+      (finds_gone P owed o world j n stamp free source peer old new (subst (λ (x : Event). MakesStep world n stamp source x) is makes) holds)
   so events.Tick is = subst (λ (x : Event). HappensSo stamp (book_in o world) x (first_work node free)) (sym is) (tick_room P o world j n stamp free source event makes)
 
   pub step_on : StepOn stamp (book_in o world) world.size (nodes_in world) n node event free

@@ -37,6 +37,8 @@ pub mod OpensRunning
 pub mod CountsServed
 pub mod JoinedClocks
 pub mod JoinedLogged
+pub mod OwedBefore
+pub mod JoinedGone
 pub mod JoinedGiven
 pub mod RequestsLeft
 pub mod WaysEntries
@@ -76,3 +78,4 @@ pub mod JoinedKept
 pub mod StoodIdle
 pub mod LabelsKept
 pub mod LabelsMoves
+pub mod TriedOwingRuns

@@ -7,6 +7,7 @@ use Rattle.qs_journal.specs.declared.entry.Act.{Act}
 use Rattle.qs_journal.specs.declared.entry.Act.TheVariants as acts
 use Rattle.qs_journal.specs.declared.entry.CrashCause.{CrashCause}
 use Rattle.qs_journal.specs.declared.entry.Entry.{Entry}
+use Rattle.qs_laws.specs.Gone.{stands_open}
 use Rattle.qs_machine.specs.Book.{BookValue, find_transaction}
 use Rattle.qs_machine.specs.Lawful.{IsLawful, book_after}
 use Rattle.qs_machine.specs.Nodes as machine
@@ -18,6 +19,7 @@ use Rattle.qs_step.specs.Step.{after_step, effects_of}
 use Rattle.qs_step.specs.declared.event.Event.{Event}
 use Rattle.qs_step.specs.declared.event.Event.TheVariants as events
 use Rattle.qs_tm.specs.Manager as tm
+use Rattle.qs_tm.specs.Participant.{is_owed_by}
 use Rattle.qs_tm.specs.declared.participant.Participant.{Participant}
 use Rattle.qs_world.specs.Histories.{book_of}
 use Rattle.qs_world.specs.Moves.{Cut, Move, Source, Step, cut_log, event_of, log_after, may_move, moved, stopped, waiting_after}
@@ -30,10 +32,10 @@ use Rattle.qs_refine.specs.Begun.{has_begun}
 use Rattle.qs_refine.specs.CutLaws.{CutsOff}
 use Rattle.qs_refine.specs.EachMove.{ShowsAll}
 use Rattle.qs_lawful.specs.Aside.{StaysUnanimous}
-use Rattle.qs_lawful.specs.BesideStep.{HappensSo, HasCountRoom}
+use Rattle.qs_lawful.specs.BesideStep.{HasCountRoom}
 use Rattle.qs_lawful.specs.Entering.{book_at}
 use Rattle.qs_lawful.specs.Given.{AtEach}
-use Rattle.qs_lawful.specs.GivenStep.{done_work, first_work}
+use Rattle.qs_lawful.specs.GivenStep.{done_work}
 use Rattle.qs_lawful.specs.Said.{HoldsSaid}
 use Rattle.qs_lawful.specs.WorldLaws.{StopsWell}
 use Rattle.qs_every_run.specs.Agrees.{MakesStep}
@@ -55,10 +57,10 @@ abbrev pub EachCommitsSettled : (Opening → World → Type 0) → Type 0
 EachCommitsSettled P = (o : Opening) (world : World) (n stamp free : ℕ) (source : Source) (event : Event) → Joined P o world → MakesStep world n stamp source event
     → AtEach (CommitsSettled stamp (book_in o world)) settle_tid (done_work (world.hosts n).node event free) (due_tids (done_work (world.hosts n).node event free))
 
--- what a node owes that restarted the machine finds gone
-abbrev pub EachFindsGone : (Opening → World → Type 0) → Type 0
-EachFindsGone P = (o : Opening) (world : World) (n stamp free : ℕ) (source : Source) (peer : NodeNo) (old new : ℕ) → Joined P o world → MakesStep world n stamp source (events.PeerRestarted peer old new)
-    → HappensSo stamp (book_in o world) (events.PeerRestarted peer old new) (first_work (world.hosts n).node free)
+-- what a node owes that restarted, of what is undecided, stands open in the history
+abbrev pub EachOwesOpen : (Opening → World → Type 0) → Type 0
+EachOwesOpen P = (o : Opening) (world : World) (n stamp : ℕ) (source : Source) (peer : NodeNo) (old new : ℕ) → Joined P o world → MakesStep world n stamp source (events.PeerRestarted peer old new)
+    → (tid : Tid) (part : Participant) → tm.part_of tid (world.hosts n).node.manager ≡ Some part → part.outcome ≡ None → is_owed_by peer part ≡ true → stands_open tid peer world.journal ≡ true
 
 -- where a vote pass is due, the count of changes has room
 abbrev pub EachCountsRoom : (Opening → World → Type 0) → Type 0
@@ -124,7 +126,7 @@ Keeps P kind X = (o : Opening) (world : World) (move : Move) → kind move → J
 pub record Owed (P : Opening → World → Type 0) : Type 0 where
   -- what a step is given
   pub commits : EachCommitsSettled P
-  pub finds_gone : EachFindsGone P
+  pub owes_open : EachOwesOpen P
   pub rooms : EachCountsRoom P
   -- after a whole step
   pub steps_said : AfterStep P SaidThen

@@ -15,3 +15,4 @@ pub mod Stays
 pub mod StaysLaws
 pub mod PlacesLaws
 pub mod Born
+pub mod TriedOwing

@@ -1,5 +1,5 @@
 -- A home decides: what the machine has beside the node stands on, and what it commits is kept so for its owner.
-use Rattle.std.proofs.Common.{◌≡◌, ◌⊎◌, inl, inr, ℕ, Bool, true, false, List, [], ◌∷◌, ◌++◌, Option, Some, None, refl, sym, ap, subst, ◌∙◌, ◌<◌, ◌^◌, ◌==◌, if◌then◌else◌}
+use Rattle.std.proofs.Common.{◌≡◌, ◌⊎◌, inl, inr, ℕ, Bool, true, false, List, [], ◌∷◌, ◌++◌, Option, Some, None, refl, sym, ap, subst, ◌∙◌, ◌<◌, ◌^◌, ◌==◌}
 use Rattle.std.specs.List.{find, list_any}
 use Rattle.std.specs.Option.{option_map}
 use Rattle.std.specs.Prelude.{◌||◌, is_some, slice_get}
@@ -10,24 +10,22 @@ use Rattle.qs_base.specs.declared.identifiers.NodeNo.{NodeNo}
 use Rattle.qs_base.specs.declared.identifiers.Outcome.{Outcome}
 use Rattle.qs_base.specs.declared.identifiers.Outcome.TheVariants as outcomes
 use Rattle.qs_base.specs.declared.identifiers.Tid.{Tid}
-use Rattle.qs_engage.specs.Nodes.{listed}
 use Rattle.qs_journal.specs.declared.entry.Act.{Act}
 use Rattle.qs_journal.specs.declared.entry.Act.TheVariants as acts
 use Rattle.qs_kept.specs.Keeping.{is_outcome_of}
 use Rattle.qs_kept.specs.declared.kept.Decided.{Decided}
 use Rattle.qs_laws.proofs.Maps.{changed_at_alike}
 use Rattle.qs_laws.proofs.Steps.{held}
-use Rattle.qs_machine.specs.Book.{BookValue, cell_of_transaction, find_transaction, owner_of, told, told_owner}
+use Rattle.qs_machine.specs.Book.{BookValue, find_transaction, owner_of, told, told_owner}
 use Rattle.qs_machine.specs.Clauses.{broken_decide, may_decide}
 use Rattle.qs_machine.specs.Lawful.{broken, effect}
-use Rattle.qs_machine.specs.Transaction.{TransactionValue, cell_of, decided_at, is_abort, is_commit, is_open, is_outcome}
+use Rattle.qs_machine.specs.Transaction.{TransactionValue, cell_of, decided_at, is_abort, is_commit, is_open}
 use Rattle.qs_machine.specs.declared.state.Owner.{Owner}
 use Rattle.qs_machine.specs.declared.transaction.Cell.{Cell}
 use Rattle.qs_machine.specs.declared.transaction.Cell.TheVariants as cells
 use Rattle.qs_ops.specs.declared.answer.Cause.{Cause}
 use Rattle.qs_packet.specs.declared.message.Message.TheVariants as messages
 use Rattle.qs_record.specs.declared.record.Record.{Record}
-use Rattle.qs_record.specs.declared.record.Record.TheVariants as records
 use Rattle.qs_step.specs.Answering.{is_kept_commit, kept_outcome, was_committed}
 use Rattle.qs_step.specs.Bringing.{enter, log_if, send_each, tid_of}
 use Rattle.qs_step.specs.Deciding.{decide, give_notices, keep_outcome}
@@ -35,7 +33,6 @@ use Rattle.qs_step.specs.State.{NodeValue, Work, with_manager}
 use Rattle.qs_tm.specs.Manager as tm
 use Rattle.qs_tm.specs.Outcomes as outcome_rules
 use Rattle.qs_tm.specs.declared.manager.Decision.{Decision}
-use Rattle.qs_tm.specs.declared.manager.Manager.{Manager}
 use Rattle.qs_tm.specs.Participant.{has_noted, is_count}
 use Rattle.qs_tm.specs.declared.participant.Outstanding.{Outstanding}
 use Rattle.qs_tm.specs.declared.participant.Participant.{Participant}
@@ -43,7 +40,6 @@ use Rattle.qs_world.specs.Posting.{entry_of}
 use Rattle.qs_lawful.specs.Amid.{InRun}
 use Rattle.qs_lawful.specs.Beside.{HasOwner, HoldsBeside, HoldsEnded, HoldsNotes, HoldsPart, HoldsStranger, IsTrueCause, awaits_count, is_note_with}
 use Rattle.qs_lawful.specs.Entering.{book_at}
-use Rattle.qs_lawful.specs.Logged.{HasOutcome}
 use Rattle.qs_lawful.proofs.Apart.{Apart, same_or_apart}
 use Rattle.qs_lawful.proofs.BesideActs.{others_changed}
 use Rattle.qs_lawful.proofs.BesideGoes.{Goes, goes_entry, goes_self, goes_sends, goes_then}
@@ -55,81 +51,7 @@ use Rattle.qs_lawful.proofs.Faces.{part_apart, part_changed, part_unknown}
 use Rattle.qs_lawful.proofs.LogActs.{acting}
 use Rattle.qs_lawful.proofs.Steps.{tx_apart}
 use Rattle.qs_lawful.proofs.Truths.{clash, of_some, right_true}
-
--- ---- what is kept for owners, and one more
-
-found_first : (p : Decided → Bool) (xs ys : List Decided) (x : Decided) → find p xs ≡ Some x → find p (xs ++ ys) ≡ Some x
-found_first p [] ys x e = absurd (cc e)
-found_first p (d ∷ xs) ys x e = by (p d) e (found_first p xs ys x)
-  where
-    by : (b : Bool) → (if b then Some d else find p xs) ≡ Some x → (find p xs ≡ Some x → find p (xs ++ ys) ≡ Some x) → (if b then Some d else find p (xs ++ ys)) ≡ Some x
-    by true e more = e
-    by false e more = more e
-
-found_last : (p : Decided → Bool) (xs : List Decided) (d : Decided) → find p xs ≡ None → p d ≡ true → find p (xs ++ d ∷ []) ≡ Some d
-found_last p [] d e has = rw has refl
-found_last p (x ∷ xs) d e has = by (p x) e (λ n. found_last p xs d n has)
-  where
-    by : (b : Bool) → (if b then Some x else find p xs) ≡ None → (find p xs ≡ None → find p (xs ++ d ∷ []) ≡ Some d) → (if b then Some x else find p (xs ++ d ∷ [])) ≡ Some d
-    by true e more = absurd (cc e)
-    by false e more = more e
-
--- what was committed stays so
-committed_more : (t : Tid) (node fresh : NodeValue) (d : Decided) → fresh.kept.now.outcomes ≡ node.kept.now.outcomes ++ d ∷ [] → fresh.committed ≡ node.committed → was_committed t node ≡ true → was_committed t fresh ≡ true
-committed_more t node fresh d outcomes committed is = by (kept_outcome t node) refl is
-  where
-    or_right : (a b : Bool) → b ≡ true → (a || b) ≡ true
-    or_right true b e = refl
-    or_right false b e = e
-
-    by : (o : Option Decided) → kept_outcome t node ≡ o → (is_kept_commit o || list_any (same_tid t) node.committed) ≡ true → was_committed t fresh ≡ true
-    by None none e = rw committed (or_right (is_kept_commit (kept_outcome t fresh)) (list_any (same_tid t) node.committed) e)
-    by (Some x) some e = rw (committed, outcomes, found_first (is_outcome_of t) node.kept.now.outcomes (d ∷ []) x some) e
-
--- ---- the record of a decision is of its transaction
-
-abbrev made_of : Tid → Outcome → Option Participant → Decision
-made_of tid outcome o = elim o [ None ↦ tm.no_decision | Some part ↦ record { rec = outcome_rules.record_of tid outcome part; tell = listed (outcome_rules.tell_of outcome part) } ]
-
-pub decision_of : (tid : Tid) (outcome : Outcome) (manager : Manager) (rec : Record) → (tm.decision tid outcome manager).rec ≡ Some rec → tid_of rec ≡ tid
-decision_of tid outcome manager rec is = by (tm.part_of tid manager) is
-  where
-    of : (o : Outcome) (part : Participant) → outcome_rules.record_of tid o part ≡ Some rec → tid_of rec ≡ tid
-    of outcomes.Commit part e = at (outcome_rules.writes_commit part) e
-      where
-        at : (b : Bool) → (if b then Some (records.Commit tid (listed part.told)) else None) ≡ Some rec → tid_of rec ≡ tid
-        at true e = ap tid_of (of_some (sym e))
-        at false e = absurd (cc e)
-    of outcomes.Abort part e = at part.log.prepared e
-      where
-        at : (b : Bool) → (if b then Some (records.Aborted tid) else None) ≡ Some rec → tid_of rec ≡ tid
-        at true e = ap tid_of (of_some (sym e))
-        at false e = absurd (cc e)
-
-    by : (o : Option Participant) → (made_of tid outcome o).rec ≡ Some rec → tid_of rec ≡ tid
-    by None e = absurd (cc e)
-    by (Some part) e = of outcome part e
-
-outcome_is : (o : Outcome) → is_outcome o (cell_of o) ≡ true
-outcome_is outcomes.Commit = refl
-outcome_is outcomes.Abort = refl
-
--- the cell that has an outcome
-pub cell_is : (o : Outcome) (c : Cell) → is_outcome o c ≡ true → c ≡ cell_of o
-cell_is outcomes.Commit cells.Commit e = refl
-cell_is outcomes.Abort cells.Abort e = refl
-cell_is outcomes.Commit cells.Abort e = absurd (cc e)
-cell_is outcomes.Commit cells.Open e = absurd (cc e)
-cell_is outcomes.Abort cells.Commit e = absurd (cc e)
-cell_is outcomes.Abort cells.Open e = absurd (cc e)
-
--- a node that knows how it ended says what is so
-pub outcome_said : (book : BookValue) (node : NodeValue) (tid : Tid) (p : Participant) (o : Outcome) → tm.part_of tid node.manager ≡ Some p → p.outcome ≡ Some o → HoldsBeside book node → HasOutcome book tid o
-outcome_said book node tid p o known decided h = by (find_transaction book tid) refl ((h.at tid).stands p known)
-  where
-    by : (x : Option TransactionValue) → find_transaction book tid ≡ x → is_some (find_transaction book tid) ≡ true → cell_of_transaction (find_transaction book tid) ≡ Some (cell_of o)
-    by None is there = absurd (clash (sym (ap is_some is) ∙ there))
-    by (Some tx) is there = ap cell_of_transaction is ∙ ap Some (cell_is o tx.cell (((h.at tid).parts tx p is known).outcome o decided))
+use Rattle.qs_lawful.proofs.DecidedOutcomes.{committed_more, decision_of, found_last, made_of, outcome_is, outcome_said}
 
 module _ (stamp : ℕ) (before : BookValue) (run : InRun before) where
   abbrev On : Work → Work → Type 0

@@ -31,7 +31,7 @@ use Rattle.qs_lawful.specs.Given.{AtEach}
 use Rattle.qs_lawful.specs.GivenStep.{tick_work}
 use Rattle.qs_lawful.specs.Logged.{HasOutcome}
 use Rattle.qs_lawful.proofs.BesideActs.{steps_as, steps_self}
-use Rattle.qs_lawful.proofs.BesideDecide.{outcome_said}
+use Rattle.qs_lawful.proofs.DecidedOutcomes.{outcome_said}
 use Rattle.qs_lawful.proofs.BesideGoes.{Goes, goes_alike, goes_elim, goes_entry, goes_fold, goes_if, goes_part, goes_self, goes_send, goes_sends, goes_then}
 use Rattle.qs_lawful.proofs.BesideLearnt.{Ended, goes_notices, notices_still}
 use Rattle.qs_lawful.proofs.BesideParts.{part_same}

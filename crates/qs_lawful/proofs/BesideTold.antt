@@ -38,7 +38,7 @@ use Rattle.qs_lawful.specs.Holds.{HasEnded, HoldsTid}
 use Rattle.qs_lawful.specs.Logged.{HasAborted, HasCommitted, HasOutcome}
 use Rattle.qs_lawful.specs.NodeFacts.{HasNodeFacts}
 use Rattle.qs_lawful.specs.Parcels.{GoesTo, IsSaid}
-use Rattle.qs_lawful.proofs.BesideDecide.{cell_is, outcome_said}
+use Rattle.qs_lawful.proofs.DecidedOutcomes.{cell_is, outcome_said}
 use Rattle.qs_lawful.proofs.BesideGoes.{Goes, goes_elim, goes_if, goes_part, goes_self, goes_send, goes_sends, goes_still, goes_then, says_on}
 use Rattle.qs_lawful.proofs.BesideKnown.{beside_custom, goes_custom, goes_forget, goes_keep}
 use Rattle.qs_lawful.proofs.BesideLearnt.{Ended, goes_notices, notices_still}

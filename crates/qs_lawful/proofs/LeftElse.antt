@@ -28,7 +28,7 @@ use Rattle.qs_world.specs.Posting.{entries_of}
 use Rattle.qs_lawful.specs.Entering.{book_at}
 use Rattle.qs_lawful.proofs.Apart.{Apart}
 use Rattle.qs_lawful.proofs.Asking.{sent_each_entries, sent_each_node}
-use Rattle.qs_lawful.proofs.BesideDecide.{decision_of}
+use Rattle.qs_lawful.proofs.DecidedOutcomes.{decision_of}
 use Rattle.qs_lawful.proofs.Faces.{part_apart}
 use Rattle.qs_lawful.proofs.Growing.{book_now}
 

@@ -82,7 +82,6 @@ pub mod Clauses
 pub mod Issuing
 pub mod FoundOnce
 pub mod Restarting
-pub mod Unanimity
 pub mod Faces
 pub mod Steps
 pub mod Asking
@@ -246,6 +245,11 @@ pub mod OthersRise
 pub mod RiseKeeps
 pub mod SaidOn
 pub mod SaidPairs
+pub mod SaidEntries
+pub mod SaidHeld
+pub mod SaidVoting
+pub mod SaidRules
+pub mod SaidCommits
 pub mod SaidStays
 pub mod ParcelsKept
 pub mod GivenEvents
@@ -258,6 +262,7 @@ pub mod BesideActs
 pub mod BesideGoes
 pub mod BesidePlain
 pub mod NoteTexts
+pub mod IssuedNotes
 pub mod BesideIssue
 pub mod BesideOwn
 pub mod BesideClocks
@@ -267,6 +272,7 @@ pub mod BesideVote
 pub mod BesideVoted
 pub mod BesideNotice
 pub mod BesideLearnt
+pub mod DecidedOutcomes
 pub mod BesideDecide
 pub mod BesideKnown
 pub mod BesideReply

@@ -85,10 +85,10 @@ module _ (book : BookValue) (stamp here : ℕ) (state : machine.NodeValue) (i : 
 
   -- ---- what is on record
 
-  own_record : machine.record_of next tid server.0 ≡ Some rec
+  pub own_record : machine.record_of next tid server.0 ≡ Some rec
   own_record = lookup_put machine.voter_cmp own rec (voter_itself own) state.records
 
-  other_record : (t : Tid) (s : ℕ) → is_at (machine.voter_cmp (machine.voter t s)) own ≡ false → machine.record_of next t s ≡ machine.record_of state t s
+  pub other_record : (t : Tid) (s : ℕ) → is_at (machine.voter_cmp (machine.voter t s)) own ≡ false → machine.record_of next t s ≡ machine.record_of state t s
   other_record t s far = lookup_put_apart machine.voter_cmp own rec (λ x. voter_equal own x) (is_at (machine.voter_cmp (machine.voter t s))) far state.records
 
   -- ---- the log
@@ -100,7 +100,7 @@ module _ (book : BookValue) (stamp here : ℕ) (state : machine.NodeValue) (i : 
   other x = not (is_vote_of tid server x)
 
   -- of another vote the voter is another
-  not_own : (x : Prepared) → other x ≡ true → is_at (machine.voter_cmp (machine.voter x.tid x.server.0)) own ≡ false
+  pub not_own : (x : Prepared) → other x ≡ true → is_at (machine.voter_cmp (machine.voter x.tid x.server.0)) own ≡ false
   not_own x far = by (is_at (machine.voter_cmp (machine.voter x.tid x.server.0)) own) refl
     where
       by : (b : Bool) → is_at (machine.voter_cmp (machine.voter x.tid x.server.0)) own ≡ b → b ≡ false

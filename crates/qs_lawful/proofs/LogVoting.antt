@@ -87,7 +87,7 @@ module _ (stamp : ℕ) (before : BookValue) (i : Inv before) (disk waiting : Lis
   abbrev rec : Record
   rec = records.Prepare tid server (served_count tid server voted) changes
 
-  covers_are : served_count tid server voted ≡ covers
+  pub covers_are : served_count tid server voted ≡ covers
   covers_are =
       ap (λ (o : Option Participant). elim o [ None ↦ 0 | Some p ↦ (member_of p server).served ]) (changes_part tid voting work.node.manager part known).now
       ∙ (same_served part.members server.0 (record (member_of part server) { vote = Some (record { ballot = ballot_of votes.Recoverable; covers = covers }) }) refl

@@ -124,7 +124,7 @@ module _ (stamp : ℕ) (before : BookValue) (peer : NodeNo) where
         by None k = k
         by (Some tx) k = record { whole = k.whole; due = k.due; within = λ server at near. subst (λ (ops : List Op). IsWithin ops (standing_ops tx at node.setting.node server)) (sym (ops_same t server at)) (k.within server at near); once = k.once; fits = k.fits }
 
-    by_marks : HoldsWork stamp before (with_queues (ipc.mark_queues peer) work)
+    pub by_marks : HoldsWork stamp before (with_queues (ipc.mark_queues peer) work)
     by_marks = kept_on stamp before work (with_queues (ipc.mark_queues peer) work) h refl refl
         (held_on stamp book book node new h.holds (record { setting = refl; at = refl; in_inc = refl }) refl h.holds.state (record { up = refl; inc = refl; begun = refl; format = refl })
         h.holds.order refl h.holds.there (λ t is. is)
@@ -173,7 +173,7 @@ module _ (stamp : ℕ) (before : BookValue) (peer : NodeNo) (old new_inc : ℕ) 
       by None = by_inquire (find_gone peer old tid part work) (by_gone work h tid part) tid part
       by (Some outcome) = by_decided work h tid outcome part
 
-  by_tid : (work : Work) → HoldsWork stamp before work → (tid : Tid) → HoldsWork stamp before (notice_tid peer old new_inc work tid)
+  pub by_tid : (work : Work) → HoldsWork stamp before work → (tid : Tid) → HoldsWork stamp before (notice_tid peer old new_inc work tid)
   by_tid work h tid = by (tm.part_of tid work.node.manager) refl
     where
       by : (o : Option Participant) → tm.part_of tid work.node.manager ≡ o → HoldsWork stamp before (elim o [ None ↦ work | Some part ↦ notice_part peer old new_inc tid part (with_manager (tm.restarted tid peer) work) ])

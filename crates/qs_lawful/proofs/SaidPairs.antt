@@ -1,5 +1,5 @@
 -- What a log says of contents and changes goes on by entries of its node and the record beside them.
-use Rattle.std.proofs.Common.{◌≡◌, ◌⊎◌, inl, inr, ℕ, ◌==◌, ◌&&◌, ◌||◌, ◌++◌, not, Bool, true, false, List, [], ◌∷◌, map, flat_map, Option, Some, None, fold, refl, sym, ap, subst, ◌∙◌, arith, if◌then◌else◌}
+use Rattle.std.proofs.Common.{◌≡◌, inl, inr, ℕ, ◌==◌, ◌&&◌, ◌||◌, ◌++◌, not, Bool, true, false, List, [], ◌∷◌, map, flat_map, Option, Some, None, fold, refl, sym, ap, ◌∙◌, arith, if◌then◌else◌}
 use Rattle.std.proofs.lemmas.Bool.Decides.{nat_tests}
 use Rattle.std.proofs.lemmas.List.Sums.{fold-append}
 use Rattle.std.specs.List.{filter, list_any}
@@ -9,12 +9,12 @@ use Rattle.qs_base.specs.declared.identifiers.ServerNo.{ServerNo}
 use Rattle.qs_base.specs.declared.identifiers.Tid.{Tid}
 use Rattle.qs_base.proofs.Same.{same_tid-self, same_tid-true}
 use Rattle.qs_laws.specs.Served.{keeps_contents}
-use Rattle.qs_machine.specs.Book.{BookValue, crossed_in, find_transaction}
+use Rattle.qs_machine.specs.Book.{BookValue}
 use Rattle.qs_machine.specs.Nodes as machine
 use Rattle.qs_machine.specs.Nodes.{changes_of, record_of, voter}
-use Rattle.qs_machine.specs.Restart.{is_among, is_on_record, is_same_vote, member_at, votes_once}
+use Rattle.qs_machine.specs.Restart.{is_among, is_on_record, is_same_vote, votes_once}
 use Rattle.qs_machine.specs.declared.state.OnRecord.{OnRecord}
-use Rattle.qs_ops.specs.Table.{TableValue, applied, apply_change, apply_note, no_table}
+use Rattle.qs_ops.specs.Table.{TableValue, applied, apply_change, apply_note}
 use Rattle.qs_ops.specs.declared.operation.Op.{Op}
 use Rattle.qs_restart.specs.Recovery.{Prepared, Recovery, audit_no, changes_at, ended, files_no, found_commit, found_prepare, is_of, is_vote_of, mark_committed, names_transaction}
 use Rattle.qs_lawful.specs.Logged.{HoldsLogged, IsRecordSafe}
@@ -24,7 +24,7 @@ use Rattle.qs_lawful.specs.Saying.{HoldsMade, KeepsSaid, LearnsHere, MayCommitHe
 use Rattle.qs_lawful.proofs.FoundMembers.{every_two}
 use Rattle.qs_lawful.proofs.FoundOnce.{same_vote_sym}
 use Rattle.qs_lawful.proofs.LogFrames.{every_on}
-use Rattle.qs_lawful.proofs.LogRecords.{every_append, every_filter, found_is, is_found, is_found_in, to_votes}
+use Rattle.qs_lawful.proofs.LogRecords.{every_append, every_filter, found_is, is_found, to_votes}
 
 and_left : (a b : Bool) → (a && b) ≡ true → a ≡ true
 and_left true b h = refl
@@ -55,7 +55,7 @@ made_more table other said changes more contents notes same is = record {
 recorded_on : (here : ℕ) (old new : BookValue) (crossed : StaysCrossed here old new) (rec : OnRecord) (vote : Prepared) → IsRecorded here old (Some rec) vote → IsRecorded here new (Some rec) vote
 recorded_on here old new crossed rec vote is = record { changes = λ clean. is.changes (crossed vote.tid vote.server.0 clean); count = is.count }
 
-vote_on : (here : ℕ) (old new : BookValue) (state later : machine.NodeValue) (crossed : StaysCrossed here old new) (vote : Prepared) → record_of later vote.tid vote.server.0 ≡ record_of state vote.tid vote.server.0 → IsAsRecorded here old state vote → IsAsRecorded here new later vote
+pub vote_on : (here : ℕ) (old new : BookValue) (state later : machine.NodeValue) (crossed : StaysCrossed here old new) (vote : Prepared) → record_of later vote.tid vote.server.0 ≡ record_of state vote.tid vote.server.0 → IsAsRecorded here old state vote → IsAsRecorded here new later vote
 vote_on here old new state later crossed vote same is clear rec at = recorded_on here old new crossed rec vote (is clear rec (sym same ∙ at))
 
 -- ---- all of a list

@@ -1,6 +1,6 @@
 -- What an entry of one node has to find at another node, so that it leaves all that is held of that: the notes that its files issued are noted
 -- there or waited for, and no client is answered that has a command in hand there.
-use Rattle.std.specs.Prelude.{◌≡◌, ◌≤◌, ◌⊎◌, ℕ, true, None, Some, List, [], ◌∷◌, is_some, slice_get, ⊤}
+use Rattle.std.specs.Prelude.{◌≡◌, ◌≤◌, ◌⊎◌, ℕ, true, None, Some, List, is_some, slice_get, ⊤}
 use Rattle.std.specs.Map.{lookup}
 use Rattle.std.specs.BTreeMap.{is_at}
 use Rattle.qs_base.specs.declared.identifiers.ClientNo.{ClientNo}

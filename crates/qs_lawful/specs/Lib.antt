@@ -6,7 +6,6 @@ pub mod Entering
 pub mod Doubts
 pub mod Given
 pub mod GivenStep
-pub mod Places
 pub mod Logs
 pub mod Issues
 pub mod Tests

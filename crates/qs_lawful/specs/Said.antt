@@ -1,6 +1,6 @@
 -- What a log says of contents and changes, and what the machine has of them: committed files and notes are those that the log's
 -- Commits leave, and what is on record is what the log's Prepare has.
-use Rattle.std.specs.Prelude.{◌≡◌, ℕ, true, false, List, [], length, Option, Some, None}
+use Rattle.std.specs.Prelude.{◌≡◌, ℕ, true, false, List, [], length, Option, Some}
 use Rattle.qs_base.specs.declared.identifiers.Tid.{Tid}
 use Rattle.qs_laws.specs.Served.{keeps_contents}
 use Rattle.qs_machine.specs.Book.{BookValue, crossed_in, find_transaction}

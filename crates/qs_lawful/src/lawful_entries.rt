@@ -17,7 +17,7 @@ ghost use Rattle.qs_journal.specs.declared.entry.Act.TheVariants as acts;
 ghost use Rattle.qs_machine.specs.Book.{BookValue, find_transaction};
 ghost use Rattle.qs_machine.specs.Clauses.{is_for, is_fresh, is_known, is_reply, is_vote, waits_for, earlier_servers};
 ghost use Rattle.qs_machine.specs.Lawful.{broken};
-ghost use Rattle.qs_machine.specs.Transaction.{TransactionValue, is_commit, is_open, is_unanimous, standing_request};
+ghost use Rattle.qs_machine.specs.Transaction.{TransactionValue, is_commit, standing_request};
 ghost use Rattle.qs_machine.specs.declared.state.Owner.{Owner};
 ghost use Rattle.qs_machine.specs.declared.transaction.Request.{Request};
 ghost use Rattle.qs_engage.specs.Engage.{peer_of};
@@ -32,7 +32,6 @@ ghost use Rattle.qs_world.specs.Posting.{entry_of};
 ghost use Rattle.qs_lawful.specs.Face.{face_of, part_in, at_server, is_loan_here};
 ghost use Rattle.qs_lawful.specs.Holds.{Holds, is_kept};
 ghost use Rattle.qs_lawful.specs.Issues.{next_to};
-ghost use Rattle.qs_lawful.specs.Places.{Facts, IsSettled, HoldsPlaces};
 
 /// Where the machine holds what a node has, these entries of the node are lawful steps: it begins its next transaction under a
 /// fresh label; time passes; a home that was not asked and knows no outcome is asked for commit; a peer's answer is counted
@@ -55,11 +54,4 @@ pub fn entries_are_lawful()
 pub fn requests_are_lawful()
     ensures owner { (stamp : ℕ) (book : BookValue) (node : NodeValue) → Holds stamp book node → (tid : Tid) (tx : TransactionValue) → find_transaction book tid ≡ Some tx → (client : ClientNo) (member : Member) (op : Op) (part : Participant) → tm.part_of tid node.manager ≡ Some part → tx.owner ≡ Some client → tid.home ≡ node.setting.node → tid.inc ≡ node.setting.inc → part.asked ≡ false → part.outcome ≡ None → is_for op member ≡ true → nat_lt member.node.0 node.setting.nodes ≡ true → broken book (entry_of node.setting.node.0 stamp (acts.Issue tid (at_server node.setting.node (client_server client)) member (next_to node tid member.node) op)) ≡ None }
     ensures borrower { (stamp : ℕ) (book : BookValue) (node : NodeValue) → Holds stamp book node → (tid : Tid) (tx : TransactionValue) → find_transaction book tid ≡ Some tx → (client : ClientNo) (member : Member) (op : Op) → nat_lt client.0 224 ≡ true → list_any (λ (loan : Lent). is_loan_here client node.setting.inc loan && not loan.yielded) (face_of node tid).loans ≡ true → (part_in (face_of node tid)).outcome ≢ Some outcomes.Abort → is_commit tx.cell ≡ false → is_for op member ≡ true → nat_lt member.node.0 node.setting.nodes ≡ true → broken book (entry_of node.setting.node.0 stamp (acts.Issue tid (at_server node.setting.node (client_server client)) member (next_to node tid member.node) op)) ≡ None }
-{}
-
-/// What all places hold of a transaction makes a commit unanimous: where it is asked for and undecided, and the commit
-/// protocol is settled (all that was sent was taken and served and stands before a vote, no loan stands, no vote is against
-/// it), the machine's transaction is unanimous.
-pub fn settled_is_unanimous()
-    ensures { (w : Facts) → IsSettled w → (tx : TransactionValue) → is_open tx.cell ≡ true → is_some tx.asked ≡ true → HoldsPlaces tx w → is_unanimous tx ≡ true }
 {}

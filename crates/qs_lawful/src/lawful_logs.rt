@@ -41,7 +41,7 @@ ghost use Rattle.qs_world.specs.World.{Host};
 ghost use Rattle.qs_lawful.specs.Holds.{Holds};
 ghost use Rattle.qs_lawful.specs.Logged.{HoldsHost, IsTrueEvent, KeepsLogs};
 ghost use Rattle.qs_lawful.specs.Logs.{found_votes, HoldsStopped};
-ghost use Rattle.qs_lawful.specs.Saying.{EachCommitIsSaid, EachEndKeepsSaid, EachKeepsSaid, EachMadeIsSaid, EachVoteIsSaid, EachVoteOnce};
+ghost use Rattle.qs_lawful.specs.Saying.{EachCommitEnters, EachCommitIsSaid, EachCommitSays, EachEndKeepsSaid, EachEndSays, EachKeepsSaid, EachLearnerIsHeld, EachLearningEnters, EachMadeIsSaid, EachPendingIsHeld, EachPlainEnters, EachQuietSays, EachVoteEnters, EachVoteIsSaid, EachVoteOnce, EachVoteSays};
 
 /// A server votes: a vote that it can commit stands in the log with its Prepare, of every other vote the log says nothing.
 pub fn vote_keeps_the_log()
@@ -86,6 +86,24 @@ pub fn log_says_what_is_entered()
     ensures committed { EachCommitIsSaid }
     ensures whole { EachMadeIsSaid }
     ensures once { EachVoteOnce }
+{}
+
+/// So it does, in a run, by each entry that puts nothing on record and takes nothing off; as a vote of changes that are pending is
+/// entered with its Prepare; and as the servers that are still to learn it learn that a transaction is committed, with its Commit, or
+/// with none where the log has nothing in doubt of it. What a node has pending is so, and those that its node has still to tell are they,
+/// where the machine holds what the node has; so the rule by which a server votes recoverable leaves what the log says as the machine
+/// has it, and so do rules that make no record, or the end of a transaction's records, and rules that make a Commit.
+pub fn log_says_votes_and_commits()
+    ensures plain { EachPlainEnters }
+    ensures voted { EachVoteEnters }
+    ensures committed { EachCommitEnters }
+    ensures learnt { EachLearningEnters }
+    ensures pending { EachPendingIsHeld }
+    ensures learners { EachLearnerIsHeld }
+    ensures rule { EachVoteSays }
+    ensures quiet { EachQuietSays }
+    ensures ends { EachEndSays }
+    ensures commits { EachCommitSays }
 {}
 
 /// What another node does, a crash and a restart of it too, leaves what is held of the log of a node.

@@ -35,7 +35,6 @@ pub use lawful_commands::waiting_command_is_lawful;
 pub use lawful_commands::yield_command_is_lawful;
 pub use lawful_entries::entries_are_lawful;
 pub use lawful_entries::requests_are_lawful;
-pub use lawful_entries::settled_is_unanimous;
 pub use lawful_given::channels_hold_what_is_so;
 pub use lawful_given::coming_is_given;
 pub use lawful_given::homes_have_what_is_committed;

@@ -34,8 +34,8 @@ pub record Leaves (f : TableValue → TableValue) : Type 0 where
 
 pub with_table_facet : (server : ℕ) (f : TableValue → TableValue) → Leaves f → (node : NodeValue) → facet (with_table server f node) ≡ facet node
 with_table_facet server f leaves node =
-    either_way facet (server == 0) _ _ _ (ap (λ (files : List File). record (facet node) { files = files }) (leaves.contents node.files))
-    (either_way facet (server == 1) _ _ _ (ap (λ (notes : List (List ℕ)). record (facet node) { notes = notes }) (leaves.notes node.audit))
+    either_way facet (server == 0) _ _ _ (ap (λ (files : List File). record (facet node) { files = files; file_notes = (f node.files).notes }) (leaves.contents node.files) ∙ ap (λ (notes : List (List ℕ)). record (facet node) { file_notes = notes }) (leaves.notes node.files))
+    (either_way facet (server == 1) _ _ _ (ap (λ (files : List File). record (facet node) { audit_files = files; notes = (f node.audit).notes }) (leaves.contents node.audit) ∙ ap (λ (notes : List (List ℕ)). record (facet node) { notes = notes }) (leaves.notes node.audit))
     (either_way facet (server == 2) _ _ _ refl
     (either_way facet (server == 4) _ _ _ refl
     (either_way facet (server == 5) _ _ _ refl refl))))

@@ -1,5 +1,5 @@
 -- What the law of committed contents sees of a book: whether commit was asked for of each transaction; of each node the
--- committed files and notes, what is on record, and the Commits of its log. And steps that leave it.
+-- contents that files and audit have committed, what is on record, and the Commits of its log. And steps that leave it.
 use Rattle.std.proofs.Common.{◌≡◌, ℕ, Bool, true, false, List, Option, refl, ◌∙◌, if◌then◌else◌}
 use Rattle.std.specs.Prelude.{slice_get}
 use Rattle.std.specs.Option.{option_map}
@@ -17,12 +17,14 @@ use Rattle.qs_laws.proofs.Maps.{changed_alike, changed_at_alike}
 
 pub record Facet : Type 0 where
   pub files : List File
+  pub file_notes : List (List ℕ)  -- of files, which keep none
+  pub audit_files : List File  -- of audit, which keeps none
   pub notes : List (List ℕ)
   pub records : List (Voter × OnRecord)
   pub committed : List Tid
 
 abbrev pub facet : NodeValue → Facet
-facet node = record { files = node.files.contents; notes = node.audit.notes; records = node.records; committed = node.committed }
+facet node = record { files = node.files.contents; file_notes = node.files.notes; audit_files = node.audit.contents; notes = node.audit.notes; records = node.records; committed = node.committed }
 
 abbrev pub asked_of : TransactionValue → Option ℕ
 asked_of tx = tx.asked

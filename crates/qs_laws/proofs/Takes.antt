@@ -82,8 +82,8 @@ at_node here f book node P at_here changed same n was at was_is at_is = by (chan
 
 abbrev pub TableCases : ℕ → (TableValue → TableValue) → NodeValue → NodeValue → Type 0
 TableCases server f node at =
-    ((server ≡ 0) × (facet at ≡ record (facet node) { files = (f node.files).contents }))
-    ⊎ (((server ≡ 1) × (facet at ≡ record (facet node) { notes = (f node.audit).notes })) ⊎ (facet at ≡ facet node))
+    ((server ≡ 0) × (facet at ≡ record (facet node) { files = (f node.files).contents; file_notes = (f node.files).notes }))
+    ⊎ (((server ≡ 1) × (facet at ≡ record (facet node) { audit_files = (f node.audit).contents; notes = (f node.audit).notes })) ⊎ (facet at ≡ facet node))
 
 table_cases : (server : ℕ) (f : TableValue → TableValue) (node : NodeValue) → TableCases server f node (with_table server f node)
 table_cases server f node = at (server == 0) (server == 1) refl refl
