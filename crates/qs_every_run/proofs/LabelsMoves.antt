@@ -181,11 +181,8 @@ module _ (P : Opening → World → Type 0) (o : Opening) (world : World) (j : J
                 within : IsWithin (waits ++ (came_from m event tid member.server number ++ left)) (standing m n tx member.server number)
                 within = before.stands tid tx member.server number found
 
-                in_world : nat_lt tid.home.0 o.size ≡ true
-                in_world = subst (λ (s : ℕ). nat_lt tid.home.0 s ≡ true) j.size (subst (λ (h : NodeNo). nat_lt h.0 world.size ≡ true) (sym home) (subst (λ (k : ℕ). nat_lt k world.size ≡ true) (sym at.node) in_run))
-
                 empty : tx.owner ≡ None → standing m n tx member.server number ≡ []
-                empty none = ap (λ (rs : List (RequestNo × List Request)). standing m n (record tx { requests = rs }) member.server number) (requests_owned o j.opens world.journal j.lawful tid tx in_world found none)
+                empty none = ap (λ (rs : List (RequestNo × List Request)). standing m n (record tx { requests = rs }) member.server number) (requests_owned o j.opens world.journal j.lawful tid tx found none).1
 
                 owner : (c : Option ClientNo) → tx.owner ≡ c → is_owned_in node.kept.now.labels tid ≡ true
                 owner None none = absurd (never waits left (subst (IsWithin (waits ++ (op ∷ left))) (empty none) (subst (λ (xs : List Op). IsWithin (waits ++ (xs ++ left)) (standing m n tx member.server number)) came within)))

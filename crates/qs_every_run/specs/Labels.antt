@@ -1,6 +1,6 @@
 -- The labels that a node keeps of transactions of its own: what began under one has its label there, as its owner's; and of what stood as the
 -- run opened, which has no owner, nothing is issued.
-use Rattle.std.specs.Prelude.{◌≡◌, Bool, true, ◌&&◌, List, [], Some, None, is_some, nat_lt}
+use Rattle.std.specs.Prelude.{◌≡◌, Bool, true, ◌&&◌, List, [], Some, None, is_some}
 use Rattle.std.specs.List.{list_any}
 use Rattle.qs_base.specs.declared.identifiers.NodeNo.{NodeNo}
 use Rattle.qs_base.specs.declared.identifiers.Tid.{Tid}
@@ -34,7 +34,7 @@ pub record HoldsLabels (book : BookValue) (here : NodeNo) (labels : List Begun) 
 
 -- ---- of the machine
 
--- what has a request and a home in the run began in the run
+-- what commit was asked for, or has a request, began in the run: nothing is done of what stood as it opened, which has no owner
 abbrev pub RequestsOwned : Type 0
-RequestsOwned = (o : Opening) → IsOpening o → (history : List Entry) → IsLawful (book_of o) history → (tid : Tid) (tx : TransactionValue) → nat_lt tid.home.0 o.size ≡ true → find_transaction (book_after (book_of o) history) tid ≡ Some tx
-    → tx.owner ≡ None → tx.requests ≡ []
+RequestsOwned = (o : Opening) → IsOpening o → (history : List Entry) → IsLawful (book_of o) history → (tid : Tid) (tx : TransactionValue) → find_transaction (book_after (book_of o) history) tid ≡ Some tx
+    → tx.owner ≡ None → (tx.asked ≡ None) × (tx.requests ≡ [])

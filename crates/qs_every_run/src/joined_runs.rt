@@ -55,7 +55,7 @@ pub fn steps_leave_the_young()
     ensures logged { StepsKeepLogged }
 {}
 
-/// What has a request and a home in the run began in the run, so it has an owner. And each label of a transaction of its own that a node keeps after
+/// What commit was asked for, or has a request, began in the run, so it has an owner. And each label of a transaction of its own that a node keeps after
 /// a step is kept as its owner's: no request that comes home tells of another.
 pub fn labels_stay_owned()
     ensures requests { RequestsOwned }
