@@ -28,7 +28,7 @@ use Rattle.qs_tm.specs.Manager as tm
 use Rattle.qs_world.specs.Moves.{command_of}
 use Rattle.qs_world.specs.Posting.{is_answer_to}
 use Rattle.qs_every_run.specs.Answering.{Answering, Commands, IsFree, IsOfOpen, IsOpenStill, WasOpen, with_event}
-use Rattle.qs_every_run.specs.Traces.{IsKept, IsOrdinary, Trace, answered, entered, fresh_command, trace_of, with_issued, with_line}
+use Rattle.qs_every_run.specs.Traces.{IsKept, IsOrdinary, Trace, answered, entered, fresh_command, noted, trace_of, with_issued, with_line}
 use Rattle.qs_lawful.specs.Logs.{Every}
 use Rattle.qs_lawful.proofs.Answers.{AreApart, client_exact, same_client_or}
 use Rattle.qs_lawful.proofs.LogFrames.{every_on}
@@ -196,7 +196,8 @@ module _ (was : Commands) where
     enters = λ t act is a. enters t act (ordinary t.answers act is) a;
     sends = λ t to message is a. record { rising = a.rising; still = a.still; were = a.were; entries = a.entries };
     closes = λ t client command said there a. closes t client command said there a;
-    begins = λ t line tid there is a. begins t line tid there is a;
+    begins = λ t line tid there is a. begins (noted (record { label = line.label; tid = Some tid; owner = Some line.client }) t) line tid there is (record { rising = a.rising; still = a.still; were = a.were; entries = a.entries });
+    refuses = λ t line a. record { rising = a.rising; still = a.still; were = a.were; entries = a.entries };
     marks = marks;
     issues = λ t tid issuer member number op a. enters t (acts.Issue tid (record { node = t.setting.node; server = issuer }) member number op) tt a;
     asks = λ t tid label issuer member number op far a. (let e : Answering was (entered (acts.Issue tid (record { node = t.setting.node; server = issuer }) member number op) t) = enters t (acts.Issue tid (record { node = t.setting.node; server = issuer }) member number op) tt a in
@@ -289,6 +290,7 @@ step_answers node event free rising fits =
       comes = λ t line is a. subst (λ (e : Event). Answering (with_event e node.commands) (with_line line t)) (sym is)
           (comes node.commands (with_event (command_of line) node.commands) (same_with node.commands (command_of line) (subst (λ (e : Event). IsFree e node.commands) is fits))
           line (subst (λ (e : Event). IsFree e node.commands) is fits) (lookup_put client_cmp line.client (fresh_command line) (tied_itself nat_cmp_total line.client.0) node.commands) t a);
+      learns = λ t peer tid label member number issuer op is a. record { rising = a.rising; still = a.still; were = a.were; entries = a.entries };
       takes = λ t peer tid label member number issuer op is a. (let l : Answering (with_event event node.commands) t = lets node.commands (with_event event node.commands) (same_with node.commands event fits) t a in
           record { rising = l.rising; still = l.still; were = l.were; entries = l.entries });
     })

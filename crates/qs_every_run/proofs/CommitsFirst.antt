@@ -153,6 +153,7 @@ module _ (tid : Tid) where
     closes = λ d client command said there so. still_so d _ (acts.Answer client command.line.line said) refl refl refl refl so;
     begins = λ d line t there is so. still_so (record { trace = record d.trace { entries = d.trace.entries ++ acts.Begin t line.label line.client ∷ [] }; doings = d.doings }) _ _ refl refl refl refl
         (still_so d (record { trace = record d.trace { entries = d.trace.entries ++ acts.Begin t line.label line.client ∷ [] }; doings = d.doings }) (acts.Begin t line.label line.client) refl refl refl refl so);
+    refuses = λ d line so. same_so d _ refl refl so;
     marks = λ d client issued so. same_so d _ refl refl so;
     issues = λ d t issuer member number op so. still_so d _ _ refl refl refl refl so;
     asks = λ d t label issuer member number op away so. still_so d _ _ refl refl refl refl so;
@@ -181,5 +182,5 @@ module _ (tid : Tid) where
   -- a whole step
   pub commits_so : (node : NodeValue) (event : Event) (free : ℕ) → CommitsSo tid (deeds_of (step_work node event free))
   commits_so node event free = step_done So So so_kept so_kept node event free
-      (record { lets = λ d so. so; comes = λ d line is so. same_so d _ refl refl so; takes = λ d peer t label member number issuer op is so. same_so d _ refl refl so })
+      (record { lets = λ d so. so; comes = λ d line is so. same_so d _ refl refl so; learns = λ d peer t label member number issuer op is so. same_so d _ refl refl so; takes = λ d peer t label member number issuer op is so. same_so d _ refl refl so })
       (inr (record { none = refl; unnoted = λ quiet. refl }))

@@ -39,6 +39,7 @@ use Rattle.qs_every_run.proofs.JoinedParts.{book_on, lawful_on}
 use Rattle.qs_every_run.proofs.JoinedClocks.{step_on_time}
 use Rattle.qs_every_run.proofs.ClientsGo.{clients_then, scripts_then}
 use Rattle.qs_every_run.proofs.JoinedWays.{lasts_now, steps_ways}
+use Rattle.qs_every_run.proofs.LabelsMoves.{labels_moved}
 use Rattle.qs_every_run.proofs.KeptBack.{none_before, nothing_waits, step_unmet}
 use Rattle.qs_every_run.proofs.StaysWorlds.{steps_keep_logged}
 use Rattle.qs_every_run.proofs.JoinedSteps.{step_at, step_entries, step_holds, step_journal, step_lawful, step_low, step_up}
@@ -86,6 +87,7 @@ module _ (P : Opening → World → Type 0) (owed : Owed P) (unanimous : AfterSt
     owners = k.owners;
     logged = k.logged;
     clocks = k.clocks;
+    labels = labels_moved P o world j move may k.lawful;
     born = born_moved o world j.born move may;
     channels = k.channels;
     unmet = k.unmet;

@@ -19,6 +19,7 @@ use Rattle.qs_every_run.specs.Joined.{Joined}
 use Rattle.qs_every_run.specs.JoinedOwed.{Owed, book_then}
 use Rattle.qs_every_run.proofs.JoinedSteps.{step_holds, step_kept, step_lawful, step_low}
 use Rattle.qs_every_run.proofs.KeptAfter.{kept_so}
+use Rattle.qs_every_run.proofs.LabelsMoves.{steps_labels}
 
 module _ (P : Opening → World → Type 0) (owed : Owed P) (o : Opening) (world : World) (j : Joined P o world) (n stamp free : ℕ) (source : Source) (event : Event) (makes : MakesStep world n stamp source event) where
   abbrev node : NodeValue
@@ -52,4 +53,4 @@ module _ (P : Opening → World → Type 0) (owed : Owed P) (o : Opening) (world
   step_clients = subst (λ (i : ℕ). HoldsKept node.setting.node i (book_then o world n stamp free event) node.kept.saved) inc_is
       (kept_so stamp (book_then o world n stamp free event) (stage_of after n) node (step_holds P owed o world j n stamp free source event makes)
       (step_kept P owed o world j n stamp free source event makes).beside (step_kept P owed o world j n stamp free source event makes).facts tidy
-      (owed.steps_labels o world n stamp free source event j makes (step_lawful P owed o world j n stamp free source event makes)))
+      (steps_labels P o world n stamp free source event j makes (step_lawful P owed o world j n stamp free source event makes)))

@@ -18,6 +18,7 @@ use Rattle.qs_every_run.proofs.JoinedFacts.{opens_facts}
 use Rattle.qs_every_run.proofs.JoinedClocks.{opens_on_time}
 use Rattle.qs_every_run.proofs.JoinedHomes.{own_has}
 use Rattle.qs_every_run.proofs.JoinedMoves.{each_move_joined}
+use Rattle.qs_every_run.proofs.LabelsMoves.{labels_start}
 use Rattle.qs_every_run.proofs.OpensRunning.{opens_owned, opens_running}
 
 pub each_opens_joined : (P : Opening → World → Type 0) → GoesOn P → EachOpensJoined P
@@ -34,6 +35,7 @@ each_opens_joined P goes owed o opens = record {
   owners = opens_owned o opens;
   logged = λ n low tid among. among;
   clocks = λ n low. none ((start o).hosts n).node.manager.ticks (opens_on_time o.alloc (o.settings n) (recovered_of (o.logs n)));
+  labels = labels_start o;
   born = born_start o;
   channels = record { posted = λ n m i j. tt; waits = λ n m. tt; known = λ n m. least ((start o).channels.inc m) };
   unmet = λ n m some. refl;

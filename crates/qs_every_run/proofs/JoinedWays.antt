@@ -148,13 +148,13 @@ module _ (P : Opening → World → Type 0) (o : Opening) (world : World) (j : J
     split : Split c taken a n event
     split = way_split world n stamp a far (steady_gives world j.shown.steady j.shown.listed) (j.channels.known n a) event source makes.comes
 
-    abbrev rest : Ops
+    abbrev pub rest : Ops
     rest t s k = ops_of t s k (on_its_way taken a n)
 
     abbrev comes : Ops
     comes t s k = came_from a event t s k ++ rest t s k
 
-    before_it : HoldsOps book a n (λ t s k. waiting a n node.queues t s k ++ comes t s k)
+    pub before_it : HoldsOps book a n (λ t s k. waiting a n node.queues t s k ++ comes t s k)
     before_it = record {
       stands = λ t tx s k found. within_around (waiting a n node.queues t s k) (ops_of t s k split.front) (comes t s k) (standing a n tx s k)
           (subst (λ (xs : List Op). IsWithin (waiting a n node.queues t s k ++ xs) (standing a n tx s k)) (ops_split t s k) (old.stands t tx s k found));

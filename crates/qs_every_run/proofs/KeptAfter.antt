@@ -28,7 +28,7 @@ use Rattle.qs_lawful.specs.Logs.{Every}
 use Rattle.qs_lawful.specs.NodeFacts.{HasNodeFacts}
 use Rattle.qs_lawful.proofs.LogFrames.{every_on}
 use Rattle.qs_lawful.specs.Worlds.{HoldsKept, IsLeftOpen, IsLoanOf, IsOpenStill}
-use Rattle.qs_every_run.specs.JoinedOwed.{AreOwned, is_owned_as}
+use Rattle.qs_every_run.specs.Labels.{AreOwned, is_owned_as}
 
 -- ---- all of a list, from those in it
 

@@ -109,3 +109,6 @@ pub mod StepsGo
 pub mod StepsWhole
 pub mod NoticeComes
 pub mod PlacesJoined
+pub mod StoodIdle
+pub mod LabelsKept
+pub mod LabelsMoves

@@ -32,6 +32,7 @@ use Rattle.qs_tm.specs.Manager as tm
 use Rattle.qs_tm.specs.declared.manager.BeginFault.{BeginFault}
 use Rattle.qs_tm.specs.declared.manager.BeginFault.TheVariants as faults
 use Rattle.qs_every_run.specs.Deeds.{Deeds, IsKeptSo, deeds_of, traced}
+use Rattle.qs_every_run.specs.Traces as traces
 use Rattle.qs_every_run.specs.Traces.{answered, entered, fresh_command}
 use Rattle.qs_every_run.proofs.TraceRules as rules
 
@@ -68,12 +69,13 @@ module _ (P : Deeds → Type 0) (k : IsKeptSo P) where
         }
       ]))
       began None none = absurd (cc (sym waits ∙ none))
-      began (Some command) there = subst (λ (c : OpenCommand). P (traced (λ t. answered line.client c answers.Done (entered (acts.Begin (tm.next_tid work.node.manager) line.label line.client) t)) (deeds_of work))) (one (sym waits ∙ there))
+      began (Some command) there = subst (λ (c : OpenCommand). P (traced (λ t. answered line.client c answers.Done (entered (acts.Begin (tm.next_tid work.node.manager) line.label line.client) (traces.noted (record { label = line.label; tid = Some (tm.next_tid work.node.manager); owner = Some line.client }) t))) (deeds_of work))) (one (sym waits ∙ there))
           (k.begins (deeds_of work) line (tm.next_tid work.node.manager) waits is h)
 
       by : (fault : Option BeginFault) → P (deeds_of (begin_or_refuse line fault work))
       by None = began (lookup (is_at (client_cmp line.client)) work.node.commands) refl
-      by (Some (faults.LogFull need room)) = rules.answer_keeps P k line.client (answers.LogFull need room) (put_label (record { label = line.label; tid = None; owner = Some line.client }) work) h
+      by (Some (faults.LogFull need room)) = rules.answer_keeps P k line.client (answers.LogFull need room) (put_label (record { label = line.label; tid = None; owner = Some line.client }) work)
+          (k.refuses (deeds_of work) line h)
       by (Some (faults.Last value)) = h
       by (Some faults.NoMemory) = h
 

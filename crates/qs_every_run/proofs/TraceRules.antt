@@ -2,7 +2,7 @@
 use Rattle.std.proofs.Common.{◌≡◌, ℕ, Bool, true, false, List, [], ◌∷◌, ◌++◌, fold, Option, Some, None, refl, ap}
 use Rattle.std.specs.BTreeMap.{is_at}
 use Rattle.std.specs.Map.{lookup, remove_entry}
-use Rattle.std.specs.Prelude.{not, ◌&&◌, is_none, unwrap_or, if◌then◌else◌}
+use Rattle.std.specs.Prelude.{not, ◌&&◌, unwrap_or, if◌then◌else◌}
 use Rattle.qs_base.specs.declared.identifiers.ClientNo.{ClientNo}
 use Rattle.qs_base.specs.declared.identifiers.Member.{Member}
 use Rattle.qs_base.specs.declared.identifiers.NodeNo.{NodeNo}
@@ -38,7 +38,7 @@ use Rattle.qs_step.specs.Bringing.{answer, enter, is_other, log_if, member_here,
 use Rattle.qs_step.specs.Deciding.{decide, decide_commit, due_endings, end_member, end_members, give_notices, keep_outcome, learn_member, learn_members, learners_at}
 use Rattle.qs_step.specs.Requests as requests
 use Rattle.qs_step.specs.Requests.{answer_issuer, ask_on, enqueue, enter_issue, is_asked, issue, issue_as, issue_away, issue_here, label_of, next_number, reply_came, take_reply, waits_as, with_local}
-use Rattle.qs_step.specs.Serving.{cover_from, engage, enter_serve, label_at, learn_label, lent_to, make_loan, may_serve, met, put_label, reply_here, serve, serve_all, serve_next, serve_or_drop}
+use Rattle.qs_step.specs.Serving.{cover_from, engage, enter_serve, lent_to, make_loan, may_serve, met, reply_here, serve, serve_all, serve_next, serve_or_drop}
 use Rattle.qs_step.specs.Settling.{is_quiet}
 use Rattle.qs_step.specs.State.{Work, change_server, client_cmp, doings_of, here, no_doings, part_of, with_doings, with_manager}
 use Rattle.qs_step.specs.State as state
@@ -152,18 +152,15 @@ module _ (P : Deeds → Type 0) (k : IsKeptSo P) where
 
   -- ---- engagement, and serving
 
-  pub engage_keeps : (peer : NodeNo) (tid : Tid) (label : List ℕ) (number : ℕ) (work : Work) → Keeps work (engage tid peer number (learn_label label tid work))
-  engage_keeps peer tid label number work h = cover (tm.engaged_at tid peer (met tid (learn_label label tid work)).node.manager) (with_manager (tm.requested tid peer number) (met tid (learn_label label tid work))) (met_keeps (learn_label label tid work) (noted h))
+  pub engage_keeps : (peer : NodeNo) (tid : Tid) (number : ℕ) (work : Work) → Keeps work (engage tid peer number work)
+  engage_keeps peer tid number work h = cover (tm.engaged_at tid peer (met tid work).node.manager) (with_manager (tm.requested tid peer number) (met tid work)) (met_keeps h)
     where
       cover : (e : Engaged) (w : Work) → Keeps w (cover_from e tid peer number w)
       cover engagements.Superior w h = h
       cover engagements.Elsewhere w h = send_keeps peer (messages.Covered tid number) w tt h
 
-      met_keeps : (w : Work) → Keeps w (met tid w)
-      met_keeps w = if_keeps (same_node tid.home (here w)) w (with_manager (tm.meet tid) w) w (λ is h. h) (λ is h. h)
-
-      noted : Keeps work (learn_label label tid work)
-      noted = if_keeps (is_none (label_at label work.node)) (put_label (record { label = label; tid = Some tid; owner = None }) work) work work (λ is h. h) (λ is h. h)
+      met_keeps : Keeps work (met tid work)
+      met_keeps = if_keeps (same_node tid.home (here work)) work (with_manager (tm.meet tid) work) work (λ is h. h) (λ is h. h)
 
   loan_keeps : (tid : Tid) (o : Option ClientNo) (work : Work) → (doings_of tid work).served ≡ true → Keeps work (make_loan tid o work)
   loan_keeps tid None work served h = h

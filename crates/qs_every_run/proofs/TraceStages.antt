@@ -2,7 +2,7 @@
 use Rattle.std.proofs.Common.{◌≡◌, ℕ, Bool, true, false, List, [], ◌∷◌, Option, Some, None, refl, fold}
 use Rattle.std.specs.BTreeMap.{insert_entry, is_at}
 use Rattle.std.specs.Map.{lookup}
-use Rattle.std.specs.Prelude.{if◌then◌else◌}
+use Rattle.std.specs.Prelude.{if◌then◌else◌, is_none}
 use Rattle.std.proofs.lemmas.Cmp.{tied_itself, nat_cmp_total}
 use Rattle.qs_base.specs.declared.identifiers.ClientNo.{ClientNo}
 use Rattle.qs_base.specs.declared.identifiers.Member.{Member}
@@ -36,7 +36,7 @@ use Rattle.qs_step.specs.Bringing.{answer, member_here}
 use Rattle.qs_step.specs.Commands.{decided_answer}
 use Rattle.qs_step.specs.Deciding.{decide, decide_commit, end_members}
 use Rattle.qs_step.specs.Restarts.{begin_incarnation}
-use Rattle.qs_step.specs.Serving.{engage, is_dropped, label_at, learn_label, request_came, take_in}
+use Rattle.qs_step.specs.Serving.{engage, is_dropped, label_at, learn_label, put_label, request_came, take_in}
 use Rattle.qs_step.specs.Settling.{answer_superior, due_tids, forget_rule, is_pass_due, is_put_off, is_quiet, may_answer, pass_rule, ready, ready_rule, refusal_goes_to, refuse_elsewhere, refuse_home, refuse_rule, say_yes, send_refusal, settle, settle_tid, try}
 use Rattle.qs_step.specs.State.{NodeValue, Work, client_cmp, doings_of, here, part_of, with_manager, with_queues, work_on}
 use Rattle.qs_step.specs.Step.{abort_old, age_rule, borrower_waits, command_came, happen, is_owner, message_came, owner_waits, step_work, wait_command, wait_on, waiting_clients, waits_at, with_command}
@@ -149,8 +149,11 @@ module _ (P Q : Deeds → Type 0) (p : IsKeptSo P) (q : IsKeptSo Q) where
         engaged : Work
         engaged = engage tid peer number (learn_label label tid work)
 
+        told : P (deeds_of (learn_label label tid work))
+        told = rules.if_keeps P p (is_none (label_at label work.node)) (put_label (record { label = label; tid = Some tid; owner = None }) work) work work (λ new. t.learns (deeds_of work) peer tid label member number issuer op is) (λ known h. h) h
+
         kept : P (deeds_of engaged)
-        kept = rules.engage_keeps P p peer tid label number work h
+        kept = rules.engage_keeps P p peer tid number (learn_label label tid work) told
 
         taken : (b : Bool) → Q (deeds_of (if b then with_queues (ipc.enqueue member.server (record { tid = tid; from = peer; number = number; op = op; stale = false })) engaged else engaged))
         taken true = t.takes (deeds_of engaged) peer tid label member number issuer op is kept
@@ -219,6 +222,7 @@ module _ (P : Trace → Type 0) (k : IsKept P) where
     sends = λ d. k.sends d.trace;
     closes = λ d. k.closes d.trace;
     begins = λ d. k.begins d.trace;
+    refuses = λ d. k.refuses d.trace;
     marks = λ d. k.marks d.trace;
     issues = λ d. k.issues d.trace;
     asks = λ d. k.asks d.trace;
@@ -237,4 +241,4 @@ module _ (P : Trace → Type 0) (k : IsKept P) where
 
 module _ (P Q : Trace → Type 0) (p : IsKept P) (q : IsKept Q) where
   pub step_traced : (node : NodeValue) (event : Event) (free : ℕ) → TakesIn event P Q → P (trace_of (work_on node free)) → Q (trace_of (step_work node event free))
-  step_traced node event free t = step_done (λ d. P d.trace) (λ d. Q d.trace) (kept_so P p) (kept_so Q q) node event free (record { lets = λ d. t.lets d.trace; comes = λ d. t.comes d.trace; takes = λ d. t.takes d.trace })
+  step_traced node event free t = step_done (λ d. P d.trace) (λ d. Q d.trace) (kept_so P p) (kept_so Q q) node event free (record { lets = λ d. t.lets d.trace; comes = λ d. t.comes d.trace; learns = λ d. t.learns d.trace; takes = λ d. t.takes d.trace })

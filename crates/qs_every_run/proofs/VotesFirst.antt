@@ -135,6 +135,7 @@ module _ (tid : Tid) where
     closes = λ d client command said there so. still_so d _ (acts.Answer client command.line.line said) refl (λ is. is) refl refl so;
     begins = λ d line t there is so. still_so (record { trace = record d.trace { entries = d.trace.entries ++ acts.Begin t line.label line.client ∷ [] }; doings = d.doings }) _ _ refl (λ is. is) refl refl
         (still_so d (record { trace = record d.trace { entries = d.trace.entries ++ acts.Begin t line.label line.client ∷ [] }; doings = d.doings }) (acts.Begin t line.label line.client) refl (λ is. is) refl refl so);
+    refuses = λ d line so. same_so d _ refl (λ is. is) so;
     marks = λ d client issued so. same_so d _ refl (λ is. is) so;
     issues = λ d t issuer member number op so. still_so d _ _ refl (λ is. is) refl refl so;
     asks = λ d t label issuer member number op away so. still_so d _ _ refl (λ is. is) refl refl so;
@@ -154,7 +155,7 @@ module _ (tid : Tid) where
   -- a whole step
   votes_so : (node : NodeValue) (event : Event) (free : ℕ) → So (deeds_of (step_work node event free))
   votes_so node event free = step_done So So so_kept so_kept node event free
-      (record { lets = λ d so. so; comes = λ d line is so. same_so d _ refl (λ is. is) so; takes = λ d peer t label member number issuer op is so. same_so d _ refl (λ is. is) so })
+      (record { lets = λ d so. so; comes = λ d line is so. same_so d _ refl (λ is. is) so; learns = λ d peer t label member number issuer op is so. same_so d _ refl (λ is. is) so; takes = λ d peer t label member number issuer op is so. same_so d _ refl (λ is. is) so })
       (record { first = refl; none = λ open_now. refl })
 
 pub steps_vote_first : StepsVoteFirst

@@ -101,6 +101,7 @@ module _ (n stamp : ℕ) (before : BookValue) (w : LastsWell before) (b : ℕ) (
       stands = coming.left_more n stamp before w n b (es t.messages) (t.entries ++ acts.Begin tid line.label line.client ∷ []) (acts.Answer line.client line.line answers.Done) tt
           (coming.begun_more n stamp before w n b (es t.messages) t.entries tid line.label line.client h.stands);
     };
+    refuses = λ t line h. record { here = h.here; stands = h.stands };
     marks = λ t client issued h. record { here = h.here; stands = h.stands };
     issues = λ t tid issuer member number op h. record {
       here = h.here;
@@ -144,5 +145,6 @@ module _ (n stamp : ℕ) (before : BookValue) (w : LastsWell before) (b : ℕ) (
   from_taken event = record {
     lets = λ t h. h;
     comes = λ t line is h. record { here = h.here; stands = h.stands };
+    learns = λ t peer tid label member number issuer op is h. record { here = h.here; stands = h.stands };
     takes = λ t peer tid label member number issuer op is h. record { here = h.here; stands = h.stands };
   }

@@ -129,6 +129,7 @@ module _ (n stamp : ℕ) (before : BookValue) (w : LastsWell before) where
           stands = left_more a n (ds t.queues) (t.entries ++ acts.Begin tid line.label line.client ∷ []) (acts.Answer line.client line.line answers.Done) tt
               (begun_more a n (ds t.queues) t.entries tid line.label line.client h.stands);
         };
+        refuses = λ t line h. record { here = h.here; stands = h.stands };
         marks = λ t client issued h. record { here = h.here; stands = h.stands };
         issues = λ t tid issuer member number op h. record { here = h.here; stands = issued t tid issuer member number op h };
         asks = λ t tid label issuer member number op away h. record { here = h.here; stands = issued t tid issuer member number op h };
@@ -158,6 +159,7 @@ module _ (n stamp : ℕ) (before : BookValue) (w : LastsWell before) where
     to_taken event rest = record {
       lets = λ t h. record { here = h.here; stands = let_go t h };
       comes = λ t line is h. record { here = h.here; stands = let_go t h };
+      learns = λ t peer tid label member number issuer op is h. record { here = h.here; stands = h.stands };
       takes = λ t peer tid label member number issuer op is h. record { here = h.here; stands = taken t peer tid label member number issuer op is h };
     }
       where

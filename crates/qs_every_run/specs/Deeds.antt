@@ -1,6 +1,6 @@
 -- A trace together with what a step noted of what it did for each transaction. Where a rule notes something it says so here; a home commits
 -- only where nothing was noted that forbids it, and servers vote only where nothing was noted that puts it off.
-use Rattle.std.specs.Prelude.{◌≡◌, ℕ, ⊤, true, false, List, Option, Some, unwrap_or}
+use Rattle.std.specs.Prelude.{◌≡◌, ℕ, ⊤, true, false, List, Option, Some, unwrap_or, None}
 use Rattle.std.specs.BTreeMap.{insert_entry, is_at}
 use Rattle.std.specs.Map.{lookup}
 use Rattle.qs_base.specs.Order.{tid_cmp}
@@ -35,6 +35,7 @@ use Rattle.qs_step.specs.declared.state.Doings.{Doings}
 use Rattle.qs_step.specs.declared.state.Issued.{Issued}
 use Rattle.qs_step.specs.declared.state.OpenCommand.{OpenCommand}
 use Rattle.qs_world.specs.Moves.{command_of}
+use Rattle.qs_every_run.specs.Traces as traces
 use Rattle.qs_every_run.specs.Traces.{AsksNothing, Trace, answered, entered, fresh_command, member_at, sent, trace_of, with_issued, with_line, with_queues}
 
 pub record Deeds : Type 0 where
@@ -75,7 +76,8 @@ pub record IsKeptSo (P : Deeds → Type 0) : Type 0 where
   pub sends : (d : Deeds) (to : NodeNo) (message : Message) → AsksNothing message → P d → P (traced (sent to message) d)
   pub closes : (d : Deeds) (client : ClientNo) (command : OpenCommand) (said : Answer) → lookup (is_at (client_cmp client)) d.trace.commands ≡ Some command → P d → P (traced (answered client command said) d)
   pub begins : (d : Deeds) (line : ScriptLine) (tid : Tid) → lookup (is_at (client_cmp line.client)) d.trace.commands ≡ Some (fresh_command line) → line.command ≡ commands.Begin → P d
-      → P (traced (λ t. answered line.client (fresh_command line) answers.Done (entered (acts.Begin tid line.label line.client) t)) d)
+      → P (traced (λ t. answered line.client (fresh_command line) answers.Done (entered (acts.Begin tid line.label line.client) (traces.noted (record { label = line.label; tid = Some tid; owner = Some line.client }) t))) d)
+  pub refuses : (d : Deeds) (line : ScriptLine) → P d → P (traced (traces.noted (record { label = line.label; tid = None; owner = Some line.client })) d)
   pub marks : (d : Deeds) (client : ClientNo) (issued : Issued) → P d → P (traced (with_issued client issued) d)
   pub issues : (d : Deeds) (tid : Tid) (issuer : ServerNo) (member : Member) (number : ℕ) (op : Op) → P d → P (traced (λ t. entered (acts.Issue tid (member_at t issuer) member number op) t) d)
   pub asks : (d : Deeds) (tid : Tid) (label : List ℕ) (issuer : ServerNo) (member : Member) (number : ℕ) (op : Op) → same_node member.node d.trace.setting.node ≡ false → P d
@@ -99,5 +101,7 @@ pub record IsKeptSo (P : Deeds → Type 0) : Type 0 where
 pub record TakesInSo (event : Event) (P Q : Deeds → Type 0) : Type 0 where
   pub lets : (d : Deeds) → P d → Q d
   pub comes : (d : Deeds) (line : ScriptLine) → event ≡ command_of line → P d → Q (traced (with_line line) d)
+  pub learns : (d : Deeds) (peer : NodeNo) (tid : Tid) (label : List ℕ) (member : Member) (number : ℕ) (issuer : ServerNo) (op : Op) → event ≡ events.Received peer (messages.Request tid label member number issuer op) → P d
+      → P (traced (traces.noted (record { label = label; tid = Some tid; owner = None })) d)
   pub takes : (d : Deeds) (peer : NodeNo) (tid : Tid) (label : List ℕ) (member : Member) (number : ℕ) (issuer : ServerNo) (op : Op) → event ≡ events.Received peer (messages.Request tid label member number issuer op) → P d
       → Q (traced (λ t. with_queues (ipc.enqueue member.server (record { tid = tid; from = peer; number = number; op = op; stale = false }) t.queues) t) d)

@@ -25,6 +25,7 @@ use Rattle.qs_lawful.specs.Scripts.{HoldsScripts}
 use Rattle.qs_lawful.specs.Worlds.{HoldsWorld}
 use Rattle.qs_every_run.specs.Agrees.{nodes_in}
 use Rattle.qs_every_run.specs.Born.{BornAt}
+use Rattle.qs_every_run.specs.Labels.{HoldsLabels}
 
 -- the machine after what the world's journal has
 abbrev pub book_in : Opening → World → BookValue
@@ -64,6 +65,10 @@ IsLogged node log = (tid : Tid) → is_among node.committed tid ≡ true → is_
 
 abbrev pub LoggedAt : World → Type 0
 LoggedAt world = (n : ℕ) → n < world.size → IsLogged (world.hosts n).node (world.hosts n).log
+
+-- a node, whether it runs or not, keeps the label of what began there as its owner's
+abbrev pub LabelsAt : Opening → World → Type 0
+LabelsAt o world = (n : ℕ) → n < world.size → HoldsLabels (book_in o world) (world.hosts n).node.setting.node (world.hosts n).node.kept.now.labels
 
 -- each tick of a node has a stamp of its own, so its clock shows its stamp at most
 abbrev pub ClocksAt : World → Type 0
@@ -108,6 +113,7 @@ pub record Joined (P : Opening → World → Type 0) (o : Opening) (world : Worl
   pub owners : OwnersAt o world
   pub logged : LoggedAt world
   pub clocks : ClocksAt world
+  pub labels : LabelsAt o world
   pub born : BornAt o world
   pub channels : ChannelsAt o world
   pub unmet : KeepsBackUnmet world.channels

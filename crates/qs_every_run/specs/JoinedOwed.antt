@@ -1,6 +1,5 @@
 -- What is still to be shown so that every run is lawful: each is a law of its own, of a run's beginning, of what a step is given, or of what a move keeps.
-use Rattle.std.specs.Prelude.{◌≡◌, ℕ, ◌<◌, ◌==◌, ◌&&◌, ◌++◌, ⊤, true, false, List, None, Some, is_some, slice_get, Bool}
-use Rattle.std.specs.List.{list_any}
+use Rattle.std.specs.Prelude.{◌≡◌, ℕ, ◌<◌, ◌==◌, ◌++◌, ⊤, true, false, List, None, Some, is_some, slice_get, Bool}
 use Rattle.qs_base.specs.declared.identifiers.ClientNo.{ClientNo}
 use Rattle.qs_base.specs.declared.identifiers.NodeNo.{NodeNo}
 use Rattle.qs_base.specs.declared.identifiers.Tid.{Tid}
@@ -8,8 +7,6 @@ use Rattle.qs_journal.specs.declared.entry.Act.{Act}
 use Rattle.qs_journal.specs.declared.entry.Act.TheVariants as acts
 use Rattle.qs_journal.specs.declared.entry.CrashCause.{CrashCause}
 use Rattle.qs_journal.specs.declared.entry.Entry.{Entry}
-use Rattle.qs_kept.specs.Keeping.{is_label_of}
-use Rattle.qs_kept.specs.declared.kept.Begun.{Begun}
 use Rattle.qs_laws.specs.Gone.{stands_open}
 use Rattle.qs_machine.specs.Book.{BookValue, find_transaction}
 use Rattle.qs_machine.specs.Lawful.{IsLawful, book_after}
@@ -39,7 +36,6 @@ use Rattle.qs_lawful.specs.BesideStep.{HasCountRoom}
 use Rattle.qs_lawful.specs.Entering.{book_at}
 use Rattle.qs_lawful.specs.Given.{AtEach}
 use Rattle.qs_lawful.specs.GivenStep.{done_work}
-use Rattle.qs_lawful.specs.Logs.{Every}
 use Rattle.qs_lawful.specs.Said.{HoldsSaid}
 use Rattle.qs_lawful.specs.WorldLaws.{StopsWell}
 use Rattle.qs_every_run.specs.Agrees.{MakesStep}
@@ -97,16 +93,6 @@ book_then o world n stamp free event = book_after (book_in o world) (entries_in 
 abbrev pub AfterStep : (Opening → World → Type 0) → (Opening → World → ℕ → ℕ → ℕ → Event → Type 0) → Type 0
 AfterStep P X = (o : Opening) (world : World) (n stamp free : ℕ) (source : Source) (event : Event) → Joined P o world → MakesStep world n stamp source event → IsLawful (book_in o world) (entries_in world n stamp free event) → X o world n stamp free event
 
--- a label that a node keeps of a transaction of its own it keeps too as its owner's
-abbrev pub is_owned_as : Tid → Begun → Bool
-is_owned_as tid begun = is_some begun.owner && is_label_of tid begun
-
-abbrev pub AreOwned : NodeNo → List Begun → Begun → Type 0
-AreOwned here labels begun = (tid : Tid) → begun.tid ≡ Some tid → tid.home ≡ here → list_any (is_owned_as tid) labels ≡ true
-
-abbrev pub LabelsOwned : Opening → World → ℕ → ℕ → ℕ → Event → Type 0
-LabelsOwned o world n stamp free event = Every (AreOwned (after_step (world.hosts n).node event free).setting.node (after_step (world.hosts n).node event free).kept.saved.labels) (after_step (world.hosts n).node event free).kept.saved.labels
-
 -- what its log says of contents and changes, with the records that wait and on the disk
 abbrev pub SaidThen : Opening → World → ℕ → ℕ → ℕ → Event → Type 0
 SaidThen o world n stamp free event = (state : machine.NodeValue) → slice_get (book_then o world n stamp free event).nodes n ≡ Some state
@@ -143,7 +129,6 @@ pub record Owed (P : Opening → World → Type 0) : Type 0 where
   pub owes_open : EachOwesOpen P
   pub rooms : EachCountsRoom P
   -- after a whole step
-  pub steps_labels : AfterStep P LabelsOwned
   pub steps_said : AfterStep P SaidThen
   -- what all places hold of each transaction
   pub places : Keeps P IsStep P

@@ -2,7 +2,7 @@
 -- scripts and ways go on.
 use Rattle.std.specs.Prelude.{◌≡◌, ◌<◌, ℕ, ◌==◌, false}
 use Rattle.qs_machine.specs.Lawful.{IsLawful, book_after}
-use Rattle.qs_step.specs.Step.{effects_of}
+use Rattle.qs_step.specs.Step.{after_step, effects_of}
 use Rattle.qs_step.specs.declared.event.Event.{Event}
 use Rattle.qs_world.specs.Moves.{Source, Step, moved}
 use Rattle.qs_world.specs.Posting.{entries_of}
@@ -14,6 +14,7 @@ use Rattle.qs_lawful.specs.Scripts.{HoldsScripts}
 use Rattle.qs_every_run.specs.Agrees.{MakesStep}
 use Rattle.qs_every_run.specs.Joined.{ClientsAt, Joined, book_in}
 use Rattle.qs_every_run.specs.JoinedOwed.{HasOwner}
+use Rattle.qs_every_run.specs.Labels.{AreOwned}
 
 abbrev pub InStep : (Opening → World → Type 0) → (Opening → World → ℕ → ℕ → ℕ → Source → Event → Type 0) → Type 0
 InStep P X = (o : Opening) (world : World) (n stamp free : ℕ) (source : Source) (event : Event) → Joined P o world → MakesStep world n stamp source event → X o world n stamp free source event
@@ -34,3 +35,8 @@ KeepsScripts o world n stamp free source event = HoldsScripts o (book_after (boo
 abbrev pub KeepsWays : Opening → World → ℕ → ℕ → ℕ → Source → Event → Type 0
 KeepsWays o world n stamp free source event = IsLawful (book_in o world) (entries_of n stamp (effects_of (world.hosts n).node event free).entries)
     → HoldsWays (book_after (book_in o world) (entries_of n stamp (effects_of (world.hosts n).node event free).entries)) (moved (Step n stamp free source) world)
+
+-- where its entries are lawful, each label of a transaction of its own that the node keeps after it is kept as its owner's
+abbrev pub KeepsLabels : Opening → World → ℕ → ℕ → ℕ → Source → Event → Type 0
+KeepsLabels o world n stamp free source event = IsLawful (book_in o world) (entries_of n stamp (effects_of (world.hosts n).node event free).entries)
+    → Every (AreOwned (after_step (world.hosts n).node event free).setting.node (after_step (world.hosts n).node event free).kept.saved.labels) (after_step (world.hosts n).node event free).kept.saved.labels

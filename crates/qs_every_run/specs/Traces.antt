@@ -1,4 +1,4 @@
--- What a step has in hand for clients, what waits at its node, and what it entered, sent and answered so far. Each thing that a rule does to
+-- What a step has in hand for clients, the labels that its node keeps, what waits there, and what it entered, sent and answered so far. Each thing that a rule does to
 -- these is named here: what all of them keep, a whole step keeps.
 use Rattle.std.specs.Prelude.{◌≡◌, ℕ, ⊤, false, List, [], ◌∷◌, ◌++◌, Some, None}
 use Rattle.std.specs.BTreeMap.{insert_entry, is_at}
@@ -16,6 +16,7 @@ use Rattle.qs_journal.specs.declared.entry.Act.{Act}
 use Rattle.qs_journal.specs.declared.entry.Act.TheVariants as acts
 use Rattle.qs_journal.specs.declared.script_line.Command.TheVariants as commands
 use Rattle.qs_journal.specs.declared.script_line.ScriptLine.{ScriptLine}
+use Rattle.qs_kept.specs.declared.kept.Begun.{Begun}
 use Rattle.qs_ops.specs.declared.answer.Answer.{Answer}
 use Rattle.qs_ops.specs.declared.answer.Answer.TheVariants as answers
 use Rattle.qs_ops.specs.declared.operation.Op.{Op}
@@ -38,6 +39,7 @@ pub record Trace : Type 0 where
   pub setting : Setting
   pub commands : List (ClientNo × OpenCommand)
   pub queues : IpcValue
+  pub labels : List Begun
   pub entries : List Act
   pub messages : List Sending
   pub answers : List ClientAnswer
@@ -47,6 +49,7 @@ trace_of work = record {
   setting = work.node.setting;
   commands = work.node.commands;
   queues = work.node.queues;
+  labels = work.node.kept.now.labels;
   entries = work.out.entries;
   messages = work.out.messages;
   answers = work.out.answers;
@@ -62,6 +65,10 @@ sent to message t = record t { messages = t.messages ++ record { to = to; messag
 
 abbrev pub with_queues : IpcValue → Trace → Trace
 with_queues queues t = record t { queues = queues }
+
+-- the node keeps one more label
+abbrev pub noted : Begun → Trace → Trace
+noted label t = record t { labels = t.labels ++ label ∷ [] }
 
 -- the command of a client is answered
 abbrev pub answered : ClientNo → OpenCommand → Answer → Trace → Trace
@@ -106,7 +113,8 @@ pub record IsKept (P : Trace → Type 0) : Type 0 where
   pub sends : (t : Trace) (to : NodeNo) (message : Message) → AsksNothing message → P t → P (sent to message t)
   pub closes : (t : Trace) (client : ClientNo) (command : OpenCommand) (said : Answer) → lookup (is_at (client_cmp client)) t.commands ≡ Some command → P t → P (answered client command said t)
   pub begins : (t : Trace) (line : ScriptLine) (tid : Tid) → lookup (is_at (client_cmp line.client)) t.commands ≡ Some (fresh_command line) → line.command ≡ commands.Begin → P t
-      → P (answered line.client (fresh_command line) answers.Done (entered (acts.Begin tid line.label line.client) t))
+      → P (answered line.client (fresh_command line) answers.Done (entered (acts.Begin tid line.label line.client) (noted (record { label = line.label; tid = Some tid; owner = Some line.client }) t)))
+  pub refuses : (t : Trace) (line : ScriptLine) → P t → P (noted (record { label = line.label; tid = None; owner = Some line.client }) t)
   pub marks : (t : Trace) (client : ClientNo) (issued : Issued) → P t → P (with_issued client issued t)
   pub issues : (t : Trace) (tid : Tid) (issuer : ServerNo) (member : Member) (number : ℕ) (op : Op) → P t → P (entered (acts.Issue tid (member_at t issuer) member number op) t)
   pub asks : (t : Trace) (tid : Tid) (label : List ℕ) (issuer : ServerNo) (member : Member) (number : ℕ) (op : Op) → same_node member.node t.setting.node ≡ false → P t
@@ -118,9 +126,11 @@ pub record IsKept (P : Trace → Type 0) : Type 0 where
   pub forgets : (t : Trace) (tid : Tid) → P t → P (with_queues (drop_counts tid t.queues) t)
   pub stales : (t : Trace) (peer : NodeNo) → P t → P (with_queues (ipc.mark_queues peer t.queues) t)
 
--- and what comes in the step: a command of a client, or a request, which may be let go
+-- and what comes in the step: a command of a client, or a request, which tells a label and may be let go
 pub record TakesIn (event : Event) (P Q : Trace → Type 0) : Type 0 where
   pub lets : (t : Trace) → P t → Q t
   pub comes : (t : Trace) (line : ScriptLine) → event ≡ command_of line → P t → Q (with_line line t)
+  pub learns : (t : Trace) (peer : NodeNo) (tid : Tid) (label : List ℕ) (member : Member) (number : ℕ) (issuer : ServerNo) (op : Op) → event ≡ events.Received peer (messages.Request tid label member number issuer op) → P t
+      → P (noted (record { label = label; tid = Some tid; owner = None }) t)
   pub takes : (t : Trace) (peer : NodeNo) (tid : Tid) (label : List ℕ) (member : Member) (number : ℕ) (issuer : ServerNo) (op : Op) → event ≡ events.Received peer (messages.Request tid label member number issuer op) → P t
       → Q (with_queues (ipc.enqueue member.server (record { tid = tid; from = peer; number = number; op = op; stale = false }) t.queues) t)

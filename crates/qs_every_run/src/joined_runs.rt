@@ -1,11 +1,12 @@
 //! Every run of the world of nodes is lawful, as far as it is owed.
-ghost use Rattle.qs_every_run.specs.StepLaws.{AnswersAside, BeginsOwned, InStep, KeepsClients, KeepsScripts, KeepsWays};
+ghost use Rattle.qs_every_run.specs.StepLaws.{AnswersAside, BeginsOwned, InStep, KeepsClients, KeepsLabels, KeepsScripts, KeepsWays};
 ghost use Rattle.qs_every_run.specs.JoinedPlaces.{PlacesAt};
 ghost use Rattle.qs_every_run.specs.PlacesLaws.{PlacesGoOn};
 ghost use Rattle.qs_every_run.specs.JoinedRuns.{EachMoveJoined, EachOpensJoined, EachRunJoined, EachRunLawful};
 ghost use Rattle.qs_every_run.specs.Joined.{RunningAt};
 ghost use Rattle.qs_every_run.specs.CutCommits.{EachKeepsCommits, EachKeepsVotes};
 ghost use Rattle.qs_every_run.specs.Firsts.{CommitsStood, CommitsUnanimous, StepsCommitFirst, StepsVoteFirst};
+ghost use Rattle.qs_every_run.specs.Labels.{RequestsOwned};
 ghost use Rattle.qs_every_run.specs.JoinedOwed.{Opens};
 ghost use Rattle.qs_every_run.specs.RiseLaws.{EachRiseKeepsBeside, EachRisesRunning};
 ghost use Rattle.qs_every_run.specs.StaysLaws.{StepsKeepLogged, StepsTickOnce, StepsYoung};
@@ -70,4 +71,11 @@ pub fn steps_commit_first()
 pub fn kept_batches_are_settled()
     ensures commits { EachKeepsCommits PlacesAt }
     ensures votes { EachKeepsVotes PlacesAt }
+{}
+
+/// What commit was asked for, or has a request, began in the run, so it has an owner. And each label of a transaction of its own that a node keeps after
+/// a step is kept as its owner's: no request that comes home tells of another.
+pub fn labels_stay_owned()
+    ensures requests { RequestsOwned }
+    ensures labels { InStep PlacesAt KeepsLabels }
 {}
