@@ -103,6 +103,8 @@ pub mod PlacesGo
 pub mod SettlesGo
 pub mod CommandsGo
 pub mod CutCommits
+pub mod DueParts
+pub mod DueVotes
 pub mod TriedOwingRuns
 pub mod ServesGo
 pub mod StepsGo

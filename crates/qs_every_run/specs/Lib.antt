@@ -25,4 +25,5 @@ pub mod StaysLaws
 pub mod PlacesLaws
 pub mod Born
 pub mod CutCommits
+pub mod CutVotes
 pub mod TriedOwing

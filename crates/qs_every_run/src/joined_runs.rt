@@ -5,6 +5,7 @@ ghost use Rattle.qs_every_run.specs.PlacesLaws.{PlacesGoOn};
 ghost use Rattle.qs_every_run.specs.JoinedRuns.{EachMoveJoined, EachOpensJoined, EachRunJoined, EachRunLawful};
 ghost use Rattle.qs_every_run.specs.Joined.{RunningAt};
 ghost use Rattle.qs_every_run.specs.CutCommits.{EachKeepsCommits, EachKeepsVotes};
+ghost use Rattle.qs_every_run.specs.CutVotes.{StepsVoteDue};
 ghost use Rattle.qs_every_run.specs.Firsts.{CommitsStood, CommitsUnanimous, StepsCommitFirst, StepsVoteFirst};
 ghost use Rattle.qs_every_run.specs.JoinedOwed.{Opens};
 ghost use Rattle.qs_every_run.specs.RiseLaws.{EachRiseKeepsBeside, EachRisesRunning};
@@ -70,4 +71,10 @@ pub fn steps_commit_first()
 pub fn kept_batches_are_settled()
     ensures commits { EachKeepsCommits PlacesAt }
     ensures votes { EachKeepsVotes PlacesAt }
+{}
+
+/// Each vote of a step was due as the step began, beside what its member has pending: asked and not committed, with something served since the last
+/// vote, and with covers that count.
+pub fn votes_were_due()
+    ensures { StepsVoteDue }
 {}
