@@ -105,6 +105,8 @@ pub mod CommandsGo
 pub mod CutCommits
 pub mod DueParts
 pub mod DueVotes
+pub mod MarkedBefore
+pub mod CutCould
 pub mod TriedOwingRuns
 pub mod ServesGo
 pub mod StepsGo

@@ -1,18 +1,31 @@
 -- What a step's own votes say of what the machine had before it: beside what its member has pending, each was due as the step began.
-use Rattle.std.specs.Prelude.{◌≡◌, ℕ, Bool, true, not, ◌&&◌, List, ◌∷◌, ◌++◌, Some, is_some, nat_lt}
+use Rattle.std.specs.Prelude.{◌≡◌, ℕ, Bool, true, not, ◌&&◌, ◌||◌, List, ◌∷◌, ◌++◌, Some, is_some, nat_lt}
 use Rattle.qs_base.specs.declared.identifiers.Member.{Member}
 use Rattle.qs_base.specs.declared.identifiers.Tid.{Tid}
 use Rattle.qs_journal.specs.declared.entry.Act.{Act}
 use Rattle.qs_journal.specs.declared.entry.Act.TheVariants as acts
+use Rattle.qs_journal.specs.declared.entry.CrashCause.{CrashCause}
+use Rattle.qs_journal.specs.declared.entry.Entry.{Entry}
 use Rattle.qs_laws.proofs.Outcomes.{Inv}
-use Rattle.qs_machine.specs.Book.{BookValue, find_transaction, inc_at}
-use Rattle.qs_machine.specs.Lawful.{IsLawful}
-use Rattle.qs_machine.specs.Transaction.{TransactionValue, is_commit, is_covering, part_of}
+use Rattle.qs_laws.specs.Laws.{IsCoherent}
+use Rattle.qs_machine.specs.Book.{BookValue, crash_node, find_transaction, inc_at}
+use Rattle.qs_machine.specs.Clauses.{has_vote}
+use Rattle.qs_machine.specs.Lawful.{IsLawful, book_after, effect}
+use Rattle.qs_machine.specs.Nodes as machine
+use Rattle.qs_machine.specs.Nodes.{pending_at}
+use Rattle.qs_machine.specs.Opening.{opening}
+use Rattle.qs_machine.specs.Restart.{member_at}
+use Rattle.qs_machine.specs.Transaction.{TransactionValue, is_before, is_commit, is_covering, is_crossed, is_empty, part_of, was_crossed}
+use Rattle.qs_machine.specs.declared.opened.Opened.{Opened}
 use Rattle.qs_ops.specs.declared.vote.Vote.{Vote}
+use Rattle.qs_ops.specs.declared.vote.Vote.TheVariants as votes
+use Rattle.qs_restart.specs.Recovery.{Prepared}
 use Rattle.qs_step.specs.State.{NodeValue}
 use Rattle.qs_step.specs.Step.{effects_of}
 use Rattle.qs_step.specs.declared.event.Event.{Event}
-use Rattle.qs_world.specs.Posting.{entries_of}
+use Rattle.qs_world.specs.Posting.{entries_of, entry_of}
+use Rattle.qs_lawful.specs.Logged.{IsNamed}
+use Rattle.qs_lawful.specs.Logs.{IsCutVote}
 
 -- what a vote needs beside what its member has pending: asked and not committed, something served since the last vote, and covers that count
 abbrev pub is_due_vote : Member → ℕ → ℕ → TransactionValue → Bool
@@ -34,3 +47,21 @@ pub record EntersVote (tid : Tid) (member : Member) (ballot : Vote) (covers : �
 abbrev pub StepsVoteDue : Type 0
 StepsVoteDue = (tid : Tid) (n stamp : ℕ) (node : NodeValue) (event : Event) (free : ℕ) (book : BookValue) → Inv book → IsLawful book (entries_of n stamp (effects_of node event free).entries)
     → (member : Member) (ballot : Vote) (covers : ℕ) → EntersVote tid member ballot covers (effects_of node event free).entries → IsVoteDue book tid member (inc_at book (record { 0 = n })) covers
+
+-- ---- what is marked with a place stands before the next
+
+-- commit was asked for, and it was crossed where it is, before that place in the history
+pub record IsMarkedBefore (place : ℕ) (tx : TransactionValue) : Type 0 where
+  pub asked : is_some tx.asked ≡ true → is_before place tx.asked ≡ true
+  pub crossed : (member : Member) → is_crossed tx member ≡ true → was_crossed place tx member ≡ true
+
+abbrev pub EachMarkedBefore : Type 0
+EachMarkedBefore = (opened : List Opened) (entries : List Entry) → IsCoherent opened → IsNamed (opening opened) → IsLawful (opening opened) entries → (tid : Tid) (tx : TransactionValue)
+    → find_transaction (book_after (opening opened) entries) tid ≡ Some tx → IsMarkedBefore (book_after (opening opened) entries).place tx
+
+-- a vote that is due as its node stops could be made then, of a server that has such votes, where its member has something pending or the
+-- transaction is crossed there
+abbrev pub DueVotesCut : Type 0
+DueVotesCut = (n stamp : ℕ) (cause : CrashCause) (book : BookValue) (state : machine.NodeValue) (vote : Prepared) (tx : TransactionValue) → find_transaction book vote.tid ≡ Some tx → IsMarkedBefore book.place tx
+    → is_due_vote (member_at n vote.server.0) state.inc vote.covers tx ≡ true → has_vote vote.server.0 votes.Recoverable ≡ true → (is_crossed tx (member_at n vote.server.0) || not (is_empty (pending_at state vote.tid vote.server.0))) ≡ true
+    → IsCutVote n (effect book (entry_of n stamp (acts.Crash cause))) (crash_node book.place state) vote

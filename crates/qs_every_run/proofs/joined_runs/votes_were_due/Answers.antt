@@ -1,5 +1,7 @@
+use Rattle.qs_every_run.proofs.CutCould.{due_votes_cut}
 use Rattle.qs_every_run.proofs.DueVotes.{steps_vote_due}
+use Rattle.qs_every_run.proofs.MarkedBefore.{each_marked_before}
 use Rattle.qs_every_run.proofs.joined_runs.votes_were_due.Goals as goal
 
 pub returns : goal.returns
-returns c = steps_vote_due
+returns c = record { due = steps_vote_due; marked = each_marked_before; cut = due_votes_cut }
