@@ -107,6 +107,7 @@ pub mod DueParts
 pub mod DueVotes
 pub mod MarkedBefore
 pub mod CutCould
+pub mod BatchVotes
 pub mod TriedOwingRuns
 pub mod ServesGo
 pub mod StepsGo

@@ -1,5 +1,5 @@
 -- What a step's own votes say of what the machine had before it: beside what its member has pending, each was due as the step began.
-use Rattle.std.specs.Prelude.{◌≡◌, ℕ, Bool, true, not, ◌&&◌, ◌||◌, List, ◌∷◌, ◌++◌, Some, is_some, nat_lt}
+use Rattle.std.specs.Prelude.{◌≡◌, ◌⊎◌, ⊤, ℕ, Bool, true, false, not, ◌&&◌, ◌||◌, List, ◌∷◌, ◌++◌, Some, is_some, nat_lt}
 use Rattle.qs_base.specs.declared.identifiers.Member.{Member}
 use Rattle.qs_base.specs.declared.identifiers.Tid.{Tid}
 use Rattle.qs_journal.specs.declared.entry.Act.{Act}
@@ -19,13 +19,15 @@ use Rattle.qs_machine.specs.Transaction.{TransactionValue, is_before, is_commit,
 use Rattle.qs_machine.specs.declared.opened.Opened.{Opened}
 use Rattle.qs_ops.specs.declared.vote.Vote.{Vote}
 use Rattle.qs_ops.specs.declared.vote.Vote.TheVariants as votes
-use Rattle.qs_restart.specs.Recovery.{Prepared}
+use Rattle.qs_record.specs.declared.record.Record.{Record}
+use Rattle.qs_record.specs.declared.record.Record.TheVariants as made
+use Rattle.qs_restart.specs.Recovery.{Prepared, recovery}
 use Rattle.qs_step.specs.State.{NodeValue}
 use Rattle.qs_step.specs.Step.{effects_of}
 use Rattle.qs_step.specs.declared.event.Event.{Event}
 use Rattle.qs_world.specs.Posting.{entries_of, entry_of}
 use Rattle.qs_lawful.specs.Logged.{IsNamed}
-use Rattle.qs_lawful.specs.Logs.{IsCutVote}
+use Rattle.qs_lawful.specs.Logs.{Every, IsCutVote, IsVoteLogged}
 
 -- what a vote needs beside what its member has pending: asked and not committed, something served since the last vote, and covers that count
 abbrev pub is_due_vote : Member → ℕ → ℕ → TransactionValue → Bool
@@ -65,3 +67,16 @@ abbrev pub DueVotesCut : Type 0
 DueVotesCut = (n stamp : ℕ) (cause : CrashCause) (book : BookValue) (state : machine.NodeValue) (vote : Prepared) (tx : TransactionValue) → find_transaction book vote.tid ≡ Some tx → IsMarkedBefore book.place tx
     → is_due_vote (member_at n vote.server.0) state.inc vote.covers tx ≡ true → has_vote vote.server.0 votes.Recoverable ≡ true → (is_crossed tx (member_at n vote.server.0) || not (is_empty (pending_at state vote.tid vote.server.0))) ≡ true
     → IsCutVote n (effect book (entry_of n stamp (acts.Crash cause))) (crash_node book.place state) vote
+
+-- ---- the log
+
+-- of a Prepare, as the vote that a log says of it
+abbrev pub IsOfPrepare : (Prepared → Type 0) → Record → Type 0
+IsOfPrepare P (made.Prepare tid server covers changes) = P (record { tid = tid; server = server; covers = covers; changes = changes; committed = false })
+IsOfPrepare P rec = ⊤
+
+-- a batch leaves votes that stood on record or applied so, and its own Prepares that could be made as votes of a step that was cut off
+abbrev pub BatchLeavesVotes : Type 0
+BatchLeavesVotes = (n : ℕ) (book : BookValue) (state : machine.NodeValue) (disk waiting records : List Record) → Every (IsVoteLogged n book state (recovery (disk ++ waiting))) (recovery (disk ++ waiting)).prepared
+    → Every (IsOfPrepare (IsCutVote n book state)) records
+    → Every (λ (vote : Prepared). IsVoteLogged n book state (recovery ((disk ++ waiting) ++ records)) vote ⊎ IsCutVote n book state vote) (recovery ((disk ++ waiting) ++ records)).prepared
