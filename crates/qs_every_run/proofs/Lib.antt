@@ -103,6 +103,11 @@ pub mod PlacesGo
 pub mod SettlesGo
 pub mod CommandsGo
 pub mod CutCommits
+pub mod DueParts
+pub mod DueVotes
+pub mod MarkedBefore
+pub mod CutCould
+pub mod BatchVotes
 pub mod TriedOwingRuns
 pub mod ServesGo
 pub mod StepsGo

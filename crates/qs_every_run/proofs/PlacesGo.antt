@@ -88,7 +88,7 @@ extends_then a b c e f = record {
 
 -- ---- the incarnation of its node
 
-inc_stays : (n stamp : ℕ) (es : List Act) (book : BookValue) → list_any is_restart es ≡ false → IsLawful book (entries_of n stamp es) → inc_at (book_after book (entries_of n stamp es)) (record { 0 = n }) ≡ inc_at book (record { 0 = n })
+pub inc_stays : (n stamp : ℕ) (es : List Act) (book : BookValue) → list_any is_restart es ≡ false → IsLawful book (entries_of n stamp es) → inc_at (book_after book (entries_of n stamp es)) (record { 0 = n }) ≡ inc_at book (record { 0 = n })
 inc_stays n stamp [] book none lawful = refl
 inc_stays n stamp (act ∷ es) book none lawful = inc_stays n stamp es (effect book (entry_of n stamp act)) (two (is_restart act) (list_any is_restart es) none).1 lawful.1
     ∙ (paced (record { home = record { 0 = 0 }; inc = 0; seq = 0 }) (record { 0 = n }) book (entry_of n stamp act) lawful.0).still (record { 0 = n }) (quiet act (two (is_restart act) (list_any is_restart es) none).0)

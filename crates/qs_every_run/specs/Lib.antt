@@ -26,5 +26,6 @@ pub mod StaysLaws
 pub mod PlacesLaws
 pub mod Born
 pub mod CutCommits
+pub mod CutVotes
 pub mod TriedOwing
 pub mod PlacesJoined

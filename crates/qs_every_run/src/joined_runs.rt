@@ -5,6 +5,7 @@ ghost use Rattle.qs_every_run.specs.PlacesLaws.{PlacesGoOn};
 ghost use Rattle.qs_every_run.specs.JoinedRuns.{EachMoveJoined, EachOpensJoined, EachRunJoined, EachRunLawful};
 ghost use Rattle.qs_every_run.specs.Joined.{RunningAt};
 ghost use Rattle.qs_every_run.specs.CutCommits.{EachKeepsCommits, EachKeepsVotes};
+ghost use Rattle.qs_every_run.specs.CutVotes.{BatchLeavesVotes, DueVotesCut, EachMarkedBefore, StepsVoteDue};
 ghost use Rattle.qs_every_run.specs.Firsts.{CommitsStood, CommitsUnanimous, StepsCommitFirst, StepsVoteFirst};
 ghost use Rattle.qs_every_run.specs.Labels.{RequestsOwned};
 ghost use Rattle.qs_every_run.specs.JoinedOwed.{Opens};
@@ -78,4 +79,15 @@ pub fn kept_batches_are_settled()
 pub fn labels_stay_owned()
     ensures requests { RequestsOwned }
     ensures labels { InStep PlacesAt KeepsLabels }
+{}
+
+/// Each vote of a step was due as the step began, beside what its member has pending: asked and not committed, with something served since the last
+/// vote, and with covers that count. What was asked for, and where it was crossed, stands before the place that is next. So a vote that is due as its
+/// node stops could be made then, where its member has something pending or the transaction is crossed there. And a batch leaves the votes that stood
+/// as they stood, beside those of its own Prepares.
+pub fn votes_were_due()
+    ensures due { StepsVoteDue }
+    ensures marked { EachMarkedBefore }
+    ensures cut { DueVotesCut }
+    ensures batch { BatchLeavesVotes }
 {}
