@@ -107,3 +107,6 @@ pub mod TriedOwingRuns
 pub mod ServesGo
 pub mod StepsGo
 pub mod StepsWhole
+pub mod OwingEntries
+pub mod OwingElsewhere
+pub mod OwingFresh

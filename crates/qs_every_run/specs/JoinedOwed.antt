@@ -10,7 +10,6 @@ use Rattle.qs_journal.specs.declared.entry.CrashCause.{CrashCause}
 use Rattle.qs_journal.specs.declared.entry.Entry.{Entry}
 use Rattle.qs_kept.specs.Keeping.{is_label_of}
 use Rattle.qs_kept.specs.declared.kept.Begun.{Begun}
-use Rattle.qs_laws.specs.Gone.{stands_open}
 use Rattle.qs_machine.specs.Book.{BookValue, find_transaction}
 use Rattle.qs_machine.specs.Lawful.{IsLawful, book_after}
 use Rattle.qs_machine.specs.Nodes as machine
@@ -20,30 +19,29 @@ use Rattle.qs_step.specs.Settling.{due_tids, is_quiet, may_answer, pass_rule, se
 use Rattle.qs_step.specs.State.{Work, doings_of}
 use Rattle.qs_step.specs.Step.{after_step, effects_of}
 use Rattle.qs_step.specs.declared.event.Event.{Event}
-use Rattle.qs_step.specs.declared.event.Event.TheVariants as events
 use Rattle.qs_tm.specs.Manager as tm
-use Rattle.qs_tm.specs.Participant.{is_owed_by}
 use Rattle.qs_tm.specs.declared.participant.Participant.{Participant}
 use Rattle.qs_world.specs.Histories.{book_of}
 use Rattle.qs_world.specs.Moves.{Cut, Move, Source, Step, cut_log, event_of, log_after, may_move, moved, stopped, waiting_after}
 use Rattle.qs_world.specs.Openings.{IsOpening}
 use Rattle.qs_world.specs.Posting.{entries_of}
-use Rattle.qs_world.specs.World.{Opening, World, start, inc_of}
+use Rattle.qs_world.specs.World.{Opening, World, start}
 use Rattle.qs_agree.specs.World as agreement
 use Rattle.qs_agree.specs.World.{Open, Committed}
 use Rattle.qs_refine.specs.Begun.{has_begun}
 use Rattle.qs_refine.specs.CutLaws.{CutsOff}
 use Rattle.qs_refine.specs.EachMove.{ShowsAll}
 use Rattle.qs_lawful.specs.Aside.{StaysUnanimous}
-use Rattle.qs_lawful.specs.BesideStep.{HasCountRoom, HappensSo}
+use Rattle.qs_lawful.specs.BesideStep.{HasCountRoom}
 use Rattle.qs_lawful.specs.Entering.{book_at}
 use Rattle.qs_lawful.specs.Given.{AtEach}
-use Rattle.qs_lawful.specs.GivenStep.{done_work, first_work}
+use Rattle.qs_lawful.specs.GivenStep.{done_work}
 use Rattle.qs_lawful.specs.Logs.{Every}
 use Rattle.qs_lawful.specs.Said.{HoldsSaid}
 use Rattle.qs_lawful.specs.WorldLaws.{StopsWell}
 use Rattle.qs_every_run.specs.Agrees.{MakesStep}
 use Rattle.qs_every_run.specs.Joined.{Joined, book_in}
+use Rattle.qs_every_run.specs.Owing.{Owes}
 
 -- ---- as a run begins
 
@@ -60,11 +58,6 @@ CommitsSettled stamp before work tid = (part : Participant) → tm.part_of tid (
 abbrev pub EachCommitsSettled : (Opening → World → Type 0) → Type 0
 EachCommitsSettled P = (o : Opening) (world : World) (n stamp free : ℕ) (source : Source) (event : Event) → Joined P o world → MakesStep world n stamp source event
     → AtEach (CommitsSettled stamp (book_in o world)) settle_tid (done_work (world.hosts n).node event free) (due_tids (done_work (world.hosts n).node event free))
-
--- what a node owes that restarted, of what is undecided, stands open in the history
-abbrev pub EachOwesOpen : (Opening → World → Type 0) → Type 0
-EachOwesOpen P = (o : Opening) (world : World) (n stamp : ℕ) (source : Source) (peer : NodeNo) (old new : ℕ) → Joined P o world → MakesStep world n stamp source (events.PeerRestarted peer old new)
-    → (tid : Tid) (part : Participant) → tm.part_of tid (world.hosts n).node.manager ≡ Some part → part.outcome ≡ None → is_owed_by peer part ≡ true → stands_open tid peer world.journal ≡ true
 
 -- where a vote pass is due, the count of changes has room
 abbrev pub EachCountsRoom : (Opening → World → Type 0) → Type 0
@@ -113,6 +106,10 @@ SaidThen o world n stamp free event = (state : machine.NodeValue) → slice_get 
     → HoldsSaid n (book_then o world n stamp free event) state (recovery (log_after (world.hosts n) (effects_of (world.hosts n).node event free) ++ waiting_after (world.hosts n) (effects_of (world.hosts n).node event free)))
     × HoldsSaid n (book_then o world n stamp free event) state (recovery (log_after (world.hosts n) (effects_of (world.hosts n).node event free)))
 
+-- what its node waits for of others stands in the history
+abbrev pub OwesThen : Opening → World → ℕ → ℕ → ℕ → Event → Type 0
+OwesThen o world n stamp free event = Owes (after_step (world.hosts n).node event free) (world.journal ++ entries_in world n stamp free event)
+
 -- what begins has an owner
 abbrev pub HasOwner : BookValue → Act → Type 0
 HasOwner book act = (tid : Tid) (label : List ℕ) (client : ClientNo) → act ≡ acts.Begin tid label client → is_some (slice_get book.owners client.0) ≡ true
@@ -140,11 +137,11 @@ Keeps P kind X = (o : Opening) (world : World) (move : Move) → kind move → J
 pub record Owed (P : Opening → World → Type 0) : Type 0 where
   -- what a step is given
   pub commits : EachCommitsSettled P
-  pub owes_open : EachOwesOpen P
   pub rooms : EachCountsRoom P
   -- after a whole step
   pub steps_labels : AfterStep P LabelsOwned
   pub steps_said : AfterStep P SaidThen
+  pub steps_owing : AfterStep P OwesThen
   -- what all places hold of each transaction
   pub places : Keeps P IsStep P
   -- after a crash

@@ -10,6 +10,7 @@ pub mod PlacesGo
 pub mod PlacesWhole
 pub mod StopLaws
 pub mod Agrees
+pub mod Owing
 pub mod Joined
 pub mod Traces
 pub mod Deeds
