@@ -64,6 +64,7 @@ module _ (n : ℕ) (node : NodeValue) (own : node.setting.node.0 ≡ n) where
       on request a = record {
         stands = awaited_on tid request.member.node request.issuer.0 more (λ other. unanswered tid request (a.in_hand other) more all) history a.stands;
         in_hand = a.in_hand;
+        labelled = a.labelled;
       }
 
 -- ---- such entries: those of a step of another node, and one by itself

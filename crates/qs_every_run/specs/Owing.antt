@@ -1,5 +1,5 @@
 -- What a node that runs waits for of other nodes stands in the history: its last request to each that has not answered for it, and each request without a reply.
-use Rattle.std.specs.Prelude.{◌≡◌, ℕ, ◌<◌, ◌==◌, ◌&&◌, ◌||◌, not, Bool, true, false, List, [], ◌∷◌, Some, None}
+use Rattle.std.specs.Prelude.{◌≡◌, ℕ, ◌<◌, ◌==◌, ◌&&◌, ◌||◌, not, Bool, true, false, List, [], ◌∷◌, Some, None, Option}
 use Rattle.std.specs.BTreeMap.{is_at}
 use Rattle.std.specs.Map.{lookup}
 use Rattle.qs_base.specs.Order.{same_tid}
@@ -9,11 +9,14 @@ use Rattle.qs_engage.specs.Engage.{is_open_to, peer_of}
 use Rattle.qs_journal.specs.declared.entry.Act.{Act}
 use Rattle.qs_journal.specs.declared.entry.Act.TheVariants as acts
 use Rattle.qs_journal.specs.declared.entry.Entry.{Entry}
+use Rattle.qs_kept.specs.Keeping.{is_label_of}
 use Rattle.qs_laws.specs.Gone.{is_counted, waits_still}
 use Rattle.qs_ops.specs.Servers.{files_no}
 use Rattle.qs_servers.specs.Servers.{client_of}
 use Rattle.qs_step.specs.Requests.{waits_as}
+use Rattle.qs_step.specs.Serving.{label_at}
 use Rattle.qs_step.specs.State.{NodeValue, client_cmp}
+use Rattle.qs_step.specs.declared.state.OpenCommand.{OpenCommand}
 use Rattle.qs_tm.specs.Manager as tm
 use Rattle.qs_tm.specs.declared.participant.Outstanding.{Outstanding}
 use Rattle.qs_tm.specs.declared.participant.Participant.{Participant}
@@ -45,10 +48,16 @@ stands_awaited tid peer server (entry ∷ since) = is_awaited tid peer server en
 
 -- ---- of a node
 
--- a request that has no reply stands; what files issued for good, what a client issued as long as that waits for just this one
+-- the label of that command is the transaction's
+abbrev pub names_tid : Tid → NodeValue → Option OpenCommand → Bool
+names_tid tid node None = false
+names_tid tid node (Some command) = elim (label_at command.line.label node) [ None ↦ false | Some begun ↦ is_label_of tid begun ]
+
+-- a request that has no reply stands; what files issued for good, what a client issued as long as its command waits for just this one
 pub record IsAwaited (node : NodeValue) (history : List Entry) (tid : Tid) (request : Outstanding) : Type 0 where
   pub stands : stands_awaited tid request.member.node request.issuer.0 history ≡ true
   pub in_hand : (request.issuer.0 == files_no) ≡ false → waits_as tid request.member request.number (lookup (is_at (client_cmp (client_of request.issuer))) node.commands) ≡ true
+  pub labelled : (request.issuer.0 == files_no) ≡ false → names_tid tid node (lookup (is_at (client_cmp (client_of request.issuer))) node.commands) ≡ true
 
 pub record StandsOwed (node : NodeValue) (history : List Entry) (tid : Tid) (part : Participant) : Type 0 where
   pub uncounted : (peer : NodeNo) → is_open_to peer part.engage ≡ true → stands_uncounted tid peer node.setting.node (peer_of part.engage peer).sent history ≡ true

@@ -22,7 +22,7 @@ use Rattle.qs_world.specs.Faults.{both}
 use Rattle.qs_world.specs.Moves.{node_no}
 use Rattle.qs_world.specs.World.{Opening, World, start}
 use Rattle.qs_lawful.specs.Tried.{rich}
-use Rattle.qs_every_run.specs.Owing.{stands_awaited, stands_uncounted}
+use Rattle.qs_every_run.specs.Owing.{names_tid, stands_awaited, stands_uncounted}
 
 -- what the peer owes of it, this node waits for
 abbrev owes_at : World → ℕ → ℕ → Tid × Participant → Bool
@@ -37,7 +37,8 @@ link_ok node history entry m = not (is_open_to (node_no m) entry.1.engage) || st
 
 abbrev request_ok : NodeValue → List Entry → Tid → Outstanding → Bool
 request_ok node history tid request = stands_awaited tid request.member.node request.issuer.0 history
-    && ((request.issuer.0 == files_no) || waits_as tid request.member request.number (lookup (is_at (client_cmp (client_of request.issuer))) node.commands))
+    && ((request.issuer.0 == files_no) || (waits_as tid request.member request.number (lookup (is_at (client_cmp (client_of request.issuer))) node.commands)
+    && names_tid tid node (lookup (is_at (client_cmp (client_of request.issuer))) node.commands)))
 
 abbrev stands_ok : NodeValue → List Entry → Tid × Participant → Bool
 stands_ok node history entry = list_all (link_ok node history entry) (up_to node.setting.nodes) && (is_some entry.1.outcome || list_all (request_ok node history entry.0) entry.1.waiting)
