@@ -30,6 +30,7 @@ use Rattle.qs_lawful.specs.Worlds.{HoldsWorld}
 use Rattle.qs_lawful.proofs.OpenedCommits.{stays_among}
 use Rattle.qs_every_run.specs.Agrees.{MakesStep, nodes_in}
 use Rattle.qs_every_run.specs.Joined.{ChannelsAt, FactsAt, HeldAt, HomesAt, HomesHave, HoldsRunning, Joined, ClocksAt, LoggedAt, OwnersAt, RunningAt, ScriptsAt, WaysAt, book_in, ClientsAt, KeepsBackUnmet, QueuedAt}
+use Rattle.qs_every_run.specs.Owing.{Owes, OwesAt}
 use Rattle.qs_every_run.specs.JoinedOwed.{Owed, AfterStep, StaysUnanimousThen}
 use Rattle.qs_every_run.proofs.BornMoves.{born_moved}
 use Rattle.qs_every_run.proofs.JoinedFacts.{steps_facts}
@@ -40,6 +41,7 @@ use Rattle.qs_every_run.proofs.JoinedClocks.{step_on_time}
 use Rattle.qs_every_run.proofs.ClientsGo.{clients_then, scripts_then}
 use Rattle.qs_every_run.proofs.JoinedWays.{lasts_now, steps_ways}
 use Rattle.qs_every_run.proofs.LabelsMoves.{labels_moved}
+use Rattle.qs_every_run.proofs.OwingElsewhere.{by_step, owes_on}
 use Rattle.qs_every_run.proofs.KeptBack.{none_before, nothing_waits, step_unmet}
 use Rattle.qs_every_run.proofs.StaysWorlds.{steps_keep_logged}
 use Rattle.qs_every_run.proofs.JoinedSteps.{step_at, step_entries, step_holds, step_journal, step_lawful, step_low, step_up}
@@ -69,6 +71,7 @@ pub record Known (o : Opening) (world new : World) : Type 0 where
   pub ways : WaysAt o new
   pub clients : ClientsAt new
   pub scripts : ScriptsAt o new
+  pub owing : OwesAt new
 
 module _ (P : Opening → World → Type 0) (owed : Owed P) (unanimous : AfterStep P StaysUnanimousThen) (o : Opening) (world : World) (j : Joined P o world) where
   abbrev book : BookValue
@@ -95,6 +98,7 @@ module _ (P : Opening → World → Type 0) (owed : Owed P) (unanimous : AfterSt
     ways = k.ways;
     clients = k.clients;
     scripts = k.scripts;
+    owing = k.owing;
     places = places;
   }
 
@@ -227,6 +231,18 @@ module _ (P : Opening → World → Type 0) (owed : Owed P) (unanimous : AfterSt
             (step_on_time P o world j n stamp free source event makes)))
         by false far = subst (λ (t : ℕ). (new.hosts k).node.manager.ticks ≤ t) (sym (same_stamp far)) (subst (λ (m : NodeValue). m.manager.ticks ≤ (world.hosts k).stamp) (sym (same k far)) (j.clocks k (subst (λ (s : ℕ). k < s) sized low)))
 
+    owing_then : OwesAt new
+    owing_then k low on = subst (Owes (new.hosts k).node) (sym journal) (by (k == n) refl)
+      where
+        by : (b : Bool) → (k == n) ≡ b → Owes (new.hosts k).node (world.journal ++ entries)
+        by true near = subst (λ (i : ℕ). Owes (new.hosts i).node (world.journal ++ entries)) (sym (eqb-true k n near)) (subst (λ (m : NodeValue). Owes m (world.journal ++ entries)) (sym own_then)
+            (owed.steps_owing o world n stamp free source event j makes (step_lawful P owed o world j n stamp free source event makes)))
+        by false far = subst (λ (m : NodeValue). Owes m (world.journal ++ entries)) (sym (same k far)) (owes_on k (world.hosts k).node (j.held.nodes k k_low).node world.journal entries
+            (by_step k (world.hosts k).node entries (held_proofs.asides P owed unanimous o world j n stamp free source event makes k far k_low)) (j.owing k k_low (sym (ap (λ (f : ℕ → Bool). f k) ups) ∙ on)))
+          where
+            k_low : k < world.size
+            k_low = subst (λ (s : ℕ). k < s) sized low
+
     pub step_joined : Joined P o new
     step_joined = then_joined step may (record {
       size = sized;
@@ -244,5 +260,6 @@ module _ (P : Opening → World → Type 0) (owed : Owed P) (unanimous : AfterSt
       queued = queued_then;
       ways = subst (λ (b : BookValue). HoldsWays b new) (sym (book_on o world new entries journal)) (steps_ways P o world n stamp free source event j makes (step_lawful P owed o world j n stamp free source event makes));
       clients = clients_then P o world j n stamp free source event makes;
+      owing = owing_then;
       scripts = subst (λ (b : BookValue). HoldsScripts o b new) (sym (book_on o world new entries journal)) (scripts_then P o world j n stamp free source event makes);
     }) (owed.places o world step tt j may lawful_then)

@@ -36,12 +36,14 @@ use Rattle.qs_lawful.proofs.ParcelsKept.{channels_moved}
 use Rattle.qs_lawful.proofs.ScriptsLike.{crash_scripts}
 use Rattle.qs_lawful.proofs.WaysOn.{crash_ways}
 use Rattle.qs_every_run.specs.Joined.{HomesAt, HoldsRunning, Joined, ClocksAt, LoggedAt, OwnersAt, RunningAt, book_in}
+use Rattle.qs_every_run.specs.Owing.{Owes, OwesAt}
 use Rattle.qs_every_run.specs.JoinedOwed.{AfterStep, Owed, StaysUnanimousThen}
 use Rattle.qs_every_run.proofs.JoinedHeld as held_proofs
 use Rattle.qs_every_run.proofs.JoinedParts.{book_on, channels_later, lawful_on}
 use Rattle.qs_every_run.proofs.JoinedWays.{lasts_now}
 use Rattle.qs_every_run.proofs.KeptBack.{none_before}
 use Rattle.qs_every_run.proofs.JoinedClocks.{by_order, in_order_stamp}
+use Rattle.qs_every_run.proofs.OwingElsewhere.{by_one, owes_on}
 use Rattle.qs_every_run.proofs.JoinedAfter.{Known, then_joined}
 
 module _ (P : Opening → World → Type 0) (owed : Owed P) (unanimous : AfterStep P StaysUnanimousThen) (o : Opening) (world : World) (j : Joined P o world) where
@@ -109,6 +111,14 @@ module _ (P : Opening → World → Type 0) (owed : Owed P) (unanimous : AfterSt
         by true near = subst (λ (i : ℕ). (world.hosts i).node.manager.ticks ≤ stamp) (sym (eqb-true k n near)) (by_order (world.hosts n).node.manager.ticks (world.hosts n).stamp stamp (j.clocks n (subst (λ (i : ℕ). i < world.size) (eqb-true k n near) low)) (in_order_stamp world n stamp ordered))
         by false far = j.clocks k low
 
+    crash_owing : OwesAt after
+    crash_owing k low on = by (k == n) refl on
+      where
+        by : (b : Bool) → (k == n) ≡ b → (if b then false else world.channels.up k) ≡ true → Owes (after.hosts k).node after.journal
+        by true near off = absurd (cc off)
+        by false far runs = subst (λ (m : NodeValue). Owes m after.journal) (sym (node_stopped world n stamp cause log k))
+            (owes_on k (world.hosts k).node (j.held.nodes k low).node world.journal (entry ∷ []) (by_one k n far (world.hosts k).node entry refl tt) (j.owing k low runs))
+
     known : Known o world after
     known = record {
       size = refl;
@@ -127,6 +137,7 @@ module _ (P : Opening → World → Type 0) (owed : Owed P) (unanimous : AfterSt
       ways = subst (λ (b : BookValue). HoldsWays b after) (sym (book_on o world after (entry ∷ []) refl)) (crash_ways book world n stamp cause log j.ways);
       clients = λ k low client command there. let i = j.clients k low client command (subst (λ (m : NodeValue). lookup (is_at (client_cmp client)) m.commands ≡ Some command) (node_stopped world n stamp cause log k) there) in
           record { small = i.small; at = still ((world.clients client.0).at == n) (world.clients client.0) ∙ i.at };
+      owing = crash_owing;
       scripts = subst (λ (b : BookValue). HoldsScripts o b after) (sym (book_on o world after (entry ∷ []) refl)) (crash_scripts o book world n stamp cause log j.scripts);
     }
 

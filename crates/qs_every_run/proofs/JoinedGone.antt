@@ -49,6 +49,7 @@ use Rattle.qs_every_run.specs.Born.{HasRun}
 use Rattle.qs_every_run.specs.Joined.{HoldsRunning, Joined, book_in}
 use Rattle.qs_every_run.specs.JoinedOwed.{Owed}
 use Rattle.qs_every_run.proofs.AgreesEach.{steady}
+use Rattle.qs_every_run.proofs.OwingEntries.{owed_open}
 use Rattle.qs_every_run.proofs.OwedBefore.{Back, Owing, back_begin, back_notice}
 
 -- ---- a restart into an incarnation is one beyond each before it
@@ -167,7 +168,7 @@ module _ (P : Opening → World → Type 0) (owed : Owed P) (o : Opening) (world
       less = let later = from.later in let begun = from.begun in grind (arith, later, begun)
 
       stands : stands_open tid (node_no m) world.journal ≡ true
-      stands = subst (λ (p : NodeNo). stands_open tid p world.journal ≡ true) peer_is (owed.owes_open o world n stamp source peer old new j makes tid h.part h.known h.undecided h.owed)
+      stands = subst (λ (p : NodeNo). stands_open tid p world.journal ≡ true) peer_is (owed_open (world.hosts n).node world.journal tid peer h.part (j.owing n its.low its.runs tid h.part h.known) h.undecided h.owed)
 
       core : (tx : TransactionValue) → find_transaction book tid ≡ Some tx → IsTrueCause book tid (causes.Gone (node_no m) known)
       core tx found = (

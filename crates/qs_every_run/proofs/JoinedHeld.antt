@@ -202,7 +202,7 @@ module _ (P : Opening → World → Type 0) (owed : Owed P) (unanimous : AfterSt
 
   -- ---- the others
 
-  asides : (k : ℕ) → (k == n) ≡ false → k < world.size → Every (IsAside k (world.hosts k).node) entries
+  pub asides : (k : ℕ) → (k == n) ≡ false → k < world.size → Every (IsAside k (world.hosts k).node) entries
   asides k far k_low = all_aside k n stamp (world.hosts k).node (effects_of node event free).entries far (both_of IsOfStep (AnswersElsewhere (world.hosts k).node) (effects_of node event free).entries (of_steps P o world j n stamp free source event makes) (answers_aside P o world j n stamp free source event makes k far k_low))
 
   other : (k : ℕ) → (k == n) ≡ false → k < world.size → HoldsNodeOf now world.size k (inc_of world k) (world.channels.up k) (world.hosts k)

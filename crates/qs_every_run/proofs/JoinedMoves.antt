@@ -40,6 +40,7 @@ use Rattle.qs_lawful.proofs.StopsWhole.{by_cut, by_stop}
 use Rattle.qs_lawful.proofs.WaysOn.{rise_ways}
 use Rattle.qs_every_run.specs.Agrees.{nodes_in}
 use Rattle.qs_every_run.specs.Joined.{ClocksAt, FactsAt, HeldAt, HomesAt, HomesHave, HoldsRunning, Joined, LoggedAt, OwnersAt, RunningAt, book_in, ClientsAt, IsOwnClient, QueuedAt}
+use Rattle.qs_every_run.specs.Owing.{Owes, OwesAt}
 use Rattle.qs_every_run.specs.JoinedOwed.{Owed, AfterStep, IsBetweenSteps, Keeps, StaysUnanimousThen}
 use Rattle.qs_every_run.specs.JoinedRuns.{EachMoveJoined}
 use Rattle.qs_every_run.specs.PlacesLaws.{GoesOn}
@@ -51,6 +52,8 @@ use Rattle.qs_every_run.proofs.KeptBack.{meet_unmet, none_before, rise_unmet}
 use Rattle.qs_every_run.proofs.RisesBeside.{rise_keeps_beside}
 use Rattle.qs_every_run.proofs.JoinedClocks.{by_order, in_order_stamp, opens_on_time}
 use Rattle.qs_every_run.proofs.RisesRunning.{rises_running}
+use Rattle.qs_every_run.proofs.OwingElsewhere.{by_one, owes_on}
+use Rattle.qs_every_run.proofs.OwingFresh.{opens_owing}
 use Rattle.qs_every_run.proofs.JoinedAfter.{log_goes_on, step_joined, then_joined}
 use Rattle.qs_every_run.proofs.JoinedCrash.{crash_joined}
 use Rattle.qs_every_run.proofs.CutUnanimous.{cuts_unanimous}
@@ -165,6 +168,15 @@ module _ (P : Opening → World → Type 0) (between : Keeps P IsBetweenSteps P)
         by true near = least _ stamp (opens_on_time (world.hosts n).node.manager.alloc (record (world.hosts n).node.setting { inc = inc }) (recovered_of (world.hosts n).log))
         by false far = j.clocks k low
 
+    rise_owing : OwesAt risen_world
+    rise_owing k low on = by (k == n) refl on
+      where
+        by : (b : Bool) → (k == n) ≡ b → (if b then true else world.channels.up k) ≡ true → Owes (risen_world.hosts k).node risen_world.journal
+        by true near runs = subst (λ (m : NodeValue). Owes m risen_world.journal) (sym (ap (λ (i : ℕ). (risen_world.hosts i).node) (eqb-true k n near) ∙ rise_own))
+            (opens_owing (world.hosts n).node.manager.alloc (record (world.hosts n).node.setting { inc = inc }) (recovered_of (world.hosts n).log) (world.hosts n).node.kept.saved risen_world.journal)
+        by false far runs = subst (λ (m : NodeValue). Owes m risen_world.journal) (sym (rise_same k far))
+            (owes_on k (world.hosts k).node (j.held.nodes k low).node world.journal (rise_entry world n stamp inc ∷ []) (by_one k n far (world.hosts k).node (rise_entry world n stamp inc) refl tt) (j.owing k low runs))
+
     pub rise_joined : Joined P o risen_world
     rise_joined = then_joined P owed unanimous o world j (Rise n stamp inc) may (record {
       size = refl;
@@ -182,6 +194,7 @@ module _ (P : Opening → World → Type 0) (between : Keeps P IsBetweenSteps P)
       queued = rise_queued;
       ways = subst (λ (b : BookValue). HoldsWays b risen_world) (sym rise_book) (rise_ways book world n stamp inc lasts j.held (seated_sound world j.shown.steady.seated) may j.ways);
       clients = rise_clients;
+      owing = rise_owing;
       scripts = subst (λ (b : BookValue). HoldsScripts o b risen_world) (sym rise_book) (rise_scripts o book world n stamp inc lasts j.held may j.scripts);
     }) (between o world (Rise n stamp inc) tt j may rise_lawful)
 
@@ -239,6 +252,7 @@ module _ (P : Opening → World → Type 0) (between : Keeps P IsBetweenSteps P)
       queued = λ k low tid server none. subst (λ (m : NodeValue). waiting_at m tid server ≡ []) (sym (met_node k)) (j.queued k low tid server none);
       ways = meet_ways book world n stamp m inc j.channels (seated_sound world j.shown.steady.seated) may j.ways;
       clients = λ k low client command there. let i = j.clients k low client command (subst (λ (m : NodeValue). lookup (is_at (client_cmp client)) m.commands ≡ Some command) (met_node k) there) in record { small = i.small; at = i.at };
+      owing = λ k low runs. subst (λ (m : NodeValue). Owes m met_world.journal) (sym (met_node k)) (j.owing k low runs);
       scripts = meet_scripts o book world n stamp m inc j.scripts;
     }) (between o world (Meet n stamp m inc) tt j may j.lawful)
 

@@ -1,6 +1,7 @@
 -- All stands together as a run begins, and over the run; so the run's history is lawful.
 use Rattle.std.proofs.Common.{◌≡◌, ℕ, ◌<◌, ◌≤◌, ◌==◌, true, List, [], ◌∷◌, refl, sym, subst, arith}
 use Rattle.std.proofs.lemmas.Bool.Decides.{nat_tests}
+use Rattle.qs_kept.specs.Keeping.{no_kept}
 use Rattle.qs_step.specs.Opening.{recovered_of}
 use Rattle.qs_world.specs.Histories.{book_of}
 use Rattle.qs_world.specs.Moves.{Move, moved}
@@ -17,6 +18,7 @@ use Rattle.qs_every_run.proofs.BornMoves.{born_start}
 use Rattle.qs_every_run.proofs.JoinedFacts.{opens_facts}
 use Rattle.qs_every_run.proofs.JoinedClocks.{opens_on_time}
 use Rattle.qs_every_run.proofs.JoinedHomes.{own_has}
+use Rattle.qs_every_run.proofs.OwingFresh.{opens_owing}
 use Rattle.qs_every_run.proofs.JoinedMoves.{each_move_joined}
 use Rattle.qs_every_run.proofs.LabelsMoves.{labels_start}
 use Rattle.qs_every_run.proofs.OpensRunning.{opens_owned, opens_running}
@@ -43,6 +45,7 @@ each_opens_joined P goes owed o opens = record {
   ways = opens_ways o opens;
   clients = λ n low client command there. absurd (cc there);
   scripts = opens_scripts o opens;
+  owing = λ n low up. opens_owing o.alloc (o.settings n) (recovered_of (o.logs n)) no_kept [];
   places = goes.opens o opens;
 }
   where

@@ -117,3 +117,6 @@ pub mod PlacesJoined
 pub mod StoodIdle
 pub mod LabelsKept
 pub mod LabelsMoves
+pub mod OwingEntries
+pub mod OwingElsewhere
+pub mod OwingFresh

@@ -26,6 +26,7 @@ use Rattle.qs_lawful.specs.Worlds.{HoldsWorld}
 use Rattle.qs_every_run.specs.Agrees.{nodes_in}
 use Rattle.qs_every_run.specs.Born.{BornAt}
 use Rattle.qs_every_run.specs.Labels.{HoldsLabels}
+use Rattle.qs_every_run.specs.Owing.{OwesAt}
 
 -- the machine after what the world's journal has
 abbrev pub book_in : Opening → World → BookValue
@@ -121,4 +122,5 @@ pub record Joined (P : Opening → World → Type 0) (o : Opening) (world : Worl
   pub ways : WaysAt o world
   pub clients : ClientsAt world
   pub scripts : ScriptsAt o world
+  pub owing : OwesAt world
   pub places : P o world

@@ -1,13 +1,11 @@
 -- What is still to be shown so that every run is lawful: each is a law of its own, of a run's beginning, of what a step is given, or of what a move keeps.
 use Rattle.std.specs.Prelude.{◌≡◌, ℕ, ◌<◌, ◌==◌, ◌++◌, ⊤, true, false, List, None, Some, is_some, slice_get, Bool}
 use Rattle.qs_base.specs.declared.identifiers.ClientNo.{ClientNo}
-use Rattle.qs_base.specs.declared.identifiers.NodeNo.{NodeNo}
 use Rattle.qs_base.specs.declared.identifiers.Tid.{Tid}
 use Rattle.qs_journal.specs.declared.entry.Act.{Act}
 use Rattle.qs_journal.specs.declared.entry.Act.TheVariants as acts
 use Rattle.qs_journal.specs.declared.entry.CrashCause.{CrashCause}
 use Rattle.qs_journal.specs.declared.entry.Entry.{Entry}
-use Rattle.qs_laws.specs.Gone.{stands_open}
 use Rattle.qs_machine.specs.Book.{BookValue, find_transaction}
 use Rattle.qs_machine.specs.Lawful.{IsLawful, book_after}
 use Rattle.qs_machine.specs.Nodes as machine
@@ -17,9 +15,7 @@ use Rattle.qs_step.specs.Settling.{due_tids, is_quiet, may_answer, pass_rule, se
 use Rattle.qs_step.specs.State.{Work, doings_of}
 use Rattle.qs_step.specs.Step.{after_step, effects_of}
 use Rattle.qs_step.specs.declared.event.Event.{Event}
-use Rattle.qs_step.specs.declared.event.Event.TheVariants as events
 use Rattle.qs_tm.specs.Manager as tm
-use Rattle.qs_tm.specs.Participant.{is_owed_by}
 use Rattle.qs_tm.specs.declared.participant.Participant.{Participant}
 use Rattle.qs_world.specs.Histories.{book_of}
 use Rattle.qs_world.specs.Moves.{Cut, Move, Source, Step, cut_log, event_of, log_after, may_move, moved, stopped, waiting_after}
@@ -40,6 +36,7 @@ use Rattle.qs_lawful.specs.Said.{HoldsSaid}
 use Rattle.qs_lawful.specs.WorldLaws.{StopsWell}
 use Rattle.qs_every_run.specs.Agrees.{MakesStep}
 use Rattle.qs_every_run.specs.Joined.{Joined, book_in}
+use Rattle.qs_every_run.specs.Owing.{Owes}
 
 -- ---- as a run begins
 
@@ -56,11 +53,6 @@ CommitsSettled stamp before work tid = (part : Participant) → tm.part_of tid (
 abbrev pub EachCommitsSettled : (Opening → World → Type 0) → Type 0
 EachCommitsSettled P = (o : Opening) (world : World) (n stamp free : ℕ) (source : Source) (event : Event) → Joined P o world → MakesStep world n stamp source event
     → AtEach (CommitsSettled stamp (book_in o world)) settle_tid (done_work (world.hosts n).node event free) (due_tids (done_work (world.hosts n).node event free))
-
--- what a node owes that restarted, of what is undecided, stands open in the history
-abbrev pub EachOwesOpen : (Opening → World → Type 0) → Type 0
-EachOwesOpen P = (o : Opening) (world : World) (n stamp : ℕ) (source : Source) (peer : NodeNo) (old new : ℕ) → Joined P o world → MakesStep world n stamp source (events.PeerRestarted peer old new)
-    → (tid : Tid) (part : Participant) → tm.part_of tid (world.hosts n).node.manager ≡ Some part → part.outcome ≡ None → is_owed_by peer part ≡ true → stands_open tid peer world.journal ≡ true
 
 -- where a vote pass is due, the count of changes has room
 abbrev pub EachCountsRoom : (Opening → World → Type 0) → Type 0
@@ -99,6 +91,10 @@ SaidThen o world n stamp free event = (state : machine.NodeValue) → slice_get 
     → HoldsSaid n (book_then o world n stamp free event) state (recovery (log_after (world.hosts n) (effects_of (world.hosts n).node event free) ++ waiting_after (world.hosts n) (effects_of (world.hosts n).node event free)))
     × HoldsSaid n (book_then o world n stamp free event) state (recovery (log_after (world.hosts n) (effects_of (world.hosts n).node event free)))
 
+-- what its node waits for of others stands in the history
+abbrev pub OwesThen : Opening → World → ℕ → ℕ → ℕ → Event → Type 0
+OwesThen o world n stamp free event = Owes (after_step (world.hosts n).node event free) (world.journal ++ entries_in world n stamp free event)
+
 -- what begins has an owner
 abbrev pub HasOwner : BookValue → Act → Type 0
 HasOwner book act = (tid : Tid) (label : List ℕ) (client : ClientNo) → act ≡ acts.Begin tid label client → is_some (slice_get book.owners client.0) ≡ true
@@ -126,10 +122,10 @@ Keeps P kind X = (o : Opening) (world : World) (move : Move) → kind move → J
 pub record Owed (P : Opening → World → Type 0) : Type 0 where
   -- what a step is given
   pub commits : EachCommitsSettled P
-  pub owes_open : EachOwesOpen P
   pub rooms : EachCountsRoom P
   -- after a whole step
   pub steps_said : AfterStep P SaidThen
+  pub steps_owing : AfterStep P OwesThen
   -- what all places hold of each transaction
   pub places : Keeps P IsStep P
   -- after a crash

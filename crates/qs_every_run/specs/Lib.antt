@@ -11,6 +11,7 @@ pub mod PlacesWhole
 pub mod StopLaws
 pub mod Agrees
 pub mod Labels
+pub mod Owing
 pub mod Joined
 pub mod Traces
 pub mod Deeds

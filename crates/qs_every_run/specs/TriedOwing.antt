@@ -1,11 +1,20 @@
 -- What a node owes of what it has not decided, tried on the states of runs: for each node that owes it something, a request stands open in the history;
--- also while a node is down, after it restarted, and once others know of that.
-use Rattle.std.specs.Prelude.{◌≡◌, ℕ, zero, suc, ◌==◌, nat_lt, Bool, true, false, not, ◌&&◌, ◌||◌, is_none, List, [], ◌∷◌, take, drop, fold}
+-- and what a node waits for stands as it is to; also while a node is down, after it restarted, and once others know of that.
+use Rattle.std.specs.Prelude.{◌≡◌, ℕ, zero, suc, ◌==◌, nat_lt, Bool, true, false, not, ◌&&◌, ◌||◌, is_none, is_some, List, [], ◌∷◌, take, drop, fold}
 use Rattle.std.specs.Global.{Global}
+use Rattle.std.specs.BTreeMap.{is_at}
 use Rattle.std.specs.List.{list_all, list_any}
+use Rattle.std.specs.Map.{lookup}
 use Rattle.qs_base.specs.declared.identifiers.Tid.{Tid}
+use Rattle.qs_engage.specs.Engage.{is_open_to, peer_of}
+use Rattle.qs_journal.specs.declared.entry.Entry.{Entry}
 use Rattle.qs_laws.specs.Gone.{stands_open}
+use Rattle.qs_ops.specs.Servers.{files_no}
+use Rattle.qs_servers.specs.Servers.{client_of}
+use Rattle.qs_step.specs.Requests.{waits_as}
+use Rattle.qs_step.specs.State.{NodeValue, client_cmp}
 use Rattle.qs_tm.specs.Participant.{is_owed_by}
+use Rattle.qs_tm.specs.declared.participant.Outstanding.{Outstanding}
 use Rattle.qs_tm.specs.declared.participant.Participant.{Participant}
 use Rattle.qs_world.specs.Driven.{Know, Stage, Take, cut, make, rise, rounds_of, stop, up_to}
 use Rattle.qs_world.specs.DrivenRuns.{late}
@@ -13,6 +22,7 @@ use Rattle.qs_world.specs.Faults.{both}
 use Rattle.qs_world.specs.Moves.{node_no}
 use Rattle.qs_world.specs.World.{Opening, World, start}
 use Rattle.qs_lawful.specs.Tried.{rich}
+use Rattle.qs_every_run.specs.Owing.{names_tid, stands_awaited, stands_uncounted}
 
 -- what the peer owes of it, this node waits for
 abbrev owes_at : World → ℕ → ℕ → Tid × Participant → Bool
@@ -21,8 +31,23 @@ owes_at world n m entry = (not (m == n) && is_none entry.1.outcome) && is_owed_b
 abbrev peer_ok : World → ℕ → Tid × Participant → ℕ → Bool
 peer_ok world n entry m = not (owes_at world n m entry) || stands_open entry.0 (node_no m) world.journal
 
+-- and what its node waits for stands as it is to
+abbrev link_ok : NodeValue → List Entry → Tid × Participant → ℕ → Bool
+link_ok node history entry m = not (is_open_to (node_no m) entry.1.engage) || stands_uncounted entry.0 (node_no m) node.setting.node (peer_of entry.1.engage (node_no m)).sent history
+
+abbrev request_ok : NodeValue → List Entry → Tid → Outstanding → Bool
+request_ok node history tid request = stands_awaited tid request.member.node request.issuer.0 history
+    && ((request.issuer.0 == files_no) || (waits_as tid request.member request.number (lookup (is_at (client_cmp (client_of request.issuer))) node.commands)
+    && names_tid tid node (lookup (is_at (client_cmp (client_of request.issuer))) node.commands)))
+
+abbrev stands_ok : NodeValue → List Entry → Tid × Participant → Bool
+stands_ok node history entry = list_all (link_ok node history entry) (up_to node.setting.nodes) && (is_some entry.1.outcome || list_all (request_ok node history entry.0) entry.1.waiting)
+
+abbrev entry_ok : World → ℕ → Tid × Participant → Bool
+entry_ok world n entry = list_all (peer_ok world n entry) (up_to world.size) && stands_ok (world.hosts n).node world.journal entry
+
 abbrev node_ok : World → ℕ → Bool
-node_ok world n = not (world.channels.up n) || list_all (λ (entry : Tid × Participant). list_all (peer_ok world n entry) (up_to world.size)) (world.hosts n).node.manager.known
+node_ok world n = not (world.channels.up n) || list_all (entry_ok world n) (world.hosts n).node.manager.known
 
 abbrev open_ok : World → Bool
 open_ok world = list_all (node_ok world) (up_to world.size)
