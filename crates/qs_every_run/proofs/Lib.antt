@@ -109,3 +109,7 @@ pub mod StepsGo
 pub mod StepsWhole
 pub mod NoticeComes
 pub mod PlacesJoined
+pub mod TurnsShown
+pub mod TurnsSettle
+pub mod OthersBeside
+pub mod PlacedSettles

@@ -44,7 +44,7 @@ one e = cc e
 
 module _ (tid : Tid) (book : BookValue) (field : Field) (D : Type 0) where
   -- of all
-  held_here : (w : machine.World) → (IsDoomed w → D) → HoldsPlaced tid book field w → D ⊎ Here tid (OpenPlaced tid field) book
+  pub held_here : (w : machine.World) → (IsDoomed w → D) → HoldsPlaced tid book field w → D ⊎ Here tid (OpenPlaced tid field) book
   held_here w dooms holds = by (find_transaction book tid) refl
     where
       of_tx : (tx : TransactionValue) → find_transaction book tid ≡ Some tx → IsDoomed w ⊎ Placed tid tx field → D ⊎ Here tid (OpenPlaced tid field) book

@@ -27,3 +27,4 @@ pub mod Born
 pub mod CutCommits
 pub mod TriedOwing
 pub mod PlacesJoined
+pub mod PlacesTurns
