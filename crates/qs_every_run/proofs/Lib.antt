@@ -113,3 +113,4 @@ pub mod TurnsShown
 pub mod TurnsSettle
 pub mod OthersBeside
 pub mod PlacedSettles
+pub mod TurnsGo

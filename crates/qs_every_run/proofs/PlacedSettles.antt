@@ -1,6 +1,7 @@
 -- A home that is ready at the turn of a transaction is shown there by a machine, beside the other nodes as they were: so where all places hold what they should, its commit is unanimous.
-use Rattle.std.proofs.Common.{◌≡◌, ◌⊎◌, ℕ, ◌<◌, ◌==◌, Bool, true, false, List, [], ◌∷◌, ◌++◌, fold, Some, None, refl, sym, ap, subst, ◌∙◌, append_assoc}
+use Rattle.std.proofs.Common.{◌≡◌, ◌⊎◌, ℕ, ◌<◌, ◌==◌, Bool, true, false, List, [], ◌∷◌, ◌++◌, fold, Some, None, refl, sym, ap, subst, ◌∙◌, append_assoc, ◌+◌, ◌^◌, ◌&&◌, ◌||◌, not, nat_lt, arith}
 use Rattle.std.proofs.lemmas.Bool.{eqb-true}
+use Rattle.std.proofs.lemmas.Bool.Decides.{nat_tests}
 use Rattle.qs_base.specs.declared.identifiers.Tid.{Tid}
 use Rattle.qs_engage.specs.Nodes.{same_node}
 use Rattle.qs_journal.specs.declared.entry.Act.{Act}
@@ -63,6 +64,12 @@ CommitsAt t scene base stamp before work part v tx n = shown.Stands t scene n wo
 
 commits_at : (t : Tid) (scene : Scene) (base : Field) (stamp : ℕ) (before : BookValue) (work : Work) (part : Participant) (v : machine.World) (tx : TransactionValue) (n : ℕ) → t.home.0 ≡ n → CommitsAt t scene base stamp before work part v tx n
 commits_at t scene base stamp before work part v tx n at = subst (CommitsAt t scene base stamp before work part v tx) at (home_commits t scene base stamp before work part v tx)
+
+-- ---- each other node may act at a later stamp
+
+acts_later : (limit stamp n k at by : ℕ) → (nat_lt stamp limit && (nat_lt at stamp || ((at == stamp) && not (nat_lt n by)))) ≡ true → nat_lt (stamp + 1) limit ≡ true
+    → (nat_lt (stamp + 1) limit && (nat_lt at (stamp + 1) || ((at == stamp + 1) && not (nat_lt k by)))) ≡ true
+acts_later limit stamp n k at by order less = grind (arith, nat_tests, order, less)
 
 -- ---- what is entered behind a turn
 
@@ -127,7 +134,7 @@ module _ (o : Opening) (world : World) (j : Joined PlacesAt o world) (n stamp fr
 
       others : (k : ℕ) → k < world.size → (taken_by world n source).up k ≡ true → (k == n) ≡ false → IsBeside (taken_scene world n source) (book_amid n stamp before now) k
       others k low up far = let up_then : world.channels.up k ≡ true = ap (λ (f : ℕ → Bool). f k) (sym (up_taken world n source)) ∙ up in
-          let next = there.may_act k low up_then far in others_beside o world n stamp free source event j makes now more whole lawful k next.0 low up_then far next.1
+          others_beside o world n stamp free source event j makes now more whole lawful k (stamp + 1) low up_then far (acts_later (2 ^ 62) stamp now.node.setting.node.0 k (book_amid n stamp before now).stamp (book_amid n stamp before now).node holds.order there.later)
 
       unanimous : is_unanimous tx ≡ true
       unanimous = commits_at tid (taken_scene world n source) (field_of (taken world n source)) stamp before now ready.part at.now tx n home_is

@@ -28,17 +28,17 @@ use Rattle.qs_world.specs.Histories.{book_of}
 use Rattle.qs_world.specs.Moves.{Cut, Move, Source, Step, cut_log, event_of, log_after, may_move, moved, stopped, waiting_after}
 use Rattle.qs_world.specs.Openings.{IsOpening}
 use Rattle.qs_world.specs.Posting.{entries_of}
-use Rattle.qs_world.specs.World.{Opening, World, start}
+use Rattle.qs_world.specs.World.{Opening, World, start, inc_of}
 use Rattle.qs_agree.specs.World as agreement
 use Rattle.qs_agree.specs.World.{Open, Committed}
 use Rattle.qs_refine.specs.Begun.{has_begun}
 use Rattle.qs_refine.specs.CutLaws.{CutsOff}
 use Rattle.qs_refine.specs.EachMove.{ShowsAll}
 use Rattle.qs_lawful.specs.Aside.{StaysUnanimous}
-use Rattle.qs_lawful.specs.BesideStep.{HasCountRoom}
+use Rattle.qs_lawful.specs.BesideStep.{HasCountRoom, HappensSo}
 use Rattle.qs_lawful.specs.Entering.{book_at}
 use Rattle.qs_lawful.specs.Given.{AtEach}
-use Rattle.qs_lawful.specs.GivenStep.{done_work}
+use Rattle.qs_lawful.specs.GivenStep.{done_work, first_work}
 use Rattle.qs_lawful.specs.Logs.{Every}
 use Rattle.qs_lawful.specs.Said.{HoldsSaid}
 use Rattle.qs_lawful.specs.WorldLaws.{StopsWell}

@@ -1,15 +1,15 @@
 -- The turn of a transaction as a node settles, once its own votes are cast: the machine that shows it there, and what its commit is settled by.
-use Rattle.std.specs.Prelude.{◌≡◌, ◌⊎◌, ℕ, ◌<◌, ◌==◌, true, false, List, ◌++◌, Some, None}
+use Rattle.std.specs.Prelude.{◌≡◌, ◌⊎◌, ℕ, ◌+◌, ◌^◌, ◌<◌, ◌==◌, nat_lt, true, false, List, ◌++◌, Some, None}
 use Rattle.qs_base.specs.declared.identifiers.Tid.{Tid}
 use Rattle.qs_journal.specs.declared.entry.Act.{Act}
 use Rattle.qs_machine.specs.Book.{BookValue}
 use Rattle.qs_step.specs.Settling.{due_tids, is_quiet, may_answer, pass_rule, settle_tid, try}
-use Rattle.qs_step.specs.State.{NodeValue, Work, doings_of}
+use Rattle.qs_step.specs.State.{NodeValue, Work, doings_of, work_on}
 use Rattle.qs_step.specs.Step.{effects_of}
 use Rattle.qs_step.specs.declared.event.Event.{Event}
 use Rattle.qs_tm.specs.Manager as tm
 use Rattle.qs_tm.specs.declared.participant.Participant.{Participant}
-use Rattle.qs_world.specs.Moves.{Source, taken_by}
+use Rattle.qs_world.specs.Moves.{Source, event_of, taken_by}
 use Rattle.qs_world.specs.World.{Opening, World}
 use Rattle.qs_agree.specs.World as machine
 use Rattle.qs_agree.specs.Carry.{Leads}
@@ -33,7 +33,9 @@ use Rattle.qs_every_run.specs.PlacedActs.{OpenPlaced}
 use Rattle.qs_every_run.specs.PlacesAmid.{Here, PlacedAmid, book_amid}
 use Rattle.qs_every_run.specs.PlacesCommits.{IsBeside}
 use Rattle.qs_every_run.specs.PlacesEnds.{taken}
-use Rattle.qs_every_run.specs.PlacesRules.{AreLawful}
+use Rattle.qs_every_run.specs.PlacesGo.{HoldsOr, PassesWell}
+use Rattle.qs_every_run.specs.PlacesRules.{AreLawful, IsAmid}
+use Rattle.qs_every_run.specs.PlacesWhole.{ComesWell}
 
 -- the transaction at its turn
 abbrev pub passed : Work → Tid → Work
@@ -83,10 +85,10 @@ pub record IsReadyAt (work : Work) (tid : Tid) : Type 0 where
   pub may : may_answer tid part (passed work tid) ≡ true
   pub quiet : is_quiet (doings_of tid (passed work tid)) ≡ true
 
--- it began before the step, each other node that runs may still act, and what all places held as the step began they hold there, or it is doomed
+-- it began before the step, a later stamp is left for the other nodes, and what all places held as the step began they hold there, or it is doomed
 pub record IsPlacedThere (o : Opening) (world : World) (n stamp : ℕ) (source : Source) (work : Work) (tid : Tid) : Type 0 where
   pub began : has_begun world tid ≡ true
-  pub may_act : (k : ℕ) → k < world.size → world.channels.up k ≡ true → (k == n) ≡ false → (s : ℕ) × (is_next s k (book_amid n stamp (book_in o world) (passed work tid)) ≡ true)
+  pub later : nat_lt (stamp + 1) (2 ^ 62) ≡ true
   pub placed : (v : machine.World) → shown.Stands tid (taken_scene world n source) n (passed work tid) v → AreLawful n stamp (book_in o world) (passed work tid)
       → IsDoomed v ⊎ Here tid (OpenPlaced tid (field_of world)) (book_in o world)
       → IsDoomed v ⊎ PlacedAmid tid (field_of (taken world n source)) ((taken_by world n source).peer n) n stamp (book_in o world) (passed work tid)
@@ -101,3 +103,11 @@ PlacedSettles = (o : Opening) (world : World) (n stamp free : ℕ) (source : Sou
     → AtEach HasCountRoom settle_tid (done_work (world.hosts n).node event free) (due_tids (done_work (world.hosts n).node event free))
     → AtEach (PlacedAtTurn o world n stamp source) settle_tid (done_work (world.hosts n).node event free) (due_tids (done_work (world.hosts n).node event free))
     → AtEach (CommitsSettled stamp (book_in o world)) settle_tid (done_work (world.hosts n).node event free) (due_tids (done_work (world.hosts n).node event free))
+
+-- ---- and what they hold there they hold where what came and its own votes found what they need, or it is doomed: as for a whole step
+
+abbrev pub TurnsGo : Type 0
+TurnsGo = (w : machine.World) (t : Tid) (world : World) (n stamp free : ℕ) (before : BookValue) (source : Source) (event : Event) → event_of world n stamp source ≡ Some event → IsAmid (field_of world) n stamp before (work_on (world.hosts n).node free)
+    → ComesWell (IsDoomed w) t world n stamp before source event (first_work (world.hosts n).node free) → IsDoomed w ⊎ Here t (OpenPlaced t (field_of world)) before
+    → AtEach (λ (work : Work) (tid : Tid). tid ≡ t → PassesWell (IsDoomed w) t (field_of (taken world n source)) ((taken_by world n source).peer n) n stamp before work) settle_tid (done_work (world.hosts n).node event free) (due_tids (done_work (world.hosts n).node event free))
+    → AtEach (λ (work : Work) (tid : Tid). tid ≡ t → AreLawful n stamp before (passed work tid) → HoldsOr (IsDoomed w) t (field_of (taken world n source)) ((taken_by world n source).peer n) n stamp before (passed work tid)) settle_tid (done_work (world.hosts n).node event free) (due_tids (done_work (world.hosts n).node event free))

@@ -5,7 +5,7 @@ ghost use Rattle.qs_every_run.specs.PlacesCommits.{WorldShowsField, HomeCommitsU
 ghost use Rattle.qs_every_run.specs.PlacesComes.{MessageComes, NoticeComes, RequestComes};
 ghost use Rattle.qs_every_run.specs.PlacesWhole.{ServeAllGoes, StepPlaces};
 ghost use Rattle.qs_every_run.specs.PlacesJoined.{WholeStepPlaces};
-ghost use Rattle.qs_every_run.specs.PlacesTurns.{OthersBeside, PlacedSettles, TurnsSettle, TurnsShown};
+ghost use Rattle.qs_every_run.specs.PlacesTurns.{OthersBeside, PlacedSettles, TurnsGo, TurnsSettle, TurnsShown};
 ghost use Rattle.qs_every_run.specs.PlacesGo.{IssueGoes, SettleGoes, CommandGoes, WaitGoes};
 ghost use Rattle.qs_every_run.specs.PlacesEnds.{StepBegins, StepEnds};
 ghost use Rattle.qs_every_run.specs.PlacedLaws.{ReadyFree, FreeAgrees, QuietUnanimous, CommittedFree, CommittedWays, CommittedKeeps, CommittedUnanimous};
@@ -86,10 +86,11 @@ pub fn whole_steps()
 
 /// At the turn of a transaction, as its node settles and once its own votes are cast, a machine shows it that what showed it before leads to; and all
 /// that was settled before is lawful, so that what stands there may show its commit. What the step entered by then leaves the other
-/// nodes. So where all places hold there what they should, or it is doomed, what its home commits is unanimous.
+/// nodes. So where all places hold there what they should, or it is doomed, what its home commits is unanimous. They do so as through a whole step.
 pub fn at_turns()
     ensures shown { TurnsShown }
     ensures settle { TurnsSettle }
     ensures others { OthersBeside }
     ensures commits { PlacedSettles }
+    ensures goes { TurnsGo }
 {}
