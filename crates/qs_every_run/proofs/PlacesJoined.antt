@@ -82,7 +82,7 @@ module _ (o : Opening) (world : World) (j : Joined PlacesAt o world) (n stamp fr
   well : LastsWell book
   well = lasts_ran world.journal (book_of o) (lasts_first (opened_from o 0 o.size) (opens_soundly o j.opens) (opening_named (opened_from o 0 o.size) (opened_numbered o 0 o.size))) j.lawful
 
-  amid : IsAmid (field_of world) n stamp book (work_on (world.hosts n).node free)
+  pub amid : IsAmid (field_of world) n stamp book (work_on (world.hosts n).node free)
   amid = record {
     inv = well.inv;
     here = at.node;

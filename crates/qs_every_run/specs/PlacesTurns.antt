@@ -9,7 +9,7 @@ use Rattle.qs_step.specs.Step.{effects_of}
 use Rattle.qs_step.specs.declared.event.Event.{Event}
 use Rattle.qs_tm.specs.Manager as tm
 use Rattle.qs_tm.specs.declared.participant.Participant.{Participant}
-use Rattle.qs_world.specs.Moves.{Source, event_of, taken_by}
+use Rattle.qs_world.specs.Moves.{Source, taken_by}
 use Rattle.qs_world.specs.World.{Opening, World}
 use Rattle.qs_agree.specs.World as machine
 use Rattle.qs_agree.specs.Carry.{Leads}
@@ -104,10 +104,31 @@ PlacedSettles = (o : Opening) (world : World) (n stamp free : ℕ) (source : Sou
     → AtEach (PlacedAtTurn o world n stamp source) settle_tid (done_work (world.hosts n).node event free) (due_tids (done_work (world.hosts n).node event free))
     → AtEach (CommitsSettled stamp (book_in o world)) settle_tid (done_work (world.hosts n).node event free) (due_tids (done_work (world.hosts n).node event free))
 
--- ---- and what they hold there they hold where what came and its own votes found what they need, or it is doomed: as for a whole step
+-- ---- and what they hold as the step begins they hold there where what came and its own votes found what they need, or it is doomed: as for a whole step
+
+abbrev pub GoesToTurn : World → ℕ → ℕ → ℕ → BookValue → Source → Event → Work → Tid → Type 0
+GoesToTurn world n stamp free before source event work tid = (w : machine.World) → ComesWell (IsDoomed w) tid world n stamp before source event (first_work (world.hosts n).node free) → IsDoomed w ⊎ Here tid (OpenPlaced tid (field_of world)) before
+    → PassesWell (IsDoomed w) tid (field_of (taken world n source)) ((taken_by world n source).peer n) n stamp before work
+    → AreLawful n stamp before (passed work tid) → HoldsOr (IsDoomed w) tid (field_of (taken world n source)) ((taken_by world n source).peer n) n stamp before (passed work tid)
 
 abbrev pub TurnsGo : Type 0
-TurnsGo = (w : machine.World) (t : Tid) (world : World) (n stamp free : ℕ) (before : BookValue) (source : Source) (event : Event) → event_of world n stamp source ≡ Some event → IsAmid (field_of world) n stamp before (work_on (world.hosts n).node free)
-    → ComesWell (IsDoomed w) t world n stamp before source event (first_work (world.hosts n).node free) → IsDoomed w ⊎ Here t (OpenPlaced t (field_of world)) before
-    → AtEach (λ (work : Work) (tid : Tid). tid ≡ t → PassesWell (IsDoomed w) t (field_of (taken world n source)) ((taken_by world n source).peer n) n stamp before work) settle_tid (done_work (world.hosts n).node event free) (due_tids (done_work (world.hosts n).node event free))
-    → AtEach (λ (work : Work) (tid : Tid). tid ≡ t → AreLawful n stamp before (passed work tid) → HoldsOr (IsDoomed w) t (field_of (taken world n source)) ((taken_by world n source).peer n) n stamp before (passed work tid)) settle_tid (done_work (world.hosts n).node event free) (due_tids (done_work (world.hosts n).node event free))
+TurnsGo = (world : World) (n stamp free : ℕ) (before : BookValue) (source : Source) (event : Event) → IsShownWorld world → MakesStep world n stamp source event → IsAmid (field_of world) n stamp before (work_on (world.hosts n).node free)
+    → AtEach (GoesToTurn world n stamp free before source event) settle_tid (done_work (world.hosts n).node event free) (due_tids (done_work (world.hosts n).node event free))
+
+-- that it began, that a later stamp is left, and that these found what they need
+pub record IsFoundThere (o : Opening) (world : World) (n stamp free : ℕ) (source : Source) (event : Event) (work : Work) (tid : Tid) : Type 0 where
+  pub began : has_begun world tid ≡ true
+  pub later : nat_lt (stamp + 1) (2 ^ 62) ≡ true
+  pub finds : (v : machine.World) → shown.Stands tid (taken_scene world n source) n (passed work tid) v
+      → ComesWell (IsDoomed v) tid world n stamp (book_in o world) source event (first_work (world.hosts n).node free)
+      × PassesWell (IsDoomed v) tid (field_of (taken world n source)) ((taken_by world n source).peer n) n stamp (book_in o world) work
+
+abbrev pub FindsAtTurn : Opening → World → ℕ → ℕ → ℕ → Source → Event → Work → Tid → Type 0
+FindsAtTurn o world n stamp free source event work tid = IsReadyAt work tid → IsFoundThere o world n stamp free source event work tid
+
+abbrev pub FindsSettle : Type 0
+FindsSettle = (o : Opening) (world : World) (n stamp free : ℕ) (source : Source) (event : Event) → Joined PlacesAt o world → MakesStep world n stamp source event
+    → HappensSo stamp (book_in o world) event (first_work (world.hosts n).node free)
+    → AtEach HasCountRoom settle_tid (done_work (world.hosts n).node event free) (due_tids (done_work (world.hosts n).node event free))
+    → AtEach (FindsAtTurn o world n stamp free source event) settle_tid (done_work (world.hosts n).node event free) (due_tids (done_work (world.hosts n).node event free))
+    → AtEach (CommitsSettled stamp (book_in o world)) settle_tid (done_work (world.hosts n).node event free) (due_tids (done_work (world.hosts n).node event free))
