@@ -15,8 +15,7 @@ use Rattle.qs_refine.proofs.SoundViews.{seen}
 use Rattle.qs_lawful.specs.Given.{AtEach}
 use Rattle.qs_lawful.specs.GivenStep.{done_work, first_work}
 use Rattle.qs_lawful.specs.Logs.{Every}
-use Rattle.qs_every_run.specs.Joined.{Joined, book_in}
-use Rattle.qs_every_run.specs.JoinedPlaces.{PlacesAt}
+use Rattle.qs_every_run.specs.Joined.{book_in}
 use Rattle.qs_every_run.specs.Placed.{Field, field_of}
 use Rattle.qs_every_run.specs.PlacedActs.{OpenPlaced}
 use Rattle.qs_every_run.specs.PlacesAmid.{Here}
