@@ -43,15 +43,15 @@ use Rattle.qs_every_run.proofs.AgreesWhole.{Following, its_undone, lent_undone, 
 
 -- ---- each transaction that is due is undecided, and has one turn
 
-abbrev IsOpenAt : Work → Tid → Type 0
+abbrev pub IsOpenAt : Work → Tid → Type 0
 IsOpenAt work t = (part : Participant) → tm.part_of t work.node.manager ≡ Some part → part.outcome ≡ None
 
 -- those behind it are others
-record HasTurns (work : Work) (t : Tid) (rest : List Tid) : Type 0 where
-  now : IsOpenAt work t
-  others : Every (λ (u : Tid). Apart u t) rest
+pub record HasTurns (work : Work) (t : Tid) (rest : List Tid) : Type 0 where
+  pub now : IsOpenAt work t
+  pub others : Every (λ (u : Tid). Apart u t) rest
 
-abbrev HaveTurns : Work → List Tid → Type 0
+abbrev pub HaveTurns : Work → List Tid → Type 0
 HaveTurns work [] = Unit {0}
 HaveTurns work (t ∷ rest) = HasTurns work t rest × HaveTurns work rest
 
@@ -135,7 +135,7 @@ module _ (work : Work) where
       by true so more = (record { now = open_now so; others = below_apart e.0 es below }, more)
       by false so more = more
 
-  due_turns : in_order work.node.manager.known ≡ true → HaveTurns work (due_tids work)
+  pub due_turns : in_order work.node.manager.known ≡ true → HaveTurns work (due_tids work)
   due_turns ordered = subst (λ (ts : List Tid). HaveTurns work ts) (sym (put_all whiches.Due work.node.manager.known [])) (has_turns work.node.manager.known ordered (λ t part is. is))
 
 -- ---- the stages

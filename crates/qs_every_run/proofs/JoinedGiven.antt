@@ -1,6 +1,8 @@
 -- A step of a world in which all stands together is given all that it needs.
-use Rattle.std.proofs.Common.{◌≡◌, ℕ, true, Some, refl, sym, subst, arith}
+use Rattle.std.proofs.Common.{◌≡◌, ℕ, ◌<◌, true, Some, refl, sym, subst, arith}
 use Rattle.std.proofs.lemmas.Bool.Decides.{nat_tests}
+use Rattle.qs_ipc.specs.Ipc as ipc
+use Rattle.qs_step.specs.Serving.{serve_next}
 use Rattle.qs_step.specs.State.{NodeValue, work_on}
 use Rattle.qs_step.specs.declared.event.Event.{Event}
 use Rattle.qs_step.specs.declared.event.Event.TheVariants as events
@@ -12,8 +14,10 @@ use Rattle.qs_refine.proofs.MoveGoes.{StepMay, step_may}
 use Rattle.qs_lawful.specs.Agreed.{StepAgrees}
 use Rattle.qs_lawful.specs.BesideStep.{HappensSo}
 use Rattle.qs_lawful.specs.Coming.{ComesTo}
+use Rattle.qs_lawful.specs.Given.{AtEach}
 use Rattle.qs_lawful.specs.GivenStep.{MayStep, first_work}
 use Rattle.qs_lawful.specs.Holds.{Holds}
+use Rattle.qs_lawful.specs.Standing.{CanCount}
 use Rattle.qs_lawful.specs.StepOn.{StepOn}
 use Rattle.qs_lawful.specs.Worlds.{HoldsNodeAt}
 use Rattle.qs_lawful.proofs.BesideWhole.{may_step_on}
@@ -30,8 +34,9 @@ use Rattle.qs_every_run.proofs.JoinedGone.{finds_gone}
 use Rattle.qs_every_run.proofs.JoinedLogged.{logged_by_log}
 use Rattle.qs_every_run.proofs.CountsServed.{room_before, room_first}
 
-module _ (P : Opening → World → Type 0) (owed : Owed P) (o : Opening) (world : World) (j : Joined P o world) (n stamp free : ℕ) (source : Source) (event : Event) (makes : MakesStep world n stamp source event)
-    (holds : Holds stamp (book_in o world) (world.hosts n).node) (agreed : StepAgrees stamp (book_in o world) world.size (nodes_in world) n (world.hosts n).node event free) where
+-- ---- what comes, and that what waits can be counted
+
+module _ (P : Opening → World → Type 0) (o : Opening) (world : World) (j : Joined P o world) (n stamp free : ℕ) (source : Source) (event : Event) (makes : MakesStep world n stamp source event) where
   abbrev node : NodeValue
   node = (world.hosts n).node
 
@@ -52,8 +57,8 @@ module _ (P : Opening → World → Type 0) (owed : Owed P) (o : Opening) (world
   serves (Handed m) is comes served = absurd (let from = from_node world n stamp m event comes in let same = from.is in cc (same, served))
   serves (Noticed m new) is comes served = absurd (let from = from_notice world n stamp m new event comes in let same = from.is in cc (same, served))
 
-  comes : ComesTo (book_in o world) event (work_on node free)
-  comes = event_comes o (book_in o world) world n stamp free j.opens source (record {
+  pub comes_to : ComesTo (book_in o world) event (work_on node free)
+  comes_to = event_comes o (book_in o world) world n stamp free j.opens source (record {
     size = j.size;
     in_run = let low = its.low in grind (arith, nat_tests, low);
     up = its.runs;
@@ -66,31 +71,50 @@ module _ (P : Opening → World → Type 0) (owed : Owed P) (o : Opening) (world
     young = running.young;
   }) event makes.comes
 
-  -- what comes is so
-  so : (e : Event) → event ≡ e → HappensSo stamp (book_in o world) event (first_work node free)
-  so (events.Command client line label command) is = subst (λ (x : Event). HappensSo stamp (book_in o world) x (first_work node free)) (sym is) tt
-  so (events.Received peer message) is = subst (λ (x : Event). HappensSo stamp (book_in o world) x (first_work node free)) (sym is) tt
-  so events.ServeAll is = subst (λ (x : Event). HappensSo stamp (book_in o world) x (first_work node free)) (sym is) tt
-  so (events.PeerRestarted peer old new) is = subst (λ (x : Event). HappensSo stamp (book_in o world) x (first_work node free)) (sym is)
-      (finds_gone P owed o world j n stamp free source peer old new (subst (λ (x : Event). MakesStep world n stamp source x) is makes) holds)
-  so events.Tick is = subst (λ (x : Event). HappensSo stamp (book_in o world) x (first_work node free)) (sym is) (tick_room P o world j n stamp free source event makes)
+  pub counts : event ≡ events.ServeAll → AtEach CanCount serve_next (first_work node free) (ipc.turns (first_work node free).node.queues)
+  counts served = room_first world j.shown n free its.low (subst (λ (s : Source). may_serve node s ≡ true) (serves source refl makes.comes served) its.serves) stamp (book_in o world) (stages_sound world n stamp free source event j.shown makes).first
 
-  pub step_on : StepOn stamp (book_in o world) world.size (nodes_in world) n node event free
+-- ---- and all else
+
+module _ (P : Opening → World → Type 0) (owed : Owed P) (o : Opening) (world : World) (j : Joined P o world) (n stamp free : ℕ) (source : Source) (event : Event) (makes : MakesStep world n stamp source event)
+    (holds : Holds stamp (book_in o world) (world.hosts n).node) (agreed : StepAgrees stamp (book_in o world) world.size (nodes_in world) n (world.hosts n).node event free) where
+  abbrev node_now : NodeValue
+  node_now = (world.hosts n).node
+
+  low : n < world.size
+  low = (step_may world n stamp source makes.may).low
+
+  runs : world.channels.up n ≡ true
+  runs = (step_may world n stamp source makes.may).runs
+
+  at_now : HoldsNodeAt (book_in o world) world n
+  at_now = j.held.nodes n low
+
+  -- what comes is so
+  so : (e : Event) → event ≡ e → HappensSo stamp (book_in o world) event (first_work node_now free)
+  so (events.Command client line label command) is = subst (λ (x : Event). HappensSo stamp (book_in o world) x (first_work node_now free)) (sym is) tt
+  so (events.Received peer message) is = subst (λ (x : Event). HappensSo stamp (book_in o world) x (first_work node_now free)) (sym is) tt
+  so events.ServeAll is = subst (λ (x : Event). HappensSo stamp (book_in o world) x (first_work node_now free)) (sym is) tt
+  so (events.PeerRestarted peer old new) is = subst (λ (x : Event). HappensSo stamp (book_in o world) x (first_work node_now free)) (sym is)
+      (finds_gone P owed o world j n stamp free source peer old new (subst (λ (x : Event). MakesStep world n stamp source x) is makes) holds)
+  so events.Tick is = subst (λ (x : Event). HappensSo stamp (book_in o world) x (first_work node_now free)) (sym is) (tick_room P o world j n stamp free source event makes)
+
+  pub step_on : StepOn stamp (book_in o world) world.size (nodes_in world) n node_now event free
   step_on = record {
-    at = at.node;
-    run = at.run;
-    facts = j.facts n its.low;
+    at = at_now.node;
+    run = at_now.run;
+    facts = j.facts n low;
     homes = λ tid tx found committed in_run away. j.homes tid tx found committed in_run;
     in_run = record { opened = opened_from o 0 o.size; history = world.journal; coherent = opens_soundly o j.opens; lawful = j.lawful; is = refl };
-    beside = running.beside;
+    beside = (j.running n low runs).beside;
     holds = holds;
-    logged = logged_by_log (book_in o world) n at.state (world.hosts n) (in_runs o world.journal j.opens j.lawful) (at.runs its.runs) (j.logged n its.low);
-    comes = comes;
-    room = λ served. room_first world j.shown n free its.low (subst (λ (s : Source). may_serve node s ≡ true) (serves source refl makes.comes served) its.serves) stamp (book_in o world) (stages_sound world n stamp free source event j.shown makes).first;
+    logged = logged_by_log (book_in o world) n at_now.state (world.hosts n) (in_runs o world.journal j.opens j.lawful) (at_now.runs runs) (j.logged n low);
+    comes = comes_to P o world j n stamp free source event makes;
+    room = counts P o world j n stamp free source event makes;
     so = so event refl;
     agreed = agreed;
     rooms = owed.rooms o world n stamp free source event j makes;
   }
 
-  pub given : MayStep stamp (book_in o world) node event free
-  given = may_step_on stamp (book_in o world) world.size (nodes_in world) n node event free step_on
+  pub given : MayStep stamp (book_in o world) node_now event free
+  given = may_step_on stamp (book_in o world) world.size (nodes_in world) n node_now event free step_on

@@ -58,14 +58,14 @@ use Rattle.qs_every_run.proofs.StaysWorlds.{steps_young}
 use Rattle.qs_every_run.proofs.JoinedSteps.{step_holds, step_kept, step_lawful, step_low, step_sent, step_up}
 
 -- each entry of a step is aside of another node
-all_aside : (k n stamp : ℕ) (node : NodeValue) (acts : List Act) → (k == n) ≡ false → Every (λ (act : Act). IsOfStep act × AnswersElsewhere node act) acts → Every (IsAside k node) (entries_of n stamp acts)
+pub all_aside : (k n stamp : ℕ) (node : NodeValue) (acts : List Act) → (k == n) ≡ false → Every (λ (act : Act). IsOfStep act × AnswersElsewhere node act) acts → Every (IsAside k node) (entries_of n stamp acts)
 all_aside k n stamp node [] far all = tt
 all_aside k n stamp node (act ∷ acts) far all = (record { far = λ same. other k n far same; of_step = all.0.0; answers = all.0.1 }, all_aside k n stamp node acts far all.1)
   where
     other : (a b : ℕ) → (a == b) ≡ false → b ≡ a → ⊥
     other a b off same = let on : (a == b) ≡ true = grind (arith, nat_tests, same) in let both : true ≡ false = sym on ∙ off in cc (both)
 
-both_of : (Q R : Act → Type 0) (acts : List Act) → Every Q acts → Every R acts → Every (λ (act : Act). Q act × R act) acts
+pub both_of : (Q R : Act → Type 0) (acts : List Act) → Every Q acts → Every R acts → Every (λ (act : Act). Q act × R act) acts
 both_of Q R [] q r = tt
 both_of Q R (act ∷ acts) q r = ((q.0, r.0), both_of Q R acts q.1 r.1)
 

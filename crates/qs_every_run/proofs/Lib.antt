@@ -120,3 +120,8 @@ pub mod LabelsMoves
 pub mod OwingEntries
 pub mod OwingElsewhere
 pub mod OwingFresh
+pub mod TurnsShown
+pub mod TurnsSettle
+pub mod OthersBeside
+pub mod PlacedSettles
+pub mod TurnsGo

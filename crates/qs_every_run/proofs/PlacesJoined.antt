@@ -44,7 +44,7 @@ one e = cc e
 
 module _ (tid : Tid) (book : BookValue) (field : Field) (D : Type 0) where
   -- of all
-  held_here : (w : machine.World) → (IsDoomed w → D) → HoldsPlaced tid book field w → D ⊎ Here tid (OpenPlaced tid field) book
+  pub held_here : (w : machine.World) → (IsDoomed w → D) → HoldsPlaced tid book field w → D ⊎ Here tid (OpenPlaced tid field) book
   held_here w dooms holds = by (find_transaction book tid) refl
     where
       of_tx : (tx : TransactionValue) → find_transaction book tid ≡ Some tx → IsDoomed w ⊎ Placed tid tx field → D ⊎ Here tid (OpenPlaced tid field) book
@@ -82,7 +82,7 @@ module _ (o : Opening) (world : World) (j : Joined PlacesAt o world) (n stamp fr
   well : LastsWell book
   well = lasts_ran world.journal (book_of o) (lasts_first (opened_from o 0 o.size) (opens_soundly o j.opens) (opening_named (opened_from o 0 o.size) (opened_numbered o 0 o.size))) j.lawful
 
-  amid : IsAmid (field_of world) n stamp book (work_on (world.hosts n).node free)
+  pub amid : IsAmid (field_of world) n stamp book (work_on (world.hosts n).node free)
   amid = record {
     inv = well.inv;
     here = at.node;

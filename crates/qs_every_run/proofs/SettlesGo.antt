@@ -60,8 +60,12 @@ module _ (D : Type 0) (t : Tid) (base : Field) (knows : ℕ → ℕ) (n stamp : 
           (goes_fold D t base knows n stamp before (VotesWell D t base knows n stamp before) (vote_next t) next_goes (due_votes t work) (end_members t work) (well part known due))
       by false off = goes_itself D t base knows n stamp before work
 
+  -- its turn, once its own votes are cast
+  pub turn_goes : (work : Work) → PassesWell D t base knows n stamp before work → G work (try t pass_rule work)
+  turn_goes work well = goes_undecided D t base knows n stamp before t (pass_rule t) work (λ part known. pass_goes work part known well)
+
   own_goes : (work : Work) → PassesWell D t base knows n stamp before work → G work (settle_tid work t)
-  own_goes work well = goes_then D t base knows n stamp before work (try t pass_rule work) (settle_tid work t) (goes_undecided D t base knows n stamp before t (pass_rule t) work (λ part known. pass_goes work part known well))
+  own_goes work well = goes_then D t base knows n stamp before work (try t pass_rule work) (settle_tid work t) (turn_goes work well)
       (goes_left D t base knows n stamp before (try t pass_rule work) (settle_tid work t) (rest_leaves t t (try t pass_rule work)))
 
   pub settle_goes_on : (tid : Tid) (work : Work) → (tid ≡ t → PassesWell D t base knows n stamp before work) → G work (settle_tid work tid)

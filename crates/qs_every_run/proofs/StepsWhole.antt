@@ -99,7 +99,7 @@ module _ (D : Type 0) (t : Tid) (world : World) (n stamp free : ℕ) (before : B
       by true is = subst (λ (e : Event). ComesWell D t world n stamp before (Noticed m new) e first → C (taken_by world n (Noticed m new)) (happen e first)) (one is) goes
       by false is = absurd (cc is)
 
-  whichever : (source : Source) (event : Event) → event_of world n stamp source ≡ Some event → ComesWell D t world n stamp before source event first → C (taken_by world n source) (happen event first)
+  pub whichever : (source : Source) (event : Event) → event_of world n stamp source ≡ Some event → ComesWell D t world n stamp before source event first → C (taken_by world n source) (happen event first)
   whichever (Commanded k) event comes well = commanded k event comes well
   whichever (Handed m) event comes well = handed_up m event comes well
   whichever Queues event comes well = subst (λ (e : Event). ComesWell D t world n stamp before Queues e first → C world.channels (happen e first)) (one comes)

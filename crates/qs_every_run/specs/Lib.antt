@@ -30,3 +30,4 @@ pub mod CutCommits
 pub mod CutVotes
 pub mod TriedOwing
 pub mod PlacesJoined
+pub mod PlacesTurns

@@ -5,6 +5,7 @@ ghost use Rattle.qs_every_run.specs.PlacesCommits.{WorldShowsField, HomeCommitsU
 ghost use Rattle.qs_every_run.specs.PlacesComes.{MessageComes, NoticeComes, RequestComes};
 ghost use Rattle.qs_every_run.specs.PlacesWhole.{ServeAllGoes, StepPlaces};
 ghost use Rattle.qs_every_run.specs.PlacesJoined.{WholeStepPlaces};
+ghost use Rattle.qs_every_run.specs.PlacesTurns.{FindsSettle, OthersBeside, PlacedSettles, TurnsGo, TurnsSettle, TurnsShown};
 ghost use Rattle.qs_every_run.specs.PlacesGo.{IssueGoes, SettleGoes, CommandGoes, WaitGoes};
 ghost use Rattle.qs_every_run.specs.PlacesEnds.{StepBegins, StepEnds};
 ghost use Rattle.qs_every_run.specs.PlacedLaws.{ReadyFree, FreeAgrees, QuietUnanimous, CommittedFree, CommittedWays, CommittedKeeps, CommittedUnanimous};
@@ -81,4 +82,16 @@ pub fn goes()
 /// So it goes on through a whole step of a world in which all stands together, where the step finds what it needs or the transaction is doomed.
 pub fn whole_steps()
     ensures { WholeStepPlaces }
+{}
+
+/// At the turn of a transaction, as its node settles and once its own votes are cast, a machine shows it that what showed it before leads to; and all
+/// that was settled before is lawful, so that what stands there may show its commit. What the step entered by then leaves the other
+/// nodes. So where all places hold there what they should, or it is doomed, what its home commits is unanimous. They do so as through a whole step.
+pub fn at_turns()
+    ensures shown { TurnsShown }
+    ensures settle { TurnsSettle }
+    ensures others { OthersBeside }
+    ensures commits { PlacedSettles }
+    ensures goes { TurnsGo }
+    ensures finds { FindsSettle }
 {}
