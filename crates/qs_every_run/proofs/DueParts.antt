@@ -10,7 +10,7 @@ use Rattle.std.specs.declared.cmp.Ordering.{Ordering}
 use Rattle.qs_base.specs.declared.identifiers.Outcome.{Outcome}
 use Rattle.qs_base.specs.declared.identifiers.Outcome.TheVariants as outcomes
 use Rattle.qs_laws.proofs.Maps.{lookup_changed}
-use Rattle.qs_machine.specs.Transaction.{changed_value, learnt_part, life_cmp, no_part, start_cmp, voted, voted_part}
+use Rattle.qs_machine.specs.Transaction.{changed_value, learnt_part, life_cmp, no_part, start_cmp, voted_part}
 use Rattle.qs_machine.specs.declared.transaction.Life.{Life}
 use Rattle.qs_machine.specs.declared.transaction.Part.{Part}
 use Rattle.qs_machine.specs.declared.transaction.Start.{Start}
