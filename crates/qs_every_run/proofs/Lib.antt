@@ -21,6 +21,7 @@ pub mod TraceTold
 pub mod TraceCommands
 pub mod PassDoings
 pub mod TraceStages
+pub mod Unnoted
 pub mod CommitsFirst
 pub mod VotesFirst
 pub mod Answered
@@ -121,6 +122,7 @@ pub mod OwingEntries
 pub mod OwingElsewhere
 pub mod OwingFresh
 pub mod TurnsShown
+pub mod TurnsBegan
 pub mod TurnsSettle
 pub mod OthersBeside
 pub mod PlacedSettles

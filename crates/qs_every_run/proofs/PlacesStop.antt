@@ -1,5 +1,5 @@
 -- What all places hold through a crash, between two steps or in one: it is doomed, or so placed as before.
-use Rattle.std.proofs.Common.{◌≡◌, ℕ, ◌+◌, ◌<◌, ◌==◌, ◌&&◌, ◌||◌, Bool, true, false, List, [], ◌∷◌, Option, Some, None, refl, sym, ap, subst, ◌∙◌, nat_lt, nat_le, if◌then◌else◌}
+use Rattle.std.proofs.Common.{◌≡◌, ℕ, ◌+◌, ◌<◌, ◌==◌, ◌&&◌, ◌||◌, Bool, is_some, true, false, List, [], ◌∷◌, Option, Some, None, refl, sym, ap, subst, ◌∙◌, nat_lt, nat_le, if◌then◌else◌}
 use Rattle.std.proofs.lemmas.Bool.{eqb-true}
 use Rattle.qs_base.specs.declared.identifiers.Tid.{Tid}
 use Rattle.qs_journal.specs.declared.entry.Act.TheVariants as acts
@@ -32,6 +32,7 @@ use Rattle.qs_refine.proofs.SoundParts.{and_both}
 use Rattle.qs_lawful.specs.Holds.{Holds}
 use Rattle.qs_lawful.specs.Lasting.{Lasts}
 use Rattle.qs_lawful.proofs.LastsAlways.{in_runs}
+use Rattle.qs_lawful.proofs.Still.{held_at}
 use Rattle.qs_every_run.specs.Joined.{Joined, book_in}
 use Rattle.qs_every_run.specs.JoinedPlaces.{PlacedOf, PlacesAt}
 use Rattle.qs_every_run.specs.JoinedOwed.{CutsUnanimous}
@@ -51,7 +52,7 @@ module _ (o : Opening) (world : World) (j : Joined PlacesAt o world) (n stamp : 
   entry = entry_of n stamp (acts.Crash cause)
 
   own : Holds stamp book (world.hosts n).node
-  own = ((j.held.nodes n n_in).runs on).next stamp (j.held.order n stamp ordered)
+  own = held_at n stamp book (world.hosts n).node (j.held.nodes n n_in).node ((j.held.nodes n n_in).runs on).still (j.held.order n stamp ordered)
 
   lasts : Lasts book
   lasts = in_runs o world.journal j.opens j.lawful
@@ -79,7 +80,7 @@ module _ (o : Opening) (world : World) (j : Joined PlacesAt o world) (n stamp : 
 
     unbegun : has_begun world tid ≡ false → (b : Bool) → (tid.home.0 == n) ≡ b → (tx : TransactionValue) → find_transaction (book_in o after) tid ≡ Some tx → is_open tx.cell ≡ true → ⊥
     unbegun none false far tx found undecided = absurd (let was : has_begun world tid ≡ true = begun_away tid far begun in cc (none, was))
-    unbegun none true near tx found undecided = absurd (let was : has_begun world tid ≡ true = begun_up book world lasts j.held tid tx (found_then tx found) undecided (home_in_run after shown tid begun) (ap world.channels.up at ∙ on) stamp (subst (λ (k : ℕ). Holds stamp book (world.hosts k).node) (sym at) own) in cc (none, was))
+    unbegun none true near tx found undecided = absurd (let was : has_begun world tid ≡ true = begun_up book world lasts j.held tid (ap is_some (found_then tx found)) (home_in_run after shown tid begun) (ap world.channels.up at ∙ on) in cc (none, was))
       where
         at : tid.home.0 ≡ n
         at = eqb-true tid.home.0 n near

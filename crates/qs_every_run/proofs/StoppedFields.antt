@@ -31,6 +31,7 @@ use Rattle.qs_refine.proofs.StepAll.{node_stopped}
 use Rattle.qs_lawful.specs.Face.{is_numbered}
 use Rattle.qs_lawful.specs.Holds.{Holds}
 use Rattle.qs_lawful.specs.Parcels.{pending, pending_from}
+use Rattle.qs_lawful.proofs.Still.{still_held}
 use Rattle.qs_every_run.specs.Placed.{Field, message_of, sent_between, kept_between, field_of, standing, waiting, asked, IsPlaced, EachPlaced, IsLife, IsPresent, EachLives, Placed}
 use Rattle.qs_every_run.specs.PlacedLaws.{IsFree}
 use Rattle.qs_every_run.proofs.CommitsPlaced.{NoneIn, none_in, none_then}
@@ -191,7 +192,7 @@ module _ (tid : Tid) (book : BookValue) (tx : TransactionValue) (world : World) 
   life l part its = record { kept = its.kept; member = its.member; cast = its.cast; made = its.made; lives = by its.lives }
     where
       over : (b : Bool) → (l.member.node.0 == n) ≡ b → IsPresent old l → IsPresent new l ⊎ (agrees (l, part) ≡ true)
-      over true same present = inr (free_agrees next book tid tx old (world.hosts n).node l part found undecided h free its
+      over true same present = inr (free_agrees book tid tx old (world.hosts n).node l part found undecided (still_held next book (world.hosts n).node h) free its
           (ap (λ (k : ℕ). Rattle.qs_refine.specs.Links.node_no k) (eqb-true l.member.node.0 n same) ∙ sym ((steady world is).seated.node n n_in))
           (present.now ∙ (ap world.channels.inc (eqb-true l.member.node.0 n same) ∙ sym ((steady world is).seated.inc n n_in))))
       over false apart present = inl (record { in_run = present.in_run; up = up_is l.member.node.0 apart ∙ present.up; now = present.now })

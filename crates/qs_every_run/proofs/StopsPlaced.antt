@@ -27,6 +27,7 @@ use Rattle.qs_refine.proofs.Facts.{invariant}
 use Rattle.qs_refine.proofs.ShownMoves.{steady}
 use Rattle.qs_lawful.specs.Holds.{Holds}
 use Rattle.qs_lawful.specs.Parcels.{pending}
+use Rattle.qs_lawful.proofs.Still.{still_held}
 use Rattle.qs_every_run.specs.Placed.{message_of, field_of, Placed}
 use Rattle.qs_every_run.specs.PlacedLaws.{IsFree}
 use Rattle.qs_every_run.specs.StopLaws.{StopsPlaced, CutPlaced, StopHolds, CutHolds}
@@ -52,7 +53,7 @@ module _ (tid : Tid) (book : BookValue) (tx : TransactionValue) (world : World) 
   face = all.seen.shown.faces n n_in on
 
   free : on_now ≡ false → IsFree tid (world.hosts n).node
-  free off = idle_free tid (world.hosts n).node (off_idle tid (world.hosts n).node ((steady world is).sound n n_in).node off (none_decided next book tid tx (world.hosts n).node h found undecided))
+  free off = idle_free tid (world.hosts n).node (off_idle tid (world.hosts n).node ((steady world is).sound n n_in).node off (none_decided book tid tx (world.hosts n).node (still_held next book (world.hosts n).node h) found undecided))
 
   abbrev to_it : ℕ → ℕ → Bool
   to_it k i = has_request (all_said tid (map message_of (pending world.channels k n i (world.channels.inc n))))
@@ -141,7 +142,7 @@ cut_placed tid book tx world n stamp cause log w leaves goes is all n_in on foun
     -- decided before: nobody is engaged, and nothing is on its way
     decided : w.cell ≡ Committed → After
     decided committed = placed_then tid book tx world n stamp cause log goes.goes.next is n_in on found undecided next h
-        (idle_free tid (world.hosts n).node (off_idle tid (world.hosts n).node ((steady world is).sound n n_in).node (off committed) (none_decided next book tid tx (world.hosts n).node h found undecided)))
+        (idle_free tid (world.hosts n).node (off_idle tid (world.hosts n).node ((steady world is).sound n n_in).node (off committed) (none_decided book tid tx (world.hosts n).node (still_held next book (world.hosts n).node h) found undecided)))
         (λ k i k_in has. absurd (let none : has_request (all_said tid (map message_of (pending world.channels k n i (world.channels.inc n)))) ≡ false = commit_clear tid (sight tid (scene_of world)) w all.seen.lawful committed all.seen.shown k i n k_in n_in on in cc (has, none)))
         (λ m m_in unknown has. absurd (let none : has_request (all_said tid (map message_of (world.channels.waits n m))) ≡ false = commit_unmet tid (sight tid (scene_of world)) w all.seen.lawful committed all.seen.shown n m n_in m_in on unknown in cc (has, none))) placed
 

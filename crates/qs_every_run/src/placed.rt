@@ -5,7 +5,7 @@ ghost use Rattle.qs_every_run.specs.PlacesCommits.{WorldShowsField, HomeCommitsU
 ghost use Rattle.qs_every_run.specs.PlacesComes.{MessageComes, NoticeComes, RequestComes};
 ghost use Rattle.qs_every_run.specs.PlacesWhole.{ServeAllGoes, StepPlaces};
 ghost use Rattle.qs_every_run.specs.PlacesJoined.{WholeStepPlaces};
-ghost use Rattle.qs_every_run.specs.PlacesTurns.{FindsSettle, OthersBeside, PlacedSettles, TurnsGo, TurnsSettle, TurnsShown};
+ghost use Rattle.qs_every_run.specs.PlacesTurns.{FindsSettle, OthersBeside, PlacedSettles, TurnsBegan, TurnsFollow, TurnsGo, TurnsSettle, TurnsShown};
 ghost use Rattle.qs_every_run.specs.PlacesGo.{IssueGoes, SettleGoes, CommandGoes, WaitGoes};
 ghost use Rattle.qs_every_run.specs.PlacesEnds.{StepBegins, StepEnds};
 ghost use Rattle.qs_every_run.specs.PlacedLaws.{ReadyFree, FreeAgrees, QuietUnanimous, CommittedFree, CommittedWays, CommittedKeeps, CommittedUnanimous};
@@ -84,11 +84,14 @@ pub fn whole_steps()
     ensures { WholeStepPlaces }
 {}
 
-/// At the turn of a transaction, as its node settles and once its own votes are cast, a machine shows it that what showed it before leads to; and all
-/// that was settled before is lawful, so that what stands there may show its commit. What the step entered by then leaves the other
-/// nodes. So where all places hold there what they should, or it is doomed, what its home commits is unanimous. They do so as through a whole step.
+/// At the turn of a transaction, as its node settles and once its own votes are cast, a machine shows it that what showed it before leads to, and what
+/// showed it once what came was done; and all that was settled before is lawful, so that what stands there may show its commit. What its home is
+/// ready to commit there began before the step. What the step entered by then leaves the other nodes, whether any stamp is left for them or not.
+/// So where all places hold there what they should, or it is doomed, what its home commits is unanimous. They do so as through a whole step.
 pub fn at_turns()
+    ensures follow { TurnsFollow }
     ensures shown { TurnsShown }
+    ensures began { TurnsBegan }
     ensures settle { TurnsSettle }
     ensures others { OthersBeside }
     ensures commits { PlacedSettles }
