@@ -127,3 +127,4 @@ pub mod TurnsSettle
 pub mod OthersBeside
 pub mod PlacedSettles
 pub mod TurnsGo
+pub mod PlacesSteps

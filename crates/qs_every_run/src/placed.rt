@@ -5,6 +5,7 @@ ghost use Rattle.qs_every_run.specs.PlacesCommits.{WorldShowsField, HomeCommitsU
 ghost use Rattle.qs_every_run.specs.PlacesComes.{MessageComes, NoticeComes, RequestComes};
 ghost use Rattle.qs_every_run.specs.PlacesWhole.{ServeAllGoes, StepPlaces};
 ghost use Rattle.qs_every_run.specs.PlacesJoined.{WholeStepPlaces};
+ghost use Rattle.qs_every_run.specs.PlacesSteps.{StepsKeepPlaces};
 ghost use Rattle.qs_every_run.specs.PlacesTurns.{FindsSettle, OthersBeside, PlacedSettles, TurnsBegan, TurnsFollow, TurnsGo, TurnsSettle, TurnsShown};
 ghost use Rattle.qs_every_run.specs.PlacesGo.{IssueGoes, SettleGoes, CommandGoes, WaitGoes};
 ghost use Rattle.qs_every_run.specs.PlacesEnds.{StepBegins, StepEnds};
@@ -97,4 +98,10 @@ pub fn at_turns()
     ensures commits { PlacedSettles }
     ensures goes { TurnsGo }
     ensures finds { FindsSettle }
+{}
+
+/// And so through each step of a run, where it finds what it needs: what had begun is shown after it by a machine that the one before leads to, and what
+/// begins in it was not there.
+pub fn each_step()
+    ensures { StepsKeepPlaces }
 {}
