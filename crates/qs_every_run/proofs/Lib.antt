@@ -125,3 +125,8 @@ pub mod TurnsSettle
 pub mod OthersBeside
 pub mod PlacedSettles
 pub mod TurnsGo
+pub mod DropDooms
+pub mod ServesFind
+pub mod NoticeFinds
+pub mod ComesFind
+pub mod ComesUnknown
