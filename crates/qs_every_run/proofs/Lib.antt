@@ -128,3 +128,8 @@ pub mod OthersBeside
 pub mod PlacedSettles
 pub mod TurnsGo
 pub mod PlacesSteps
+pub mod DropDooms
+pub mod ServesFind
+pub mod NoticeFinds
+pub mod ComesFind
+pub mod ComesUnknown

@@ -1,0 +1,12 @@
+//! What comes in a step of a node finds what it needs.
+ghost use Rattle.qs_every_run.specs.ComesFind.{ComesFind, ComesLater, ComesUnknown};
+
+/// Whatever comes in a step finds what it needs of a transaction that has begun, or the transaction is doomed in a machine that shows it then: a request
+/// of it is taken in, what waits of it is served, and as a later incarnation of another node becomes known what all places hold of it goes on.
+/// What a client's command issues for it is given. It stays so in each machine that is led to from there. And of what the reference
+/// machine does not have yet nothing comes.
+pub fn what_comes_finds()
+    ensures finds { ComesFind }
+    ensures later { ComesLater }
+    ensures unknown { ComesUnknown }
+{}
