@@ -67,8 +67,10 @@ pub mod CutUnanimous
 pub mod JoinedMoves
 pub mod JoinedOver
 pub mod Entries
+pub mod PlacedIssued
 pub mod PlacedTx
 pub mod PlacesBegin
+pub mod ApartHere
 pub mod PlacesStop
 pub mod RestartPlaced
 pub mod RisenFields

@@ -17,6 +17,7 @@ pub mod Traces
 pub mod Deeds
 pub mod Firsts
 pub mod Answering
+pub mod PlacesApart
 pub mod JoinedOwed
 pub mod JoinedPlaces
 pub mod StepLaws

@@ -45,7 +45,7 @@ use Rattle.qs_lawful.specs.Given.{AtEach}
 use Rattle.qs_every_run.specs.Placed.{Field}
 use Rattle.qs_every_run.specs.PlacedActs.{is_against}
 use Rattle.qs_every_run.specs.PlacesAmid.{PlacedAmid}
-use Rattle.qs_every_run.specs.PlacesRules.{AreLawful, CrossesNone, IsAmid, Reaches}
+use Rattle.qs_every_run.specs.PlacesRules.{AreLawful, IsAmid, Reaches}
 
 -- no node restarts in a step
 abbrev pub is_restart : Act → Bool
@@ -69,10 +69,9 @@ pub record Goes (D : Type 0) (t : Tid) (base : Field) (knows : ℕ → ℕ) (n s
 
 -- ---- what is issued and voted
 
--- a request that is issued crosses none, and goes to a node that it reaches
+-- a request that is issued goes to a node that it reaches
 pub record IssuesWell (t : Tid) (base : Field) (knows : ℕ → ℕ) (n stamp : ℕ) (before : BookValue) (request : Outstanding) (op : Op) (work : Work) : Type 0 where
   pub fits : is_for request.member.server op ≡ true
-  pub apart : CrossesNone t n stamp before request work
   pub in_run : request.member.node.0 < base.size
   pub reaches : same_node request.member.node (here work) ≡ false → (is_other work.node.setting request.member.node ≡ true) × Reaches base knows request.member.node.0
 

@@ -38,7 +38,7 @@ pub fn stops()
 {}
 
 /// In the middle of a step of a node, what all places hold goes on through rules that leave it, as most do; and as a request is issued that
-/// reaches a node and crosses none, as one is served with its loan, as a vote for commit is cast, and as a loan is given back.
+/// reaches a node, as one is served with its loan, as a vote for commit is cast, and as a loan is given back.
 pub fn rules()
     ensures left { LeftGoesOn }
     ensures begins { BeginLeaves }
