@@ -125,6 +125,9 @@ pub mod OwingElsewhere
 pub mod OwingFresh
 pub mod TurnsShown
 pub mod TurnsBegan
+pub mod Onward
+pub mod StuckRules
+pub mod Stuck
 pub mod TurnsSettle
 pub mod OthersBeside
 pub mod PlacedSettles

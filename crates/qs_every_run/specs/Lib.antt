@@ -34,3 +34,4 @@ pub mod PlacesJoined
 pub mod PlacesTurns
 pub mod PlacesSteps
 pub mod ComesFind
+pub mod PlacesFound
