@@ -138,3 +138,5 @@ pub mod ServesFind
 pub mod NoticeFinds
 pub mod ComesFind
 pub mod ComesUnknown
+pub mod FoundWell
+pub mod CommitsFind

@@ -35,3 +35,4 @@ pub mod PlacesTurns
 pub mod PlacesSteps
 pub mod ComesFind
 pub mod PlacesFound
+pub mod CommitsFind

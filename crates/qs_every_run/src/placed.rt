@@ -6,6 +6,7 @@ ghost use Rattle.qs_every_run.specs.PlacesComes.{MessageComes, NoticeComes, Requ
 ghost use Rattle.qs_every_run.specs.PlacesWhole.{ServeAllGoes, StepPlaces};
 ghost use Rattle.qs_every_run.specs.PlacesJoined.{WholeStepPlaces};
 ghost use Rattle.qs_every_run.specs.PlacesSteps.{StepsKeepPlaces};
+ghost use Rattle.qs_every_run.specs.CommitsFind.{CommitsFind};
 ghost use Rattle.qs_every_run.specs.PlacesTurns.{FindsSettle, OthersBeside, PlacedSettles, TurnsBegan, TurnsFollow, TurnsGo, TurnsSettle, TurnsShown};
 ghost use Rattle.qs_every_run.specs.PlacesGo.{IssueGoes, SettleGoes, CommandGoes, WaitGoes};
 ghost use Rattle.qs_every_run.specs.PlacesEnds.{StepBegins, StepEnds};
@@ -104,4 +105,9 @@ pub fn at_turns()
 /// begins in it was not there.
 pub fn each_step()
     ensures { StepsKeepPlaces }
+{}
+
+/// What a home commits in a step is unanimous, where a home that is ready to commit found all that it issued and voted on: so did what came.
+pub fn home_commits_found()
+    ensures { CommitsFind }
 {}
