@@ -89,12 +89,7 @@ module _ (t : Tid) (world : World) (w : machine.World) (steady : IsSteady world)
 
   -- as far as the machine goes as the step is shown to go
   by_step : (source : Source) (event : Event) → (c : StepCame t world n free source event w) → ((v : machine.World) → Stands t (taken_scene world n source) n (done_work node event free) v → ComesWell (IsDoomed v) t world n stamp before source event work) → Found source event
-  by_step source event c finds = record {
-    now = c.came.after.next;
-    leads = leads_on w c.came.mid c.came.after.next c.came.leads c.came.after.leads;
-    stands = stands;
-    finds = finds c.came.after.next stands;
-  }
+  by_step source event c finds = record { came = c; finds = finds c.came.after.next stands }
     where
       stands : Stands t (taken_scene world n source) n (done_work node event free) c.came.after.next
       stands = stands_taken t world n source c.later c.size c.inc c.log c.taken low on (done_work node event free) c.came.after.next c.came.after.stands
@@ -106,7 +101,17 @@ module _ (t : Tid) (world : World) (w : machine.World) (steady : IsSteady world)
       subst (λ (e : Event). event_of world n stamp (Commanded k) ≡ Some e → CommandsFind t world n stamp free before (Commanded k) e w → Found (Commanded k) e) (sym from.is) (by from.line from.in_run from.line.command refl) comes finds
     where
       other : (line : ScriptLine) → goes_in_run world.size line.command ≡ true → (line.command ≡ commands.Begin → ⊥) → CommandsFind t world n stamp free before (Commanded k) (command_of line) w → Found (Commanded k) (command_of line)
-      other line in_run apart gives = record { now = goes.next; leads = leads_on w stood.next goes.next stood.leads goes.leads; stands = goes.stands; finds = gives stood.next goes.next stood.leads stood.stands goes.leads goes.stands }
+      other line in_run apart gives = record {
+        came = record {
+          later = scene_of world;
+          size = refl;
+          inc = refl;
+          log = refl;
+          came = record { mid = stood.next; leads = stood.leads; after = goes; ends = false; ended = λ never. absurd (cc never); comes = λ f last leads shown begins. absurd (apart begins) };
+          taken = λ done log v shown. shown;
+        };
+        finds = gives stood.next goes.next stood.leads stood.stands goes.leads goes.stands;
+      }
         where
           goes : GoesOn t (scene_of world) n (command_came line work) stood.next
           goes = command_goes t (scene_of world) n line work stood.next (subst (λ (size : ℕ). goes_in_run size line.command ≡ true) (sym stood.stands.at.nodes) in_run) (is_calm t world w steady home_in all n free low on).owned (λ begin. absurd (apart begin)) stood.stands
@@ -135,9 +140,14 @@ module _ (t : Tid) (world : World) (w : machine.World) (steady : IsSteady world)
     -- a request of it
     own : (label : List ℕ) (member : Member) (number : ℕ) (issuer : ServerNo) (op : Op) → Comes (messages.Request t label member number issuer op)
     own label member number issuer op from next fit fits = record {
-      now = goes.next;
-      leads = leads_on w stood.next goes.next stood.leads goes.leads;
-      stands = stands_taken t world n (Handed m) (handed (scene_of world) m it n rest) refl refl refl (λ done log v shown. handed_taken t world n m parcel done log v found shown) low on (message_came (node_no m) (messages.Request t label member number issuer op) work) goes.next goes.stands;
+      came = record {
+        later = handed (scene_of world) m it n rest;
+        size = refl;
+        inc = refl;
+        log = refl;
+        came = record { mid = stood.next; leads = stood.leads; after = goes; ends = false; ended = λ never. absurd (cc never); comes = λ f last leads shown. tt };
+        taken = λ done log v shown. handed_taken t world n m parcel done log v found shown;
+      };
       finds = λ about. (its_own, taken_in (is_dropped (same_node t.home (here work)) (part_of t work)) refl);
     }
       where
@@ -202,7 +212,17 @@ module _ (t : Tid) (world : World) (w : machine.World) (steady : IsSteady world)
   served serves = by (all_find t (scene_of world) n (ipc.turns work.node.queues) work stood.next (can_count_now serves) stood.stands)
     where
       by : ServesFound t (scene_of world) n (ipc.turns work.node.queues) work stood.next → Found Queues events.ServeAll
-      by found = record { now = found.now; leads = leads_on w stood.next found.now stood.leads found.leads; stands = found.stands; finds = found.finds }
+      by found = record {
+        came = record {
+          later = scene_of world;
+          size = refl;
+          inc = refl;
+          log = refl;
+          came = record { mid = stood.next; leads = stood.leads; after = record { next = found.now; leads = found.leads; stands = found.stands }; ends = false; ended = λ never. absurd (cc never); comes = λ f last leads shown. tt };
+          taken = λ done log v shown. shown;
+        };
+        finds = found.finds;
+      }
 
   -- ---- another node restarted
 

@@ -26,9 +26,10 @@ use Rattle.qs_every_run.specs.PlacesEnds.{taken}
 use Rattle.qs_every_run.specs.PlacesFound.{ComesFinds, FoundAtTurn}
 use Rattle.qs_every_run.specs.PlacesTurns.{FindsAtTurn, FollowsAtTurn, IsFoundThere, IsReadyAt, ShownAt, passed}
 use Rattle.qs_every_run.proofs.ComesFind.{comes_find, comes_later}
+use Rattle.qs_every_run.proofs.FoundTurns.{turns_find}
 use Rattle.qs_every_run.proofs.FoundWell.{commands_well, pass_well}
 use Rattle.qs_every_run.proofs.TurnsGo.{finds_settle}
-use Rattle.qs_every_run.proofs.TurnsShown.{turns_follow}
+use Rattle.qs_every_run.proofs.TurnsShown.{came_shown, turns_follow}
 
 -- what a client's command issues
 pub comes_command : (D : Type 0) (t : Tid) (world : World) (n stamp : ℕ) (before : BookValue) (event : Event) (work : Work) → ComesFinds D t world n event work → CommandFinds D t world n stamp before event work
@@ -46,21 +47,24 @@ module _ (o : Opening) (world : World) (n stamp free : ℕ) (source : Source) (e
     came : ComesFound tid world n stamp free before source event w
     came = comes_find tid world n stamp free before source event w j.shown makes began shows (λ v u first stood leads stands. comes_command (IsDoomed u) tid world n stamp before event (first_work (world.hosts n).node free) (found ready u).0)
 
-    by : (c : ComesFound tid world n stamp free before source event w) → ShownAt world n source tid c.now (passed work tid) → IsFoundThere o world n stamp free source event work tid w
-    by c s = record {
-      at = record { now = s.now; leads = leads_on w c.now s.now c.leads s.leads; stands = s.stands };
-      comes = comes_later c.now s.now tid world n stamp before source event (first_work (world.hosts n).node free) s.leads c.finds;
+    abbrev done : ShownAt world n source tid w (done_work (world.hosts n).node event free)
+    done = came_shown world j.shown n stamp free source event makes tid w came.came
+
+    by : ShownAt world n source tid done.now (passed work tid) → IsFoundThere o world n stamp free source event work tid w
+    by s = record {
+      at = record { now = s.now; leads = leads_on w done.now s.now done.leads s.leads; stands = s.stands };
+      comes = comes_later done.now s.now tid world n stamp before source event (first_work (world.hosts n).node free) s.leads came.finds;
       passes = pass_well (IsDoomed s.now) tid (field_of (taken world n source)) ((taken_by world n source).peer n) n stamp before work (found ready s.now).1;
     }
 
     there : IsFoundThere o world n stamp free source event work tid w
-    there = by came (follows came.now came.stands)
+    there = by (follows done.now done.stands)
 
   turns : (tids : List Tid) (work : Work) → AtEach (FollowsAtTurn world n free source event) settle_tid work tids → AtEach (FoundAtTurn world n free source event) settle_tid work tids → AtEach (FindsAtTurn o world n stamp free source event) settle_tid work tids
   turns [] work follow found = tt
   turns (tid ∷ tids) work follow found = (there work tid follow.0 found.0, turns tids (settle_tid work tid) follow.1 found.1)
 
 pub commits_find : CommitsFind
-commits_find finds rooms o world n stamp free source event j makes =
+commits_find rooms o world n stamp free source event j makes =
     finds_settle o world n stamp free source event j makes (rooms o world n stamp free source event j makes)
-    (turns o world n stamp free source event j makes (due_tids (done_work (world.hosts n).node event free)) (done_work (world.hosts n).node event free) (turns_follow world n free source event) (finds o world n stamp free source event j makes))
+    (turns o world n stamp free source event j makes (due_tids (done_work (world.hosts n).node event free)) (done_work (world.hosts n).node event free) (turns_follow world n free source event) (turns_find o world n stamp free source event j makes))

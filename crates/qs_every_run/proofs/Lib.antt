@@ -136,7 +136,6 @@ pub mod TurnsSettle
 pub mod OthersBeside
 pub mod PlacedSettles
 pub mod TurnsGo
-pub mod PlacesSteps
 pub mod DropDooms
 pub mod ServesFind
 pub mod NoticeFinds
@@ -144,3 +143,5 @@ pub mod ComesFind
 pub mod ComesUnknown
 pub mod FoundWell
 pub mod CommitsFind
+pub mod PlacesSteps
+pub mod WholeFinds

@@ -24,12 +24,13 @@ use Rattle.qs_every_run.specs.Agrees.{MakesStep}
 use Rattle.qs_every_run.specs.Joined.{Joined, book_in}
 use Rattle.qs_every_run.specs.JoinedOwed.{IsStep, entries_in}
 use Rattle.qs_every_run.specs.JoinedPlaces.{PlacedOf, PlacesAt}
-use Rattle.qs_every_run.specs.PlacesSteps.{FreshFind, StepsKeepPlaces, WholeFind, WholeFound}
+use Rattle.qs_every_run.specs.PlacesSteps.{StepsKeepPlaces, WholeFind, WholeFound}
+use Rattle.qs_every_run.proofs.FreshFinds.{fresh_find}
 use Rattle.qs_every_run.proofs.JoinedParts.{lawful_more}
 use Rattle.qs_every_run.proofs.PlacesBegin.{begun_up}
 use Rattle.qs_every_run.proofs.PlacesJoined.{whole_step_places}
 
-module _ (whole : WholeFind) (fresh : FreshFind) (o : Opening) (world : World) (n stamp free : ℕ) (source : Source) (j : Joined PlacesAt o world) (may : may_move world (Step n stamp free source) ≡ true)
+module _ (whole : WholeFind) (o : Opening) (world : World) (n stamp free : ℕ) (source : Source) (j : Joined PlacesAt o world) (may : may_move world (Step n stamp free source) ≡ true)
     (event : Event) (comes : event_of world n stamp source ≡ Some event) (lawful : IsLawful (book_in o world) (entries_in world n stamp free event)) where
   abbrev new : World
   new = step_with world n stamp free source (Some event)
@@ -83,7 +84,7 @@ module _ (whole : WholeFind) (fresh : FreshFind) (o : Opening) (world : World) (
         by (Some tx) there = absurd (let was : has_begun world tid ≡ true = begun_up (book_in o world) world (in_runs o world.journal j.opens j.lawful) j.held tid (ap is_some there) (subst (λ (k : ℕ). k < world.size) (sym home_is) its.low) (ap world.channels.up home_is ∙ its.runs) in cc (was, unbegun))
 
     begins : PlacedOf tid o new
-    begins = subst (PlacedOf tid o) moved_is (whole_step_places tid o world n stamp free source event shows.machine j makes lawful (fresh shows.machine tid o world n stamp free source event j makes lawful home_is none_before) (inr none_before)
+    begins = subst (PlacedOf tid o) moved_is (whole_step_places tid o world n stamp free source event shows.machine j makes lawful (fresh_find shows.machine tid o world n stamp free source event j makes lawful home_is unbegun none_before) (inr none_before)
         (subst (λ (v : World). ShowsAll tid v shows.machine) (sym moved_is) shows.shows))
       where
         shows : IsShown tid new
@@ -106,14 +107,14 @@ module _ (whole : WholeFind) (fresh : FreshFind) (o : Opening) (world : World) (
       by false unbegun = begins tid begun unbegun
 
 pub steps_keep_places : StepsKeepPlaces
-steps_keep_places whole fresh o world (Step n stamp free source) is j may lawful = by (event_of world n stamp source) refl lawful
+steps_keep_places whole o world (Step n stamp free source) is j may lawful = by (event_of world n stamp source) refl lawful
   where
     by : (e : Option Event) → event_of world n stamp source ≡ e → IsLawful (book_of o) (moved (Step n stamp free source) world).journal → PlacesAt o (moved (Step n stamp free source) world)
     by None none so = subst (λ (e : Option Event). PlacesAt o (step_with world n stamp free source e)) (sym none) j.places
     by (Some event) comes so = subst (λ (e : Option Event). PlacesAt o (step_with world n stamp free source e)) (sym comes)
-        (places_then whole fresh o world n stamp free source j may event comes
+        (places_then whole o world n stamp free source j may event comes
         (lawful_more o world (step_with world n stamp free source (Some event)) (entries_in world n stamp free event) refl (subst (λ (e : Option Event). IsLawful (book_of o) (step_with world n stamp free source e).journal) comes so)))
-steps_keep_places whole fresh o world (Cut n stamp free source is_kept cause) is j may lawful = absurd is
-steps_keep_places whole fresh o world (Stop n stamp cause) is j may lawful = absurd is
-steps_keep_places whole fresh o world (Rise n stamp inc) is j may lawful = absurd is
-steps_keep_places whole fresh o world (Meet n stamp m inc) is j may lawful = absurd is
+steps_keep_places whole o world (Cut n stamp free source is_kept cause) is j may lawful = absurd is
+steps_keep_places whole o world (Stop n stamp cause) is j may lawful = absurd is
+steps_keep_places whole o world (Rise n stamp inc) is j may lawful = absurd is
+steps_keep_places whole o world (Meet n stamp m inc) is j may lawful = absurd is

@@ -184,16 +184,17 @@ module _ (world : World) (is : IsShownWorld world) (n stamp free : ℕ) (source 
   home_low : (t : Tid) → has_begun world t ≡ true → t.home.0 < world.size
   home_low t began = let there : nat_lt t.home.0 world.size ≡ true = (and_both (nat_lt t.home.0 world.size) _ (and_both (names_transaction t) _ began).1).0 in grind (arith, nat_tests, there)
 
-  -- each that has begun is shown once what came is done
-  pub shown_done : (t : Tid) → has_begun world t ≡ true → (w : machine.World) → ShowsAll t world w → ShownAt world n source t w (done_work (world.hosts n).node event free)
-  shown_done t began w all = by (step_came t world w steady (home_low t began) (begun_low world t began) all (shown_fit world is) n free its.low its.runs stamp source event its.serves makes.comes)
-    where
-      by : StepCame t world n free source event w → ShownAt world n source t w (done_work (world.hosts n).node event free)
-      by came = record {
-        now = came.came.after.next;
-        leads = leads_on w came.came.mid came.came.after.next came.came.leads came.came.after.leads;
-        stands = stands_taken t world n source came.later came.size came.inc came.log came.taken its.low its.runs (done_work (world.hosts n).node event free) came.came.after.next came.came.after.stands;
-      }
+  -- what is shown to come is shown once it is done
+  abbrev pub came_shown : (t : Tid) (w : machine.World) → StepCame t world n free source event w → ShownAt world n source t w (done_work (world.hosts n).node event free)
+  came_shown t w came = record {
+    now = came.came.after.next;
+    leads = leads_on w came.came.mid came.came.after.next came.came.leads came.came.after.leads;
+    stands = stands_taken t world n source came.later came.size came.inc came.log came.taken its.low its.runs (done_work (world.hosts n).node event free) came.came.after.next came.came.after.stands;
+  }
+
+  -- so is each that has begun
+  shown_done : (t : Tid) → has_begun world t ≡ true → (w : machine.World) → ShowsAll t world w → ShownAt world n source t w (done_work (world.hosts n).node event free)
+  shown_done t began w all = came_shown t w (step_came t world w steady (home_low t began) (begun_low world t began) all (shown_fit world is) n free its.low its.runs stamp source event its.serves makes.comes)
 
   begun_turns : (tids : List Tid) (work : Work) → AtEach (FollowsAtTurn world n free source event) settle_tid work tids → AtEach (ShownAtTurn world n source) settle_tid work tids
   begun_turns [] work follow = tt

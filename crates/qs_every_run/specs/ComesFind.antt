@@ -17,6 +17,7 @@ use Rattle.qs_refine.specs.MoveLaws.{taken_scene}
 use Rattle.qs_refine.specs.ShownWorlds.{IsShownWorld}
 use Rattle.qs_refine.specs.Shows.{scene_of}
 use Rattle.qs_refine.specs.Stands as shown
+use Rattle.qs_refine.proofs.EachEvent.{StepCame}
 use Rattle.qs_lawful.specs.GivenStep.{done_work, first_work}
 use Rattle.qs_every_run.specs.Agrees.{MakesStep}
 use Rattle.qs_every_run.specs.Joined.{Joined, book_in}
@@ -43,10 +44,8 @@ CommandsFind t world n stamp free before source event w = (v u : machine.World) 
 -- ---- so what comes does, or it is doomed in a machine that shows it then, and in each that it leads to
 
 pub record ComesFound (t : Tid) (world : World) (n stamp free : ℕ) (before : BookValue) (source : Source) (event : Event) (w : machine.World) : Type 0 where
-  pub now : machine.World
-  pub leads : Leads w now
-  pub stands : shown.Stands t (taken_scene world n source) n (done_work (world.hosts n).node event free) now
-  pub finds : ComesWell (IsDoomed now) t world n stamp before source event (first_work (world.hosts n).node free)
+  pub came : StepCame t world n free source event w
+  pub finds : ComesWell (IsDoomed came.came.after.next) t world n stamp before source event (first_work (world.hosts n).node free)
 
 abbrev pub ComesFind : Type 0
 ComesFind = (t : Tid) (world : World) (n stamp free : ℕ) (before : BookValue) (source : Source) (event : Event) (w : machine.World) → IsShownWorld world → MakesStep world n stamp source event

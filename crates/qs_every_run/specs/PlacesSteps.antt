@@ -33,9 +33,9 @@ WholeFind = (tid : Tid) (o : Opening) (world : World) (n stamp free : ℕ) (sour
 
 abbrev pub FreshFind : Type 0
 FreshFind = (w : machine.World) (tid : Tid) (o : Opening) (world : World) (n stamp free : ℕ) (source : Source) (event : Event) → Joined PlacesAt o world → MakesStep world n stamp source event → IsLawful (book_in o world) (entries_in world n stamp free event)
-    → tid.home.0 ≡ n → find_transaction (book_in o world) tid ≡ None → StepsWell (IsDoomed w) tid world n stamp free (book_in o world) source event
+    → tid.home.0 ≡ n → has_begun world tid ≡ false → find_transaction (book_in o world) tid ≡ None → StepsWell (IsDoomed w) tid world n stamp free (book_in o world) source event
 
--- ---- so each step keeps it
+-- ---- so each step keeps it, where it finds what it needs of what had begun
 
 abbrev pub StepsKeepPlaces : Type 0
-StepsKeepPlaces = WholeFind → FreshFind → Keeps PlacesAt IsStep PlacesAt
+StepsKeepPlaces = WholeFind → Keeps PlacesAt IsStep PlacesAt
