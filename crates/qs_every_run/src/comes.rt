@@ -3,8 +3,8 @@ ghost use Rattle.qs_every_run.specs.ComesFind.{ComesFind, ComesLater, ComesUnkno
 
 /// Whatever comes in a step finds what it needs of a transaction that has begun, or the transaction is doomed in a machine that shows it then: a request
 /// of it is taken in, what waits of it is served, and as a later incarnation of another node becomes known what all places hold of it goes on.
-/// What a client's command issues for it is given. It stays so in each machine that is led to from there. And of what the reference
-/// machine does not have yet nothing comes.
+/// What a client's command issues for it is given. That machine leads to one that shows it after the step; and what dooms it dooms it in each machine that
+/// is led to from there. Of what the reference machine does not have yet nothing comes.
 pub fn what_comes_finds()
     ensures finds { ComesFind }
     ensures later { ComesLater }
