@@ -131,3 +131,5 @@ pub mod NoticeFinds
 pub mod StepsEnd
 pub mod ComesFind
 pub mod ComesUnknown
+pub mod BegunBare
+pub mod BegunDone

@@ -1,4 +1,5 @@
 //! What comes in a step of a node finds what it needs.
+ghost use Rattle.qs_every_run.specs.BegunBare.{BegunBare};
 ghost use Rattle.qs_every_run.specs.ComesFind.{CommandsUnbegun, ComesFind, ComesLater, ComesUnknown};
 
 /// Whatever comes in a step finds what it needs of a transaction that has begun, or the transaction is doomed in a machine that shows it then: a request
@@ -10,4 +11,9 @@ pub fn what_comes_finds()
     ensures later { ComesLater }
     ensures unknown { ComesUnknown }
     ensures unbegun { CommandsUnbegun }
+{}
+
+/// What begins in a step is not asked for there, and no loan of it stands: so no server's vote on it is due, and no borrower has a request of it issued.
+pub fn what_begins_is_bare()
+    ensures { BegunBare }
 {}
