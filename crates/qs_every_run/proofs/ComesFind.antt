@@ -1,5 +1,5 @@
 -- Whatever comes in a step finds what it needs, or the transaction is doomed in the machine that shows it then.
-use Rattle.std.proofs.Common.{◌≡◌, ◌≢◌, ◌⊎◌, inl, inr, ℕ, ◌+◌, ◌<◌, ◌≤◌, ◌&&◌, nat_lt, Bool, true, false, List, Option, Some, None, refl, sym, ap, subst, ◌∙◌, arith, if◌then◌else◌}
+use Rattle.std.proofs.Common.{◌≡◌, ◌≢◌, ◌⊎◌, inl, inr, ℕ, ◌+◌, ◌<◌, ◌≤◌, ◌&&◌, nat_lt, Bool, true, false, List, Some, None, refl, sym, ap, subst, ◌∙◌, arith, if◌then◌else◌}
 use Rattle.std.proofs.lemmas.Bool.Decides.{nat_tests}
 use Rattle.qs_base.specs.Order.{same_tid}
 use Rattle.qs_base.specs.declared.identifiers.Member.{Member}
@@ -22,7 +22,7 @@ use Rattle.qs_step.specs.State.{NodeValue, Work, here, part_of, work_on}
 use Rattle.qs_step.specs.Step.{command_came, message_came}
 use Rattle.qs_step.specs.declared.event.Event.{Event}
 use Rattle.qs_step.specs.declared.event.Event.TheVariants as events
-use Rattle.qs_world.specs.Moves.{Clock, Commanded, Handed, Noticed, Queues, Source, command_of, event_of, may_serve, step_with}
+use Rattle.qs_world.specs.Moves.{Clock, Commanded, Handed, Noticed, Queues, Source, command_of, event_of, may_serve}
 use Rattle.qs_world.specs.Posting.{next_parcel}
 use Rattle.qs_world.specs.World.{Parcel, World}
 use Rattle.qs_agree.specs.World as machine
@@ -48,7 +48,7 @@ use Rattle.qs_refine.specs.TakenLaws.{rest_behind}
 use Rattle.qs_refine.proofs.CommandStands.{command_goes}
 use Rattle.qs_refine.proofs.EachEvent.{StepCame, step_came}
 use Rattle.qs_refine.proofs.EachHears.{counts_no_more, first, is_calm, keeps, learnt}
-use Rattle.qs_refine.proofs.EachMay.{FromNotice, each_may_come, from_client, from_node, from_notice, is_fit, is_next}
+use Rattle.qs_refine.proofs.EachMay.{FromNotice, from_client, from_node, from_notice, is_fit, is_next}
 use Rattle.qs_refine.proofs.Heads.{no_request}
 use Rattle.qs_refine.proofs.MayCount.{can_count}
 use Rattle.qs_refine.proofs.MoveGoes.{StepMay, step_may}
@@ -65,7 +65,6 @@ use Rattle.qs_every_run.specs.PlacesWhole.{ComesWell, TakesIn}
 use Rattle.qs_every_run.proofs.DropDooms.{dropped_dooms}
 use Rattle.qs_every_run.proofs.NoticeFinds.{notice_finds}
 use Rattle.qs_every_run.proofs.ServesFind.{ServesFound, all_find, serves_later}
-use Rattle.qs_every_run.proofs.StepsEnd.{StepEnded, step_ended}
 use Rattle.qs_every_run.proofs.TurnsShown.{stands_taken}
 
 one : {A : Type 0} {a b : A} → Some a ≡ Some b → a ≡ b
@@ -89,23 +88,16 @@ module _ (t : Tid) (world : World) (w : machine.World) (steady : IsSteady world)
   came source event serves comes = step_came t world w steady home_in (begun_low world t begins) all (shown_fit world is_shown) n free low on stamp source event serves comes
 
   -- as far as the machine goes as the step is shown to go
-  by_step : (source : Source) (event : Event) → event_of world n stamp source ≡ Some event → (c : StepCame t world n free source event w)
-      → (Stands t (taken_scene world n source) n (done_work node event free) c.came.after.next → ComesWell (IsDoomed c.came.after.next) t world n stamp before source event work) → Found source event
-  by_step source event comes c finds = record {
+  by_step : (source : Source) (event : Event) → (c : StepCame t world n free source event w) → ((v : machine.World) → Stands t (taken_scene world n source) n (done_work node event free) v → ComesWell (IsDoomed v) t world n stamp before source event work) → Found source event
+  by_step source event c finds = record {
     now = c.came.after.next;
     leads = leads_on w c.came.mid c.came.after.next c.came.leads c.came.after.leads;
     stands = stands;
-    finds = finds stands;
-    next = ended.next;
-    further = ended.leads;
-    shows = subst (λ (e : Option Event). ShowsAll t (step_with world n stamp free source e) ended.next) (sym comes) ended.shows;
+    finds = finds c.came.after.next stands;
   }
     where
       stands : Stands t (taken_scene world n source) n (done_work node event free) c.came.after.next
       stands = stands_taken t world n source c.later c.size c.inc c.log c.taken low on (done_work node event free) c.came.after.next c.came.after.stands
-
-      ended : StepEnded t (step_with world n stamp free source (Some event)) c.came.after.next
-      ended = step_ended t world w steady home_in all n stamp free low on source event comes c (each_may_come world n stamp free source event steady (shown_fit world is_shown) low on comes)
 
   -- ---- a client commands
 
@@ -113,28 +105,19 @@ module _ (t : Tid) (world : World) (w : machine.World) (steady : IsSteady world)
   commanded k event comes finds = let from = from_client world n k event steady comes in
       subst (λ (e : Event). event_of world n stamp (Commanded k) ≡ Some e → CommandsFind t world n stamp free before (Commanded k) e w → Found (Commanded k) e) (sym from.is) (by from.line from.in_run from.line.command refl) comes finds
     where
-      other : (line : ScriptLine) → goes_in_run world.size line.command ≡ true → (line.command ≡ commands.Begin → ⊥) → event_of world n stamp (Commanded k) ≡ Some (command_of line) → CommandsFind t world n stamp free before (Commanded k) (command_of line) w → Found (Commanded k) (command_of line)
-      other line in_run apart from gives = by_step (Commanded k) (command_of line) from
-          (record {
-            later = scene_of world;
-            size = refl;
-            inc = refl;
-            log = refl;
-            came = record { mid = stood.next; leads = stood.leads; after = goes; ends = false; ended = λ never. absurd (cc never); comes = λ f last leads shown begin same. absurd (apart begin) };
-            taken = λ done log v shown. shown;
-          })
-          (λ stands. gives stood.next goes.next stood.leads stood.stands goes.leads stands)
+      other : (line : ScriptLine) → goes_in_run world.size line.command ≡ true → (line.command ≡ commands.Begin → ⊥) → CommandsFind t world n stamp free before (Commanded k) (command_of line) w → Found (Commanded k) (command_of line)
+      other line in_run apart gives = record { now = goes.next; leads = leads_on w stood.next goes.next stood.leads goes.leads; stands = goes.stands; finds = gives stood.next goes.next stood.leads stood.stands goes.leads goes.stands }
         where
           goes : GoesOn t (scene_of world) n (command_came line work) stood.next
           goes = command_goes t (scene_of world) n line work stood.next (subst (λ (size : ℕ). goes_in_run size line.command ≡ true) (sym stood.stands.at.nodes) in_run) (is_calm t world w steady home_in all n free low on).owned (λ begin. absurd (apart begin)) stood.stands
 
       by : (line : ScriptLine) → goes_in_run world.size line.command ≡ true → (command : Command) → line.command ≡ command → event_of world n stamp (Commanded k) ≡ Some (command_of line) → CommandsFind t world n stamp free before (Commanded k) (command_of line) w → Found (Commanded k) (command_of line)
-      by line in_run commands.Begin is from gives = by_step (Commanded k) (command_of line) from (came (Commanded k) (command_of line) refl from) (λ stands begun member op number named its obeyed asks next. let both : commands.Begin ≡ commands.Request member op = sym is ∙ asks in absurd (cc both))
-      by line in_run commands.Commit is from gives = other line in_run (λ begin. cc (is, begin)) from gives
-      by line in_run commands.Abort is from gives = other line in_run (λ begin. cc (is, begin)) from gives
-      by line in_run commands.Take is from gives = other line in_run (λ begin. cc (is, begin)) from gives
-      by line in_run commands.Yield is from gives = other line in_run (λ begin. cc (is, begin)) from gives
-      by line in_run (commands.Request member op) is from gives = other line in_run (λ begin. cc (is, begin)) from gives
+      by line in_run commands.Begin is from gives = by_step (Commanded k) (command_of line) (came (Commanded k) (command_of line) refl from) (λ v stands begun member op number named its obeyed asks next. let both : commands.Begin ≡ commands.Request member op = sym is ∙ asks in absurd (cc both))
+      by line in_run commands.Commit is from gives = other line in_run (λ begin. cc (is, begin)) gives
+      by line in_run commands.Abort is from gives = other line in_run (λ begin. cc (is, begin)) gives
+      by line in_run commands.Take is from gives = other line in_run (λ begin. cc (is, begin)) gives
+      by line in_run commands.Yield is from gives = other line in_run (λ begin. cc (is, begin)) gives
+      by line in_run (commands.Request member op) is from gives = other line in_run (λ begin. cc (is, begin)) gives
 
   -- ---- a message
 
@@ -151,28 +134,21 @@ module _ (t : Tid) (world : World) (w : machine.World) (steady : IsSteady world)
 
     -- a request of it
     own : (label : List ℕ) (member : Member) (number : ℕ) (issuer : ServerNo) (op : Op) → Comes (messages.Request t label member number issuer op)
-    own label member number issuer op from next fit fits = by_step (Handed m) (events.Received (node_no m) message) from
-        (record {
-          later = handed (scene_of world) m it n rest;
-          size = refl;
-          inc = refl;
-          log = refl;
-          came = record { mid = stood.next; leads = stood.leads; after = goes; ends = false; ended = λ never. absurd (cc never); comes = λ f last leads shown. tt };
-          taken = λ done log v shown. handed_taken t world n m parcel done log v found shown;
-        })
-        (λ stands about. (its_own, taken_in (is_dropped (same_node t.home (here work)) (part_of t work)) refl))
+    own label member number issuer op from next fit fits = record {
+      now = goes.next;
+      leads = leads_on w stood.next goes.next stood.leads goes.leads;
+      stands = stands_taken t world n (Handed m) (handed (scene_of world) m it n rest) refl refl refl (λ done log v shown. handed_taken t world n m parcel done log v found shown) low on (message_came (node_no m) (messages.Request t label member number issuer op) work) goes.next goes.stands;
+      finds = λ about. (its_own, taken_in (is_dropped (same_node t.home (here work)) (part_of t work)) refl);
+    }
       where
-        message : Message
-        message = messages.Request t label member number issuer op
-
         its_own : is_for member.server op ≡ true
         its_own = (and_both (is_of_run world.size t) (is_for member.server op) fit).1
 
-        goes : GoesOn t (handed (scene_of world) m it n rest) n (message_came (node_no m) message work) stood.next
+        goes : GoesOn t (handed (scene_of world) m it n rest) n (message_came (node_no m) (messages.Request t label member number issuer op) work) stood.next
         goes = request_stands t (scene_of world) n m it number label member issuer op rest work stood.next next its_own fits stood.stands
 
         undecided : stood.next.cell ≢ Committed
-        undecided = no_request t (scene_of world) n work stood.next stood.stands m it message rest next number member.server.0 refl
+        undecided = no_request t (scene_of world) n work stood.next stood.stands m it (messages.Request t label member number issuer op) rest next number member.server.0 refl
 
         doomed : is_dropped (same_node t.home (here work)) (part_of t work) ≡ true → IsDoomed stood.next
         doomed drops = dropped_dooms t (scene_of world) n work stood.next stood.stands (learnt t world w steady home_in all n free low on stood.next stood.leads (scene_of world) refl refl stood.stands)
@@ -183,9 +159,8 @@ module _ (t : Tid) (world : World) (w : machine.World) (steady : IsSteady world)
         taken_in false keeps_it = inr keeps_it
 
     -- whatever else asks for nothing
-    quietly : (message : Message) → ((v : machine.World) → TakesIn (IsDoomed v) t work message) → Comes message
-    quietly message asks from next fit fits = let c : StepCame t world n free (Handed m) (events.Received (node_no m) message) w = came (Handed m) (events.Received (node_no m) message) refl from in
-        by_step (Handed m) (events.Received (node_no m) message) from c (λ stands. asks c.came.after.next)
+    quietly : (message : Message) → ((D : machine.World) → ComesWell (IsDoomed D) t world n stamp before (Handed m) (events.Received (node_no m) message) work) → Comes message
+    quietly message asks from next fit fits = by_step (Handed m) (events.Received (node_no m) message) (came (Handed m) (events.Received (node_no m) message) refl from) (λ v stands. asks v)
 
     of_message : (message : Message) → Comes message
     of_message messages.Hello = quietly messages.Hello (λ v. tt)
@@ -227,16 +202,7 @@ module _ (t : Tid) (world : World) (w : machine.World) (steady : IsSteady world)
   served serves = by (all_find t (scene_of world) n (ipc.turns work.node.queues) work stood.next (can_count_now serves) stood.stands)
     where
       by : ServesFound t (scene_of world) n (ipc.turns work.node.queues) work stood.next → Found Queues events.ServeAll
-      by found = by_step Queues events.ServeAll refl
-          (record {
-            later = scene_of world;
-            size = refl;
-            inc = refl;
-            log = refl;
-            came = record { mid = stood.next; leads = stood.leads; after = record { next = found.now; leads = found.leads; stands = found.stands }; ends = false; ended = λ never. absurd (cc never); comes = λ f last leads shown. tt };
-            taken = λ done log v shown. shown;
-          })
-          (λ stands. found.finds)
+      by found = record { now = found.now; leads = leads_on w stood.next found.now stood.leads found.leads; stands = found.stands; finds = found.finds }
 
   -- ---- another node restarted
 
@@ -245,9 +211,8 @@ module _ (t : Tid) (world : World) (w : machine.World) (steady : IsSteady world)
       subst (λ (e : Event). event_of world n stamp (Noticed m new) ≡ Some e → Found (Noticed m new) e) (sym from.is) (by from) comes
     where
       by : FromNotice world n m new event → event_of world n stamp (Noticed m new) ≡ Some (events.PeerRestarted (node_no m) (world.channels.peer n m) new) → Found (Noticed m new) (events.PeerRestarted (node_no m) (world.channels.peer n m) new)
-      by from same = let c : StepCame t world n free (Noticed m new) (events.PeerRestarted (node_no m) (world.channels.peer n m) new) w = came (Noticed m new) (events.PeerRestarted (node_no m) (world.channels.peer n m) new) refl same in
-          by_step (Noticed m new) (events.PeerRestarted (node_no m) (world.channels.peer n m) new) same c
-          (λ stands. notice_finds t world n m new (steady.peers n m from.known).0 (steady.peers n m from.known).1 from.known from.later from.begun (done_work node (events.PeerRestarted (node_no m) (world.channels.peer n m) new) free) c.came.after.next stands stamp free before)
+      by from same = by_step (Noticed m new) (events.PeerRestarted (node_no m) (world.channels.peer n m) new) (came (Noticed m new) (events.PeerRestarted (node_no m) (world.channels.peer n m) new) refl same)
+          (λ v stands. notice_finds t world n m new (steady.peers n m from.known).0 (steady.peers n m from.known).1 from.known from.later from.begun (done_work node (events.PeerRestarted (node_no m) (world.channels.peer n m) new) free) v stands stamp free before)
 
   -- ---- whatever it is
 
@@ -255,7 +220,7 @@ module _ (t : Tid) (world : World) (w : machine.World) (steady : IsSteady world)
   comes_found (Commanded k) event serves comes finds = commanded k event comes finds
   comes_found (Handed m) event serves comes finds = handed_up m event comes
   comes_found Queues event serves comes finds = subst (λ (e : Event). Found Queues e) (one comes) (served serves)
-  comes_found Clock event serves comes finds = subst (λ (e : Event). Found Clock e) (one comes) (by_step Clock events.Tick refl (came Clock events.Tick refl refl) (λ stands. tt))
+  comes_found Clock event serves comes finds = subst (λ (e : Event). Found Clock e) (one comes) (by_step Clock events.Tick (came Clock events.Tick refl refl) (λ v stands. tt))
   comes_found (Noticed m new) event serves comes finds = noticed m new event comes
 
 pub comes_find : ComesFind

@@ -128,7 +128,6 @@ pub mod TurnsGo
 pub mod DropDooms
 pub mod ServesFind
 pub mod NoticeFinds
-pub mod StepsEnd
 pub mod ComesFind
 pub mod ComesUnknown
 pub mod BegunBare

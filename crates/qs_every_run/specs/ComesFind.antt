@@ -6,7 +6,7 @@ use Rattle.qs_step.specs.State.{Work}
 use Rattle.qs_step.specs.Step.{with_command}
 use Rattle.qs_step.specs.declared.event.Event.{Event}
 use Rattle.qs_step.specs.declared.event.Event.TheVariants as events
-use Rattle.qs_world.specs.Moves.{Source, Step, moved}
+use Rattle.qs_world.specs.Moves.{Source}
 use Rattle.qs_world.specs.World.{Opening, World}
 use Rattle.qs_agree.specs.World as machine
 use Rattle.qs_agree.specs.Carry.{Leads}
@@ -40,16 +40,13 @@ CommandsFind t world n stamp free before source event w = (v u : machine.World) 
     → Leads v u → shown.Stands t (taken_scene world n source) n (done_work (world.hosts n).node event free) u
     → CommandFinds (IsDoomed u) t world n stamp before event (first_work (world.hosts n).node free)
 
--- ---- so what comes does, or it is doomed in a machine that shows it then, which leads to one that shows it after the step
+-- ---- so what comes does, or it is doomed in a machine that shows it then, and in each that it leads to
 
 pub record ComesFound (t : Tid) (world : World) (n stamp free : ℕ) (before : BookValue) (source : Source) (event : Event) (w : machine.World) : Type 0 where
   pub now : machine.World
   pub leads : Leads w now
   pub stands : shown.Stands t (taken_scene world n source) n (done_work (world.hosts n).node event free) now
   pub finds : ComesWell (IsDoomed now) t world n stamp before source event (first_work (world.hosts n).node free)
-  pub next : machine.World
-  pub further : Leads now next
-  pub shows : ShowsAll t (moved (Step n stamp free source) world) next
 
 abbrev pub ComesFind : Type 0
 ComesFind = (t : Tid) (world : World) (n stamp free : ℕ) (before : BookValue) (source : Source) (event : Event) (w : machine.World) → IsShownWorld world → MakesStep world n stamp source event

@@ -4,8 +4,8 @@ ghost use Rattle.qs_every_run.specs.ComesFind.{CommandsUnbegun, ComesFind, Comes
 
 /// Whatever comes in a step finds what it needs of a transaction that has begun, or the transaction is doomed in a machine that shows it then: a request
 /// of it is taken in, what waits of it is served, and as a later incarnation of another node becomes known what all places hold of it goes on.
-/// What a client's command issues for it is given. That machine leads to one that shows it after the step; and what dooms it dooms it in each machine that
-/// is led to from there. Of what the reference machine does not have yet nothing comes, and no command issues anything of what has not begun.
+/// What a client's command issues for it is given. What dooms it there dooms it in each machine that is led to from there. Of what the reference machine
+/// does not have yet nothing comes, and no command issues anything of what has not begun.
 pub fn what_comes_finds()
     ensures finds { ComesFind }
     ensures later { ComesLater }
