@@ -74,6 +74,18 @@ module _ (P : Opening → World → Type 0) (o : Opening) (world : World) (j : J
   pub counts : event ≡ events.ServeAll → AtEach CanCount serve_next (first_work node free) (ipc.turns (first_work node free).node.queues)
   counts served = room_first world j.shown n free its.low (subst (λ (s : Source). may_serve node s ≡ true) (serves source refl makes.comes served) its.serves) stamp (book_in o world) (stages_sound world n stamp free source event j.shown makes).first
 
+  -- and it is so
+  pub happens_so : Holds stamp (book_in o world) node → HappensSo stamp (book_in o world) event (first_work node free)
+  happens_so holds = so event refl
+    where
+      so : (e : Event) → event ≡ e → HappensSo stamp (book_in o world) event (first_work node free)
+      so (events.Command client line label command) is = subst (λ (x : Event). HappensSo stamp (book_in o world) x (first_work node free)) (sym is) tt
+      so (events.Received peer message) is = subst (λ (x : Event). HappensSo stamp (book_in o world) x (first_work node free)) (sym is) tt
+      so events.ServeAll is = subst (λ (x : Event). HappensSo stamp (book_in o world) x (first_work node free)) (sym is) tt
+      so (events.PeerRestarted peer old new) is = subst (λ (x : Event). HappensSo stamp (book_in o world) x (first_work node free)) (sym is)
+          (finds_gone P o world j n stamp free source peer old new (subst (λ (x : Event). MakesStep world n stamp source x) is makes) holds)
+      so events.Tick is = subst (λ (x : Event). HappensSo stamp (book_in o world) x (first_work node free)) (sym is) (tick_room P o world j n stamp free source event makes)
+
 -- ---- and all else
 
 module _ (P : Opening → World → Type 0) (owed : Owed P) (o : Opening) (world : World) (j : Joined P o world) (n stamp free : ℕ) (source : Source) (event : Event) (makes : MakesStep world n stamp source event)
@@ -90,15 +102,6 @@ module _ (P : Opening → World → Type 0) (owed : Owed P) (o : Opening) (world
   at_now : HoldsNodeAt (book_in o world) world n
   at_now = j.held.nodes n low
 
-  -- what comes is so
-  so : (e : Event) → event ≡ e → HappensSo stamp (book_in o world) event (first_work node_now free)
-  so (events.Command client line label command) is = subst (λ (x : Event). HappensSo stamp (book_in o world) x (first_work node_now free)) (sym is) tt
-  so (events.Received peer message) is = subst (λ (x : Event). HappensSo stamp (book_in o world) x (first_work node_now free)) (sym is) tt
-  so events.ServeAll is = subst (λ (x : Event). HappensSo stamp (book_in o world) x (first_work node_now free)) (sym is) tt
-  so (events.PeerRestarted peer old new) is = subst (λ (x : Event). HappensSo stamp (book_in o world) x (first_work node_now free)) (sym is)
-      (finds_gone P owed o world j n stamp free source peer old new (subst (λ (x : Event). MakesStep world n stamp source x) is makes) holds)
-  so events.Tick is = subst (λ (x : Event). HappensSo stamp (book_in o world) x (first_work node_now free)) (sym is) (tick_room P o world j n stamp free source event makes)
-
   pub step_on : StepOn stamp (book_in o world) world.size (nodes_in world) n node_now event free
   step_on = record {
     at = at_now.node;
@@ -111,7 +114,7 @@ module _ (P : Opening → World → Type 0) (owed : Owed P) (o : Opening) (world
     logged = logged_by_log (book_in o world) n at_now.state (world.hosts n) (in_runs o world.journal j.opens j.lawful) (at_now.runs runs) (j.logged n low);
     comes = comes_to P o world j n stamp free source event makes;
     room = counts P o world j n stamp free source event makes;
-    so = so event refl;
+    so = happens_so P o world j n stamp free source event makes holds;
     agreed = agreed;
     rooms = owed.rooms o world n stamp free source event j makes;
   }

@@ -47,7 +47,6 @@ use Rattle.qs_lawful.proofs.WholeStep.{first_held}
 use Rattle.qs_every_run.specs.Agrees.{MakesStep}
 use Rattle.qs_every_run.specs.Born.{HasRun}
 use Rattle.qs_every_run.specs.Joined.{HoldsRunning, Joined, book_in}
-use Rattle.qs_every_run.specs.JoinedOwed.{Owed}
 use Rattle.qs_every_run.proofs.AgreesEach.{steady}
 use Rattle.qs_every_run.proofs.OwingEntries.{owed_open}
 use Rattle.qs_every_run.proofs.OwedBefore.{Back, Owing, back_begin, back_notice}
@@ -81,7 +80,7 @@ beyond m old inc less (entry ∷ rest) is = by (entry.node.0 == m.0) (is_restart
     by true false false one rest is = rest is
     by false b c one rest is = rest is
 
-module _ (P : Opening → World → Type 0) (owed : Owed P) (o : Opening) (world : World) (j : Joined P o world) (n stamp free : ℕ) (source : Source) (peer : NodeNo) (old new : ℕ)
+module _ (P : Opening → World → Type 0) (o : Opening) (world : World) (j : Joined P o world) (n stamp free : ℕ) (source : Source) (peer : NodeNo) (old new : ℕ)
     (makes : MakesStep world n stamp source (events.PeerRestarted peer old new)) (holds : Holds stamp (book_in o world) (world.hosts n).node) where
   abbrev node : NodeValue
   node = (world.hosts n).node

@@ -47,6 +47,7 @@ use Rattle.qs_lawful.proofs.LogLaws.{step_keeps}
 use Rattle.qs_lawful.proofs.NumberedLogs.{opened_numbered}
 use Rattle.qs_lawful.proofs.ParcelsKept.{channels_moved, channels_posted}
 use Rattle.qs_lawful.proofs.SameSettings.{step_same}
+use Rattle.qs_lawful.proofs.Still.{still_held}
 use Rattle.qs_lawful.proofs.StopsWhole.{back_by, next_by}
 use Rattle.qs_every_run.specs.Agrees.{MakesStep}
 use Rattle.qs_every_run.specs.Joined.{HoldsRunning, Joined, book_in}
@@ -79,21 +80,6 @@ runs_at book world k its on state there = ap (λ (s : machine.NodeValue). s.up) 
   where
     one : (a b : machine.NodeValue) → Some a ≡ Some b → a ≡ b
     one a b same = cc same
-
--- the same is held of a node with a later stamp
-holds_next : (stamp s : ℕ) (book : BookValue) (node : NodeValue) → Holds stamp book node → is_next s node.setting.node.0 book ≡ true → Holds s book node
-holds_next stamp s book node h next = record {
-  order = next;
-  run = h.run;
-  state = h.state;
-  there = h.there;
-  same = h.same;
-  at = h.at;
-  begun = h.begun;
-  clients = h.clients;
-  servers = h.servers;
-  waits = h.waits;
-}
 
 module _ (P : Opening → World → Type 0) (owed : Owed P) (unanimous : AfterStep P StaysUnanimousThen) (o : Opening) (world : World) (j : Joined P o world) (n stamp free : ℕ) (source : Source) (event : Event) (makes : MakesStep world n stamp source event) where
   abbrev node : NodeValue
@@ -186,7 +172,7 @@ module _ (P : Opening → World → Type 0) (owed : Owed P) (unanimous : AfterSt
     accepted = refl;
     kept = step_clients P owed o world j n stamp free source event makes;
     runs = λ is. record {
-      next = λ s next. holds_next stamp s now (after_step node event free) held (subst (λ (k : ℕ). is_next s k now ≡ true) (sym node_is) next);
+      still = still_held stamp now (after_step node event free) held;
       log = log_then;
       said = (owed.steps_said o world n stamp free source event j makes lawful held.state there_n).0;
       on_disk = (owed.steps_said o world n stamp free source event j makes lawful held.state there_n).1;

@@ -24,6 +24,7 @@ use Rattle.qs_lawful.specs.Worlds.{HoldsNodeAt}
 use Rattle.qs_lawful.specs.StepKeeps.{KeptThen}
 use Rattle.qs_lawful.proofs.BesideSent.{sent_after}
 use Rattle.qs_lawful.proofs.StepKept as keeping
+use Rattle.qs_lawful.proofs.Still.{held_at}
 use Rattle.qs_lawful.proofs.WholeStep.{by_whole_step}
 use Rattle.qs_every_run.specs.Agrees.{MakesStep, PassesUndone, nodes_in}
 use Rattle.qs_every_run.specs.Joined.{Joined, book_in}
@@ -72,7 +73,7 @@ module _ (P : Opening → World → Type 0) (owed : Owed P) (o : Opening) (world
   }
 
   holds : Holds stamp (book_in o world) node
-  holds = (at.runs its.runs).next stamp (j.held.order n stamp step_ordered)
+  holds = held_at n stamp (book_in o world) node at.node (at.runs its.runs).still (j.held.order n stamp step_ordered)
 
   abbrev pub step_entries : List Entry
   step_entries = entries_of n stamp (effects_of node event free).entries

@@ -52,7 +52,7 @@ use Rattle.qs_refine.proofs.Facts.{invariant}
 use Rattle.qs_refine.proofs.ShownBegins.{each_begun_shown}
 use Rattle.qs_refine.proofs.ShownMoves.{move_shown, shown_gives, steady}
 use Rattle.qs_refine.proofs.SoundKnown.{nothing_waits}
-use Rattle.qs_lawful.specs.Holds.{Holds}
+use Rattle.qs_lawful.specs.Holds.{HoldsStill}
 use Rattle.qs_lawful.specs.Lasting.{Lasts}
 use Rattle.qs_lawful.specs.Logs.{Every}
 use Rattle.qs_lawful.proofs.AsideGoes.{GoesAside, goes_aside}
@@ -61,6 +61,7 @@ use Rattle.qs_lawful.proofs.LastsAlways.{in_runs}
 use Rattle.qs_lawful.proofs.LastsOpening.{lasts_first, lasts_ran}
 use Rattle.qs_lawful.proofs.LastsWell.{LastsWell}
 use Rattle.qs_lawful.proofs.NumberedLogs.{opened_numbered, opening_named}
+use Rattle.qs_lawful.proofs.Still.{still_held}
 use Rattle.qs_every_run.specs.Agrees.{MakesStep}
 use Rattle.qs_every_run.specs.Joined.{Joined, book_in}
 use Rattle.qs_every_run.specs.JoinedOwed.{Owed, entries_in, book_then}
@@ -183,8 +184,8 @@ module _ (owed : Owed PlacesAt) (o : Opening) (world : World) (j : Joined Places
       picked : (b : Bool) → b ≡ true → (if b then stepped_host stamp (after_step (world.hosts n).node event free) (effects_of (world.hosts n).node event free) (world.hosts n) else world.hosts n).node ≡ after_step (world.hosts n).node event free
       picked b is = rw is refl
 
-  own : Holds stamp now (new.hosts n).node
-  own = subst (λ (node : NodeValue). Holds stamp now node) (sym own_node) (step_holds PlacesAt owed o world j n stamp free source event makes)
+  own : HoldsStill now (new.hosts n).node
+  own = subst (HoldsStill now) (sym own_node) (still_held stamp now (after_step (world.hosts n).node event free) (step_holds PlacesAt owed o world j n stamp free source event makes))
 
   others : (k : ℕ) → (k == n) ≡ false → Every (λ (entry : Entry). (entry.node.0 == k) ≡ false) entries
   others k far = all (effects_of (world.hosts n).node event free).entries
@@ -240,7 +241,7 @@ module _ (owed : Owed PlacesAt) (o : Opening) (world : World) (j : Joined Places
       lives l part life present = by (l.member.node.0 == n) refl
         where
           by : (b : Bool) → (l.member.node.0 == n) ≡ b → agrees (l, part) ≡ true
-          by true near = free_agrees stamp now tid later (field_of new) (new.hosts n).node l part found_later still_open own idle life (at_node (eqb-true l.member.node.0 n near)) (present.now ∙ (ap new.channels.inc (eqb-true l.member.node.0 n near) ∙ sym ((steady new shown).seated.inc n n_in)))
+          by true near = free_agrees now tid later (field_of new) (new.hosts n).node l part found_later still_open own idle life (at_node (eqb-true l.member.node.0 n near)) (present.now ∙ (ap new.channels.inc (eqb-true l.member.node.0 n near) ∙ sym ((steady new shown).seated.inc n n_in)))
             where
               n_in : n < new.size
               n_in = subst (λ (s : ℕ). n < s) (sym sized) (step_low PlacesAt owed o world j n stamp free source event makes)
@@ -249,7 +250,7 @@ module _ (owed : Owed PlacesAt) (o : Opening) (world : World) (j : Joined Places
               n_up = ap new.channels.up (sym (eqb-true l.member.node.0 n near)) ∙ present.up
 
               idle : IsFree tid (new.hosts n).node
-              idle = committed_free tid (new.hosts n).node (place n (new.channels.inc n)) v all.seen.lawful committed (face n n_in n_up) (sound n n_in) (none_decided stamp now tid later (new.hosts n).node own found_later still_open)
+              idle = committed_free tid (new.hosts n).node (place n (new.channels.inc n)) v all.seen.lawful committed (face n n_in n_up) (sound n n_in) (none_decided now tid later (new.hosts n).node own found_later still_open)
 
               at_node : l.member.node.0 ≡ n → l.member.node ≡ (new.hosts n).node.setting.node
               at_node is = ap (λ (k : ℕ). Rattle.qs_refine.specs.Links.node_no k) is ∙ sym ((steady new shown).seated.node n n_in)

@@ -37,6 +37,7 @@ use Rattle.qs_lawful.specs.WorldLaws.{StopsWell}
 use Rattle.qs_every_run.specs.Agrees.{MakesStep}
 use Rattle.qs_every_run.specs.Joined.{Joined, book_in}
 use Rattle.qs_every_run.specs.Owing.{Owes}
+use Rattle.qs_every_run.specs.PlacesApart.{EachLeavesNoneAway}
 
 -- ---- as a run begins
 
@@ -128,5 +129,6 @@ pub record Owed (P : Opening → World → Type 0) : Type 0 where
   pub steps_owing : AfterStep P OwesThen
   -- what all places hold of each transaction
   pub places : Keeps P IsStep P
-  -- after a crash
+  -- as a node crashes
   pub keeps_its_batch : EachKeepsItsBatch P
+  pub leaves_none : EachLeavesNoneAway P  -- where it is not engaged, no request of its own stands at another node

@@ -17,6 +17,7 @@ pub mod Traces
 pub mod Deeds
 pub mod Firsts
 pub mod Answering
+pub mod PlacesApart
 pub mod JoinedOwed
 pub mod JoinedPlaces
 pub mod StepLaws
@@ -31,5 +32,8 @@ pub mod CutVotes
 pub mod TriedOwing
 pub mod PlacesJoined
 pub mod PlacesTurns
+pub mod PlacesSteps
 pub mod ComesFind
+pub mod PlacesFound
+pub mod CommitsFind
 pub mod BegunBare

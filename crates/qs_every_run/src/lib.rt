@@ -3,6 +3,7 @@
 #![tactic(auto)]
 
 mod comes;
+pub mod found;
 mod joined_agrees;
 mod joined_runs;
 pub mod placed;
