@@ -9,15 +9,18 @@ use Rattle.qs_ipc.specs.Ipc as ipc
 use Rattle.qs_ipc.specs.Ipc.{IpcValue, queue_at}
 use Rattle.qs_ipc.specs.Queue.{count_of, is_of}
 use Rattle.qs_ipc.specs.declared.delivery.Delivery.{Delivery}
+use Rattle.qs_kept.specs.declared.kept.Begun.{Begun}
 use Rattle.qs_machine.specs.Book.{BookValue, find_transaction}
 use Rattle.qs_machine.specs.Transaction.{TransactionValue}
 use Rattle.qs_packet.specs.declared.message.Message.{Message}
 use Rattle.qs_packet.specs.declared.message.Message.TheVariants as messages
-use Rattle.qs_step.specs.Serving.{serve_next, serve_or_drop}
+use Rattle.qs_step.specs.Serving.{label_at, serve_next, serve_or_drop}
 use Rattle.qs_step.specs.State.{Work, with_queues, work_on}
 use Rattle.qs_step.specs.declared.event.Event.{Event}
+use Rattle.qs_step.specs.declared.event.Event.TheVariants as events
 use Rattle.qs_world.specs.Moves.{Clock, Commanded, Handed, Noticed, Queues, Source, event_of}
 use Rattle.qs_world.specs.World.{Opening, Parcel, World}
+use Rattle.qs_refine.specs.Begun.{has_begun}
 use Rattle.qs_refine.specs.NodeFaces.{waiting_at}
 use Rattle.qs_refine.specs.Sights.{server_no}
 use Rattle.qs_refine.proofs.BeginKeeps.{begin_keeps}
@@ -25,14 +28,16 @@ use Rattle.qs_refine.proofs.EachMay.{from_client, from_node, from_notice}
 use Rattle.qs_refine.proofs.ServeFrames.{next_leaves}
 use Rattle.qs_refine.proofs.ServeRoom.{one_more, turn_is}
 use Rattle.qs_refine.proofs.ShownMoves.{steady}
-use Rattle.qs_refine.proofs.MoveGoes.{step_may}
+use Rattle.qs_refine.proofs.MoveGoes.{StepMay, step_may}
 use Rattle.qs_refine.proofs.SoundKnown.{same_is}
+use Rattle.qs_refine.proofs.SteadyBegins.{begun_tidy, c, stage}
+use Rattle.qs_refine.proofs.TidyReads.{tidy_reads}
 use Rattle.qs_agree.specs.Doomed.{IsDoomed}
 use Rattle.qs_lawful.specs.Given.{AtEach}
 use Rattle.qs_lawful.specs.GivenStep.{first_work}
 use Rattle.qs_lawful.specs.Logs.{Every}
 use Rattle.qs_lawful.specs.Parcels.{IsParcel, IsSaid, is_asking_for, pending}
-use Rattle.qs_every_run.specs.ComesFind.{CommandFinds, ComesUnknown}
+use Rattle.qs_every_run.specs.ComesFind.{CommandFinds, CommandsUnbegun, ComesUnknown}
 use Rattle.qs_every_run.specs.Joined.{Joined, book_in}
 use Rattle.qs_every_run.specs.JoinedPlaces.{PlacesAt}
 use Rattle.qs_every_run.specs.Placed.{asked, message_of}
@@ -163,3 +168,25 @@ module _ (D : Type 0) (t : Tid) (o : Opening) (world : World) (j : Joined Places
 
 pub comes_unknown : ComesUnknown
 comes_unknown w t o world n stamp free source event j makes none finds = came (IsDoomed w) t o world j n stamp free (step_may world n stamp source makes.may).low none source event makes.comes finds
+
+-- ---- no label names what has not begun
+
+pub commands_unbegun : CommandsUnbegun
+commands_unbegun w t world n stamp free before source event is makes unbegun = by event
+  where
+    its : StepMay world n source
+    its = step_may world n stamp source makes.may
+
+    Named : List ℕ → Type 0
+    Named label = (begun : Begun) → label_at label (first_work (world.hosts n).node free).node ≡ Some begun → begun.tid ≡ Some t → ⊥
+
+    never : (label : List ℕ) → Named label
+    never label begun named tid_is = let has : has_begun world t ≡ true = (tidy_reads (c world is.steady n free its.low its.runs) (stage world is.steady n free its.low its.runs)).label label begun t (first_work (world.hosts n).node free) (begun_tidy world is.steady n free its.low its.runs) named tid_is in
+        cc (has, unbegun)
+
+    by : (event : Event) → CommandFinds (IsDoomed w) t world n stamp before event (first_work (world.hosts n).node free)
+    by (events.Command client line label command) = λ begun member op number named tid_is obeyed asks next. absurd (never label begun named tid_is)
+    by (events.Received peer message) = tt
+    by events.ServeAll = tt
+    by (events.PeerRestarted peer old new) = tt
+    by events.Tick = tt

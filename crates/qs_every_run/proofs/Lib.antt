@@ -145,3 +145,5 @@ pub mod FoundWell
 pub mod CommitsFind
 pub mod PlacesSteps
 pub mod WholeFinds
+pub mod BegunBare
+pub mod BegunDone

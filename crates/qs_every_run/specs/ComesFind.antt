@@ -1,5 +1,5 @@
 -- What comes in a step finds what it needs, or the transaction is doomed in a machine that shows it once that is done.
-use Rattle.std.specs.Prelude.{◌≡◌, ℕ, ⊤, true, None}
+use Rattle.std.specs.Prelude.{◌≡◌, ℕ, ⊤, true, false, None}
 use Rattle.qs_base.specs.declared.identifiers.Tid.{Tid}
 use Rattle.qs_machine.specs.Book.{BookValue, find_transaction}
 use Rattle.qs_step.specs.State.{Work}
@@ -62,3 +62,8 @@ abbrev pub ComesUnknown : Type 0
 ComesUnknown = (w : machine.World) (t : Tid) (o : Opening) (world : World) (n stamp free : ℕ) (source : Source) (event : Event) → Joined PlacesAt o world → MakesStep world n stamp source event
     → find_transaction (book_in o world) t ≡ None → CommandFinds (IsDoomed w) t world n stamp (book_in o world) event (first_work (world.hosts n).node free)
     → ComesWell (IsDoomed w) t world n stamp (book_in o world) source event (first_work (world.hosts n).node free)
+
+-- nor does a command issue anything of what has not begun
+abbrev pub CommandsUnbegun : Type 0
+CommandsUnbegun = (w : machine.World) (t : Tid) (world : World) (n stamp free : ℕ) (before : BookValue) (source : Source) (event : Event) → IsShownWorld world → MakesStep world n stamp source event → has_begun world t ≡ false
+    → CommandFinds (IsDoomed w) t world n stamp before event (first_work (world.hosts n).node free)

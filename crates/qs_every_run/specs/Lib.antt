@@ -37,3 +37,4 @@ pub mod ComesFind
 pub mod PlacesFound
 pub mod CommitsFind
 pub mod WholeFinds
+pub mod BegunBare

@@ -9,7 +9,7 @@ mod joined_runs;
 pub mod placed;
 mod tried_owing;
 
-pub use comes::what_comes_finds;
+pub use comes::{what_begins_is_bare, what_comes_finds};
 pub use joined_agrees::{stages_are_sound, steps_agree};
 pub use joined_runs::runs_are_lawful;
 pub use tried_owing::owed_stands_open;
