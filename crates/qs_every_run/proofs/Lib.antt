@@ -121,6 +121,9 @@ pub mod OwingEntries
 pub mod OwingElsewhere
 pub mod OwingFresh
 pub mod TurnsShown
+pub mod Onward
+pub mod StuckRules
+pub mod Stuck
 pub mod TurnsSettle
 pub mod OthersBeside
 pub mod PlacedSettles

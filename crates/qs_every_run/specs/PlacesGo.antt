@@ -90,7 +90,7 @@ pub record VotesWell (D : Type 0) (t : Tid) (base : Field) (knows : ℕ → ℕ)
 
 -- where its own pass is due
 abbrev pub PassesWell : Type 0 → Tid → Field → (ℕ → ℕ) → ℕ → ℕ → BookValue → Work → Type 0
-PassesWell D t base knows n stamp before work = (part : Participant) → part_of t work ≡ Some part → is_pass_due t part work ≡ true → AtEach (VotesWell D t base knows n stamp before) (vote_next t) (end_members t work) (due_votes t work)
+PassesWell D t base knows n stamp before work = (part : Participant) → part_of t work ≡ Some part → part.outcome ≡ None → is_pass_due t part work ≡ true → AtEach (VotesWell D t base knows n stamp before) (vote_next t) (end_members t work) (due_votes t work)
 
 -- ---- what clients command
 
@@ -105,9 +105,13 @@ CommandsWell D t base knows n stamp before client label command work = (begun : 
     → next_number t member.node work ≡ Some number
     → D ⊎ IssuesWell t base knows n stamp before (record { issuer = client_server client; member = member; number = number; count = 0 }) op (with_issued client (record { tid = t; member = member; number = number }) work)
 
--- of a command that stayed open
+-- a command that stayed open may be issued yet: a borrower's that was not
+pub record MayGoYet (client : ClientNo) (command : OpenCommand) (work : Work) : Type 0 where
+  pub unissued : command.issued ≡ None
+  pub lent : (begun : Begun) → label_at command.line.label work.node ≡ Some begun → is_owner client begun.owner ≡ false
+
 abbrev pub WaitsWell : Type 0 → Tid → Field → (ℕ → ℕ) → ℕ → ℕ → BookValue → Work → ClientNo → Type 0
-WaitsWell D t base knows n stamp before work client = (command : OpenCommand) → lookup (is_at (client_cmp client)) work.node.commands ≡ Some command → CommandsWell D t base knows n stamp before client command.line.label command.line.command work
+WaitsWell D t base knows n stamp before work client = (command : OpenCommand) → lookup (is_at (client_cmp client)) work.node.commands ≡ Some command → MayGoYet client command work → CommandsWell D t base knows n stamp before client command.line.label command.line.command work
 
 -- ---- the laws
 
