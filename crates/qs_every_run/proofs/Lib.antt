@@ -124,6 +124,9 @@ pub mod TurnsShown
 pub mod Onward
 pub mod StuckRules
 pub mod Stuck
+pub mod FoundIssued
+pub mod FoundCommands
+pub mod FoundVotes
 pub mod TurnsSettle
 pub mod OthersBeside
 pub mod PlacedSettles
