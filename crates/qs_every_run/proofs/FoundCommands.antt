@@ -38,7 +38,7 @@ use Rattle.qs_refine.proofs.HomeAborts.{none_is}
 use Rattle.qs_refine.proofs.SoundCommands.{loan_open}
 use Rattle.qs_refine.proofs.SoundHolds.{is_held, is_open, told_part}
 use Rattle.qs_refine.proofs.SoundParts.{and_both}
-use Rattle.qs_lawful.specs.NodeFacts.{HasNodeFacts, IsRunning}
+use Rattle.qs_lawful.specs.NodeFacts.{AreLabels, IsRunning}
 use Rattle.qs_every_run.specs.Placed.{Field}
 use Rattle.qs_every_run.specs.PlacesFound.{CommandFinds, IssueFinds, WaitFinds}
 use Rattle.qs_every_run.specs.PlacesGo.{IsObeyed, MayGoYet}
@@ -72,12 +72,16 @@ obeyed_requests t client begun command member op number work its obeyed is numbe
     by (inr borrower) = at false borrower.0 ∙ (ap (λ (o : Option Tid). elim o [ None ↦ work | Some tid ↦ borrower_command client tid (commands.Request member op) work ]) its
         ∙ borrower_requests t client member op number work numbered borrower.1.0 borrower.1.1 borrower.1.2 borrower.1.3)
 
+-- its labels are those of a node that keeps what its clients own
+abbrev pub HasLabels : Work → Type 0
+HasLabels work = AreLabels work.node.setting work.node.manager work.node.kept.now
+
 -- the transaction is not decided then
-pub obeyed_open : (t : Tid) (client : ClientNo) (begun : Begun) (label : List ℕ) (work : Work) (part : Participant) → is_sound work.node ≡ true → HasNodeFacts work.node → label_at label work.node ≡ Some begun → begun.tid ≡ Some t → IsObeyed t client begun work
+pub obeyed_open : (t : Tid) (client : ClientNo) (begun : Begun) (label : List ℕ) (work : Work) (part : Participant) → is_sound work.node ≡ true → HasLabels work → label_at label work.node ≡ Some begun → begun.tid ≡ Some t → IsObeyed t client begun work
     → part_of t work ≡ Some part → part.outcome ≡ None
-obeyed_open t client begun label work part sound facts found its (inr borrower) known =
+obeyed_open t client begun label work part sound labels found its (inr borrower) known =
     none_is part (and_both (is_undecided part) (is_held part) (told_part is_open t work.node.manager part known (loan_open client t borrower.1.0 work borrower.1.1 borrower.1.2 borrower.1.3 sound))).0
-obeyed_open t client begun label work part sound facts found its (inl owner) known = by begun.owner refl owner.0
+obeyed_open t client begun label work part sound labels found its (inl owner) known = by begun.owner refl owner.0
   where
     same : (a b : Participant) → Some a ≡ Some b → a ≡ b
     same a b e = cc e
@@ -87,12 +91,12 @@ obeyed_open t client begun label work part sound facts found its (inl owner) kno
 
     by : (o : Option ClientNo) → begun.owner ≡ o → is_owner client o ≡ true → part.outcome ≡ None
     by None none owns = absurd (cc owns)
-    by (Some c) some owns = of (facts.labels.runs label begun t c found its some owner.1)
+    by (Some c) some owns = of (labels.runs label begun t c found its some owner.1)
 
 module _ (D : Type 0) (t : Tid) (base : Field) (knows : ℕ → ℕ) (small : base.size ≤ 16) where
   -- ---- a command, at its label
 
-  module _ (client : ClientNo) (label : List ℕ) (command : Command) (work new : Work) (sound : is_sound work.node ≡ true) (facts : HasNodeFacts work.node) (size : work.node.setting.nodes ≡ base.size)
+  module _ (client : ClientNo) (label : List ℕ) (command : Command) (work new : Work) (sound : is_sound work.node ≡ true) (labels : HasLabels work) (size : work.node.setting.nodes ≡ base.size)
       (fits : (member : Member) (op : Op) → command ≡ commands.Request member op → (is_for member.server op ≡ true) × (nat_lt member.node.0 work.node.setting.nodes ≡ true))
       (comes_to : (begun : Begun) → label_at label work.node ≡ Some begun → begun.tid ≡ Some t → labelled client begun command work ≡ new) (supplies : Supplies D t base knows work new) where
     pub command_found : CommandFinds D t base knows client label command work
@@ -111,7 +115,7 @@ module _ (D : Type 0) (t : Tid) (base : Field) (knows : ℕ → ℕ) (small : ba
         then_new = sym (obeyed_requests t client begun command member op number work its obeyed is numbered) ∙ comes_to begun found its
 
         known_then : (part : Participant) → part_of t work ≡ Some part → D ⊎ IssueFinds base knows request op marked
-        known_then part known = issued_found D t base knows work marked part part request op known (obeyed_open t client begun label work part sound facts found its obeyed known) (onward_itself part) known refl sound size small fit.0 fit.1 numbered
+        known_then part known = issued_found D t base knows work marked part part request op known (obeyed_open t client begun label work part sound labels found its obeyed known) (onward_itself part) known refl sound size small fit.0 fit.1 numbered
             (subst (λ (k : Work). Supplies D t base knows work k) (sym then_new) supplies)
 
         -- a request to a server of its own node needs nothing more
@@ -135,11 +139,11 @@ module _ (D : Type 0) (t : Tid) (base : Field) (knows : ℕ → ℕ) (small : ba
 
   -- ---- one that stayed open
 
-  module _ (work : Work) (client : ClientNo) (sound : is_sound work.node ≡ true) (facts : HasNodeFacts work.node) (size : work.node.setting.nodes ≡ base.size)
+  module _ (work : Work) (client : ClientNo) (sound : is_sound work.node ≡ true) (labels : HasLabels work) (size : work.node.setting.nodes ≡ base.size)
       (fits : (command : OpenCommand) → lookup (is_at (client_cmp client)) work.node.commands ≡ Some command → (member : Member) (op : Op) → command.line.command ≡ commands.Request member op → (is_for member.server op ≡ true) × (nat_lt member.node.0 work.node.setting.nodes ≡ true))
       (supplies : Supplies D t base knows work (wait_on work client)) where
     pub wait_found : WaitFinds D t base knows work client
-    wait_found command here_so yet = command_found client command.line.label command.line.command work (wait_on work client) sound facts size (fits command here_so) comes_to supplies
+    wait_found command here_so yet = command_found client command.line.label command.line.command work (wait_on work client) sound labels size (fits command here_so) comes_to supplies
       where
         comes_to : (begun : Begun) → label_at command.line.label work.node ≡ Some begun → begun.tid ≡ Some t → labelled client begun command.line.command work ≡ wait_on work client
         comes_to begun found its =
@@ -164,12 +168,12 @@ module _ (D : Type 0) (t : Tid) (base : Field) (knows : ℕ → ℕ) (small : ba
 
   -- ---- one that comes
 
-  module _ (line : ScriptLine) (first : Work) (sound : is_sound first.node ≡ true) (facts : HasNodeFacts (with_command line first).node) (size : first.node.setting.nodes ≡ base.size)
+  module _ (line : ScriptLine) (first : Work) (sound : is_sound first.node ≡ true) (labels : HasLabels first) (size : first.node.setting.nodes ≡ base.size)
       (fits : (member : Member) (op : Op) → line.command ≡ commands.Request member op → (is_for member.server op ≡ true) × (nat_lt member.node.0 first.node.setting.nodes ≡ true))
       (supplies : Supplies D t base knows first (command_came line first)) where
     pub come_found : CommandFinds D t base knows line.client line.label line.command (with_command line first)
     come_found begun member op number found its obeyed is numbered =
-        command_found line.client line.label line.command (with_command line first) (command_came line first) sound facts size fits comes_to opened begun member op number found its obeyed is numbered
+        command_found line.client line.label line.command (with_command line first) (command_came line first) sound labels size fits comes_to opened begun member op number found its obeyed is numbered
       where
         opened : Supplies D t base knows (with_command line first) (command_came line first)
         opened m late unreached = supplies m (record { number = late.number; old = late.old; was = late.was; undecided = late.undecided; later = late.later; part = late.part; now = late.now; awaits = late.awaits; uncommitted = late.uncommitted; in_run = late.in_run; other = late.other }) unreached

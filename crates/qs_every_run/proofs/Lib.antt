@@ -127,6 +127,7 @@ pub mod Stuck
 pub mod FoundIssued
 pub mod FoundCommands
 pub mod FoundVotes
+pub mod FoundTurns
 pub mod TurnsSettle
 pub mod OthersBeside
 pub mod PlacedSettles

@@ -2,6 +2,7 @@
 //! a transaction, and the induction over the moves of a run.
 #![tactic(auto)]
 
+pub mod found;
 mod joined_agrees;
 mod joined_runs;
 pub mod placed;
