@@ -128,6 +128,9 @@ pub mod FoundIssued
 pub mod FoundCommands
 pub mod FoundVotes
 pub mod FoundTurns
+pub mod FoundRefused
+pub mod FoundLate
+pub mod FoundWalks
 pub mod TurnsSettle
 pub mod OthersBeside
 pub mod PlacedSettles
