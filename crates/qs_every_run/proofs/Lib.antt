@@ -131,6 +131,7 @@ pub mod FoundTurns
 pub mod FoundRefused
 pub mod FoundLate
 pub mod FoundWalks
+pub mod FoundSteps
 pub mod TurnsSettle
 pub mod OthersBeside
 pub mod PlacedSettles
