@@ -132,6 +132,10 @@ pub mod FoundIssued
 pub mod FoundCommands
 pub mod FoundVotes
 pub mod FoundTurns
+pub mod FoundRefused
+pub mod FoundLate
+pub mod FoundWalks
+pub mod FoundSteps
 pub mod TurnsSettle
 pub mod OthersBeside
 pub mod PlacedSettles
