@@ -22,6 +22,7 @@ use Rattle.qs_agree.specs.Doomed.{IsDoomed}
 use Rattle.qs_agree.proofs.Carries.{leads_on}
 use Rattle.qs_agree.proofs.Doomed.{abort_dooms, doom_stays}
 use Rattle.qs_refine.specs.Begun.{has_begun}
+use Rattle.qs_refine.specs.ShownWorlds.{IsShownWorld}
 use Rattle.qs_refine.specs.EachMove.{AllGoes, ShowsAll}
 use Rattle.qs_refine.specs.Faces.{Face}
 use Rattle.qs_refine.specs.MoveLaws.{taken_scene}
@@ -38,9 +39,9 @@ use Rattle.qs_refine.proofs.Moving.{up_taken}
 use Rattle.qs_refine.proofs.PassGoes.{engaged}
 use Rattle.qs_refine.proofs.Posted.{up_all}
 use Rattle.qs_refine.proofs.SaidSteps.{step_open}
-use Rattle.qs_refine.proofs.ShownMoves.{shown_fit}
+use Rattle.qs_refine.proofs.ShownMoves.{home_in_run, shown_fit}
 use Rattle.qs_refine.proofs.SoundParts.{and_both}
-use Rattle.qs_refine.proofs.SteadyFrom.{begun_low}
+use Rattle.qs_refine.proofs.SteadyFrom.{begun_low, steady_gives}
 use Rattle.qs_refine.proofs.StepAll.{step_goes_further, stood, then_f}
 use Rattle.qs_refine.proofs.StepJoined.{after_leads}
 use Rattle.qs_lawful.specs.GivenStep.{done_work, first_work}
@@ -64,12 +65,16 @@ use Rattle.qs_every_run.proofs.TurnsShown.{stands_taken}
 use Rattle.qs_refine.proofs.EachHears as hears
 use Rattle.qs_channels.specs.Channels.{Channels}
 use Rattle.qs_refine.specs.Steady.{IsSteady}
-use Rattle.qs_refine.proofs.MoveGoes.{StepMay}
+use Rattle.qs_refine.proofs.MoveGoes.{StepMay, step_may}
 
 one : (a b : Event) → Some a ≡ Some b → a ≡ b
 one a b same = cc same
 
-module _ (t : Tid) (o : Opening) (world : World) (n stamp free : ℕ) (source : Source) (event : Event) (w : machine.World) (j : Joined PlacesAt o world) (makes : MakesStep world n stamp source event) (began : has_begun world t ≡ true) (all : ShowsAll t world w) where
+itself : (k : ℕ) → (k == k) ≡ true
+itself k = grind (arith, nat_tests)
+
+module _ (t : Tid) (o : Opening) (world : World) (n stamp free : ℕ) (source : Source) (event : Event) (w : machine.World) (j : Joined PlacesAt o world) (makes : MakesStep world n stamp source event) (began : has_begun world t ≡ true) (all : ShowsAll t world w)
+    (came : StepCame t world n free source event w) where
   abbrev node : NodeValue
   node = (world.hosts n).node
 
@@ -105,9 +110,6 @@ module _ (t : Tid) (o : Opening) (world : World) (n stamp free : ℕ) (source : 
 
   -- ---- once what came is done
 
-  came : StepCame t world n free source event w
-  came = step_came t world w steady home_low (begun_low world t began) all (shown_fit world j.shown) n free its.low its.runs stamp source event its.serves makes.comes
-
   may : MayHappen event (begun node free) × BeginsNew event (begun node free)
   may = each_may_come world n stamp free source event steady (shown_fit world j.shown) its.low its.runs makes.comes
 
@@ -140,7 +142,7 @@ module _ (t : Tid) (o : Opening) (world : World) (n stamp free : ℕ) (source : 
   further = step_goes_further t world w steady home_low all n stamp free its.low its.runs source event makes.comes came may
 
   node_then : (after.hosts n).node ≡ accept last.node
-  node_then = picked (n == n) (grind (arith, nat_tests))
+  node_then = picked (n == n) (itself n)
     where
       picked : (b : Bool) → b ≡ true → (if b then stepped_host stamp (after_step node event free) (effects_of node event free) (world.hosts n) else world.hosts n).node ≡ accept last.node
       picked b is = rw is refl
@@ -229,8 +231,8 @@ module _ (t : Tid) (o : Opening) (world : World) (n stamp free : ℕ) (source : 
   comes_found Clock is comes = subst (λ (e : Event). ComesFinds D t world n e first) (one events.Tick event comes) tt
   comes_found (Noticed m new) is comes = let from = from_notice world n stamp m new event comes in subst (λ (e : Event). ComesFinds D t world n e first) (sym from.is) tt
 
-  pub step_found : StepFound t world n stamp free source event w
-  step_found = record {
+  pub step_found : (found : StepFound t world n stamp free source event w) × Leads came.came.after.next found.next
+  step_found = (record {
     done = record { now = c; leads = to_c; stands = c_stands };
     next = next;
     leads = leads_on c f next c_to_f f_to_next;
@@ -243,7 +245,13 @@ module _ (t : Tid) (o : Opening) (world : World) (n stamp free : ℕ) (source : 
           (settle_keeps done (happens_keep event first (turns.fits o world n stamp free source event j makes) (turns.first_facts o world n stamp free source event j makes)))
           (sticks_of t last last (keeps_itself t last));
     };
-  }
+  }, leads_on c f next c_to_f f_to_next)
+
+-- as an event of whatever source comes
+pub event_came : (t : Tid) (world : World) (n stamp free : ℕ) (source : Source) (event : Event) (w : machine.World) → IsShownWorld world → MakesStep world n stamp source event → has_begun world t ≡ true → ShowsAll t world w → StepCame t world n free source event w
+event_came t world n stamp free source event w is makes began all =
+    let its : StepMay world n source = step_may world n stamp source makes.may in
+    step_came t world w (steady_gives world is.steady is.listed) (home_in_run world is t began) (begun_low world t began) all (shown_fit world is) n free its.low its.runs stamp source event its.serves makes.comes
 
 pub steps_find : StepsFind
-steps_find t o world n stamp free source event w j makes began all = step_found t o world n stamp free source event w j makes began all
+steps_find t o world n stamp free source event w j makes began all = (step_found t o world n stamp free source event w j makes began all (event_came t world n stamp free source event w j.shown makes began all)).0

@@ -147,7 +147,8 @@ pub mod ComesFind
 pub mod ComesUnknown
 pub mod FoundWell
 pub mod CommitsFind
-pub mod PlacesSteps
-pub mod WholeFinds
 pub mod BegunBare
 pub mod BegunDone
+pub mod WholeFinds
+pub mod FreshFinds
+pub mod PlacesSteps

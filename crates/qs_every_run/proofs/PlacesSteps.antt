@@ -24,13 +24,14 @@ use Rattle.qs_every_run.specs.Agrees.{MakesStep}
 use Rattle.qs_every_run.specs.Joined.{Joined, book_in}
 use Rattle.qs_every_run.specs.JoinedOwed.{IsStep, entries_in}
 use Rattle.qs_every_run.specs.JoinedPlaces.{PlacedOf, PlacesAt}
-use Rattle.qs_every_run.specs.PlacesSteps.{StepsKeepPlaces, WholeFind, WholeFound}
+use Rattle.qs_every_run.specs.PlacesSteps.{StepsKeepPlaces, WholeFound}
 use Rattle.qs_every_run.proofs.FreshFinds.{fresh_find}
 use Rattle.qs_every_run.proofs.JoinedParts.{lawful_more}
 use Rattle.qs_every_run.proofs.PlacesBegin.{begun_up}
 use Rattle.qs_every_run.proofs.PlacesJoined.{whole_step_places}
+use Rattle.qs_every_run.proofs.WholeFinds.{whole_find}
 
-module _ (whole : WholeFind) (o : Opening) (world : World) (n stamp free : ℕ) (source : Source) (j : Joined PlacesAt o world) (may : may_move world (Step n stamp free source) ≡ true)
+module _ (o : Opening) (world : World) (n stamp free : ℕ) (source : Source) (j : Joined PlacesAt o world) (may : may_move world (Step n stamp free source) ≡ true)
     (event : Event) (comes : event_of world n stamp source ≡ Some event) (lawful : IsLawful (book_in o world) (entries_in world n stamp free event)) where
   abbrev new : World
   new = step_with world n stamp free source (Some event)
@@ -96,7 +97,7 @@ module _ (whole : WholeFind) (o : Opening) (world : World) (n stamp free : ℕ) 
   goes_on tid was = by (j.places tid was)
     where
       by : PlacedOf tid o world → PlacedOf tid o new
-      by p = let f : WholeFound tid o world n stamp free source event p.machine = whole tid o world n stamp free source event p.machine j makes lawful was p.shows in
+      by p = let f : WholeFound tid o world n stamp free source event p.machine = whole_find tid o world n stamp free source event p.machine j makes lawful was p.shows in
           subst (PlacedOf tid o) moved_is (whole_step_places tid o world n stamp free source event f.next j makes lawful f.finds (inl (p, f.leads)) f.shows)
 
   places_then : PlacesAt o new
@@ -107,14 +108,14 @@ module _ (whole : WholeFind) (o : Opening) (world : World) (n stamp free : ℕ) 
       by false unbegun = begins tid begun unbegun
 
 pub steps_keep_places : StepsKeepPlaces
-steps_keep_places whole o world (Step n stamp free source) is j may lawful = by (event_of world n stamp source) refl lawful
+steps_keep_places o world (Step n stamp free source) is j may lawful = by (event_of world n stamp source) refl lawful
   where
     by : (e : Option Event) → event_of world n stamp source ≡ e → IsLawful (book_of o) (moved (Step n stamp free source) world).journal → PlacesAt o (moved (Step n stamp free source) world)
     by None none so = subst (λ (e : Option Event). PlacesAt o (step_with world n stamp free source e)) (sym none) j.places
     by (Some event) comes so = subst (λ (e : Option Event). PlacesAt o (step_with world n stamp free source e)) (sym comes)
-        (places_then whole o world n stamp free source j may event comes
+        (places_then o world n stamp free source j may event comes
         (lawful_more o world (step_with world n stamp free source (Some event)) (entries_in world n stamp free event) refl (subst (λ (e : Option Event). IsLawful (book_of o) (step_with world n stamp free source e).journal) comes so)))
-steps_keep_places whole o world (Cut n stamp free source is_kept cause) is j may lawful = absurd is
-steps_keep_places whole o world (Stop n stamp cause) is j may lawful = absurd is
-steps_keep_places whole o world (Rise n stamp inc) is j may lawful = absurd is
-steps_keep_places whole o world (Meet n stamp m inc) is j may lawful = absurd is
+steps_keep_places o world (Cut n stamp free source is_kept cause) is j may lawful = absurd is
+steps_keep_places o world (Stop n stamp cause) is j may lawful = absurd is
+steps_keep_places o world (Rise n stamp inc) is j may lawful = absurd is
+steps_keep_places o world (Meet n stamp m inc) is j may lawful = absurd is

@@ -175,7 +175,7 @@ turns_follow world n free source event = turns world n free source event (due_ti
 -- ---- and from the step's beginning
 
 module _ (world : World) (is : IsShownWorld world) (n stamp free : ℕ) (source : Source) (event : Event) (makes : MakesStep world n stamp source event) where
-  its : StepMay world n source
+  abbrev its : StepMay world n source
   its = step_may world n stamp source makes.may
 
   steady : IsSteady world

@@ -36,5 +36,4 @@ pub mod PlacesSteps
 pub mod ComesFind
 pub mod PlacesFound
 pub mod CommitsFind
-pub mod WholeFinds
 pub mod BegunBare

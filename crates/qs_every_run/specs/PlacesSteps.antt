@@ -35,7 +35,7 @@ abbrev pub FreshFind : Type 0
 FreshFind = (w : machine.World) (tid : Tid) (o : Opening) (world : World) (n stamp free : ℕ) (source : Source) (event : Event) → Joined PlacesAt o world → MakesStep world n stamp source event → IsLawful (book_in o world) (entries_in world n stamp free event)
     → tid.home.0 ≡ n → has_begun world tid ≡ false → find_transaction (book_in o world) tid ≡ None → StepsWell (IsDoomed w) tid world n stamp free (book_in o world) source event
 
--- ---- so each step keeps it, where it finds what it needs of what had begun
+-- ---- so each step keeps it
 
 abbrev pub StepsKeepPlaces : Type 0
-StepsKeepPlaces = WholeFind → Keeps PlacesAt IsStep PlacesAt
+StepsKeepPlaces = Keeps PlacesAt IsStep PlacesAt

@@ -5,9 +5,8 @@ ghost use Rattle.qs_every_run.specs.PlacesCommits.{WorldShowsField, HomeCommitsU
 ghost use Rattle.qs_every_run.specs.PlacesComes.{MessageComes, NoticeComes, RequestComes};
 ghost use Rattle.qs_every_run.specs.PlacesWhole.{ServeAllGoes, StepPlaces};
 ghost use Rattle.qs_every_run.specs.PlacesJoined.{WholeStepPlaces};
-ghost use Rattle.qs_every_run.specs.PlacesSteps.{FreshFind, StepsKeepPlaces};
+ghost use Rattle.qs_every_run.specs.PlacesSteps.{FreshFind, StepsKeepPlaces, WholeFind};
 ghost use Rattle.qs_every_run.specs.CommitsFind.{CommitsFind};
-ghost use Rattle.qs_every_run.specs.WholeFinds.{WholeFinds};
 ghost use Rattle.qs_every_run.specs.PlacesTurns.{FindsSettle, OthersBeside, PlacedSettles, TurnsBegan, TurnsFollow, TurnsGo, TurnsSettle, TurnsShown};
 ghost use Rattle.qs_every_run.specs.PlacesGo.{IssueGoes, SettleGoes, CommandGoes, WaitGoes};
 ghost use Rattle.qs_every_run.specs.PlacesEnds.{StepBegins, StepEnds};
@@ -102,9 +101,10 @@ pub fn at_turns()
     ensures finds { FindsSettle }
 {}
 
-/// And so through each step of a run, where it finds what it needs of what had begun: that is shown after it by a machine that the one before leads to, and
-/// of what begins in it nothing is issued, voted or served there.
+/// A whole step finds what it needs of a transaction that had begun, or that is doomed in what shows it after the step; and so it does of what begins in
+/// it. So what all places hold goes on through each step of a run.
 pub fn each_step()
+    ensures begun { WholeFind }
     ensures fresh { FreshFind }
     ensures keeps { StepsKeepPlaces }
 {}
@@ -112,9 +112,4 @@ pub fn each_step()
 /// What a home commits in a step is unanimous, where the counts of changes have room: what came found what it needed, and so did all that was issued and voted.
 pub fn home_commits_found()
     ensures { CommitsFind }
-{}
-
-/// A whole step finds what it needs of a transaction that had begun, where what it issues and votes does.
-pub fn whole_step_found()
-    ensures { WholeFinds }
 {}
