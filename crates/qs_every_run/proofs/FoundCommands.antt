@@ -20,7 +20,7 @@ use Rattle.qs_ops.specs.declared.answer.Answer.TheVariants as answers
 use Rattle.qs_ops.specs.declared.operation.Op.{Op}
 use Rattle.qs_servers.specs.Servers.{client_server}
 use Rattle.qs_step.specs.Answering.{kept_outcome}
-use Rattle.qs_step.specs.Borrowing.{borrower_command, is_void, lent_command, loan_command, with_loan}
+use Rattle.qs_step.specs.Borrowing.{borrower_command, is_void, lent_command, with_loan}
 use Rattle.qs_step.specs.Bringing.{answer}
 use Rattle.qs_step.specs.Commands.{decided_answer, open_command, owner_command, request_as, request_command, with_issued}
 use Rattle.qs_step.specs.Requests.{issue_as, next_local, next_number}
@@ -41,7 +41,7 @@ use Rattle.qs_refine.proofs.SoundParts.{and_both}
 use Rattle.qs_lawful.specs.NodeFacts.{AreLabels, IsRunning}
 use Rattle.qs_every_run.specs.Placed.{Field}
 use Rattle.qs_every_run.specs.PlacesFound.{CommandFinds, IssueFinds, WaitFinds}
-use Rattle.qs_every_run.specs.PlacesGo.{IsObeyed, MayGoYet}
+use Rattle.qs_every_run.specs.PlacesGo.{IsObeyed}
 use Rattle.qs_every_run.proofs.FoundIssued.{Supplies, issued_found}
 use Rattle.qs_every_run.proofs.Onward.{onward_itself}
 

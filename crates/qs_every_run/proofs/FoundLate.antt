@@ -1,14 +1,12 @@
 -- A request that went out late dooms its transaction: where its sender knows an incarnation that does not run any more, that takes nothing more of it.
-use Rattle.std.proofs.Common.{◌≡◌, inl, inr, ℕ, ◌<◌, ◌≤◌, ◌==◌, ◌&&◌, not, Bool, true, false, refl, sym, ap, subst, ◌∙◌, arith, if◌then◌else◌}
+use Rattle.std.proofs.Common.{◌≡◌, inl, inr, ℕ, ◌<◌, ◌≤◌, ◌==◌, ◌&&◌, Bool, true, false, refl, sym, ap, subst, ◌∙◌, arith, if◌then◌else◌}
 use Rattle.std.proofs.lemmas.Bool.Decides.{nat_tests}
 use Rattle.qs_base.specs.declared.identifiers.Tid.{Tid}
-use Rattle.qs_step.specs.State.{Work, part_of}
-use Rattle.qs_tm.specs.declared.participant.Participant.{Participant}
+use Rattle.qs_step.specs.State.{Work}
 use Rattle.qs_agree.specs.World as machine
 use Rattle.qs_agree.specs.Carry.{Leads}
 use Rattle.qs_agree.specs.Doomed.{IsDoomed, IsPast}
 use Rattle.qs_agree.specs.Laws.{IsReached}
-use Rattle.qs_agree.proofs.Counts.{Counts}
 use Rattle.qs_agree.proofs.Doomed.{late_dooms}
 use Rattle.qs_agree.proofs.Lawful.{inv_reached}
 use Rattle.qs_refine.specs.Places.{known_place, place}

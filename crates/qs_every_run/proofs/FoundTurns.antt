@@ -1,5 +1,5 @@
 -- At the turn of a transaction whose home is ready to commit, what the step commanded, issued and voted of it so far found what it needs: else its home could not be ready.
-use Rattle.std.proofs.Common.{◌≡◌, inl, inr, ℕ, ◌≤◌, ◌&&◌, not, Bool, true, false, List, [], ◌∷◌, Option, Some, None, refl, sym, ap, subst, ◌∙◌, if◌then◌else◌}
+use Rattle.std.proofs.Common.{◌≡◌, inl, inr, ℕ, ◌≤◌, ◌&&◌, not, Bool, true, false, List, [], ◌∷◌, Some, None, sym, ap, subst, ◌∙◌, if◌then◌else◌}
 use Rattle.qs_base.specs.declared.identifiers.NodeNo.{NodeNo}
 use Rattle.qs_base.specs.declared.identifiers.Tid.{Tid}
 use Rattle.qs_step.specs.Settling.{due_tids, is_busy, is_pass_due, may_answer, pass_rule, settle_tid, try}
@@ -9,7 +9,6 @@ use Rattle.qs_step.specs.Voting.{vote_pass}
 use Rattle.qs_step.specs.declared.event.Event.{Event}
 use Rattle.qs_step.specs.declared.event.Event.TheVariants as events
 use Rattle.qs_step.specs.declared.setting.Setting.{Setting}
-use Rattle.qs_tm.specs.Manager as tm
 use Rattle.qs_tm.specs.Participant as participant
 use Rattle.qs_tm.specs.declared.participant.Participant.{Participant}
 use Rattle.qs_world.specs.Moves.{Source, taken_by}
@@ -41,7 +40,7 @@ use Rattle.qs_every_run.proofs.FoundCommands.{HasLabels, come_found}
 use Rattle.qs_every_run.proofs.FoundIssued.{Late, Supplies}
 use Rattle.qs_every_run.proofs.FoundVotes.{pass_found}
 use Rattle.qs_every_run.proofs.JoinedFacts.{event_fits_run}
-use Rattle.qs_every_run.proofs.Onward.{IsHeldUp, IsStuck, onward_itself, stuck_on, stuck_unready}
+use Rattle.qs_every_run.proofs.Onward.{IsStuck, stuck_on, stuck_unready}
 use Rattle.qs_every_run.proofs.Stuck.{passed_sticks, settle_sticks}
 use Rattle.qs_every_run.proofs.StuckRules.{Kept, Sticks, keeps_itself, sticks_of, sticks_on}
 

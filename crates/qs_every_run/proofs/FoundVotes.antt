@@ -3,7 +3,6 @@ use Rattle.std.proofs.Common.{◌≡◌, ◌⊎◌, inl, inr, ℕ, ◌≤◌, �
 use Rattle.std.specs.BTreeMap.{is_at}
 use Rattle.qs_base.specs.Order.{tid_cmp}
 use Rattle.qs_base.specs.declared.identifiers.NodeNo.{NodeNo}
-use Rattle.qs_base.specs.declared.identifiers.Outcome.{Outcome}
 use Rattle.qs_base.specs.declared.identifiers.ServerNo.{ServerNo}
 use Rattle.qs_base.specs.declared.identifiers.Tid.{Tid}
 use Rattle.qs_ipc.specs.Ipc as ipc
@@ -18,13 +17,11 @@ use Rattle.qs_step.specs.Settling.{is_busy, is_lent, is_pass_due, is_put_off}
 use Rattle.qs_step.specs.State.{Work, doings_of, part_of}
 use Rattle.qs_step.specs.Voting.{due_votes, issue_note, owes_note, served_count, vote_frame, vote_next, vote_pass, vote_with}
 use Rattle.qs_step.specs.declared.setting.Setting.{Setting}
-use Rattle.qs_tm.specs.Members.{ballot_of, is_refusal}
 use Rattle.qs_tm.specs.Participant as participant
 use Rattle.qs_tm.specs.Participant.{is_undecided, needs_pass}
-use Rattle.qs_tm.specs.declared.participant.Outstanding.{Outstanding}
 use Rattle.qs_tm.specs.declared.participant.Participant.{Participant}
 use Rattle.qs_world.specs.Openings.{is_audit}
-use Rattle.qs_refine.specs.Sound.{is_engaged, is_sound, where_so}
+use Rattle.qs_refine.specs.Sound.{is_sound, where_so}
 use Rattle.qs_refine.proofs.Known.{is_open}
 use Rattle.qs_refine.proofs.Maps.{lookup_changed}
 use Rattle.qs_refine.proofs.SoundHolds.{known_sound}
@@ -36,7 +33,7 @@ use Rattle.qs_every_run.specs.PlacedActs.{is_against}
 use Rattle.qs_every_run.specs.PlacesFound.{PassFinds, VoteFinds}
 use Rattle.qs_every_run.specs.PlacesGo.{note_op, note_request}
 use Rattle.qs_every_run.proofs.FoundIssued.{IsUncommitted, Late, Supplies, issued_found, uncommitted_on}
-use Rattle.qs_every_run.proofs.Onward.{IsHeldUp, Onward, awaits_on, held_on, onward_itself, onward_on, voted_onward}
+use Rattle.qs_every_run.proofs.Onward.{IsHeldUp, Onward, awaits_on, held_on, onward_on, voted_onward}
 use Rattle.qs_every_run.proofs.StuckRules.{Keeps, Kept, end_keeps, keeps_fold, next_keeps}
 
 -- ---- late still

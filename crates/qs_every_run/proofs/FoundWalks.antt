@@ -1,5 +1,5 @@
 -- From a machine that shows a transaction at one stage of a step to those that show it at the later ones; and what each stage finds, from what a request that went out late and a node that is held up come to at the end.
-use Rattle.std.proofs.Common.{◌≡◌, ◌≢◌, ◌⊎◌, inl, inr, ℕ, ◌<◌, ◌≤◌, ◌||◌, Bool, true, false, List, [], ◌∷◌, Option, Some, None, fold, refl, sym, ap, subst, ◌∙◌, arith}
+use Rattle.std.proofs.Common.{◌≡◌, ◌≢◌, ◌⊎◌, inl, inr, ℕ, ◌<◌, ◌≤◌, ◌||◌, Bool, true, List, [], ◌∷◌, Option, Some, None, fold, sym, ap, subst, ◌∙◌, arith}
 use Rattle.std.specs.BTreeMap.{is_at}
 use Rattle.std.specs.Map.{lookup}
 use Rattle.std.proofs.lemmas.Bool.Decides.{nat_tests}
@@ -9,7 +9,7 @@ use Rattle.qs_base.specs.declared.identifiers.Outcome.{Outcome}
 use Rattle.qs_base.specs.declared.identifiers.Outcome.TheVariants as outcomes
 use Rattle.qs_base.specs.declared.identifiers.Tid.{Tid}
 use Rattle.qs_engage.specs.Engage.{peer_of}
-use Rattle.qs_step.specs.Settling.{is_pass_due, pass_rule, settle_tid, try}
+use Rattle.qs_step.specs.Settling.{pass_rule, settle_tid, try}
 use Rattle.qs_step.specs.State.{Work, client_cmp, part_of}
 use Rattle.qs_step.specs.Step.{wait_on}
 use Rattle.qs_step.specs.Voting.{vote_pass}
@@ -37,7 +37,7 @@ use Rattle.qs_every_run.specs.Placed.{Field}
 use Rattle.qs_every_run.specs.PlacesFound.{PassFinds, WaitFinds}
 use Rattle.qs_every_run.specs.PlacesRules.{Reaches}
 use Rattle.qs_every_run.proofs.FoundCommands.{wait_found}
-use Rattle.qs_every_run.proofs.FoundIssued.{IsUncommitted, Late, Supplies, uncommitted_on}
+use Rattle.qs_every_run.proofs.FoundIssued.{IsUncommitted, Supplies, uncommitted_on}
 use Rattle.qs_every_run.proofs.FoundTurns.{passed_is}
 use Rattle.qs_every_run.proofs.FoundVotes.{pass_found}
 use Rattle.qs_every_run.proofs.Onward.{Awaits, IsHeldUp, awaits_on, held_on}

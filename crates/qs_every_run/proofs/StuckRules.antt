@@ -25,7 +25,6 @@ use Rattle.qs_servers.specs.Servers.{server_at}
 use Rattle.qs_step.specs.Bringing.{answer, is_other, log_if, member_here, send, send_each, send_next, tid_of}
 use Rattle.qs_step.specs.Deciding.{due_endings, end_member, end_members, learn_member, learners_at}
 use Rattle.qs_step.specs.Requests.{ask_on, enter_issue, is_asked, issue_as, issue_away, issue_here, label_of, next_number, with_local}
-use Rattle.qs_step.specs.Settling.{ready}
 use Rattle.qs_step.specs.State.{Work, client_cmp, here, part_of, with_manager, with_queues}
 use Rattle.qs_step.specs.Voting.{due_votes, enter_vote, issue_note, owes_note, served_count, vote_frame, vote_next, vote_pass, vote_with}
 use Rattle.qs_step.specs.declared.state.OpenCommand.{OpenCommand}
