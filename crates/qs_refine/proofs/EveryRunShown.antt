@@ -5,9 +5,9 @@ use Rattle.qs_restart.specs.Recovery.{recovery}
 use Rattle.qs_world.specs.Openings.{IsOpening, is_whole_log}
 use Rattle.qs_world.specs.World.{Opening, start}
 use Rattle.qs_world.proofs.Below.{each_is}
-use Rattle.qs_refine.specs.EveryRun.{EveryRunShown, EveryRunGoes, EveryRunAgrees, EveryRunTells}
+use Rattle.qs_refine.specs.EveryRun.{EveryRunShown, EveryRunGoes, EveryRunAgrees, EveryRunTells, EveryRunTellsLearners}
 use Rattle.qs_refine.proofs.Listing.{start_listed}
-use Rattle.qs_refine.proofs.NodesAgree.{nodes_agree, logs_stand}
+use Rattle.qs_refine.proofs.NodesAgree.{nodes_agree, learners_stand, logs_stand}
 use Rattle.qs_refine.proofs.ShownBegins.{each_begun_shown, start_all_shown}
 use Rattle.qs_refine.proofs.ShownMoves.{run_shown, shown_run_goes}
 use Rattle.qs_refine.proofs.SoundParts.{and_both}
@@ -29,3 +29,6 @@ every_run_agrees tid world n m is home_in commit abort = nodes_agree tid world n
 
 pub every_run_tells : EveryRunTells
 every_run_tells tid world n is numbered home_in n_in other committed doubt = logs_stand tid world n (every_run_shown world is) numbered home_in n_in other committed doubt
+
+pub every_run_tells_learners : EveryRunTellsLearners
+every_run_tells_learners tid world n is home_in other committed learns = learners_stand tid world n (every_run_shown world is) home_in other committed learns

@@ -317,5 +317,6 @@ pub mod ShownMoves
 pub mod ShownBegins
 pub mod Outside
 pub mod NodesAgree
-pub mod WholeLogs
+pub mod WholeKept
+mod WholeLogs
 pub mod EveryRunShown

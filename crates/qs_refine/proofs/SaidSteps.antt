@@ -19,6 +19,7 @@ use Rattle.qs_refine.proofs.SoundHappen.{happen_sound}
 use Rattle.qs_refine.proofs.SoundRestart.{begin_incarnation_sound}
 use Rattle.qs_refine.proofs.SoundStep.{step_sound}
 use Rattle.qs_refine.proofs.SoundViews.{seen}
+use Rattle.qs_world.specs.Openings.{is_whole_log}
 use Rattle.qs_refine.specs.Lists.{AreListed}
 
 pub step_on : (node : NodeValue) (event : Event) (free : ℕ) → MayHappen event (begun node free) → BeginsNew event (begun node free) → is_sound node ≡ true → SaysOn (work_on node free) (step_work node event free)
@@ -59,6 +60,17 @@ step_lists node event free log may new sound said listed =
 
     after : AreListed (step_work node event free).node (fold found_record (recovery log) on.more)
     after = on.lists (recovery log) (said_seen node (recovery log) sound said) listed
+
+    log_is : recovery (log ++ (effects_of node event free).records) ≡ fold found_record (recovery log) on.more
+    log_is = ap (λ (records : List Record). recovery (log ++ records)) on.records ∙ fold-append found_record nothing_said log on.more
+
+-- and a log that a restart can take up whole is such with the step's records
+pub step_whole : (node : NodeValue) (event : Event) (free : ℕ) (log : List Record) → MayHappen event (begun node free) → BeginsNew event (begun node free) → is_sound node ≡ true → is_sound_said node (recovery log) ≡ true → is_whole_log node.setting.nodes (recovery log) ≡ true
+    → is_whole_log node.setting.nodes (recovery (log ++ (effects_of node event free).records)) ≡ true
+step_whole node event free log may new sound said whole = subst (λ (r : Recovery). is_whole_log node.setting.nodes r ≡ true) (sym log_is) (on.whole (recovery log) (said_seen node (recovery log) sound said) whole)
+  where
+    on : SaysOn (work_on node free) (step_work node event free)
+    on = step_on node event free may new sound
 
     log_is : recovery (log ++ (effects_of node event free).records) ≡ fold found_record (recovery log) on.more
     log_is = ap (λ (records : List Record). recovery (log ++ records)) on.records ∙ fold-append found_record nothing_said log on.more

@@ -1,6 +1,6 @@
 -- A record that is appended: the flags say of its transaction what the log says then.
 use Rattle.std.proofs.Common.{◌≡◌, ℕ, ◌<◌, ◌||◌, ◌⊎◌, inl, inr, ◌==◌, not, Bool, true, false, List, [], ◌∷◌, length, Option, Some, None, refl, sym, ap, subst, ◌∙◌, arith}
-use Rattle.std.specs.List.{filter, list_any}
+use Rattle.std.specs.List.{filter, list_all, list_any}
 use Rattle.std.specs.Map.{lookup}
 use Rattle.std.specs.BTreeMap.{is_at}
 use Rattle.std.proofs.lemmas.Bool.Decides.{nat_tests}
@@ -18,6 +18,7 @@ use Rattle.qs_tm.specs.declared.participant.Participant.{Participant}
 use Rattle.qs_step.specs.Bringing.{log, log_if, tid_of, is_forced}
 use Rattle.qs_step.specs.State.{NodeValue, Work, part_of}
 use Rattle.qs_refine.specs.Links.{names_node, node_no}
+use Rattle.qs_world.specs.Openings.{is_in_run, is_whole_log}
 use Rattle.qs_refine.specs.Lists.{AreListed, last_list, tell_at, tell_of_part}
 use Rattle.qs_refine.specs.SaidLaws.{no_flags, flags_at, IsSaid, AreSaid, SaysOn}
 use Rattle.qs_refine.specs.Sights.{list_of}
@@ -32,6 +33,7 @@ use Rattle.qs_refine.proofs.Same.{tid_same}
 use Rattle.qs_refine.proofs.SaysOn.{on_itself, told_changed}
 use Rattle.qs_refine.proofs.SoundKnown.{same_is}
 use Rattle.std.specs.Prelude.{⊤}
+use Rattle.qs_refine.proofs.WholeKept.{whole_ended, whole_listed}
 
 some_list : (first : NodeNo) (others : List NodeNo) → not (length (first ∷ others) == 0) ≡ true
 some_list first others = grind (arith, nat_tests)
@@ -53,6 +55,8 @@ MayLog rec work = (is_forced rec ≡ false) ⊎ ((part : Participant) × (part_o
 pub record ListsTold (tid : Tid) (told : List NodeNo) (node : NodeValue) : Type 0 where
   pub named : (m : ℕ) → names_node told (node_no m) ≡ true → (m < 16) × (has_node (tell_at tid node) (node_no m) ≡ true)
   pub all : (m : ℕ) → m < 16 → has_node (tell_at tid node) (node_no m) ≡ true → names_node told (node_no m) ≡ true
+  pub run : list_all (is_in_run node.setting.nodes) told ≡ true  -- nodes of the run,
+  pub fresh : (flags_at tid node).listed ≡ false  -- and it is the first
 
 abbrev pub ListsAt : Record → NodeValue → Type 0
 ListsAt (records.Commit tid []) node = ⊤
@@ -129,6 +133,14 @@ lists_on rec node new said same lists has = lists_after node new said same has r
     told (records.Aborted u) tid first others is its = absurd (cc (is))
     told (records.End u) tid first others is its = absurd (cc (is))
 
+-- and the log can still be taken up whole
+logs_whole : (rec : Record) (node : NodeValue) (said : Recovery) → ListsAt rec node → AreSaid node said → is_whole_log node.setting.nodes said ≡ true → is_whole_log node.setting.nodes (found_record said rec) ≡ true
+logs_whole (records.Prepare tid server covers changes) node said lists is all = all
+logs_whole (records.Commit tid []) node said lists is all = whole_ended node.setting.nodes tid said all
+logs_whole (records.Commit tid (first ∷ others)) node said lists is all = whole_listed tid (first ∷ others) node.setting.nodes said lists.run (sym (is tid).listed ∙ lists.fresh) all
+logs_whole (records.Aborted tid) node said lists is all = whole_ended node.setting.nodes tid said all
+logs_whole (records.End tid) node said lists is all = whole_ended node.setting.nodes tid said all
+
 module _ (rec : Record) (work : Work) (may : MayLog rec work) where
   abbrev told : Option Participant → InLog
   told o = elim o [ None ↦ no_flags | Some part ↦ part.log ]
@@ -170,6 +182,7 @@ module _ (rec : Record) (work : Work) (may : MayLog rec work) where
     commands = λ is. is;
     said = λ said is t. by said is t (same_tid t (tid_of rec)) refl;
     lists = λ said is has. lists_on rec work.node (log rec work).node said tells lists has;
+    whole = λ said is all. logs_whole rec work.node said lists is all;
   }
     where
       by : (said : Recovery) → AreSaid work.node said → (t : Tid) (b : Bool) → same_tid t (tid_of rec) ≡ b → IsSaid (log rec work).node (found_record said rec) t

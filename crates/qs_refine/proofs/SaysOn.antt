@@ -31,6 +31,8 @@ use Rattle.qs_step.specs.declared.state.Doings.{Doings}
 use Rattle.qs_step.specs.declared.state.OpenCommand.{OpenCommand}
 use Rattle.qs_refine.specs.SaidLaws.{no_flags, flags_at, AreSaid, SaysOn}
 use Rattle.qs_refine.specs.Links.{node_no}
+use Rattle.qs_step.specs.declared.setting.Setting.{Setting}
+use Rattle.qs_world.specs.Openings.{is_whole_log}
 use Rattle.qs_refine.specs.Lists.{AreListed, tell_at, tell_of_part}
 use Rattle.qs_refine.specs.SoundSteps.{is_open_in_run, commands_in_run}
 use Rattle.qs_refine.proofs.Maps.{lookup_put}
@@ -63,6 +65,9 @@ on_then {a} {b} {c} first second = record {
   commands = λ is. second.commands (first.commands is);
   said = λ said is. subst (λ (r : Recovery). AreSaid c.node r) (sym (fold-append found_record said first.more second.more)) (second.said (fold found_record said first.more) (first.said said is));
   lists = λ said is has. subst (λ (r : Recovery). AreListed c.node r) (sym (fold-append found_record said first.more second.more)) (second.lists (fold found_record said first.more) (first.said said is) (first.lists said is has));
+  whole = λ said is all. subst (λ (r : Recovery). is_whole_log a.node.setting.nodes r ≡ true) (sym (fold-append found_record said first.more second.more))
+      (subst (λ (s : Setting). is_whole_log s.nodes (fold found_record (fold found_record said first.more) second.more) ≡ true) first.setting
+      (second.whole (fold found_record said first.more) (first.said said is) (subst (λ (s : Setting). is_whole_log s.nodes (fold found_record said first.more) ≡ true) (sym first.setting) (first.whole said is all))));
 }
 
 -- what piece of a work stays the same
@@ -93,6 +98,7 @@ two_on work new rest same tells = record {
   commands = rest.commands;
   said = λ said is tid. record { prepared = (same tid).0 ∙ (is tid).prepared; listed = (same tid).1 ∙ (is tid).listed };
   lists = tells;
+  whole = λ said is all. all;
 }
 
 pub flags_on : (work new : Work) → SameRest work new → ((tid : Tid) → flags_at tid new.node ≡ flags_at tid work.node) → KeepsTelling work new → SaysOn work new

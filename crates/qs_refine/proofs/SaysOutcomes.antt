@@ -1,6 +1,6 @@
 -- Decisions, outcomes that are told, and inquiries leave a node sound over its log.
 use Rattle.std.proofs.Common.{◌≡◌, inl, inr, ◌==◌, ◌&&◌, ◌||◌, not, Bool, true, false, List, [], ◌∷◌, fold, Option, Some, None, is_some, refl, sym, ap, subst, ◌∙◌, arith, if◌then◌else◌, is_none, ℕ, ◌<◌}
-use Rattle.std.specs.List.{list_any}
+use Rattle.std.specs.List.{list_all, list_any}
 use Rattle.std.specs.BTreeMap.{is_at}
 use Rattle.qs_base.specs.Order.{same_tid, tid_cmp}
 use Rattle.qs_base.specs.declared.identifiers.NodeNo.{NodeNo}
@@ -38,6 +38,7 @@ use Rattle.qs_refine.proofs.SaysLogs.{MayLog, ListsIt, lists_told, log_on, log_i
 use Rattle.qs_refine.proofs.SaysOn.{on_itself, on_then, fold_on, if_on, rest_on, two_on, grown_on, KeepsTelling, enter_on, send_on, sends_on, queues_on, server_on, part_on, absent_on}
 use Rattle.qs_refine.proofs.SoundKnown.{same_is}
 use Rattle.qs_refine.specs.Sights.{list_of}
+use Rattle.qs_world.specs.Openings.{is_in_run}
 use Rattle.qs_refine.specs.Lists.{is_commit, tell_at, tell_of_part}
 use Rattle.qs_refine.specs.Links.{names_node, node_no}
 use Rattle.qs_refine.proofs.NodeLists.{listed_within, listed_names, unlisted}
@@ -113,8 +114,15 @@ decided_may tid outcome work rec = by outcome (part_of tid work) refl
     by outcome None none is = absurd (cc (is))
     by outcome (Some part) known is = (of_it outcome part is, (part, known))
 
-pub decide_on : (tid : Tid) (outcome : Outcome) (cause : Option Cause) (work : Work) → NotCommitted tid work → SaysOn work (decide tid outcome cause work)
-decide_on tid outcome cause work closed =
+-- a commit that is decided is the first of its transaction in the log, and names nodes of the run
+abbrev pub MayList : Tid → Outcome → Work → Type 0
+MayList tid outcome work = outcome ≡ outcomes.Commit → (part : Participant) → part_of tid work ≡ Some part → (part.log.listed ≡ false) × (list_all (is_in_run work.node.setting.nodes) (listed part.told) ≡ true)
+
+pub aborts_none : (tid : Tid) (work : Work) → MayList tid outcomes.Abort work
+aborts_none tid work is = absurd (cc (is))
+
+pub decide_on : (tid : Tid) (outcome : Outcome) (cause : Option Cause) (work : Work) → NotCommitted tid work → MayList tid outcome work → SaysOn work (decide tid outcome cause work)
+decide_on tid outcome cause work closed may_list =
     on_then (grown_on tid (outcome_rules.decided outcome) (λ part. refl) work (λ part known m below has. absurd (nobody_told part (closed part known) m has)))
     (on_then (log_if_on (tm.decision tid outcome work.node.manager).rec decided may)
     (on_then (rest_on (log_if (tm.decision tid outcome work.node.manager).rec decided) (keep_outcome tid outcome cause (log_if (tm.decision tid outcome work.node.manager).rec decided)) refl refl refl refl refl)
@@ -127,15 +135,21 @@ decide_on tid outcome cause work closed =
     may : (rec : Record) → (tm.decision tid outcome work.node.manager).rec ≡ Some rec → MayLog rec decided × ListsIt rec decided
     may rec is = let of_it : (tid_of rec ≡ tid) × IsKnown tid work = decided_may tid outcome work rec is in (
       inr (subst (λ (t : Tid). IsKnown t decided) (sym of_it.0) (part_known tid (outcome_rules.decided outcome) work of_it.1)),
-      lists outcome of_it.1.0 of_it.1.1 (sym (ap (λ (o : Option Participant). (made tid outcome o).rec) of_it.1.1) ∙ is),
+      lists outcome may_list of_it.1.0 of_it.1.1 (sym (ap (λ (o : Option Participant). (made tid outcome o).rec) of_it.1.1) ∙ is),
     )
       where
         told_in : Option Participant → Nodes
         told_in o = elim o [ None ↦ no_nodes | Some part ↦ tell_of_part part ]
 
-        lists : (o : Outcome) (part : Participant) → part_of tid work ≡ Some part → record_of tid o part ≡ Some rec → ListsIt rec (with_manager (tm.decide tid o) work)
-        lists outcomes.Commit part known is = written (writes_commit part) is
+        flags_in : Option Participant → InLog
+        flags_in o = elim o [ None ↦ no_flags | Some part ↦ part.log ]
+
+        lists : (o : Outcome) → MayList tid o work → (part : Participant) → part_of tid work ≡ Some part → record_of tid o part ≡ Some rec → ListsIt rec (with_manager (tm.decide tid o) work)
+        lists outcomes.Commit may_list part known is = written (writes_commit part) is
           where
+            flags_are : flags_at tid (with_manager (tm.decide tid outcomes.Commit) work).node ≡ part.log
+            flags_are = ap flags_in (lookup_changed (is_at (tid_cmp tid)) (outcome_rules.decided outcomes.Commit) work.node.manager.known part known)
+
             told_is : tell_at tid (with_manager (tm.decide tid outcomes.Commit) work).node ≡ part.told
             told_is = ap told_in (lookup_changed (is_at (tid_cmp tid)) (outcome_rules.decided outcomes.Commit) work.node.manager.known part known)
 
@@ -144,20 +158,22 @@ decide_on tid outcome cause work closed =
                 (lists_told tid (listed part.told) (with_manager (tm.decide tid outcomes.Commit) work).node (record {
                   named = λ m names. let its = listed_within part.told m names in (its.0, subst (λ (s : Nodes). has_node s (node_no m) ≡ true) (sym told_is) its.1);
                   all = λ m below has. listed_names part.told m below (subst (λ (s : Nodes). has_node s (node_no m) ≡ true) told_is has);
+                  run = (may_list refl part known).1;
+                  fresh = ap (λ (f : InLog). f.listed) flags_are ∙ (may_list refl part known).0;
                 }))
             written false is = absurd (cc (is))
-        lists outcomes.Abort part known is = ended part.log.prepared is
+        lists outcomes.Abort may_list part known is = ended part.log.prepared is
           where
             ended : (b : Bool) → (if b then Some (records.Aborted tid) else None) ≡ Some rec → ListsIt rec (with_manager (tm.decide tid outcomes.Abort) work)
             ended true is = let same : records.Aborted tid ≡ rec = cc (is) in subst (λ (r : Record). ListsIt r (with_manager (tm.decide tid outcomes.Abort) work)) same tt
             ended false is = absurd (cc (is))
 
-pub decide_commit_on : (tid : Tid) (work : Work) → NotCommitted tid work → SaysOn work (decide_commit tid work)
-decide_commit_on tid work closed = by (tm.need_past tid work.room work.node.manager)
+pub decide_commit_on : (tid : Tid) (work : Work) → NotCommitted tid work → MayList tid outcomes.Commit work → SaysOn work (decide_commit tid work)
+decide_commit_on tid work closed may_list = by (tm.need_past tid work.room work.node.manager)
   where
     by : (o : Option Rattle.std.proofs.Common.ℕ) → SaysOn work (elim o [ None ↦ decide tid outcomes.Commit None work | Some need ↦ decide tid outcomes.Abort (Some (causes.Room need work.room)) work ])
-    by None = decide_on tid outcomes.Commit None work closed
-    by (Some need) = decide_on tid outcomes.Abort (Some (causes.Room need work.room)) work closed
+    by None = decide_on tid outcomes.Commit None work closed may_list
+    by (Some need) = decide_on tid outcomes.Abort (Some (causes.Room need work.room)) work closed (aborts_none tid work)
 
 -- ---- an outcome is told
 

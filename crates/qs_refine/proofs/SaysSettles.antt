@@ -1,5 +1,6 @@
 -- What a node does of itself at the end of a step, and as another one or itself restarted, leaves it sound over its log.
 use Rattle.std.proofs.Common.{◌≡◌, inr, ℕ, ◌==◌, ◌&&◌, ◌||◌, not, Bool, true, false, List, [], ◌∷◌, fold, Option, Some, None, is_none, refl, sym, ap, subst, ◌∙◌, if◌then◌else◌}
+use Rattle.std.specs.List.{list_all}
 use Rattle.qs_base.specs.declared.identifiers.NodeNo.{NodeNo}
 use Rattle.qs_base.specs.declared.identifiers.Outcome.{Outcome}
 use Rattle.qs_base.specs.declared.identifiers.Outcome.TheVariants as outcomes
@@ -31,11 +32,12 @@ use Rattle.qs_step.specs.Settling.{is_pass_due, pass_rule, may_answer, is_quiet,
 use Rattle.qs_step.specs.State.{Work, here, part_of, doings_of, with_node, with_manager, with_queues, with_doings, change_server}
 use Rattle.qs_step.specs.Telling.{record_learnt, end_record}
 use Rattle.qs_step.specs.Voting.{owes_note, issue_note, note_text, change_count, served_count, enter_vote, vote_with, vote_frame, vote_next, due_votes, vote_pass}
+use Rattle.qs_world.specs.Openings.{is_in_run}
 use Rattle.qs_refine.specs.SaidLaws.{no_flags, flags_at, SaysOn}
 use Rattle.qs_refine.specs.Sound.{is_sound, where_so}
 use Rattle.qs_refine.proofs.SaysLogs.{ListsIt, log_on, log_if_on}
 use Rattle.qs_refine.proofs.SaysOn.{on_itself, on_then, fold_on, if_on, rest_on, enter_on, send_on, sends_on, queues_on, doings_on, server_on, part_on}
-use Rattle.qs_refine.proofs.SaysOutcomes.{IsKnown, part_known, end_members_on, notices_on, notices_known, decide_on, decide_commit_on, forget_on}
+use Rattle.qs_refine.proofs.SaysOutcomes.{IsKnown, MayList, aborts_none, part_known, end_members_on, notices_on, notices_known, decide_on, decide_commit_on, forget_on}
 use Rattle.qs_refine.proofs.SaysRules.{issue_on, block_on}
 use Rattle.qs_refine.proofs.SoundHolds.{Holds, known_sound, is_open, open_held}
 use Rattle.qs_refine.proofs.SoundNotices.{end_members_hold}
@@ -44,6 +46,7 @@ use Rattle.qs_refine.proofs.SoundSettle.{ready_rule_sound, refuse_rule_sound, un
 use Rattle.qs_refine.proofs.SoundViews.{PartSound, seen}
 use Rattle.qs_refine.proofs.SoundVotes.{vote_next_holds, pass_open, pass_rule_sound}
 use Rattle.qs_refine.proofs.SaysTells.{open_of}
+use Rattle.qs_refine.proofs.WholeKept.{told_in_run}
 
 -- ---- votes
 
@@ -100,9 +103,37 @@ module _ (tid : Tid) (part : Participant) (work : Work) (known : part_of tid wor
       by true is = vote_pass_on tid work (pass_open tid part work known open_now sound is)
       by false is = on_itself work
 
-  pub ready_on : is_undecided part ≡ true → SaysOn work (ready_rule tid part work)
-  ready_on open_now = if_on (may_answer tid part work) (if_on part.engage.home (if_on (is_quiet (doings_of tid work)) (decide_commit_on tid work (open_of tid work part known open_now)) (on_itself work)) (answers (release_of part.engage))) (on_itself work)
+  pub ready_on : is_undecided part ≡ true → is_sound work.node ≡ true → SaysOn work (ready_rule tid part work)
+  ready_on open_now sound = if_on (may_answer tid part work) (if_on part.engage.home (if_on (is_quiet (doings_of tid work)) (decide_commit_on tid work (open_of tid work part known open_now) may_list) (on_itself work)) (answers (release_of part.engage))) (on_itself work)
     where
+      s : PartSound work.node tid part
+      s = known_sound tid work.node part known sound
+
+      unless : (c b : Bool) → b ≡ false → where_so c b ≡ true → c ≡ false
+      unless true b none is = absurd (cc (none, is))
+      unless false b none is = refl
+
+      nowhere : (o : Option Outcome) → is_none o ≡ true → (Rattle.std.proofs.Common.is_some o && not (is_abort o)) ≡ false
+      nowhere None is = refl
+      nowhere (Some outcome) is = absurd (cc (is))
+
+      off : (a b : Bool) → b ≡ false → (a && b) ≡ false
+      off true b is = is
+      off false b is = refl
+
+      unlisted_yet : part.log.listed ≡ false
+      unlisted_yet =
+          let rest = (and_both (where_so (part.log.prepared || part.log.listed) part.log.unended) _ s.logged).1 in
+          let drawn : (where_so part.log.prepared part.involved ≡ true) × _ = and_both (where_so part.log.prepared part.involved) _ rest in
+          let lists : (where_so part.log.listed (part.engage.home && (Rattle.std.proofs.Common.is_some part.outcome && not (is_abort part.outcome))) ≡ true) × _ = and_both (where_so part.log.listed (part.engage.home && (Rattle.std.proofs.Common.is_some part.outcome && not (is_abort part.outcome)))) _ drawn.1 in
+          unless part.log.listed _ (off part.engage.home _ (nowhere part.outcome open_now)) lists.0
+
+      may_list : MayList tid outcomes.Commit work
+      may_list _ other its = subst (λ (p : Participant). (p.log.listed ≡ false) × (list_all (is_in_run work.node.setting.nodes) (listed p.told) ≡ true)) (one part other (sym known ∙ its)) (unlisted_yet, told_in_run work.node part s.peers)
+        where
+          one : (a b : Participant) → Some a ≡ Some b → a ≡ b
+          one a b same = cc (same)
+
       answers : (o : Option (NodeNo × ℕ)) → SaysOn work (elim o [ None ↦ work | Some superior ↦ say_yes tid part superior work ])
       answers None = on_itself work
       answers (Some superior) = on_then (part_on tid participant.released (λ part. (refl, refl)) work) (send_on _ _ (with_manager (tm.released tid) work))
@@ -112,7 +143,7 @@ module _ (tid : Tid) (part : Participant) (work : Work) (known : part_of tid wor
     where
       first : (list : List Cause) → SaysOn work (elim list [ [] ↦ work | cause ∷ more ↦ decide tid outcomes.Abort (Some cause) work ])
       first [] = on_itself work
-      first (cause ∷ more) = decide_on tid outcomes.Abort (Some cause) work (open_of tid work part known open_now)
+      first (cause ∷ more) = decide_on tid outcomes.Abort (Some cause) work (open_of tid work part known open_now) (aborts_none tid work)
 
   -- what is forgotten has nothing in the log
   pub forget_rule_on : is_sound work.node ≡ true → SaysOn work (forget_rule tid part work)
@@ -160,7 +191,7 @@ known_on tid rule work each = by (part_of tid work) refl
 settle_tid_on : (work : Work) (tid : Tid) → is_sound work.node ≡ true → SaysOn work (settle_tid work tid)
 settle_tid_on work tid sound =
     on_then (known_on tid pass_rule work (λ part known open_now. pass_on tid part work known open_now sound))
-    (on_then (known_on tid ready_rule passed (λ part known open_now. ready_on tid part passed known open_now))
+    (on_then (known_on tid ready_rule passed (λ part known open_now. ready_on tid part passed known open_now passed_sound))
     (on_then (known_on tid refuse_rule readied (λ part known open_now. refuse_on tid part readied known open_now))
     (known_on tid forget_rule refused (λ part known open_now. forget_rule_on tid part refused known refused_sound))))
   where
@@ -173,11 +204,14 @@ settle_tid_on work tid sound =
     refused : Work
     refused = try tid refuse_rule readied
 
+    passed_sound : is_sound passed.node ≡ true
+    passed_sound = undecided_known tid (pass_rule tid) work (λ part known open_now. pass_rule_sound tid part work known open_now) sound
+
     refused_sound : is_sound refused.node ≡ true
     refused_sound =
         undecided_known tid (refuse_rule tid) readied (λ part known open_now. refuse_rule_sound tid part readied known open_now)
         (undecided_known tid (ready_rule tid) passed (λ part known open_now. ready_rule_sound tid part passed known open_now)
-        (undecided_known tid (pass_rule tid) work (λ part known open_now. pass_rule_sound tid part work known open_now) sound))
+        passed_sound)
 
 pub settle_on : (work : Work) → is_sound work.node ≡ true → SaysOn work (settle work)
 settle_on work = each (due_tids work) work

@@ -17,7 +17,7 @@ use Rattle.qs_refine.specs.Lists.{AreTaken}
 use Rattle.qs_refine.specs.ShownWorlds.{IsShownWorld}
 use Rattle.qs_refine.specs.Sights.{list_of}
 use Rattle.qs_refine.specs.Sound.{has_doubt}
-use Rattle.qs_refine.specs.WorldLaws.{Knows}
+use Rattle.qs_refine.specs.WorldLaws.{IsToLearn, Knows}
 
 -- ---- whoever is named by a log that a restart can take up whole is taken up
 
@@ -48,4 +48,10 @@ EveryRunAgrees = (tid : Tid) (world : World) (n m : ℕ) → IsReached world →
 abbrev pub EveryRunTells : Type 0
 EveryRunTells = (tid : Tid) (world : World) (n : ℕ) → IsReached world → names_transaction tid ≡ true → tid.home.0 < world.size → n < world.size → n ≢ tid.home.0
     → list_any (same_tid tid) (recovery (world.hosts tid.home.0).log).committed ≡ true → has_doubt tid (recovery (world.hosts n).log) ≡ true
+    → (list_any (is_untold_of tid) (recovery (world.hosts tid.home.0).log).untold ≡ true) × (names_node (list_of tid (recovery (world.hosts tid.home.0).log)) (node_no n) ≡ true)
+
+-- nor is a node that runs and is to learn the outcome
+abbrev pub EveryRunTellsLearners : Type 0
+EveryRunTellsLearners = (tid : Tid) (world : World) (n : ℕ) → IsReached world → tid.home.0 < world.size → n ≢ tid.home.0
+    → list_any (same_tid tid) (recovery (world.hosts tid.home.0).log).committed ≡ true → IsToLearn tid world n
     → (list_any (is_untold_of tid) (recovery (world.hosts tid.home.0).log).untold ≡ true) × (names_node (list_of tid (recovery (world.hosts tid.home.0).log)) (node_no n) ≡ true)

@@ -13,7 +13,7 @@ use Rattle.qs_step.specs.State.{NodeValue, Work}
 use Rattle.qs_step.specs.Step.{after_step, effects_of}
 use Rattle.qs_step.specs.declared.event.Event.{Event}
 use Rattle.qs_step.specs.declared.event.Event.TheVariants as events
-use Rattle.qs_world.specs.Openings.{IsOpening, is_untold}
+use Rattle.qs_world.specs.Openings.{IsOpening, is_untold, is_whole_log}
 use Rattle.qs_world.specs.World.{Host, Opening, World, start}
 use Rattle.qs_world.specs.Moves.{Move, Step, Cut, Stop, Rise, Meet, event_of, reopened, may_move, moved}
 use Rattle.qs_refine.specs.Lists.{AreListed}
@@ -45,7 +45,7 @@ abbrev pub SeenSaid : Type 0
 SeenSaid = (node : NodeValue) (said : Recovery) → is_sound node ≡ true → AreSaid node said → is_sound_said node said ≡ true
 
 -- ---- a piece of a step leaves a node sound over its log: the setting stays, the log goes on by the records that it appended, and is forced
--- for these; what is open goes to nodes of the run; and whom a Commit in the log names is to be told
+-- for these; what is open goes to nodes of the run; whom a Commit in the log names is to be told; and a restart can take the log up whole
 
 pub record SaysOn (work new : Work) : Type 0 where
   pub setting : new.node.setting ≡ work.node.setting
@@ -55,6 +55,7 @@ pub record SaysOn (work new : Work) : Type 0 where
   pub commands : commands_in_run work.node ≡ true → commands_in_run new.node ≡ true
   pub said : (said : Recovery) → AreSaid work.node said → AreSaid new.node (fold found_record said more)
   pub lists : (said : Recovery) → AreSaid work.node said → AreListed work.node said → AreListed new.node (fold found_record said more)
+  pub whole : (said : Recovery) → AreSaid work.node said → is_whole_log work.node.setting.nodes said ≡ true → is_whole_log work.node.setting.nodes (fold found_record said more) ≡ true
 
 -- where a client begins a transaction, its number is new
 abbrev pub BeginsNew : Event → Work → Type 0
