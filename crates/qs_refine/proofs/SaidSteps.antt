@@ -1,6 +1,6 @@
 -- A whole step leaves a node sound over its log, and in its place.
 use Rattle.std.proofs.Common.{◌≡◌, ℕ, true, List, ◌++◌, fold, sym, ap, subst, ◌∙◌}
-use Rattle.std.specs.List.{list_any}
+use Rattle.std.specs.List.{list_all, list_any}
 use Rattle.std.proofs.lemmas.List.Sums.{fold-append}
 use Rattle.qs_record.specs.declared.record.Record.{Record}
 use Rattle.qs_restart.specs.Recovery.{Recovery, recovery, found_record, nothing_said}
@@ -8,7 +8,7 @@ use Rattle.qs_step.specs.Bringing.{is_forced}
 use Rattle.qs_step.specs.State.{NodeValue, work_on}
 use Rattle.qs_step.specs.Step.{happen, accept, after_step, effects_of, step_work}
 use Rattle.qs_step.specs.declared.event.Event.{Event}
-use Rattle.qs_refine.specs.SaidLaws.{AreSaid, SaysOn, BeginsNew, StepSaid, StepSeated, StepForces, StepOpen}
+use Rattle.qs_refine.specs.SaidLaws.{lists_others, AreSaid, SaysOn, BeginsNew, StepSaid, StepSeated, StepForces, StepOpen}
 use Rattle.qs_refine.specs.Sound.{is_sound, is_sound_said}
 use Rattle.qs_refine.specs.SoundSteps.{MayHappen, commands_in_run, begun, settled}
 use Rattle.qs_refine.proofs.SaysOn.{on_then}
@@ -74,6 +74,9 @@ step_whole node event free log may new sound said whole = subst (λ (r : Recover
 
     log_is : recovery (log ++ (effects_of node event free).records) ≡ fold found_record (recovery log) on.more
     log_is = ap (λ (records : List Record). recovery (log ++ records)) on.records ∙ fold-append found_record nothing_said log on.more
+
+pub step_others : (node : NodeValue) (event : Event) (free : ℕ) → MayHappen event (begun node free) → BeginsNew event (begun node free) → is_sound node ≡ true → list_all lists_others (effects_of node event free).records ≡ true
+step_others node event free may new sound = ap (λ (records : List Record). list_all lists_others records) (step_on node event free may new sound).records ∙ (step_on node event free may new sound).others
 
 pub step_forces : StepForces
 step_forces node event free may new sound = on.forced ∙ ap (λ (records : List Record). list_any is_forced records) (sym on.records)

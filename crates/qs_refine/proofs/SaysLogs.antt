@@ -1,5 +1,5 @@
 -- A record that is appended: the flags say of its transaction what the log says then.
-use Rattle.std.proofs.Common.{◌≡◌, ℕ, ◌<◌, ◌||◌, ◌⊎◌, inl, inr, ◌==◌, not, Bool, true, false, List, [], ◌∷◌, length, Option, Some, None, refl, sym, ap, subst, ◌∙◌, arith}
+use Rattle.std.proofs.Common.{◌≡◌, ℕ, ◌<◌, ◌&&◌, ◌||◌, ◌⊎◌, inl, inr, ◌==◌, not, Bool, true, false, List, [], ◌∷◌, length, Option, Some, None, refl, sym, ap, subst, ◌∙◌, arith}
 use Rattle.std.specs.List.{filter, list_all, list_any}
 use Rattle.std.specs.Map.{lookup}
 use Rattle.std.specs.BTreeMap.{is_at}
@@ -18,9 +18,10 @@ use Rattle.qs_tm.specs.declared.participant.Participant.{Participant}
 use Rattle.qs_step.specs.Bringing.{log, log_if, tid_of, is_forced}
 use Rattle.qs_step.specs.State.{NodeValue, Work, part_of}
 use Rattle.qs_refine.specs.Links.{names_node, node_no}
+use Rattle.qs_world.specs.Openings as openings
 use Rattle.qs_world.specs.Openings.{is_in_run, is_whole_log}
 use Rattle.qs_refine.specs.Lists.{AreListed, last_list, tell_at, tell_of_part}
-use Rattle.qs_refine.specs.SaidLaws.{no_flags, flags_at, IsSaid, AreSaid, SaysOn}
+use Rattle.qs_refine.specs.SaidLaws.{lists_others, no_flags, flags_at, IsSaid, AreSaid, SaysOn}
 use Rattle.qs_refine.specs.Sights.{list_of}
 use Rattle.qs_refine.specs.Sound.{has_doubt}
 use Rattle.qs_refine.proofs.Doubts.{is_doubt_of, doubt_same, doubts_ended, doubts_marked, any_last}
@@ -57,6 +58,7 @@ pub record ListsTold (tid : Tid) (told : List NodeNo) (node : NodeValue) : Type 
   pub all : (m : ℕ) → m < 16 → has_node (tell_at tid node) (node_no m) ≡ true → names_node told (node_no m) ≡ true
   pub run : list_all (is_in_run node.setting.nodes) told ≡ true  -- nodes of the run,
   pub fresh : (flags_at tid node).listed ≡ false  -- and it is the first
+  pub others : not (openings.has_node told tid.home) ≡ true
 
 abbrev pub ListsAt : Record → NodeValue → Type 0
 ListsAt (records.Commit tid []) node = ⊤
@@ -133,6 +135,13 @@ lists_on rec node new said same lists has = lists_after node new said same has r
     told (records.Aborted u) tid first others is its = absurd (cc (is))
     told (records.End u) tid first others is its = absurd (cc (is))
 
+logs_others : (rec : Record) (node : NodeValue) → ListsAt rec node → (lists_others rec && true) ≡ true
+logs_others (records.Prepare tid server covers changes) node lists = refl
+logs_others (records.Commit tid []) node lists = refl
+logs_others (records.Commit tid (first ∷ others)) node lists = rw (lists.others) refl
+logs_others (records.Aborted tid) node lists = refl
+logs_others (records.End tid) node lists = refl
+
 -- and the log can still be taken up whole
 logs_whole : (rec : Record) (node : NodeValue) (said : Recovery) → ListsAt rec node → AreSaid node said → is_whole_log node.setting.nodes said ≡ true → is_whole_log node.setting.nodes (found_record said rec) ≡ true
 logs_whole (records.Prepare tid server covers changes) node said lists is all = all
@@ -177,6 +186,7 @@ module _ (rec : Record) (work : Work) (may : MayLog rec work) where
   log_on lists = record {
     setting = refl;
     more = rec ∷ [];
+    others = logs_others rec work.node lists;
     records = refl;
     forced = ap (λ (f : Bool). work.out.force || f) (or_none (is_forced rec));
     commands = λ is. is;

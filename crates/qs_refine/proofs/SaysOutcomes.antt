@@ -38,6 +38,7 @@ use Rattle.qs_refine.proofs.SaysLogs.{MayLog, ListsIt, lists_told, log_on, log_i
 use Rattle.qs_refine.proofs.SaysOn.{on_itself, on_then, fold_on, if_on, rest_on, two_on, grown_on, KeepsTelling, enter_on, send_on, sends_on, queues_on, server_on, part_on, absent_on}
 use Rattle.qs_refine.proofs.SoundKnown.{same_is}
 use Rattle.qs_refine.specs.Sights.{list_of}
+use Rattle.qs_world.specs.Openings as openings
 use Rattle.qs_world.specs.Openings.{is_in_run}
 use Rattle.qs_refine.specs.Lists.{is_commit, tell_at, tell_of_part}
 use Rattle.qs_refine.specs.Links.{names_node, node_no}
@@ -116,7 +117,7 @@ decided_may tid outcome work rec = by outcome (part_of tid work) refl
 
 -- a commit that is decided is the first of its transaction in the log, and names nodes of the run
 abbrev pub MayList : Tid → Outcome → Work → Type 0
-MayList tid outcome work = outcome ≡ outcomes.Commit → (part : Participant) → part_of tid work ≡ Some part → (part.log.listed ≡ false) × (list_all (is_in_run work.node.setting.nodes) (listed part.told) ≡ true)
+MayList tid outcome work = outcome ≡ outcomes.Commit → (part : Participant) → part_of tid work ≡ Some part → (part.log.listed ≡ false) × ((list_all (is_in_run work.node.setting.nodes) (listed part.told) ≡ true) × (not (openings.has_node (listed part.told) tid.home) ≡ true))
 
 pub aborts_none : (tid : Tid) (work : Work) → MayList tid outcomes.Abort work
 aborts_none tid work is = absurd (cc (is))
@@ -158,7 +159,8 @@ decide_on tid outcome cause work closed may_list =
                 (lists_told tid (listed part.told) (with_manager (tm.decide tid outcomes.Commit) work).node (record {
                   named = λ m names. let its = listed_within part.told m names in (its.0, subst (λ (s : Nodes). has_node s (node_no m) ≡ true) (sym told_is) its.1);
                   all = λ m below has. listed_names part.told m below (subst (λ (s : Nodes). has_node s (node_no m) ≡ true) told_is has);
-                  run = (may_list refl part known).1;
+                  run = (may_list refl part known).1.0;
+                  others = (may_list refl part known).1.1;
                   fresh = ap (λ (f : InLog). f.listed) flags_are ∙ (may_list refl part known).0;
                 }))
             written false is = absurd (cc (is))

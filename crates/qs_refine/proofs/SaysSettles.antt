@@ -32,6 +32,7 @@ use Rattle.qs_step.specs.Settling.{is_pass_due, pass_rule, may_answer, is_quiet,
 use Rattle.qs_step.specs.State.{Work, here, part_of, doings_of, with_node, with_manager, with_queues, with_doings, change_server}
 use Rattle.qs_step.specs.Telling.{record_learnt, end_record}
 use Rattle.qs_step.specs.Voting.{owes_note, issue_note, note_text, change_count, served_count, enter_vote, vote_with, vote_frame, vote_next, due_votes, vote_pass}
+use Rattle.qs_world.specs.Openings as openings
 use Rattle.qs_world.specs.Openings.{is_in_run}
 use Rattle.qs_refine.specs.SaidLaws.{no_flags, flags_at, SaysOn}
 use Rattle.qs_refine.specs.Sound.{is_sound, where_so}
@@ -46,7 +47,7 @@ use Rattle.qs_refine.proofs.SoundSettle.{ready_rule_sound, refuse_rule_sound, un
 use Rattle.qs_refine.proofs.SoundViews.{PartSound, seen}
 use Rattle.qs_refine.proofs.SoundVotes.{vote_next_holds, pass_open, pass_rule_sound}
 use Rattle.qs_refine.proofs.SaysTells.{open_of}
-use Rattle.qs_refine.proofs.WholeKept.{told_in_run}
+use Rattle.qs_refine.proofs.WholeKept.{names_others, told_in_run}
 
 -- ---- votes
 
@@ -129,7 +130,7 @@ module _ (tid : Tid) (part : Participant) (work : Work) (known : part_of tid wor
           unless part.log.listed _ (off part.engage.home _ (nowhere part.outcome open_now)) lists.0
 
       may_list : MayList tid outcomes.Commit work
-      may_list _ other its = subst (λ (p : Participant). (p.log.listed ≡ false) × (list_all (is_in_run work.node.setting.nodes) (listed p.told) ≡ true)) (one part other (sym known ∙ its)) (unlisted_yet, told_in_run work.node part s.peers)
+      may_list _ other its = subst (λ (p : Participant). (p.log.listed ≡ false) × ((list_all (is_in_run work.node.setting.nodes) (listed p.told) ≡ true) × (not (openings.has_node (listed p.told) tid.home) ≡ true))) (one part other (sym known ∙ its)) (unlisted_yet, (told_in_run work.node part s.peers, names_others part.told tid.home s.outside))
         where
           one : (a b : Participant) → Some a ≡ Some b → a ≡ b
           one a b same = cc (same)

@@ -12,7 +12,10 @@ use Rattle.qs_restart.specs.Recovery.{Recovery, Untold, ended, is_untold_of}
 use Rattle.qs_step.specs.State.{NodeValue}
 use Rattle.qs_tm.specs.declared.participant.Participant.{Participant}
 use Rattle.qs_world.specs.Openings.{is_in_run, names_run, is_commit_of_other, are_once, is_whole_log}
+use Rattle.qs_world.specs.Openings as openings
+use Rattle.qs_refine.specs.Links.{names_node, node_no}
 use Rattle.qs_refine.specs.Sound.{is_sound_peer, where_so}
+use Rattle.qs_refine.proofs.NodeLists.{listed_within}
 use Rattle.qs_refine.proofs.SoundKnown.{same_is}
 use Rattle.qs_refine.proofs.SoundParts.{and_both}
 
@@ -109,3 +112,11 @@ told_in_run node part peers = all_listed part.told (is_in_run node.setting.nodes
         let both : (is_sound_peer node part n ≡ true) × (list_all (is_sound_peer node part) list ≡ true) = and_both (is_sound_peer node part n) (list_all (is_sound_peer node part) list) all in
         both_are (where_so (has_node part.told n) (is_in_run node.setting.nodes n)) (list_all (λ n. where_so (has_node part.told n) (is_in_run node.setting.nodes n)) list)
         (and_both _ (where_so (has_node part.told n) (is_in_run node.setting.nodes n)) (and_both _ _ both.0).1).1 (each list both.1)
+
+-- whom a set lacks its list does not name
+pub names_others : (nodes : Nodes) (node : NodeNo) → not (has_node nodes node) ≡ true → not (openings.has_node (listed nodes) node) ≡ true
+names_others nodes node lacks = by (names_node (listed nodes) (node_no node.0)) refl
+  where
+    by : (b : Bool) → names_node (listed nodes) (node_no node.0) ≡ b → not b ≡ true
+    by false off = refl
+    by true on = absurd (let has : has_node nodes node ≡ true = (listed_within nodes node.0 on).1 in let off : not true ≡ true = subst (λ (b : Bool). not b ≡ true) has lacks in cc (off))

@@ -1,5 +1,5 @@
 -- Rules of a node's step that leave it sound over its log.
-use Rattle.std.specs.Prelude.{◌≡◌, ℕ, true, List, Option, Some, None, false}
+use Rattle.std.specs.Prelude.{◌≡◌, ℕ, true, List, Option, Some, None, false, not}
 use Rattle.std.specs.List.{list_all}
 use Rattle.qs_base.specs.declared.identifiers.Member.{Member}
 use Rattle.qs_base.specs.declared.identifiers.NodeNo.{NodeNo}
@@ -24,6 +24,7 @@ use Rattle.qs_step.specs.State.{Work, part_of}
 use Rattle.qs_step.specs.Step.{happen, answer_waiting}
 use Rattle.qs_step.specs.Telling.{tell_came, told_came}
 use Rattle.qs_step.specs.declared.event.Event.{Event}
+use Rattle.qs_world.specs.Openings as openings
 use Rattle.qs_world.specs.Openings.{is_in_run}
 use Rattle.qs_refine.specs.Lists.{is_commit}
 use Rattle.qs_refine.specs.SaidLaws.{SaysOn, BeginsNew}
@@ -72,7 +73,7 @@ HappenSays = (event : Event) (work : Work) → MayHappen event work → BeginsNe
 
 abbrev pub DecideSays : Type 0
 DecideSays = (tid : Tid) (outcome : Outcome) (cause : Option Cause) (work : Work) → ((part : Participant) → part_of tid work ≡ Some part → is_commit part.outcome ≡ false)
-    → (outcome ≡ outcomes.Commit → (part : Participant) → part_of tid work ≡ Some part → (part.log.listed ≡ false) × (list_all (is_in_run work.node.setting.nodes) (listed part.told) ≡ true)) → SaysOn work (decide tid outcome cause work)
+    → (outcome ≡ outcomes.Commit → (part : Participant) → part_of tid work ≡ Some part → (part.log.listed ≡ false) × ((list_all (is_in_run work.node.setting.nodes) (listed part.told) ≡ true) × (not (openings.has_node (listed part.told) tid.home) ≡ true))) → SaysOn work (decide tid outcome cause work)
 
 abbrev pub PassSays : Type 0
 PassSays = (tid : Tid) (part : Participant) (work : Work) → part_of tid work ≡ Some part → is_undecided part ≡ true → is_sound work.node ≡ true → SaysOn work (pass_rule tid part work)
