@@ -75,6 +75,7 @@ pub mod OpenMoves
 pub mod Others
 pub mod OthersCame
 pub mod OutcomeGoes
+mod PastRecords
 pub mod PeerNoticed
 pub mod Placing
 pub mod Posted

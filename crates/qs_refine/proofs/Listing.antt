@@ -28,6 +28,7 @@ use Rattle.qs_refine.specs.SoundSteps.{begun}
 use Rattle.qs_refine.specs.Steadies.{IsSteadyWorld, MachineGives, GivesAt}
 use Rattle.qs_refine.proofs.MoveGoes.{StepMay, step_may}
 use Rattle.qs_refine.proofs.Moving.{up_taken}
+use Rattle.qs_refine.proofs.PastRecords.{EachPast, move_past, start_past}
 use Rattle.qs_refine.proofs.Posted.{up_all}
 use Rattle.qs_refine.proofs.SaidMoves.{log_same}
 use Rattle.qs_refine.proofs.SaidNames.{opening_left}
@@ -44,8 +45,9 @@ use Rattle.qs_refine.proofs.TakenLists.{opened_lists}
 pub listed_with : (world after : World) (n : ℕ) (host : Host) → after.size ≡ world.size → ((k : ℕ) → after.hosts k ≡ with_at world.hosts n host k) → ((k : ℕ) → (k == n) ≡ false → after.channels.up k ≡ true → world.channels.up k ≡ true)
     → (n < world.size → after.channels.up n ≡ true → AreListed host.node (recovery (host.log ++ host.waiting))) → (n < world.size → AreTaken (recovery host.log))
     → (n < world.size → is_whole_log world.size (recovery (host.log ++ host.waiting)) ≡ true) → (n < world.size → is_whole_log world.size (recovery host.log) ≡ true)
-    → (n < world.size → list_all lists_others (host.log ++ host.waiting) ≡ true) → IsListedWorld world → IsListedWorld after
-listed_with world after n host sized hosts up_is now log whole whole_log others is = record {
+    → (n < world.size → list_all lists_others (host.log ++ host.waiting) ≡ true) → EachPast after → IsListedWorld world → IsListedWorld after
+listed_with world after n host sized hosts up_is now log whole whole_log others past is = record {
+  past = past;
   nodes = λ k low up. subst (λ (h : Host). AreListed h.node (recovery (h.log ++ h.waiting))) (sym (hosts k)) (node_at k (subst (λ (s : ℕ). k < s) sized low) up (k == n) refl);
   logs = λ k low. subst (λ (h : Host). AreTaken (recovery h.log)) (sym (hosts k)) (log_at k (subst (λ (s : ℕ). k < s) sized low) (k == n) refl);
   whole = λ k low. subst (λ (h : Host). is_whole_log after.size (recovery (h.log ++ h.waiting)) ≡ true) (sym (hosts k)) (subst (λ (s : ℕ). is_whole_log s (recovery ((with_at world.hosts n host k).log ++ (with_at world.hosts n host k).waiting)) ≡ true) (sym sized) (whole_at k (subst (λ (s : ℕ). k < s) sized low) (k == n) refl));
@@ -122,12 +124,12 @@ module _ (world : World) (steady : IsSteadyWorld world) (listed : IsListedWorld 
       by true = subst (λ (l : List Record). AreTaken (recovery l)) (append_three host.log host.waiting out.records) whole.taken
       by false = listed.logs n low
 
-  step_listed : IsListedWorld (step_with world n stamp free source (Some event))
-  step_listed = listed_with world (step_with world n stamp free source (Some event)) n (stepped_host stamp (after_step host.node event free) out host) refl (λ k. refl)
+  step_listed : EachPast (step_with world n stamp free source (Some event)) → IsListedWorld (step_with world n stamp free source (Some event))
+  step_listed past = listed_with world (step_with world n stamp free source (Some event)) n (stepped_host stamp (after_step host.node event free) out host) refl (λ k. refl)
       (λ k apart on. ap (λ (f : ℕ → Bool). f k) (sym up_is) ∙ on)
       (λ _ _. subst (λ (l : List Record). AreListed (after_step host.node event free) (recovery l)) (sym (log_same out.force host.log host.waiting out.records)) whole) (λ _. log_taken)
       (λ _. subst (λ (l : List Record). is_whole_log world.size (recovery l) ≡ true) (sym (log_same out.force host.log host.waiting out.records)) all_whole) (λ _. log_whole)
-      (λ _. subst (λ (l : List Record). list_all lists_others l ≡ true) (sym (log_same out.force host.log host.waiting out.records)) all_others) listed
+      (λ _. subst (λ (l : List Record). list_all lists_others l ≡ true) (sym (log_same out.force host.log host.waiting out.records)) all_others) past listed
     where
       up_is : (step_with world n stamp free source (Some event)).channels.up ≡ world.channels.up
       up_is = up_all n stamp out.messages (taken_by world n source) ∙ up_taken world n source
@@ -146,9 +148,9 @@ module _ (world : World) (steady : IsSteadyWorld world) (listed : IsListedWorld 
 
 -- ---- a node stops
 
-stop_listed : (world : World) (n stamp : ℕ) (cause : CrashCause) (log : List Record) → (n < world.size → AreTaken (recovery log)) → (n < world.size → is_whole_log world.size (recovery log) ≡ true) → (n < world.size → list_all lists_others log ≡ true) → IsListedWorld world → IsListedWorld (stopped world n stamp cause log)
-stop_listed world n stamp cause log taken whole others is = listed_with world (stopped world n stamp cause log) n (stopped_host stamp log (world.hosts n)) refl (λ k. refl) (λ k apart on. still k apart on) (λ low on. absurd (off on)) taken
-    (λ low. subst (λ (l : List Record). is_whole_log world.size (recovery l) ≡ true) (sym (append_nil log)) (whole low)) whole (λ low. subst (λ (l : List Record). list_all lists_others l ≡ true) (sym (append_nil log)) (others low)) is
+stop_listed : (world : World) (n stamp : ℕ) (cause : CrashCause) (log : List Record) → (n < world.size → AreTaken (recovery log)) → (n < world.size → is_whole_log world.size (recovery log) ≡ true) → (n < world.size → list_all lists_others log ≡ true) → EachPast (stopped world n stamp cause log) → IsListedWorld world → IsListedWorld (stopped world n stamp cause log)
+stop_listed world n stamp cause log taken whole others past is = listed_with world (stopped world n stamp cause log) n (stopped_host stamp log (world.hosts n)) refl (λ k. refl) (λ k apart on. still k apart on) (λ low on. absurd (off on)) taken
+    (λ low. subst (λ (l : List Record). is_whole_log world.size (recovery l) ≡ true) (sym (append_nil log)) (whole low)) whole (λ low. subst (λ (l : List Record). list_all lists_others l ≡ true) (sym (append_nil log)) (others low)) past is
   where
     still : (k : ℕ) → (k == n) ≡ false → (if k == n then false else world.channels.up k) ≡ true → world.channels.up k ≡ true
     still k apart on = rw apart at on
@@ -167,6 +169,7 @@ start_listed o opens taken = record {
   nodes = λ n low up. subst (λ (l : List Record). AreListed ((start o).hosts n).node (recovery l)) (sym (append_nil (o.logs n)))
       (opened_lists o.alloc (o.settings n) no_kept (o.logs n) (opening_left (recovery (o.logs n)) (each_is o.size (λ k. are_unended (recovery (o.logs k))) opens.unended n low)) (taken n low));
   logs = taken;
+  past = start_past o opens;
   whole = λ n low. subst (λ (l : List Record). is_whole_log o.size (recovery l) ≡ true) (sym (append_nil (o.logs n))) (opened n low);
   whole_logs = opened;
   others = λ n low. subst (λ (l : List Record). list_all lists_others l ≡ true) (sym (append_nil (o.logs n))) (each_others n (o.logs n) (each_is o.size (λ k. list_all (is_record o k) (o.logs k)) opens.logs n low));
@@ -190,26 +193,26 @@ start_listed o opens taken = record {
     each_others n (rec ∷ log) all = rw (others_in n rec (and_both (is_record o n rec) (list_all (is_record o n) log) all).0, each_others n log (and_both (is_record o n rec) (list_all (is_record o n) log) all).1) refl
 
 pub move_listed : MoveListed
-move_listed world (Step n stamp free source) may gives steady is = by (event_of world n stamp source) refl gives
+move_listed world (Step n stamp free source) may gives steady is = by (event_of world n stamp source) refl gives (move_past world (Step n stamp free source) may gives steady is.past)
   where
     its : StepMay world n source
     its = step_may world n stamp source may
 
-    by : (o : Option Event) → event_of world n stamp source ≡ o → GivesAt world n free o → IsListedWorld (step_with world n stamp free source o)
-    by None none gives = is
-    by (Some event) came gives = step_listed world steady is n stamp free source event came its.low its.runs gives
-move_listed world (Cut n stamp free source is_kept cause) may gives steady is = by (event_of world n stamp source) refl gives
+    by : (o : Option Event) → event_of world n stamp source ≡ o → GivesAt world n free o → EachPast (step_with world n stamp free source o) → IsListedWorld (step_with world n stamp free source o)
+    by None none gives past = is
+    by (Some event) came gives past = step_listed world steady is n stamp free source event came its.low its.runs gives past
+move_listed world (Cut n stamp free source is_kept cause) may gives steady is = by (event_of world n stamp source) refl gives (move_past world (Cut n stamp free source is_kept cause) may gives steady is.past)
   where
     its : StepMay world n source
     its = step_may world n stamp source (and_both (may_step world n stamp source) (is_crash cause) may).0
 
-    by : (o : Option Event) → event_of world n stamp source ≡ o → GivesAt world n free o → IsListedWorld (cut_with world n stamp free is_kept cause o)
-    by None none gives = is
-    by (Some event) came gives = stop_listed world n stamp cause (cut_log (world.hosts n) is_kept (effects_of (world.hosts n).node event free)) (λ _. cut_taken world steady is n stamp free source event came its.low its.runs gives is_kept) (λ _. cut_whole world steady is n stamp free source event came its.low its.runs gives is_kept) (λ _. cut_others world steady is n stamp free source event came its.low its.runs gives is_kept) is
-move_listed world (Stop n stamp cause) may gives steady is = stop_listed world n stamp cause (world.hosts n).log (λ low. is.logs n low) (λ low. is.whole_logs n low) (λ low. front_of lists_others (world.hosts n).log (world.hosts n).waiting (is.others n low)) is
+    by : (o : Option Event) → event_of world n stamp source ≡ o → GivesAt world n free o → EachPast (cut_with world n stamp free is_kept cause o) → IsListedWorld (cut_with world n stamp free is_kept cause o)
+    by None none gives past = is
+    by (Some event) came gives past = stop_listed world n stamp cause (cut_log (world.hosts n) is_kept (effects_of (world.hosts n).node event free)) (λ _. cut_taken world steady is n stamp free source event came its.low its.runs gives is_kept) (λ _. cut_whole world steady is n stamp free source event came its.low its.runs gives is_kept) (λ _. cut_others world steady is n stamp free source event came its.low its.runs gives is_kept) past is
+move_listed world (Stop n stamp cause) may gives steady is = stop_listed world n stamp cause (world.hosts n).log (λ low. is.logs n low) (λ low. is.whole_logs n low) (λ low. front_of lists_others (world.hosts n).log (world.hosts n).waiting (is.others n low)) (move_past world (Stop n stamp cause) may gives steady is.past) is
 move_listed world (Rise n stamp inc) may gives steady is = listed_with world (moved (Rise n stamp inc) world) n (risen_host stamp inc (recovered_of (world.hosts n).log) (world.hosts n)) refl (λ k. refl) (λ k apart on. still k apart on)
     (λ low on. subst (λ (l : List Record). AreListed (reopened inc (recovered_of (world.hosts n).log) (world.hosts n).node) (recovery l)) (sym (all_logged low)) (opened_lists (world.hosts n).node.manager.alloc (record (world.hosts n).node.setting { inc = inc }) (world.hosts n).node.kept.saved (world.hosts n).log (steady.nodes n low).unended (is.logs n low)))
-    (λ low. is.logs n low) (λ low. is.whole n low) (λ low. is.whole_logs n low) (λ low. is.others n low) is
+    (λ low. is.logs n low) (λ low. is.whole n low) (λ low. is.whole_logs n low) (λ low. is.others n low) (move_past world (Rise n stamp inc) may gives steady is.past) is
   where
     off : (b : Bool) → not b ≡ true → b ≡ false
     off true is = absurd (cc (is))
@@ -220,4 +223,4 @@ move_listed world (Rise n stamp inc) may gives steady is = listed_with world (mo
 
     still : (k : ℕ) → (k == n) ≡ false → (if k == n then true else world.channels.up k) ≡ true → world.channels.up k ≡ true
     still k apart on = rw apart at on
-move_listed world (Meet n stamp m inc) may gives steady is = listed_with world (moved (Meet n stamp m inc) world) n (record (world.hosts n) { stamp = stamp }) refl (λ k. refl) (λ k apart on. on) (λ low on. is.nodes n low on) (λ low. is.logs n low) (λ low. is.whole n low) (λ low. is.whole_logs n low) (λ low. is.others n low) is
+move_listed world (Meet n stamp m inc) may gives steady is = listed_with world (moved (Meet n stamp m inc) world) n (record (world.hosts n) { stamp = stamp }) refl (λ k. refl) (λ k apart on. on) (λ low on. is.nodes n low on) (λ low. is.logs n low) (λ low. is.whole n low) (λ low. is.whole_logs n low) (λ low. is.others n low) (move_past world (Meet n stamp m inc) may gives steady is.past) is
