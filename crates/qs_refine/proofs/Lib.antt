@@ -58,6 +58,7 @@ pub mod LogClosing
 pub mod LogEnds
 pub mod LogFrames
 pub mod Logging
+mod LogsGrow
 pub mod Maps
 pub mod Meeting
 pub mod MetWork

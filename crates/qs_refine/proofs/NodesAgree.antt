@@ -91,9 +91,9 @@ learners_stand tid world n is home_in other committed learns =
     let face = sees.faces n learns.in_run learns.runs in
     let open_now : outcome_of (part_at (world.hosts n).node tid) ≡ Open = ap (λ (p : Participant). outcome_of p) (part_known tid (world.hosts n).node learns.part learns.known) ∙ undecided learns.part learns.undecided in
     let told = (shown.shows.seen.lawful.answered cell).in_doubt (place n (world.channels.inc n)) (λ same. other (sym at ∙ (same ∙ home_node)))
-        (sees.stage.up n (world.channels.inc n) learns.in_run ∙ rw (learns.runs) (nat_is (world.channels.inc n)))
-        ((face.running open_now).involved ∙ (ap (λ (p : Participant). p.involved) (part_known tid (world.hosts n).node learns.part learns.known) ∙ learns.involved))
-        (face.outcome ∙ open_now) in
+    (sees.stage.up n (world.channels.inc n) learns.in_run ∙ rw (learns.runs) (nat_is (world.channels.inc n)))
+    ((face.running open_now).involved ∙ (ap (λ (p : Participant). p.involved) (part_known tid (world.hosts n).node learns.part learns.known) ∙ learns.involved))
+    (face.outcome ∙ open_now) in
     (sym (logs.unended refl) ∙ told.1, sym (logs.named refl told.1 n) ∙ subst (λ (k : ℕ). w.commit_list k ≡ true) at told.0)
   where
     nat_is : (k : ℕ) → (k == k) ≡ true

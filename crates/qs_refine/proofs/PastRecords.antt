@@ -80,7 +80,7 @@ known_past world count zero tid is = by (nat_lt tid.home.0 world.size) its.0 its
 
 -- ---- the records of a step
 
-record_fits : (past : Tid → Bool) (me : NodeNo) (rec : Record) → fits_record past me rec ≡ true → past (tid_of rec) ≡ true
+pub record_fits : (past : Tid → Bool) (me : NodeNo) (rec : Record) → fits_record past me rec ≡ true → past (tid_of rec) ≡ true
 record_fits past me (records.Prepare tid server covers changes) is = (and_both (past tid) _ is).0
 record_fits past me (records.Commit tid told) is = (and_both (past tid) _ is).0
 record_fits past me (records.Aborted tid) is = is

@@ -119,6 +119,9 @@ decided_may tid outcome work rec = by outcome (part_of tid work) refl
 abbrev pub MayList : Tid → Outcome → Work → Type 0
 MayList tid outcome work = outcome ≡ outcomes.Commit → (part : Participant) → part_of tid work ≡ Some part → (part.log.listed ≡ false) × ((list_all (is_in_run work.node.setting.nodes) (listed part.told) ≡ true) × (not (openings.has_node (listed part.told) tid.home) ≡ true))
 
+abbrev flags_in : Option Participant → InLog
+flags_in o = elim o [ None ↦ no_flags | Some part ↦ part.log ]
+
 pub aborts_none : (tid : Tid) (work : Work) → MayList tid outcomes.Abort work
 aborts_none tid work is = absurd (cc (is))
 
@@ -142,15 +145,9 @@ decide_on tid outcome cause work closed may_list =
         told_in : Option Participant → Nodes
         told_in o = elim o [ None ↦ no_nodes | Some part ↦ tell_of_part part ]
 
-        flags_in : Option Participant → InLog
-        flags_in o = elim o [ None ↦ no_flags | Some part ↦ part.log ]
-
         lists : (o : Outcome) → MayList tid o work → (part : Participant) → part_of tid work ≡ Some part → record_of tid o part ≡ Some rec → ListsIt rec (with_manager (tm.decide tid o) work)
         lists outcomes.Commit may_list part known is = written (writes_commit part) is
           where
-            flags_are : flags_at tid (with_manager (tm.decide tid outcomes.Commit) work).node ≡ part.log
-            flags_are = ap flags_in (lookup_changed (is_at (tid_cmp tid)) (outcome_rules.decided outcomes.Commit) work.node.manager.known part known)
-
             told_is : tell_at tid (with_manager (tm.decide tid outcomes.Commit) work).node ≡ part.told
             told_is = ap told_in (lookup_changed (is_at (tid_cmp tid)) (outcome_rules.decided outcomes.Commit) work.node.manager.known part known)
 
@@ -161,7 +158,7 @@ decide_on tid outcome cause work closed may_list =
                   all = λ m below has. listed_names part.told m below (subst (λ (s : Nodes). has_node s (node_no m) ≡ true) told_is has);
                   run = (may_list refl part known).1.0;
                   others = (may_list refl part known).1.1;
-                  fresh = ap (λ (f : InLog). f.listed) flags_are ∙ (may_list refl part known).0;
+                  fresh = ap (λ (o : Option Participant). (flags_in o).listed) (lookup_changed (is_at (tid_cmp tid)) (outcome_rules.decided outcomes.Commit) work.node.manager.known part known) ∙ (may_list refl part known).0;
                 }))
             written false is = absurd (cc (is))
         lists outcomes.Abort may_list part known is = ended part.log.prepared is

@@ -1,13 +1,14 @@
 //! What holds of the world of nodes over every run.
-ghost use Rattle.qs_refine.specs.EveryRun.{WholeTaken, EveryRunShown, EveryRunGoes, EveryRunAgrees, EveryRunTells, EveryRunTellsLearners};
+ghost use Rattle.qs_refine.specs.EveryRun.{WholeTaken, EveryRunShown, EveryRunGoes, EveryLogGrows, EveryRunAgrees, EveryRunTells, EveryRunTellsLearners};
 ghost use Rattle.qs_refine.specs.WorldLaws.{NodesAgree, LogsStand, LearnersStand};
 
 /// Over every run each transaction that has begun, in it or before, is shown by a lawful world of the agreement machine, and goes on by
-/// the machine's events.
+/// the machine's events. And each log only grows, by records that name transactions.
 pub fn every_run()
     ensures whole { WholeTaken }
     ensures shown { EveryRunShown }
     ensures goes { EveryRunGoes }
+    ensures grows { EveryLogGrows }
 {}
 
 /// Nodes agree: nobody knows a commit where another knows an abort.
