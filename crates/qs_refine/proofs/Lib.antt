@@ -23,6 +23,7 @@ pub mod DecideAbort
 pub mod DecideCommit
 pub mod Deciding
 pub mod Doubts
+mod DoubtsBefore
 pub mod During
 pub mod EventFaces
 pub mod EventGoes
@@ -106,6 +107,7 @@ pub mod Same
 pub mod SayYes
 pub mod SaysLogs
 pub mod NodeLists
+mod SaysNotices
 pub mod SaysOn
 pub mod SaysTells
 pub mod SaysOutcomes

@@ -32,6 +32,8 @@ use Rattle.qs_step.specs.declared.state.OpenCommand.{OpenCommand}
 use Rattle.qs_refine.specs.SaidLaws.{lists_others, no_flags, flags_at, AreSaid, SaysOn}
 use Rattle.qs_refine.specs.Links.{node_no}
 use Rattle.qs_step.specs.declared.setting.Setting.{Setting}
+use Rattle.qs_engage.specs.Nodes.{same_node}
+use Rattle.qs_refine.proofs.DoubtsBefore.{own_then}
 use Rattle.qs_world.specs.Openings.{is_whole_log}
 use Rattle.qs_refine.specs.Lists.{AreListed, tell_at, tell_of_part}
 use Rattle.qs_refine.specs.SoundSteps.{is_open_in_run, commands_in_run}
@@ -63,6 +65,7 @@ on_then {a} {b} {c} first second = record {
   forced = second.forced ∙ (ap (λ (f : Bool). f || list_any is_forced second.more) first.forced ∙ (or_more a.out.force (list_any is_forced first.more) (list_any is_forced second.more)
       ∙ ap (λ (f : Bool). a.out.force || f) (sym (list_any-append is_forced first.more second.more))));
   commands = λ is. second.commands (first.commands is);
+  own = λ said is t off any. own_then t first.more second.more said (first.own said is t off) (second.own (fold found_record said first.more) (first.said said is) t (subst (λ (s : Setting). same_node t.home s.node ≡ false) (sym first.setting) off)) any;
   others = list_all-append lists_others first.more second.more ∙ rw (first.others, second.others) refl;
   said = λ said is. subst (λ (r : Recovery). AreSaid c.node r) (sym (fold-append found_record said first.more second.more)) (second.said (fold found_record said first.more) (first.said said is));
   lists = λ said is has. subst (λ (r : Recovery). AreListed c.node r) (sym (fold-append found_record said first.more second.more)) (second.lists (fold found_record said first.more) (first.said said is) (first.lists said is has));
@@ -95,6 +98,7 @@ two_on work new rest same tells = record {
   setting = rest.setting;
   more = [];
   others = refl;
+  own = λ said is t off any. absurd (cc (any));
   records = rest.records ∙ sym (append_nil work.out.records);
   forced = rest.force ∙ or_none work.out.force;
   commands = rest.commands;
