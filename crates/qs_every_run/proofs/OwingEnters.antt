@@ -40,6 +40,7 @@ use Rattle.qs_lawful.specs.Logs.{Every}
 use Rattle.qs_lawful.proofs.Answers.{AreApart, client_exact, same_client_or}
 use Rattle.qs_lawful.proofs.Apart.{Apart}
 use Rattle.qs_lawful.proofs.Begins.{label_stays}
+use Rattle.qs_lawful.proofs.LogKeeps.{map_both}
 use Rattle.qs_lawful.proofs.OtherShares.{removed_apart}
 use Rattle.qs_lawful.proofs.Truths.{of_some}
 use Rattle.qs_every_run.specs.OwingAmid.{Amid, Around, IsCommanded, NotAwaited, StandsSo, around, command_at}
@@ -78,11 +79,7 @@ unissued a m client command there none tid part known undecided = every_each (λ
     not_this request c same = no c.issued (sym none ∙ (ap (λ (o : OpenCommand). o.issued) (of_some (sym there ∙ subst (λ (x : ClientNo). command_at x a ≡ Some c.command) same c.there)) ∙ c.as_issued))
 
 pub history_more : (before : List Entry) (n stamp : ℕ) (acts : List Act) (act : Act) → before ++ entries_of n stamp (acts ++ act ∷ []) ≡ (before ++ entries_of n stamp acts) ++ entry_of n stamp act ∷ []
-history_more before n stamp acts act = ap (λ (es : List Entry). before ++ es) (mapped acts) ∙ sym (append_assoc before (entries_of n stamp acts) (entry_of n stamp act ∷ []))
-  where
-    mapped : (more : List Act) → entries_of n stamp (more ++ act ∷ []) ≡ entries_of n stamp more ++ entry_of n stamp act ∷ []
-    mapped [] = refl
-    mapped (a ∷ more) = ap (λ (es : List Entry). entry_of n stamp a ∷ es) (mapped more)
+history_more before n stamp acts act = ap (λ (es : List Entry). before ++ es) (map_both n stamp acts (act ∷ [])) ∙ sym (append_assoc before (entries_of n stamp acts) (entry_of n stamp act ∷ []))
 
 module _ (before : List Entry) (stamp : ℕ) where
   abbrev Here : Work → Type 0

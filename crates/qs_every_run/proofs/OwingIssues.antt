@@ -19,7 +19,6 @@ use Rattle.qs_ops.specs.Servers.{files_no, is_client_no}
 use Rattle.qs_ops.specs.declared.operation.Op.{Op}
 use Rattle.qs_tm.specs.Manager as tm
 use Rattle.qs_tm.specs.Participant as participant
-use Rattle.qs_tm.specs.Participant.{is_answered_by}
 use Rattle.qs_tm.specs.declared.manager.Manager.{Manager}
 use Rattle.qs_tm.specs.declared.participant.Outstanding.{Outstanding}
 use Rattle.qs_tm.specs.declared.participant.Participant.{Participant}
@@ -29,7 +28,7 @@ use Rattle.qs_lawful.proofs.Counting.{index_alike}
 use Rattle.qs_lawful.proofs.LogRecords.{every_append}
 use Rattle.qs_lawful.proofs.Parts.{index_apart}
 use Rattle.qs_lawful.proofs.Replied.{part_twice}
-use Rattle.qs_lawful.proofs.Truths.{clash, node_is, of_some}
+use Rattle.qs_lawful.proofs.Truths.{clash, node_is, not_true, of_some, same_self}
 use Rattle.qs_every_run.specs.Owing.{is_awaited, is_uncounted, stands_awaited, stands_uncounted}
 use Rattle.qs_every_run.specs.OwingAmid.{Around, IsCommanded, IsHeld, LeavesWaits, StandsSo, Waits}
 use Rattle.qs_every_run.proofs.OwingParts.{WaitsOn, every_each, so_left, so_on, waits_changed}
@@ -47,9 +46,6 @@ stands_last tid peer here number (first ∷ rest) entry is = either (is_uncounte
 awaits_last : (tid : Tid) (peer : NodeNo) (server : ℕ) (history : List Entry) (entry : Entry) → is_awaited tid peer server entry.act [] ≡ true → stands_awaited tid peer server (history ++ entry ∷ []) ≡ true
 awaits_last tid peer server [] entry is = rw is refl
 awaits_last tid peer server (first ∷ rest) entry is = either (is_awaited tid peer server first.act (rest ++ entry ∷ [])) _ (awaits_last tid peer server rest entry is)
-
-same_number : (n : ℕ) → (n == n) ≡ true
-same_number n = grind (arith, nat_tests)
 
 -- ---- the places of peers
 
@@ -71,10 +67,6 @@ set_opens (p ∷ ps) zero (suc j) v more is = is
 set_opens (p ∷ ps) (suc i) zero v more is = is
 set_opens (p ∷ ps) (suc i) (suc j) v more is = set_opens ps i j v more is
 
-not_so : (b : Bool) → not b ≡ true → b ≡ false
-not_so true e = absurd (cc e)
-not_so false e = refl
-
 is_not : (b : Bool) → b ≡ false → not b ≡ true
 is_not b e = rw e refl
 
@@ -86,7 +78,7 @@ module _ (a b : Around) (entry : Entry) (me : b.me ≡ a.me) (history : b.histor
   answers_nobody t = every_each (WaitsOn a b t (entry ∷ [])) (λ request other c. (rw act refl, same t request c))
 
   counted_left : LeavesWaits (participant.counted tid.home peer up_to told)
-  counted_left = record { opens = λ p q h. is_not _ (set_opens p.engage.peers peer.0 q.0 (new p) (more p) (not_so _ h)); sent = λ p q. index_alike (λ (x : PeerPart). x.sent) p.engage.peers peer.0 q.0 (new p) no_peer refl; waiting = λ p. refl; outcome = λ p h. h }
+  counted_left = record { opens = λ p q h. is_not _ (set_opens p.engage.peers peer.0 q.0 (new p) (more p) (not_true _ h)); sent = λ p q. index_alike (λ (x : PeerPart). x.sent) p.engage.peers peer.0 q.0 (new p) no_peer refl; waiting = λ p. refl; outcome = λ p h. h }
     where
       new : Participant → PeerPart
       new p = record (peer_of p.engage peer) { covered = max (peer_of p.engage peer).covered up_to }
@@ -128,8 +120,8 @@ module _ (a b : Around) (entry : Entry) (me : b.me ≡ a.me) (history : b.histor
 
               at : is_open_to peer now ≡ true → nat_le (peer_of now peer).sent up_to ≡ false
               at open_now =
-                  let there : peer_of now peer ≡ new = set_above p.engage.peers peer.0 new (not_so _ open_now) in
-                  subst (λ (x : PeerPart). nat_le x.sent up_to ≡ false) (sym there) (above (peer_of p.engage peer).sent (peer_of p.engage peer).covered up_to (not_so _ (subst (λ (x : PeerPart). not (is_covered x) ≡ true) there open_now)))
+                  let there : peer_of now peer ≡ new = set_above p.engage.peers peer.0 new (not_true _ open_now) in
+                  subst (λ (x : PeerPart). nat_le x.sent up_to ≡ false) (sym there) (above (peer_of p.engage peer).sent (peer_of p.engage peer).covered up_to (not_true _ (subst (λ (x : PeerPart). not (is_covered x) ≡ true) there open_now)))
 
           none : (q : NodeNo) → is_open_to q now ≡ true → ((entry.node.0 == a.me.0) && is_count_of tid q (peer_of now q).sent entry.act || false) ≡ false
           none q open_to = rw act (by (peer.0 == q.0) refl (entry.node.0 == a.me.0) (same_tid tid tid))
@@ -163,7 +155,7 @@ module _ (a : Around) (before : List Entry) (entry : Entry) (at : entry.node.0 �
       by false is = rw ((client is).1) refl
 
       stands : is_awaited tid request.member.node request.issuer.0 entry.act [] ≡ true
-      stands = rw (act, server, same_tid-self tid, same_number request.member.node.0, same_number request.issuer.0) (by (request.issuer.0 == files_no) refl)
+      stands = rw (act, server, same_tid-self tid, same_self request.member.node.0, same_self request.issuer.0) (by (request.issuer.0 == files_no) refl)
 
   -- to a server here it is not counted
   own_here : (p : Participant) → StandsSo a tid p → StandsSo a tid (participant.issued request p)
@@ -187,14 +179,14 @@ module _ (a : Around) (before : List Entry) (entry : Entry) (at : entry.node.0 �
 
       last_stands : stands_uncounted tid to a.me request.number a.history ≡ true
       last_stands = subst (λ (h : List Entry). stands_uncounted tid to a.me request.number h ≡ true) (sym last) (stands_last tid to a.me request.number before entry
-          (rw (act, at, same_tid-self tid, same_number request.member.node.0, same_number a.me.0, same_number request.number) refl))
+          (rw (act, at, same_tid-self tid, same_self request.member.node.0, same_self a.me.0, same_self request.number) refl))
 
       sends : (((peer_of p.engage to).sent == last_number) ≡ false) × ((peer_of p.engage to).sent + 1 ≡ request.number) → (q : NodeNo) → is_open_to q (engage.sent to p.engage) ≡ true → stands_uncounted tid q a.me (peer_of (engage.sent to p.engage) q).sent a.history ≡ true
       sends both q = subst (λ (e : Engage). is_open_to q e ≡ true → stands_uncounted tid q a.me (peer_of e q).sent a.history ≡ true) (sym (ap (λ (b : Bool). if b then p.engage else with_peer to new p.engage) both.0)) (by (to.0 == q.0) refl)
         where
           by : (b : Bool) → (to.0 == q.0) ≡ b → is_open_to q (with_peer to new p.engage) ≡ true → stands_uncounted tid q a.me (peer_of (with_peer to new p.engage) q).sent a.history ≡ true
           by true is = subst (λ (n : NodeNo). is_open_to n (with_peer to new p.engage) ≡ true → stands_uncounted tid n a.me (peer_of (with_peer to new p.engage) n).sent a.history ≡ true) (node_is to q (eqb-true to.0 q.0 is))
-              (λ open_to. subst (λ (x : PeerPart). stands_uncounted tid to a.me x.sent a.history ≡ true) (sym (set_above p.engage.peers to.0 new (not_so _ open_to))) (subst (λ (k : ℕ). stands_uncounted tid to a.me k a.history ≡ true) (sym both.1) last_stands))
+              (λ open_to. subst (λ (x : PeerPart). stands_uncounted tid to a.me x.sent a.history ≡ true) (sym (set_above p.engage.peers to.0 new (not_true _ open_to))) (subst (λ (k : ℕ). stands_uncounted tid to a.me k a.history ≡ true) (sym both.1) last_stands))
           by false is = subst (λ (x : PeerPart). not (is_covered x) ≡ true → stands_uncounted tid q a.me x.sent a.history ≡ true) (sym (index_apart p.engage.peers to.0 q.0 new no_peer (λ e. differ to.0 q.0 is e))) (s.uncounted q)
             where
               differ : (i j : ℕ) → (i == j) ≡ false → i ≡ j → ⊥

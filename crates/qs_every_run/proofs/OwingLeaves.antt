@@ -6,7 +6,7 @@ use Rattle.qs_base.specs.declared.identifiers.NodeNo.{NodeNo}
 use Rattle.qs_base.specs.declared.identifiers.Outcome.{Outcome}
 use Rattle.qs_base.specs.declared.identifiers.ServerNo.{ServerNo}
 use Rattle.qs_engage.specs.Engage as engage
-use Rattle.qs_engage.specs.Engage.{is_covered, is_open_to, last_number, no_peer, peer_of, with_last, with_peer, with_superior}
+use Rattle.qs_engage.specs.Engage.{is_covered, is_open_to, last_number, no_peer, peer_of, with_last, with_superior}
 use Rattle.qs_engage.specs.declared.engage.Engage.{Engage}
 use Rattle.qs_engage.specs.declared.engage.PeerPart.{PeerPart}
 use Rattle.qs_ops.specs.declared.answer.Cause.{Cause}

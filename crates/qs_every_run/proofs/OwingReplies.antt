@@ -1,7 +1,7 @@
 -- As a reply comes, its request waits no more, and no other waits for the command of its client.
 use Rattle.std.proofs.Common.{◌≡◌, ℕ, ◌==◌, ◌&&◌, Bool, true, false, not, List, [], ◌∷◌, Option, Some, None, refl, sym, ap, subst, ◌∙◌, if◌then◌else◌}
 use Rattle.std.proofs.lemmas.Bool.{eqb-true}
-use Rattle.std.specs.List.{filter, find}
+use Rattle.std.specs.List.{filter}
 use Rattle.qs_base.proofs.Same.{same_member-true, same_tid-true}
 use Rattle.qs_base.specs.Order.{same_member, same_tid}
 use Rattle.qs_base.specs.declared.identifiers.ClientNo.{ClientNo}
@@ -17,6 +17,7 @@ use Rattle.qs_tm.specs.Participant.{is_answered_by, waiting_for}
 use Rattle.qs_tm.specs.declared.manager.Manager.{Manager}
 use Rattle.qs_tm.specs.declared.participant.Outstanding.{Outstanding}
 use Rattle.qs_tm.specs.declared.participant.Participant.{Participant}
+use Rattle.qs_refine.proofs.Entries.{found_is}
 use Rattle.qs_lawful.specs.Logs.{Every}
 use Rattle.qs_lawful.proofs.FactsKept.{each_changed}
 use Rattle.qs_lawful.proofs.LogRecords.{every_filter}
@@ -44,15 +45,6 @@ was_issued tid member number (Some command) is = by command.issued refl is
     by None none is = absurd (cc is)
     by (Some issued) some is = record { command = command; there = refl; issued = issued; as_issued = some; for_it = is }
 
--- a request that is found passes the test
-found_passes : (test : Outstanding → Bool) (rs : List Outstanding) (r : Outstanding) → find test rs ≡ Some r → test r ≡ true
-found_passes test [] r is = absurd (cc is)
-found_passes test (x ∷ rs) r is = by (test x) refl is (found_passes test rs r)
-  where
-    by : (b : Bool) → test x ≡ b → (if b then Some x else find test rs) ≡ Some r → (find test rs ≡ Some r → test r ≡ true) → test r ≡ true
-    by true passes e rest = subst (λ (y : Outstanding). test y ≡ true) (of_some e) passes
-    by false passes e rest = rest e
-
 module _ (a : Around) (m : Manager) (tid : Tid) (member : Member) (number : ℕ) (request : Outstanding) (waits : tm.told_of tid None (waiting_for member number) m ≡ Some request)
     (hand : waits_as tid request.member request.number (command_at (client_of request.issuer) a) ≡ true) where
   abbrev client : ClientNo
@@ -66,7 +58,7 @@ module _ (a : Around) (m : Manager) (tid : Tid) (member : Member) (number : ℕ)
     where
       by : (o : Option Participant) → (elim o [ None ↦ None | Some part ↦ waiting_for member number part ]) ≡ Some request → is_answered_by member number request ≡ true
       by None is = absurd (cc is)
-      by (Some part) is = found_passes (is_answered_by member number) part.waiting request is
+      by (Some part) is = found_is (is_answered_by member number) part.waiting request is
 
   -- a request that waits for that command is of this transaction, and has this member and number
   record IsThis (t : Tid) (r : Outstanding) : Type 0 where

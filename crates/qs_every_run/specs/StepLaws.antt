@@ -1,5 +1,5 @@
 -- The laws of a step, of clients and of what is on its way: what begins has an owner, who is answered has nothing in hand at another node, and
--- scripts and ways go on.
+-- scripts and ways go on, and what a node waits for stands.
 use Rattle.std.specs.Prelude.{◌≡◌, ◌<◌, ℕ, ◌==◌, ◌++◌, false}
 use Rattle.qs_machine.specs.Lawful.{IsLawful, book_after}
 use Rattle.qs_step.specs.Step.{after_step, effects_of}
