@@ -16,6 +16,7 @@ use Rattle.qs_lawful.specs.Scripts.{HoldsScripts}
 use Rattle.qs_lawful.specs.Worlds.{HoldsNodeAt}
 use Rattle.qs_every_run.specs.Agrees.{MakesStep}
 use Rattle.qs_every_run.specs.StepLaws.{AnswersAside, BeginsOwned, InStep, KeepsClients, KeepsScripts}
+use Rattle.qs_every_run.specs.Answering.{IsFree}
 use Rattle.qs_every_run.specs.Joined.{ClientsAt, Joined, book_in}
 use Rattle.qs_every_run.proofs.JoinedClients as clients
 use Rattle.qs_every_run.proofs.JoinedScripts as scripts
@@ -32,6 +33,10 @@ module _ (P : Opening → World → Type 0) (o : Opening) (world : World) (j : J
     where
       ordered : is_in_order world n stamp ≡ true
       ordered = (and_both (is_in_order world n stamp) _ (and_both (is_later world n stamp) _ (and_both (world.channels.up n) _ makes.may).1).0).0
+
+  -- of a client that commands nothing is in hand
+  pub comes_free : IsFree event (world.hosts n).node.commands
+  comes_free = clients.free_event o j.opens (book_in o world) world n stamp free source event makes.comes j.scripts j.clients j.size its.low its.runs at.run rising
 
   pub of_steps : Every IsOfStep (effects_of (world.hosts n).node event free).entries
   of_steps = clients.of_steps o j.opens (book_in o world) world n stamp free source event makes.comes j.scripts j.clients j.size its.low its.runs at.run rising

@@ -42,6 +42,7 @@ use Rattle.qs_every_run.proofs.ClientsGo.{clients_then, scripts_then}
 use Rattle.qs_every_run.proofs.JoinedWays.{lasts_now, steps_ways}
 use Rattle.qs_every_run.proofs.LabelsMoves.{labels_moved}
 use Rattle.qs_every_run.proofs.OwingElsewhere.{by_step, owes_on}
+use Rattle.qs_every_run.proofs.OwingSteps.{steps_owing}
 use Rattle.qs_every_run.proofs.KeptBack.{none_before, nothing_waits, step_unmet}
 use Rattle.qs_every_run.proofs.StaysWorlds.{steps_keep_logged}
 use Rattle.qs_every_run.proofs.JoinedSteps.{step_at, step_entries, step_holds, step_journal, step_lawful, step_low, step_up}
@@ -236,7 +237,7 @@ module _ (P : Opening → World → Type 0) (owed : Owed P) (unanimous : AfterSt
       where
         by : (b : Bool) → (k == n) ≡ b → Owes (new.hosts k).node (world.journal ++ entries)
         by true near = subst (λ (i : ℕ). Owes (new.hosts i).node (world.journal ++ entries)) (sym (eqb-true k n near)) (subst (λ (m : NodeValue). Owes m (world.journal ++ entries)) (sym own_then)
-            (owed.steps_owing o world n stamp free source event j makes (step_lawful P owed o world j n stamp free source event makes)))
+            (steps_owing P o world n stamp free source event j makes))
         by false far = subst (λ (m : NodeValue). Owes m (world.journal ++ entries)) (sym (same k far)) (owes_on k (world.hosts k).node (j.held.nodes k k_low).node world.journal entries
             (by_step k (world.hosts k).node entries (held_proofs.asides P owed unanimous o world j n stamp free source event makes k far k_low)) (j.owing k k_low (sym (ap (λ (f : ℕ → Bool). f k) ups) ∙ on)))
           where

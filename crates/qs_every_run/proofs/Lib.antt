@@ -120,6 +120,16 @@ pub mod LabelsMoves
 pub mod OwingEntries
 pub mod OwingElsewhere
 pub mod OwingFresh
+pub mod OwingParts
+pub mod OwingLeaves
+pub mod OwingEnters
+pub mod OwingIssues
+pub mod OwingReplies
+pub mod OwingRules
+pub mod OwingTold
+pub mod OwingCommands
+pub mod OwingStages
+pub mod OwingSteps
 pub mod TurnsShown
 pub mod TurnsSettle
 pub mod OthersBeside

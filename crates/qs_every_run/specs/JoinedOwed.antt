@@ -36,7 +36,6 @@ use Rattle.qs_lawful.specs.Said.{HoldsSaid}
 use Rattle.qs_lawful.specs.WorldLaws.{StopsWell}
 use Rattle.qs_every_run.specs.Agrees.{MakesStep}
 use Rattle.qs_every_run.specs.Joined.{Joined, book_in}
-use Rattle.qs_every_run.specs.Owing.{Owes}
 
 -- ---- as a run begins
 
@@ -91,10 +90,6 @@ SaidThen o world n stamp free event = (state : machine.NodeValue) → slice_get 
     → HoldsSaid n (book_then o world n stamp free event) state (recovery (log_after (world.hosts n) (effects_of (world.hosts n).node event free) ++ waiting_after (world.hosts n) (effects_of (world.hosts n).node event free)))
     × HoldsSaid n (book_then o world n stamp free event) state (recovery (log_after (world.hosts n) (effects_of (world.hosts n).node event free)))
 
--- what its node waits for of others stands in the history
-abbrev pub OwesThen : Opening → World → ℕ → ℕ → ℕ → Event → Type 0
-OwesThen o world n stamp free event = Owes (after_step (world.hosts n).node event free) (world.journal ++ entries_in world n stamp free event)
-
 -- what begins has an owner
 abbrev pub HasOwner : BookValue → Act → Type 0
 HasOwner book act = (tid : Tid) (label : List ℕ) (client : ClientNo) → act ≡ acts.Begin tid label client → is_some (slice_get book.owners client.0) ≡ true
@@ -125,7 +120,6 @@ pub record Owed (P : Opening → World → Type 0) : Type 0 where
   pub rooms : EachCountsRoom P
   -- after a whole step
   pub steps_said : AfterStep P SaidThen
-  pub steps_owing : AfterStep P OwesThen
   -- what all places hold of each transaction
   pub places : Keeps P IsStep P
   -- after a crash

@@ -12,6 +12,7 @@ pub mod StopLaws
 pub mod Agrees
 pub mod Labels
 pub mod Owing
+pub mod OwingAmid
 pub mod Joined
 pub mod Traces
 pub mod Deeds

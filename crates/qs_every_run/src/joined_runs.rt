@@ -1,5 +1,5 @@
 //! Every run of the world of nodes is lawful, as far as it is owed.
-ghost use Rattle.qs_every_run.specs.StepLaws.{AnswersAside, BeginsOwned, InStep, KeepsClients, KeepsLabels, KeepsScripts, KeepsWays};
+ghost use Rattle.qs_every_run.specs.StepLaws.{AnswersAside, BeginsOwned, InStep, KeepsClients, KeepsLabels, KeepsOwing, KeepsScripts, KeepsWays};
 ghost use Rattle.qs_every_run.specs.JoinedPlaces.{PlacesAt};
 ghost use Rattle.qs_every_run.specs.PlacesLaws.{PlacesGoOn};
 ghost use Rattle.qs_every_run.specs.JoinedRuns.{EachMoveJoined, EachOpensJoined, EachRunJoined, EachRunLawful};
@@ -41,13 +41,14 @@ pub fn places_go_on()
 
 /// A step of a node and its clients: each transaction that begins has an owner, no client is answered that has a command in hand at another node,
 /// what is in hand is of clients of the node, and the machine has the scripts of all clients after it. And where its entries are lawful, each request
-/// that is on its way stands in the machine in the order of numbers, behind those that wait.
+/// that is on its way stands in the machine in the order of numbers, behind those that wait. What the node waits for of others stands in the history.
 pub fn steps_keep_what_comes()
     ensures owned { InStep PlacesAt BeginsOwned }
     ensures aside { InStep PlacesAt AnswersAside }
     ensures clients { InStep PlacesAt KeepsClients }
     ensures scripts { InStep PlacesAt KeepsScripts }
     ensures ways { InStep PlacesAt KeepsWays }
+    ensures owing { InStep PlacesAt KeepsOwing }
 {}
 
 /// A whole step of a node leaves what its home has not decided younger than the age limit: what becomes that old at a tick it aborts in that
