@@ -39,12 +39,11 @@ use Rattle.qs_tm.specs.Participant.{is_forgotten, is_undecided}
 use Rattle.qs_tm.specs.declared.manager.BeginFault.{BeginFault}
 use Rattle.qs_tm.specs.declared.manager.BeginFault.TheVariants as faults
 use Rattle.qs_tm.specs.declared.participant.Participant.{Participant}
-use Rattle.qs_lawful.specs.SayingSteps.{EndsOnly}
 use Rattle.qs_lawful.proofs.LogHappening.{quiet_restarted}
 use Rattle.qs_lawful.proofs.QuietCommands.{quiet_ask, quiet_ask_came, quiet_borrower, quiet_closer, quiet_inquiry, quiet_learn_unknown, quiet_names, quiet_refusal, quiet_refuse, quiet_request_command, quiet_told_unknown}
 use Rattle.qs_lawful.proofs.QuietRequests.{quiet_reply, quiet_request, quiet_serve_all}
 use Rattle.qs_lawful.proofs.Recordless.{quiet_answer, quiet_enter, quiet_fold, quiet_send}
-use Rattle.qs_lawful.proofs.SaidEnds.{ends_decide, ends_ended, ends_fold, ends_forget, ends_if, ends_learn, ends_quiet, ends_self, ends_still, ends_then, ends_where}
+use Rattle.qs_lawful.proofs.SaidEnds.{EndsOnly, ends_decide, ends_ended, ends_fold, ends_forget, ends_if, ends_learn, ends_quiet, ends_self, ends_still, ends_then, ends_where}
 
 -- ---- commands
 

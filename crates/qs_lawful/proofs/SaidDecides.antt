@@ -42,7 +42,6 @@ use Rattle.qs_lawful.specs.LastingLaws.{IsNumbered}
 use Rattle.qs_lawful.specs.Logged.{HoldsLogs, IsPrepared}
 use Rattle.qs_lawful.specs.Logs.{Every}
 use Rattle.qs_lawful.specs.Saying.{AreInDoubt, book_then, learn_all}
-use Rattle.qs_lawful.specs.SayingSteps.{Says}
 use Rattle.qs_lawful.proofs.LogDeciding.{all_learns, bare, bare_grows, bare_learns, bare_noticed, by_unwritten, by_written, decided_now, decided_part, decides, grows, noticed, rec, start}
 use Rattle.qs_lawful.proofs.LogDecisions.{by_decide}
 use Rattle.qs_lawful.proofs.LogKeeps.{lawful_before, lawful_since}
@@ -55,7 +54,7 @@ use Rattle.qs_lawful.proofs.SaidEnds.{ends_decide}
 use Rattle.qs_lawful.proofs.SaidHeld.{learners_held}
 use Rattle.qs_lawful.proofs.SaidLearns.{LearnsSo, says_unwritten, says_written}
 use Rattle.qs_lawful.proofs.SaidPasses.{lasts_amid}
-use Rattle.qs_lawful.proofs.SaidSteps.{says_ends, says_if, says_quiet, says_self, says_then}
+use Rattle.qs_lawful.proofs.SaidSteps.{Says, says_ends, says_if, says_quiet, says_self, says_then}
 use Rattle.qs_lawful.proofs.Truths.{of_some}
 
 -- what is open is neither committed nor aborted

@@ -23,11 +23,23 @@ use Rattle.qs_tm.specs.Manager as tm
 use Rattle.qs_tm.specs.Outcomes as outcome_rules
 use Rattle.qs_tm.specs.Participant.{is_undecided}
 use Rattle.qs_tm.specs.declared.participant.Participant.{Participant}
+use Rattle.qs_lawful.specs.Logged.{IsPlain}
+use Rattle.qs_lawful.specs.Logs.{Every}
 use Rattle.qs_lawful.specs.Saying.{IsEnd}
-use Rattle.qs_lawful.specs.SayingSteps.{EndsOnly}
 use Rattle.qs_lawful.proofs.LogEndings.{quiet_notices}
 use Rattle.qs_lawful.proofs.LogRecords.{every_append}
 use Rattle.qs_lawful.proofs.Recordless.{Quiet, quiet_enter, quiet_self, quiet_send, quiet_sends}
+
+-- its entries put nothing on record and take nothing off, and its records end others at most
+pub record EndsOnly (work new : Work) : Type 0 where
+  pub more : List Act
+  pub entries : new.out.entries ≡ work.out.entries ++ more
+  pub plain : Every IsPlain more
+  pub made : List Record
+  pub records : new.out.records ≡ work.out.records ++ made
+  pub ends : Every IsEnd made
+  pub force : new.out.force ≡ work.out.force
+  pub setting : new.node.setting ≡ work.node.setting
 
 pub ends_quiet : (work new : Work) → Quiet work new → EndsOnly work new
 ends_quiet work new q = record { more = q.more; entries = q.entries; plain = q.plain; made = []; records = q.records ∙ sym (append-nil work.out.records); ends = tt; force = q.force; setting = q.setting }
@@ -52,7 +64,7 @@ pub ends_then : (work mid new : Work) → EndsOnly work mid → EndsOnly mid new
 ends_then work mid new a b = record {
   more = a.more ++ b.more;
   entries = b.entries ∙ (ap (λ (acted : List Act). acted ++ b.more) a.entries ∙ append_assoc work.out.entries a.more b.more);
-  plain = every_append _ a.more b.more a.plain b.plain;
+  plain = every_append IsPlain a.more b.more a.plain b.plain;
   made = a.made ++ b.made;
   records = b.records ∙ (ap (λ (rs : List Record). rs ++ b.made) a.records ∙ append_assoc work.out.records a.made b.made);
   ends = every_append IsEnd a.made b.made a.ends b.ends;

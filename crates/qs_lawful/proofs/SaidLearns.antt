@@ -22,10 +22,10 @@ use Rattle.qs_lawful.specs.Entering.{book_at, entries_so_far}
 use Rattle.qs_lawful.specs.Logged.{HasAborted, HasCommitted, HoldsLogs, IsPlain, IsPrepared, KeepsLogs}
 use Rattle.qs_lawful.specs.Logs.{Every}
 use Rattle.qs_lawful.specs.Saying.{AreInDoubt, SaidAfter, SaidAt, book_then, learn_all}
-use Rattle.qs_lawful.specs.SayingSteps.{Says}
 use Rattle.qs_lawful.proofs.SaidCommits.{commit_says}
 use Rattle.qs_lawful.proofs.SaidDoubts.{none_in_doubt, none_on_disk}
 use Rattle.qs_lawful.proofs.SaidLearnt.{learnt_says}
+use Rattle.qs_lawful.proofs.SaidSteps.{Says}
 
 -- what is so of the transaction behind the entries that come first: all that have still to learn it do
 pub record LearnsSo (stamp : ℕ) (before : BookValue) (work : Work) (tid : Tid) (front : List Act) (servers : List ServerNo) : Type 0 where

@@ -39,7 +39,6 @@ use Rattle.qs_lawful.specs.Lasting.{Lasts}
 use Rattle.qs_lawful.specs.LastingLaws.{IsNumbered}
 use Rattle.qs_lawful.specs.Logged.{KeepsLogs}
 use Rattle.qs_lawful.specs.Logs.{Every}
-use Rattle.qs_lawful.specs.SayingSteps.{Says}
 use Rattle.qs_lawful.specs.Tables.{HoldsKinds}
 use Rattle.qs_lawful.proofs.Endings.{end_if, endings_are}
 use Rattle.qs_lawful.proofs.LastsAlways.{always}
@@ -51,7 +50,7 @@ use Rattle.qs_lawful.proofs.LogVoting.{by_vote_with, quiet_voted}
 use Rattle.qs_lawful.proofs.Passing.{Passing, files_next, others_next}
 use Rattle.qs_lawful.proofs.PassingAll.{AreDue, AreOthers, IsApartFrom, due_on, ended_due, ended_passing, others, plain_due, plain_passing, they_are}
 use Rattle.qs_lawful.proofs.SaidCommits.{lawful_join}
-use Rattle.qs_lawful.proofs.SaidSteps.{says_if, says_quiet, says_self, says_then}
+use Rattle.qs_lawful.proofs.SaidSteps.{Says, says_if, says_quiet, says_self, says_then}
 use Rattle.qs_lawful.proofs.SaidVoting.{vote_says}
 
 -- ---- who votes recoverable

@@ -16,15 +16,24 @@ use Rattle.qs_step.specs.State.{Work, here, part_of}
 use Rattle.qs_tm.specs.Participant.{is_undecided}
 use Rattle.qs_tm.specs.declared.participant.Participant.{Participant}
 use Rattle.qs_lawful.specs.Entering.{book_at, entries_so_far}
-use Rattle.qs_lawful.specs.Logged.{IsPlain, KeepsLogs}
+use Rattle.qs_lawful.specs.Logged.{HoldsLogs, IsPlain, KeepsLogs}
 use Rattle.qs_lawful.specs.Logs.{Every}
-use Rattle.qs_lawful.specs.Saying.{IsEnd, SaidAfter}
-use Rattle.qs_lawful.specs.SayingSteps.{EndsOnly, Says}
+use Rattle.qs_lawful.specs.Saying.{IsEnd, SaidAfter, SaidAt}
 use Rattle.qs_lawful.proofs.LogKeeps.{book_is, by_quiet, inv_at, keeps_self, keeps_then, lawful_before, lawful_since}
 use Rattle.qs_lawful.proofs.Recordless.{Quiet}
-use Rattle.qs_lawful.proofs.SaidEnds.{ends_quiet}
+use Rattle.qs_lawful.proofs.SaidEnds.{EndsOnly, ends_quiet}
 use Rattle.qs_lawful.proofs.SaidPairs.{end_keeps_said}
 use Rattle.qs_lawful.proofs.SaidRules.{all_plain}
+
+-- in the middle of a step: what the log will say with its records, and what the disk says where nothing forces it
+pub record SaysAmid (stamp : ℕ) (before : BookValue) (disk waiting : List Record) (work : Work) : Type 0 where
+  pub all : SaidAt stamp before disk waiting work
+  pub on_disk : work.out.force ≡ false → SaidAfter (here work).0 (book_at stamp before work) (recovery disk)
+
+-- a rule keeps what is held of the log, and where its entries are lawful, what the log says before is so after it
+pub record Says (stamp : ℕ) (before : BookValue) (disk waiting : List Record) (work new : Work) : Type 0 where
+  pub logs : KeepsLogs stamp before disk waiting work new
+  pub says : IsLawful before (entries_so_far stamp new) → HoldsLogs stamp before disk waiting work → SaysAmid stamp before disk waiting work → SaysAmid stamp before disk waiting new
 
 -- ---- the end of records
 

@@ -33,7 +33,7 @@ use Rattle.qs_tm.specs.Participant.{is_undecided, learners}
 use Rattle.qs_tm.specs.declared.participant.Participant.{Participant}
 use Rattle.qs_lawful.specs.Entering.{HoldsWork, book_at}
 use Rattle.qs_lawful.specs.Logged.{HasCommitted, HasOutcome, HoldsLogs, IsPrepared, KeepsLogs}
-use Rattle.qs_lawful.specs.SayingSteps.{IsToldSo, Says}
+use Rattle.qs_lawful.specs.SayingSteps.{IsToldSo}
 use Rattle.qs_lawful.proofs.LogEndings.{by_learn_rule}
 use Rattle.qs_lawful.proofs.LogLaws.{inv_is}
 use Rattle.qs_lawful.proofs.LogLearning.{Learns, learns}
@@ -42,7 +42,7 @@ use Rattle.qs_lawful.proofs.Recordless.{quiet_send}
 use Rattle.qs_lawful.proofs.SaidDoubts.{doubt_of_all, not_both}
 use Rattle.qs_lawful.proofs.SaidHeld.{learners_held}
 use Rattle.qs_lawful.proofs.SaidLearns.{LearnsSo, says_unwritten, says_written}
-use Rattle.qs_lawful.proofs.SaidSteps.{says_if, says_quiet, says_self, says_then}
+use Rattle.qs_lawful.proofs.SaidSteps.{Says, says_if, says_quiet, says_self, says_then}
 use Rattle.qs_lawful.proofs.Truths.{of_some}
 
 module _ (opened : List Opened) (history : List Entry) (coherent : IsCoherent opened) (lawful_till : IsLawful (opening opened) history) (stamp : ℕ) (disk waiting : List Record) (tid : Tid) (work : Work)

@@ -36,7 +36,7 @@ use Rattle.qs_lawful.specs.Logged.{HoldsHost, IsTrueEvent}
 use Rattle.qs_lawful.specs.Logs.{Every}
 use Rattle.qs_lawful.specs.Said.{HoldsSaid}
 use Rattle.qs_lawful.specs.Saying.{HoldsMade, SaidAfter}
-use Rattle.qs_lawful.specs.SayingSteps.{Says, SaysAmid, SaysBetween, TellsSo}
+use Rattle.qs_lawful.specs.SayingSteps.{SaysBetween, TellsSo}
 use Rattle.qs_lawful.specs.Standing.{KeepsStanding, Stands}
 use Rattle.qs_lawful.specs.StepKeeps.{KeptThen}
 use Rattle.qs_lawful.specs.StepOn.{StepOn}
@@ -55,7 +55,7 @@ use Rattle.qs_lawful.proofs.SaidDoubts.{undone_all, undone_disk}
 use Rattle.qs_lawful.proofs.SaidEnds.{ends_begin, ends_where}
 use Rattle.qs_lawful.proofs.SaidPairs.{made_is_said}
 use Rattle.qs_lawful.proofs.SaidPasses.{says_pass_rule}
-use Rattle.qs_lawful.proofs.SaidSteps.{says_ends, says_quiet, says_self, says_then, says_where}
+use Rattle.qs_lawful.proofs.SaidSteps.{Says, SaysAmid, says_ends, says_quiet, says_self, says_then, says_where}
 use Rattle.qs_lawful.proofs.SaidTold.{says_told}
 use Rattle.qs_lawful.proofs.StandsOn.{keeps_standing, step_stands}
 use Rattle.qs_lawful.proofs.StepKept.{step_kept}

@@ -1,6 +1,5 @@
--- What a whole step makes of what the log of its node says. Most rules write at most the end of a transaction's records, and put nothing on
--- record; a vote goes with its Prepare; and where servers learn that a transaction is committed, the log has a Commit of it, or nothing in doubt.
-use Rattle.std.specs.Prelude.{◌≡◌, ℕ, Bool, true, false, not, ◌&&◌, ◌++◌, List, Some, length, nat_lt, slice_get, ⊤}
+-- A whole step leaves what the log of its node says as the machine has it, with the records that wait for the next force and on the disk.
+use Rattle.std.specs.Prelude.{◌≡◌, ℕ, Bool, true, not, ◌&&◌, ◌++◌, List, Some, length, nat_lt, slice_get, ⊤}
 use Rattle.std.specs.List.{list_any}
 use Rattle.qs_base.specs.declared.identifiers.Outcome.TheVariants as outcomes
 use Rattle.qs_base.specs.declared.identifiers.ServerNo.{ServerNo}
@@ -28,10 +27,10 @@ use Rattle.qs_world.specs.World.{Host}
 use Rattle.qs_lawful.specs.Entering.{book_at, entries_so_far}
 use Rattle.qs_lawful.specs.GivenStep.{first_work}
 use Rattle.qs_lawful.specs.LastingLaws.{IsNumbered}
-use Rattle.qs_lawful.specs.Logged.{HasCommitted, HoldsHost, HoldsLogged, HoldsLogs, IsPlain, IsTrueEvent, KeepsLogs}
+use Rattle.qs_lawful.specs.Logged.{HasCommitted, HoldsHost, HoldsLogged, HoldsLogs, IsPlain, IsTrueEvent}
 use Rattle.qs_lawful.specs.Logs.{Every}
 use Rattle.qs_lawful.specs.Said.{HoldsSaid}
-use Rattle.qs_lawful.specs.Saying.{AreCommitted, IsEnd, SaidAfter, SaidAt, book_then, learn_all}
+use Rattle.qs_lawful.specs.Saying.{AreCommitted, SaidAfter, book_then, learn_all}
 use Rattle.qs_lawful.specs.StepOn.{StepOn}
 
 -- a rule by which the servers of the node learn that a transaction is committed, behind entries that put nothing on record, where a log has
@@ -43,29 +42,6 @@ EachLearntSays = (opened : List Opened) (history : List Entry) → IsCoherent op
     → ((state : machine.NodeValue) → slice_get (book_then stamp (book_after (opening opened) history) work front).nodes (here work).0 ≡ Some state → AllLearn (book_then stamp (book_after (opening opened) history) work front) tid (here work).0 state servers)
     → AreCommitted tid log → (logs : HoldsLogs stamp (book_after (opening opened) history) disk waiting work) → HoldsLogged (here work).0 (book_at stamp (book_after (opening opened) history) work) logs.state log
     → SaidAfter (here work).0 (book_at stamp (book_after (opening opened) history) work) log → SaidAfter (here new).0 (book_at stamp (book_after (opening opened) history) new) log
-
--- ---- rules of a step
-
--- its entries put nothing on record and take nothing off, and its records end others at most
-pub record EndsOnly (work new : Work) : Type 0 where
-  pub more : List Act
-  pub entries : new.out.entries ≡ work.out.entries ++ more
-  pub plain : Every IsPlain more
-  pub made : List Record
-  pub records : new.out.records ≡ work.out.records ++ made
-  pub ends : Every IsEnd made
-  pub force : new.out.force ≡ work.out.force
-  pub setting : new.node.setting ≡ work.node.setting
-
--- in the middle of a step: what the log will say with its records, and what the disk says where nothing forces it
-pub record SaysAmid (stamp : ℕ) (before : BookValue) (disk waiting : List Record) (work : Work) : Type 0 where
-  pub all : SaidAt stamp before disk waiting work
-  pub on_disk : work.out.force ≡ false → SaidAfter (here work).0 (book_at stamp before work) (recovery disk)
-
--- a rule keeps what is held of the log, and where its entries are lawful, what the log says before is so after it
-pub record Says (stamp : ℕ) (before : BookValue) (disk waiting : List Record) (work new : Work) : Type 0 where
-  pub logs : KeepsLogs stamp before disk waiting work new
-  pub says : IsLawful before (entries_so_far stamp new) → HoldsLogs stamp before disk waiting work → SaysAmid stamp before disk waiting work → SaysAmid stamp before disk waiting new
 
 -- ---- the step
 
