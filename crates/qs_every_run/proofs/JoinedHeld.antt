@@ -13,7 +13,7 @@ use Rattle.qs_machine.specs.Lawful.{IsLawful, book_after}
 use Rattle.qs_machine.specs.Nodes as machine
 use Rattle.qs_packet.specs.declared.message.Message.{Message}
 use Rattle.qs_packet.specs.declared.message.Message.TheVariants as messages
-use Rattle.qs_restart.specs.Recovery.{recovery}
+use Rattle.qs_restart.specs.Recovery.{Recovery, recovery}
 use Rattle.qs_step.specs.State.{NodeValue}
 use Rattle.qs_step.specs.Step.{after_step, effects_of}
 use Rattle.qs_step.specs.declared.event.Event.{Event}
@@ -35,6 +35,8 @@ use Rattle.qs_lawful.specs.Holds.{Holds, is_next}
 use Rattle.qs_lawful.specs.Logged.{HoldsHost, IsTrueEvent}
 use Rattle.qs_lawful.specs.Logs.{Every}
 use Rattle.qs_lawful.specs.Parcels.{HoldsChannels, IsBetween, IsParcel, IsSaid}
+use Rattle.qs_lawful.specs.Said.{HoldsSaid}
+use Rattle.qs_lawful.specs.SayingSteps.{SaysBetween}
 use Rattle.qs_lawful.specs.Worlds.{HoldsNodeAt, HoldsNodeOf, HoldsWorld}
 use Rattle.qs_lawful.proofs.AsideBesides.{keeps_others_beside}
 use Rattle.qs_lawful.proofs.AsideIssued.{issued_held}
@@ -48,11 +50,13 @@ use Rattle.qs_lawful.proofs.NumberedLogs.{opened_numbered}
 use Rattle.qs_lawful.proofs.ParcelsKept.{channels_moved, channels_posted}
 use Rattle.qs_lawful.proofs.SameSettings.{step_same}
 use Rattle.qs_lawful.proofs.StopsWhole.{back_by, next_by}
+use Rattle.qs_lawful.proofs.Truths.{of_some}
 use Rattle.qs_every_run.specs.Agrees.{MakesStep}
 use Rattle.qs_every_run.specs.Joined.{HoldsRunning, Joined, book_in}
 use Rattle.qs_every_run.specs.JoinedOwed.{AfterStep, HasOwner, Owed, StaysUnanimousThen, book_then, entries_in}
 use Rattle.qs_every_run.proofs.ClientsGo.{answers_aside, begins_owned, of_steps}
 use Rattle.qs_every_run.proofs.JoinedKept.{step_clients}
+use Rattle.qs_every_run.proofs.JoinedSaid.{step_said}
 use Rattle.qs_every_run.proofs.JoinedParts.{lawful_both}
 use Rattle.qs_every_run.proofs.StaysWorlds.{steps_young}
 use Rattle.qs_every_run.proofs.JoinedSteps.{step_holds, step_kept, step_lawful, step_low, step_sent, step_up}
@@ -188,14 +192,20 @@ module _ (P : Opening → World → Type 0) (owed : Owed P) (unanimous : AfterSt
     runs = λ is. record {
       next = λ s next. holds_next stamp s now (after_step node event free) held (subst (λ (k : ℕ). is_next s k now ≡ true) (sym node_is) next);
       log = log_then;
-      said = (owed.steps_said o world n stamp free source event j makes lawful held.state there_n).0;
-      on_disk = (owed.steps_said o world n stamp free source event j makes lawful held.state there_n).1;
+      said = says_in (recovery (log_after (world.hosts n) (effects_of node event free) ++ waiting_after (world.hosts n) (effects_of node event free))) said_then.said;
+      on_disk = says_in (recovery (log_after (world.hosts n) (effects_of node event free))) said_then.on_disk;
     };
     stopped = λ off. absurd (let both : true ≡ false = off in cc (both));
   }
     where
       there_n : slice_get now.nodes n ≡ Some held.state
       there_n = subst (λ (k : ℕ). slice_get now.nodes k ≡ Some held.state) node_is held.there
+
+      said_then : SaysBetween n now (log_after (world.hosts n) (effects_of node event free)) (waiting_after (world.hosts n) (effects_of node event free))
+      said_then = step_said P owed o world j n stamp free source event makes true_event
+
+      says_in : (log : Recovery) → HoldsSaid n now said_then.state log → HoldsSaid n now held.state log
+      says_in log = subst (λ (state : machine.NodeValue). HoldsSaid n now state log) (of_some (sym said_then.there ∙ there_n))
 
       inc_old : node.setting.inc ≡ inc_of world n
       inc_old = j.shown.steady.seated.inc n low

@@ -22,6 +22,7 @@ use Rattle.qs_lawful.specs.Holds.{Holds}
 use Rattle.qs_lawful.specs.Logs.{Every}
 use Rattle.qs_lawful.specs.Worlds.{HoldsNodeAt}
 use Rattle.qs_lawful.specs.StepKeeps.{KeptThen}
+use Rattle.qs_lawful.specs.StepOn.{StepOn}
 use Rattle.qs_lawful.proofs.BesideSent.{sent_after}
 use Rattle.qs_lawful.proofs.StepKept as keeping
 use Rattle.qs_lawful.proofs.WholeStep.{by_whole_step}
@@ -73,6 +74,9 @@ module _ (P : Opening → World → Type 0) (owed : Owed P) (o : Opening) (world
 
   holds : Holds stamp (book_in o world) node
   holds = (at.runs its.runs).next stamp (j.held.order n stamp step_ordered)
+
+  pub step_given : StepOn stamp (book_in o world) world.size (nodes_in world) n node event free
+  step_given = step_on P owed o world j n stamp free source event makes holds agreed
 
   abbrev pub step_entries : List Entry
   step_entries = entries_of n stamp (effects_of node event free).entries

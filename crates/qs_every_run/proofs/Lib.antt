@@ -57,6 +57,8 @@ pub mod JoinedWays
 pub mod JoinedSteps
 pub mod JoinedSound
 pub mod ToldFewer
+pub mod SaidTells
+pub mod JoinedSaid
 pub mod JoinedHeld
 pub mod JoinedAfter
 pub mod JoinedCrash

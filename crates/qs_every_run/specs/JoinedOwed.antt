@@ -8,7 +8,6 @@ use Rattle.qs_journal.specs.declared.entry.CrashCause.{CrashCause}
 use Rattle.qs_journal.specs.declared.entry.Entry.{Entry}
 use Rattle.qs_machine.specs.Book.{BookValue, find_transaction}
 use Rattle.qs_machine.specs.Lawful.{IsLawful, book_after}
-use Rattle.qs_machine.specs.Nodes as machine
 use Rattle.qs_machine.specs.Transaction.{TransactionValue, is_open, is_unanimous}
 use Rattle.qs_restart.specs.Recovery.{recovery}
 use Rattle.qs_step.specs.Settling.{due_tids, is_quiet, may_answer, pass_rule, settle_tid, try}
@@ -18,7 +17,7 @@ use Rattle.qs_step.specs.declared.event.Event.{Event}
 use Rattle.qs_tm.specs.Manager as tm
 use Rattle.qs_tm.specs.declared.participant.Participant.{Participant}
 use Rattle.qs_world.specs.Histories.{book_of}
-use Rattle.qs_world.specs.Moves.{Cut, Move, Source, Step, cut_log, event_of, log_after, may_move, moved, stopped, waiting_after}
+use Rattle.qs_world.specs.Moves.{Cut, Move, Source, Step, cut_log, event_of, may_move, moved, stopped}
 use Rattle.qs_world.specs.Openings.{IsOpening}
 use Rattle.qs_world.specs.Posting.{entries_of}
 use Rattle.qs_world.specs.World.{Opening, World, start}
@@ -32,7 +31,6 @@ use Rattle.qs_lawful.specs.BesideStep.{HasCountRoom}
 use Rattle.qs_lawful.specs.Entering.{book_at}
 use Rattle.qs_lawful.specs.Given.{AtEach}
 use Rattle.qs_lawful.specs.GivenStep.{done_work}
-use Rattle.qs_lawful.specs.Said.{HoldsSaid}
 use Rattle.qs_lawful.specs.WorldLaws.{StopsWell}
 use Rattle.qs_every_run.specs.Agrees.{MakesStep}
 use Rattle.qs_every_run.specs.Joined.{Joined, book_in}
@@ -84,12 +82,6 @@ book_then o world n stamp free event = book_after (book_in o world) (entries_in 
 abbrev pub AfterStep : (Opening → World → Type 0) → (Opening → World → ℕ → ℕ → ℕ → Event → Type 0) → Type 0
 AfterStep P X = (o : Opening) (world : World) (n stamp free : ℕ) (source : Source) (event : Event) → Joined P o world → MakesStep world n stamp source event → IsLawful (book_in o world) (entries_in world n stamp free event) → X o world n stamp free event
 
--- what its log says of contents and changes, with the records that wait and on the disk
-abbrev pub SaidThen : Opening → World → ℕ → ℕ → ℕ → Event → Type 0
-SaidThen o world n stamp free event = (state : machine.NodeValue) → slice_get (book_then o world n stamp free event).nodes n ≡ Some state
-    → HoldsSaid n (book_then o world n stamp free event) state (recovery (log_after (world.hosts n) (effects_of (world.hosts n).node event free) ++ waiting_after (world.hosts n) (effects_of (world.hosts n).node event free)))
-    × HoldsSaid n (book_then o world n stamp free event) state (recovery (log_after (world.hosts n) (effects_of (world.hosts n).node event free)))
-
 -- what begins has an owner
 abbrev pub HasOwner : BookValue → Act → Type 0
 HasOwner book act = (tid : Tid) (label : List ℕ) (client : ClientNo) → act ≡ acts.Begin tid label client → is_some (slice_get book.owners client.0) ≡ true
@@ -119,7 +111,6 @@ pub record Owed (P : Opening → World → Type 0) : Type 0 where
   pub commits : EachCommitsSettled P
   pub rooms : EachCountsRoom P
   -- after a whole step
-  pub steps_said : AfterStep P SaidThen
   -- what all places hold of each transaction
   pub places : Keeps P IsStep P
   -- after a crash
