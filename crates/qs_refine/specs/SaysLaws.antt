@@ -25,6 +25,7 @@ use Rattle.qs_step.specs.State.{Work, part_of}
 use Rattle.qs_step.specs.Step.{happen, answer_waiting}
 use Rattle.qs_step.specs.Telling.{tell_came, told_came}
 use Rattle.qs_step.specs.declared.event.Event.{Event}
+use Rattle.qs_engage.specs.Nodes.{listed, same_node}
 use Rattle.qs_world.specs.Openings as openings
 use Rattle.qs_world.specs.Openings.{is_in_run}
 use Rattle.qs_refine.specs.Lists.{is_commit}
