@@ -125,3 +125,12 @@ pub mod TurnsSettle
 pub mod OthersBeside
 pub mod PlacedSettles
 pub mod TurnsGo
+pub mod StoreRules
+pub mod StoreTold
+pub mod StoreCommands
+pub mod StoreStages
+pub mod FewShares
+pub mod RoomsStep
+pub mod RoomsMoves
+pub mod LaterOwned
+pub mod CountsRoom

@@ -31,3 +31,5 @@ pub mod CutVotes
 pub mod TriedOwing
 pub mod PlacesJoined
 pub mod PlacesTurns
+pub mod Stores
+pub mod Rooms
