@@ -12,6 +12,8 @@ pub mod StopLaws
 pub mod Agrees
 pub mod Labels
 pub mod Owing
+pub mod Stores
+pub mod Rooms
 pub mod Joined
 pub mod Traces
 pub mod Deeds
@@ -31,5 +33,3 @@ pub mod CutVotes
 pub mod TriedOwing
 pub mod PlacesJoined
 pub mod PlacesTurns
-pub mod Stores
-pub mod Rooms
