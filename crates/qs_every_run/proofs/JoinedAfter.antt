@@ -43,6 +43,7 @@ use Rattle.qs_every_run.proofs.JoinedWays.{lasts_now, steps_ways}
 use Rattle.qs_every_run.proofs.LabelsMoves.{labels_moved}
 use Rattle.qs_every_run.proofs.OwingElsewhere.{by_step, owes_on}
 use Rattle.qs_every_run.proofs.OwingSteps.{steps_owing}
+use Rattle.qs_every_run.proofs.RoomsMoves.{rooms_moved}
 use Rattle.qs_every_run.proofs.KeptBack.{none_before, nothing_waits, step_unmet}
 use Rattle.qs_every_run.proofs.StaysWorlds.{steps_keep_logged}
 use Rattle.qs_every_run.proofs.JoinedSteps.{step_at, step_entries, step_holds, step_journal, step_lawful, step_low, step_up}
@@ -93,6 +94,7 @@ module _ (P : Opening → World → Type 0) (owed : Owed P) (unanimous : AfterSt
     clocks = k.clocks;
     labels = labels_moved P o world j move may k.lawful;
     born = born_moved o world j.born move may;
+    rooms = rooms_moved o world j.rooms move may;
     channels = k.channels;
     unmet = k.unmet;
     queued = k.queued;

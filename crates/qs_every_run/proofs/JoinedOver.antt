@@ -22,6 +22,7 @@ use Rattle.qs_every_run.proofs.OwingFresh.{opens_owing}
 use Rattle.qs_every_run.proofs.JoinedMoves.{each_move_joined}
 use Rattle.qs_every_run.proofs.LabelsMoves.{labels_start}
 use Rattle.qs_every_run.proofs.OpensRunning.{opens_owned, opens_running}
+use Rattle.qs_every_run.proofs.RoomsMoves.{rooms_start}
 
 pub each_opens_joined : (P : Opening → World → Type 0) → GoesOn P → EachOpensJoined P
 each_opens_joined P goes owed o opens = record {
@@ -39,6 +40,7 @@ each_opens_joined P goes owed o opens = record {
   clocks = λ n low. none ((start o).hosts n).node.manager.ticks (opens_on_time o.alloc (o.settings n) (recovered_of (o.logs n)));
   labels = labels_start o;
   born = born_start o;
+  rooms = rooms_start o opens;
   channels = record { posted = λ n m i j. tt; waits = λ n m. tt; known = λ n m. least ((start o).channels.inc m) };
   unmet = λ n m some. refl;
   queued = λ n low tid server none. refl;

@@ -43,6 +43,15 @@ pub mod JoinedClocks
 pub mod JoinedLogged
 pub mod OwedBefore
 pub mod JoinedGone
+pub mod StoreRules
+pub mod StoreTold
+pub mod StoreCommands
+pub mod StoreStages
+pub mod FewShares
+pub mod RoomsStep
+pub mod RoomsMoves
+pub mod LaterOwned
+pub mod CountsRoom
 pub mod JoinedGiven
 pub mod RequestsLeft
 pub mod WaysEntries

@@ -27,7 +27,6 @@ use Rattle.qs_refine.specs.Begun.{has_begun}
 use Rattle.qs_refine.specs.CutLaws.{CutsOff}
 use Rattle.qs_refine.specs.EachMove.{ShowsAll}
 use Rattle.qs_lawful.specs.Aside.{StaysUnanimous}
-use Rattle.qs_lawful.specs.BesideStep.{HasCountRoom}
 use Rattle.qs_lawful.specs.Entering.{book_at}
 use Rattle.qs_lawful.specs.Given.{AtEach}
 use Rattle.qs_lawful.specs.GivenStep.{done_work}
@@ -50,11 +49,6 @@ CommitsSettled stamp before work tid = (part : Participant) → tm.part_of tid (
 abbrev pub EachCommitsSettled : (Opening → World → Type 0) → Type 0
 EachCommitsSettled P = (o : Opening) (world : World) (n stamp free : ℕ) (source : Source) (event : Event) → Joined P o world → MakesStep world n stamp source event
     → AtEach (CommitsSettled stamp (book_in o world)) settle_tid (done_work (world.hosts n).node event free) (due_tids (done_work (world.hosts n).node event free))
-
--- where a vote pass is due, the count of changes has room
-abbrev pub EachCountsRoom : (Opening → World → Type 0) → Type 0
-EachCountsRoom P = (o : Opening) (world : World) (n stamp free : ℕ) (source : Source) (event : Event) → Joined P o world → MakesStep world n stamp source event
-    → AtEach HasCountRoom settle_tid (done_work (world.hosts n).node event free) (due_tids (done_work (world.hosts n).node event free))
 
 -- a step that is cut off and whose batch is kept, as where it is lost
 abbrev pub EachKeepsItsBatch : (Opening → World → Type 0) → Type 0
@@ -109,7 +103,6 @@ Keeps P kind X = (o : Opening) (world : World) (move : Move) → kind move → J
 pub record Owed (P : Opening → World → Type 0) : Type 0 where
   -- what a step is given
   pub commits : EachCommitsSettled P
-  pub rooms : EachCountsRoom P
   -- after a whole step
   -- what all places hold of each transaction
   pub places : Keeps P IsStep P

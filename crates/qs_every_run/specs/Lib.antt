@@ -13,6 +13,8 @@ pub mod Agrees
 pub mod Labels
 pub mod Owing
 pub mod OwingAmid
+pub mod Stores
+pub mod Rooms
 pub mod Joined
 pub mod Traces
 pub mod Deeds
