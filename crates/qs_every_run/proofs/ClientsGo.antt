@@ -15,6 +15,7 @@ use Rattle.qs_lawful.specs.Scripts.{HoldsScripts}
 use Rattle.qs_lawful.specs.Worlds.{HoldsNodeAt}
 use Rattle.qs_every_run.specs.Agrees.{MakesStep}
 use Rattle.qs_every_run.specs.StepLaws.{AnswersAside, BeginsOwned, InStep, KeepsClients, KeepsScripts}
+use Rattle.qs_every_run.specs.Answering.{IsFree}
 use Rattle.qs_every_run.specs.Joined.{ClientsAt, Joined, book_in}
 use Rattle.qs_every_run.proofs.JoinedClients as clients
 use Rattle.qs_every_run.proofs.JoinedScripts as scripts
@@ -28,6 +29,10 @@ module _ (P : Opening → World → Type 0) (o : Opening) (world : World) (j : J
 
   rising : IsRising client_cmp (world.hosts n).node.commands
   rising = (at.runs its.runs).still.clients.apart
+
+  -- of a client that commands nothing is in hand
+  pub comes_free : IsFree event (world.hosts n).node.commands
+  comes_free = clients.free_event o j.opens (book_in o world) world n stamp free source event makes.comes j.scripts j.clients j.size its.low its.runs at.run rising
 
   pub of_steps : Every IsOfStep (effects_of (world.hosts n).node event free).entries
   of_steps = clients.of_steps o j.opens (book_in o world) world n stamp free source event makes.comes j.scripts j.clients j.size its.low its.runs at.run rising

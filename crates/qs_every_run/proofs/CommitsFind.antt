@@ -28,6 +28,7 @@ use Rattle.qs_every_run.specs.PlacesTurns.{FindsAtTurn, FollowsAtTurn, IsFoundTh
 use Rattle.qs_every_run.proofs.ComesFind.{comes_find, comes_later}
 use Rattle.qs_every_run.proofs.FoundTurns.{turns_find}
 use Rattle.qs_every_run.proofs.FoundWell.{commands_well, pass_well}
+use Rattle.qs_every_run.proofs.JoinedGiven.{counts_have_room}
 use Rattle.qs_every_run.proofs.TurnsGo.{finds_settle}
 use Rattle.qs_every_run.proofs.TurnsShown.{came_shown, turns_follow}
 
@@ -65,6 +66,6 @@ module _ (o : Opening) (world : World) (n stamp free : ℕ) (source : Source) (e
   turns (tid ∷ tids) work follow found = (there work tid follow.0 found.0, turns tids (settle_tid work tid) follow.1 found.1)
 
 pub commits_find : CommitsFind
-commits_find rooms o world n stamp free source event j makes =
-    finds_settle o world n stamp free source event j makes (rooms o world n stamp free source event j makes)
+commits_find o world n stamp free source event j makes =
+    finds_settle o world n stamp free source event j makes (counts_have_room PlacesAt o world j n stamp free source event makes)
     (turns o world n stamp free source event j makes (due_tids (done_work (world.hosts n).node event free)) (done_work (world.hosts n).node event free) (turns_follow world n free source event) (turns_find o world n stamp free source event j makes))

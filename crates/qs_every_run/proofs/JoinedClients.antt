@@ -166,7 +166,7 @@ module _ (o : Opening) (opens : IsOpening o) (book : BookValue) (world : World) 
       by Clock is = other_event Clock events.Tick (one_event events.Tick is) (λ commands. refl)
       by (Noticed m new) is = other_event (Noticed m new) (events.PeerRestarted (record { 0 = m }) (world.channels.peer n m) new) (from_notice world n stamp m new event is).is (λ commands. refl)
 
-  free_event : IsFree event node.commands
+  pub free_event : IsFree event node.commands
   free_event = by source comes
     where
       by : (s : Source) → event_of world n stamp s ≡ Some event → IsFree event node.commands

@@ -44,6 +44,15 @@ pub mod JoinedClocks
 pub mod JoinedLogged
 pub mod OwedBefore
 pub mod JoinedGone
+pub mod StoreRules
+pub mod StoreTold
+pub mod StoreCommands
+pub mod StoreStages
+pub mod FewShares
+pub mod RoomsStep
+pub mod RoomsMoves
+pub mod LaterOwned
+pub mod CountsRoom
 pub mod JoinedGiven
 pub mod RequestsLeft
 pub mod WaysEntries
@@ -58,6 +67,8 @@ pub mod JoinedWays
 pub mod JoinedSteps
 pub mod JoinedSound
 pub mod ToldFewer
+pub mod SaidTells
+pub mod JoinedSaid
 pub mod JoinedHeld
 pub mod JoinedAfter
 pub mod JoinedCrash
@@ -123,6 +134,16 @@ pub mod LabelsMoves
 pub mod OwingEntries
 pub mod OwingElsewhere
 pub mod OwingFresh
+pub mod OwingParts
+pub mod OwingLeaves
+pub mod OwingEnters
+pub mod OwingIssues
+pub mod OwingReplies
+pub mod OwingRules
+pub mod OwingTold
+pub mod OwingCommands
+pub mod OwingStages
+pub mod OwingSteps
 pub mod TurnsShown
 pub mod TurnsBegan
 pub mod Onward
@@ -152,3 +173,4 @@ pub mod BegunDone
 pub mod WholeFinds
 pub mod FreshFinds
 pub mod PlacesSteps
+pub mod WholeSteps

@@ -8,7 +8,6 @@ use Rattle.qs_journal.specs.declared.entry.CrashCause.{CrashCause}
 use Rattle.qs_journal.specs.declared.entry.Entry.{Entry}
 use Rattle.qs_machine.specs.Book.{BookValue, find_transaction}
 use Rattle.qs_machine.specs.Lawful.{IsLawful, book_after}
-use Rattle.qs_machine.specs.Nodes as machine
 use Rattle.qs_machine.specs.Transaction.{TransactionValue, is_open, is_unanimous}
 use Rattle.qs_restart.specs.Recovery.{recovery}
 use Rattle.qs_step.specs.Settling.{due_tids, is_quiet, may_answer, pass_rule, settle_tid, try}
@@ -18,7 +17,7 @@ use Rattle.qs_step.specs.declared.event.Event.{Event}
 use Rattle.qs_tm.specs.Manager as tm
 use Rattle.qs_tm.specs.declared.participant.Participant.{Participant}
 use Rattle.qs_world.specs.Histories.{book_of}
-use Rattle.qs_world.specs.Moves.{Cut, Move, Source, Step, cut_log, event_of, log_after, may_move, moved, stopped, waiting_after}
+use Rattle.qs_world.specs.Moves.{Cut, Move, Source, Step, cut_log, event_of, may_move, moved, stopped}
 use Rattle.qs_world.specs.Openings.{IsOpening}
 use Rattle.qs_world.specs.Posting.{entries_of}
 use Rattle.qs_world.specs.World.{Opening, World, start}
@@ -28,15 +27,12 @@ use Rattle.qs_refine.specs.Begun.{has_begun}
 use Rattle.qs_refine.specs.CutLaws.{CutsOff}
 use Rattle.qs_refine.specs.EachMove.{ShowsAll}
 use Rattle.qs_lawful.specs.Aside.{StaysUnanimous}
-use Rattle.qs_lawful.specs.BesideStep.{HasCountRoom}
 use Rattle.qs_lawful.specs.Entering.{book_at}
 use Rattle.qs_lawful.specs.Given.{AtEach}
 use Rattle.qs_lawful.specs.GivenStep.{done_work}
-use Rattle.qs_lawful.specs.Said.{HoldsSaid}
 use Rattle.qs_lawful.specs.WorldLaws.{StopsWell}
 use Rattle.qs_every_run.specs.Agrees.{MakesStep}
 use Rattle.qs_every_run.specs.Joined.{Joined, book_in}
-use Rattle.qs_every_run.specs.Owing.{Owes}
 use Rattle.qs_every_run.specs.PlacesApart.{EachLeavesNoneAway}
 
 -- ---- as a run begins
@@ -54,11 +50,6 @@ CommitsSettled stamp before work tid = (part : Participant) → tm.part_of tid (
 abbrev pub EachCommitsSettled : (Opening → World → Type 0) → Type 0
 EachCommitsSettled P = (o : Opening) (world : World) (n stamp free : ℕ) (source : Source) (event : Event) → Joined P o world → MakesStep world n stamp source event
     → AtEach (CommitsSettled stamp (book_in o world)) settle_tid (done_work (world.hosts n).node event free) (due_tids (done_work (world.hosts n).node event free))
-
--- where a vote pass is due, the count of changes has room
-abbrev pub EachCountsRoom : (Opening → World → Type 0) → Type 0
-EachCountsRoom P = (o : Opening) (world : World) (n stamp free : ℕ) (source : Source) (event : Event) → Joined P o world → MakesStep world n stamp source event
-    → AtEach HasCountRoom settle_tid (done_work (world.hosts n).node event free) (due_tids (done_work (world.hosts n).node event free))
 
 -- a step that is cut off and whose batch is kept, as where it is lost
 abbrev pub EachKeepsItsBatch : (Opening → World → Type 0) → Type 0
@@ -86,16 +77,6 @@ book_then o world n stamp free event = book_after (book_in o world) (entries_in 
 abbrev pub AfterStep : (Opening → World → Type 0) → (Opening → World → ℕ → ℕ → ℕ → Event → Type 0) → Type 0
 AfterStep P X = (o : Opening) (world : World) (n stamp free : ℕ) (source : Source) (event : Event) → Joined P o world → MakesStep world n stamp source event → IsLawful (book_in o world) (entries_in world n stamp free event) → X o world n stamp free event
 
--- what its log says of contents and changes, with the records that wait and on the disk
-abbrev pub SaidThen : Opening → World → ℕ → ℕ → ℕ → Event → Type 0
-SaidThen o world n stamp free event = (state : machine.NodeValue) → slice_get (book_then o world n stamp free event).nodes n ≡ Some state
-    → HoldsSaid n (book_then o world n stamp free event) state (recovery (log_after (world.hosts n) (effects_of (world.hosts n).node event free) ++ waiting_after (world.hosts n) (effects_of (world.hosts n).node event free)))
-    × HoldsSaid n (book_then o world n stamp free event) state (recovery (log_after (world.hosts n) (effects_of (world.hosts n).node event free)))
-
--- what its node waits for of others stands in the history
-abbrev pub OwesThen : Opening → World → ℕ → ℕ → ℕ → Event → Type 0
-OwesThen o world n stamp free event = Owes (after_step (world.hosts n).node event free) (world.journal ++ entries_in world n stamp free event)
-
 -- what begins has an owner
 abbrev pub HasOwner : BookValue → Act → Type 0
 HasOwner book act = (tid : Tid) (label : List ℕ) (client : ClientNo) → act ≡ acts.Begin tid label client → is_some (slice_get book.owners client.0) ≡ true
@@ -118,17 +99,15 @@ IsBetweenSteps move = ⊤
 abbrev pub Keeps : (Opening → World → Type 0) → (Move → Type 0) → (Opening → World → Type 0) → Type 0
 Keeps P kind X = (o : Opening) (world : World) (move : Move) → kind move → Joined P o world → may_move world move ≡ true → IsLawful (book_of o) (moved move world).journal → X o (moved move world)
 
+-- ---- what the induction over a run takes for granted of whole steps
+
+pub record WholeSteps (P : Opening → World → Type 0) : Type 0 where
+  pub commits : EachCommitsSettled P  -- what a step is given
+  pub places : Keeps P IsStep P  -- what all places hold of each transaction goes on through it
+
 -- ---- all that is owed
 
 pub record Owed (P : Opening → World → Type 0) : Type 0 where
-  -- what a step is given
-  pub commits : EachCommitsSettled P
-  pub rooms : EachCountsRoom P
-  -- after a whole step
-  pub steps_said : AfterStep P SaidThen
-  pub steps_owing : AfterStep P OwesThen
-  -- what all places hold of each transaction
-  pub places : Keeps P IsStep P
   -- as a node crashes
   pub keeps_its_batch : EachKeepsItsBatch P
   pub leaves_none : EachLeavesNoneAway P  -- where it is not engaged, no request of its own stands at another node

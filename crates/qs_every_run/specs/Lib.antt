@@ -12,6 +12,9 @@ pub mod StopLaws
 pub mod Agrees
 pub mod Labels
 pub mod Owing
+pub mod OwingAmid
+pub mod Stores
+pub mod Rooms
 pub mod Joined
 pub mod Traces
 pub mod Deeds
@@ -35,5 +38,4 @@ pub mod PlacesTurns
 pub mod PlacesSteps
 pub mod ComesFind
 pub mod PlacesFound
-pub mod CommitsFind
 pub mod BegunBare

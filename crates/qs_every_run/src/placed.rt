@@ -6,7 +6,8 @@ ghost use Rattle.qs_every_run.specs.PlacesComes.{MessageComes, NoticeComes, Requ
 ghost use Rattle.qs_every_run.specs.PlacesWhole.{ServeAllGoes, StepPlaces};
 ghost use Rattle.qs_every_run.specs.PlacesJoined.{WholeStepPlaces};
 ghost use Rattle.qs_every_run.specs.PlacesSteps.{FreshFind, StepsKeepPlaces, WholeFind};
-ghost use Rattle.qs_every_run.specs.CommitsFind.{CommitsFind};
+ghost use Rattle.qs_every_run.specs.JoinedOwed.{EachCommitsSettled};
+ghost use Rattle.qs_every_run.specs.JoinedPlaces.{PlacesAt};
 ghost use Rattle.qs_every_run.specs.PlacesTurns.{FindsSettle, OthersBeside, PlacedSettles, TurnsBegan, TurnsFollow, TurnsGo, TurnsSettle, TurnsShown};
 ghost use Rattle.qs_every_run.specs.PlacesGo.{IssueGoes, SettleGoes, CommandGoes, WaitGoes};
 ghost use Rattle.qs_every_run.specs.PlacesEnds.{StepBegins, StepEnds};
@@ -109,7 +110,7 @@ pub fn each_step()
     ensures keeps { StepsKeepPlaces }
 {}
 
-/// What a home commits in a step is unanimous, where the counts of changes have room: what came found what it needed, and so did all that was issued and voted.
+/// What a home commits in a step is unanimous: what came found what it needed, and so did all that was issued and voted.
 pub fn home_commits_found()
-    ensures { CommitsFind }
+    ensures { EachCommitsSettled PlacesAt }
 {}

@@ -251,6 +251,16 @@ pub mod SaidHeld
 pub mod SaidVoting
 pub mod SaidRules
 pub mod SaidCommits
+pub mod SaidLearnt
+pub mod SaidEnds
+pub mod SaidComing
+pub mod SaidSteps
+pub mod SaidDoubts
+pub mod SaidPasses
+pub mod SaidLearns
+pub mod SaidDecides
+pub mod SaidTold
+pub mod SaidWhole
 pub mod SaidStays
 pub mod ParcelsKept
 pub mod GivenEvents

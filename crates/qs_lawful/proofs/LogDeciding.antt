@@ -97,16 +97,16 @@ module _ (stamp : ℕ) (before : BookValue) (i : Inv before) (disk waiting : Lis
 
     -- commit, with its record
     module _ (told : List NodeNo) where
-      abbrev rec : Record
+      abbrev pub rec : Record
       rec = records.Commit tid told
 
-      abbrev start : Work
+      abbrev pub start : Work
       start = entered outcomes.Commit (log rec (decided outcomes.Commit))
 
-      abbrev noticed : Work
+      abbrev pub noticed : Work
       noticed = give_notices tid outcomes.Commit start
 
-      all_learns : Learns tid (learners_at tid start) start noticed
+      pub all_learns : Learns tid (learners_at tid start) start noticed
       all_learns = learns tid (learners_at tid start) start
 
       abbrev logged : Participant
@@ -118,10 +118,10 @@ module _ (stamp : ℕ) (before : BookValue) (i : Inv before) (disk waiting : Lis
           (changes_part tid (outcome_rules.logged rec) (decided outcomes.Commit).node.manager (outcome_rules.decided outcomes.Commit part) (decided_part outcomes.Commit).now))
           all_learns.knows
 
-      grows : noticed.out.entries ≡ work.out.entries ++ ((act outcomes.Commit ∷ []) ++ learn_acts (here work) tid (learners_at tid start))
+      pub grows : noticed.out.entries ≡ work.out.entries ++ ((act outcomes.Commit ∷ []) ++ learn_acts (here work) tid (learners_at tid start))
       grows = all_learns.entries ∙ append_assoc work.out.entries (act outcomes.Commit ∷ []) (learn_acts (here work) tid (learners_at tid start))
 
-      by_written : KeepsLogs stamp before disk waiting work noticed
+      pub by_written : KeepsLogs stamp before disk waiting work noticed
       by_written = record {
         more = (act outcomes.Commit ∷ []) ++ learn_acts (here work) tid (learners_at tid start);
         entries = grows;
@@ -135,22 +135,22 @@ module _ (stamp : ℕ) (before : BookValue) (i : Inv before) (disk waiting : Lis
 
     -- without a record
     module _ (unprepared : part.log.prepared ≡ false) where
-      abbrev bare : Work
+      abbrev pub bare : Work
       bare = entered outcomes.Commit (decided outcomes.Commit)
 
-      abbrev bare_noticed : Work
+      abbrev pub bare_noticed : Work
       bare_noticed = give_notices tid outcomes.Commit bare
 
-      bare_learns : Learns tid (learners_at tid bare) bare bare_noticed
+      pub bare_learns : Learns tid (learners_at tid bare) bare bare_noticed
       bare_learns = learns tid (learners_at tid bare) bare
 
       bare_settled : (z : Participant) × ChangesPart tid work.node.manager bare_noticed.node.manager part z × SameMarks (outcome_rules.decided outcomes.Commit part) z
       bare_settled = changes_on tid work.node.manager bare.node.manager bare_noticed.node.manager part (outcome_rules.decided outcomes.Commit part) (decided_part outcomes.Commit) bare_learns.knows
 
-      bare_grows : bare_noticed.out.entries ≡ work.out.entries ++ ((act outcomes.Commit ∷ []) ++ learn_acts (here work) tid (learners_at tid bare))
+      pub bare_grows : bare_noticed.out.entries ≡ work.out.entries ++ ((act outcomes.Commit ∷ []) ++ learn_acts (here work) tid (learners_at tid bare))
       bare_grows = bare_learns.entries ∙ append_assoc work.out.entries (act outcomes.Commit ∷ []) (learn_acts (here work) tid (learners_at tid bare))
 
-      by_unwritten : KeepsLogs stamp before disk waiting work bare_noticed
+      pub by_unwritten : KeepsLogs stamp before disk waiting work bare_noticed
       by_unwritten = record {
         more = (act outcomes.Commit ∷ []) ++ learn_acts (here work) tid (learners_at tid bare);
         entries = bare_grows;

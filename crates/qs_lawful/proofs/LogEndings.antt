@@ -38,7 +38,7 @@ quiet_notify tid notice server work =
     quiet_then work changed (notify tid notice server work) (quiet_node work changed refl refl refl)
     (quiet_part tid (outcome_rules.settled server) changed (λ part. record { log = refl; outcome = refl; involved = λ is. is }))
 
-quiet_end : (tid : Tid) (work : Work) (server : ServerNo) → Quiet work (end_member tid work server)
+pub quiet_end : (tid : Tid) (work : Work) (server : ServerNo) → Quiet work (end_member tid work server)
 quiet_end tid work server =
     let told : Work = notify tid notices.Ending server work in
     quiet_then work told (end_member tid work server) (quiet_notify tid notices.Ending server work) (quiet_enter (acts.Ending tid (member_here work server)) told refl)

@@ -84,7 +84,7 @@ all_learn stamp here tid (server ∷ servers) book state i named there lawful =
 
 -- ---- where the node has no Prepare of it
 
-any_of : (P : Prepared → Type 0) (test : Prepared → Bool) (xs : List Prepared) → list_any test xs ≡ true → Every P xs → (x : Prepared) × (test x ≡ true) × P x
+pub any_of : (P : Prepared → Type 0) (test : Prepared → Bool) (xs : List Prepared) → list_any test xs ≡ true → Every P xs → (x : Prepared) × (test x ≡ true) × P x
 any_of P test [] h all = absurd (cc h)
 any_of P test (x ∷ xs) h all = by (test x) refl (any_of P test xs)
   where

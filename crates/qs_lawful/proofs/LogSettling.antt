@@ -94,7 +94,7 @@ module _ (stamp : ℕ) (before : BookValue) (i : Inv before) (disk waiting : Lis
   voted_on tid server work u votes.Volatile = undecided_on tid work.node.manager (vote_with tid server votes.Volatile work).node.manager (quiet_voted tid server votes.Volatile work refl).knows u
   voted_on tid server work u (votes.Abort reason) = undecided_on tid work.node.manager (vote_with tid server (votes.Abort reason) work).node.manager (quiet_voted tid server (votes.Abort reason) work refl).knows u
 
-  quiet_note : (tid : Tid) (o : Option NodeNo) (work : Work) → Quiet work (issue_note tid o work)
+  pub quiet_note : (tid : Tid) (o : Option NodeNo) (work : Work) → Quiet work (issue_note tid o work)
   quiet_note tid None work = quiet_self work
   quiet_note tid (Some node) work = quiet_issue tid files_no (record { node = node; server = audit_no }) (Note (note_text tid (here work) (change_count tid work.node))) (change_count tid work.node) work
 
@@ -102,7 +102,7 @@ module _ (stamp : ℕ) (before : BookValue) (i : Inv before) (disk waiting : Lis
     pub keeps : Keeps work new
     pub undecided : IsUndecided tid new.node.manager
 
-  one_vote : (tid : Tid) (work : Work) (server : ServerNo) → IsUndecided tid work.node.manager → Votes tid work (vote_next tid work server)
+  pub one_vote : (tid : Tid) (work : Work) (server : ServerNo) → IsUndecided tid work.node.manager → Votes tid work (vote_next tid work server)
   one_vote tid work server u = by (owes_note tid server work)
     where
       ballot : Vote
@@ -138,10 +138,10 @@ module _ (stamp : ℕ) (before : BookValue) (i : Inv before) (disk waiting : Lis
       quiet_then work released (say_yes tid part superior work) (quiet_part tid participant.released work (λ p. record { log = refl; outcome = refl; involved = λ is. is }))
       (quiet_send superior.0 (messages.VotedYes tid superior.1 (listed (told_with_own (here work) part))) released)
 
-  quiet_superior : (tid : Tid) (part : Participant) (work : Work) → Quiet work (answer_superior tid part work)
+  pub quiet_superior : (tid : Tid) (part : Participant) (work : Work) → Quiet work (answer_superior tid part work)
   quiet_superior tid part work = quiet_elim (release_of part.engage) work work _ (quiet_self work) (λ superior. quiet_yes tid part superior work)
 
-  by_ready : (tid : Tid) (part : Participant) (work : Work) → Keeps work (ready_rule tid part work)
+  pub by_ready : (tid : Tid) (part : Participant) (work : Work) → Keeps work (ready_rule tid part work)
   by_ready tid part work =
       keeps_if (may_answer tid part work) work (ready tid part work) work
       (keeps_if part.engage.home work (if is_quiet (doings_of tid work) then decide_commit tid work else work) (answer_superior tid part work)
@@ -155,7 +155,7 @@ module _ (stamp : ℕ) (before : BookValue) (i : Inv before) (disk waiting : Lis
       quiet_then work taken (refuse_elsewhere tid part work) (quiet_part tid participant.take_causes work (λ p. record { log = refl; outcome = refl; involved = λ is. is }))
       (quiet_fold (send_refusal tid (refusal_goes_to tid part)) (λ w cause. quiet_send (refusal_goes_to tid part) (messages.VotedAbort tid cause) w) part.causes taken)
 
-  by_refuse : (tid : Tid) (part : Participant) (work : Work) → Keeps work (refuse_rule tid part work)
+  pub by_refuse : (tid : Tid) (part : Participant) (work : Work) → Keeps work (refuse_rule tid part work)
   by_refuse tid part work = keeps_if part.engage.home work (refuse_home tid part work) (refuse_elsewhere tid part work) (home part.causes) (by_quiet stamp before i disk waiting work (refuse_elsewhere tid part work) (quiet_refuse tid part work))
     where
       home : (causes : List Cause) → Keeps work (elim causes [ [] ↦ work | cause ∷ more ↦ decide tid outcomes.Abort (Some cause) work ])
@@ -163,7 +163,7 @@ module _ (stamp : ℕ) (before : BookValue) (i : Inv before) (disk waiting : Lis
       home (cause ∷ more) = by_decide stamp before i disk waiting tid (Some cause) work outcomes.Abort
 
   -- what is in doubt is involved
-  by_forgotten : (tid : Tid) (part : Participant) (work : Work) → part_of tid work ≡ Some part → Keeps work (forget_rule tid part work)
+  pub by_forgotten : (tid : Tid) (part : Participant) (work : Work) → part_of tid work ≡ Some part → Keeps work (forget_rule tid part work)
   by_forgotten tid part work known = by (is_forgotten part) refl
     where
       uninvolved : (a b c d : Bool) → ((a && (not b)) && ((c && not part.involved) && d)) ≡ true → part.involved ≡ false

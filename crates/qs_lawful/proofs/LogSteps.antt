@@ -79,7 +79,7 @@ quiet_wait work client = by (lookup (is_at (client_cmp client)) work.node.comman
     by None = quiet_self work
     by (Some command) = quiet_command client command work
 
-quiet_waiting : (work : Work) → Quiet work (answer_waiting work)
+pub quiet_waiting : (work : Work) → Quiet work (answer_waiting work)
 quiet_waiting work = quiet_fold wait_on quiet_wait (waiting_clients work) work
 
 module _ (stamp : ℕ) (before : BookValue) (i : Inv before) (disk waiting : List Record) where
@@ -100,7 +100,7 @@ module _ (stamp : ℕ) (before : BookValue) (i : Inv before) (disk waiting : Lis
       by None known = keeps_self stamp before i disk waiting work
       by (Some part) known = of part known part.outcome refl
 
-  by_begin_incarnation : (work : Work) → Keeps work (begin_incarnation work)
+  pub by_begin_incarnation : (work : Work) → Keeps work (begin_incarnation work)
   by_begin_incarnation work =
       let begun : Work = with_node (λ node. record node { is_first = false }) work in
       keeps_if stamp before i disk waiting work.node.is_first work (fold resume_tid begun (known_tids work)) work
@@ -123,7 +123,7 @@ module _ (stamp : ℕ) (before : BookValue) (i : Inv before) (disk waiting : Lis
 
   -- ---- the log of a node between its steps
 
-  starts : (node : NodeValue) (free : ℕ) → HoldsHost node.setting.node.0 before node.manager disk waiting → HoldsLogs stamp before disk waiting (work_on node free)
+  pub starts : (node : NodeValue) (free : ℕ) → HoldsHost node.setting.node.0 before node.manager disk waiting → HoldsLogs stamp before disk waiting (work_on node free)
   starts node free h = record {
     since = later_self before;
     state = h.state;

@@ -36,11 +36,11 @@ use Rattle.qs_lawful.proofs.LogMarks.{one_more}
 use Rattle.qs_lawful.proofs.SaidEntries.{commit_enters}
 use Rattle.qs_lawful.proofs.SaidRules.{all_plain}
 
-lawful_join : (entries more : List Entry) (book : BookValue) → IsLawful book entries → IsLawful (book_after book entries) more → IsLawful book (entries ++ more)
+pub lawful_join : (entries more : List Entry) (book : BookValue) → IsLawful book entries → IsLawful (book_after book entries) more → IsLawful book (entries ++ more)
 lawful_join [] more book front rest = rest
 lawful_join (entry ∷ entries) more book front rest = (front.0, lawful_join entries more (effect book entry) front.1 rest)
 
-learning_is : (stamp at : ℕ) (tid : Tid) (servers : List ServerNo) → entries_of at stamp (learn_all (record { 0 = at }) tid servers) ≡ learning stamp at tid servers
+pub learning_is : (stamp at : ℕ) (tid : Tid) (servers : List ServerNo) → entries_of at stamp (learn_all (record { 0 = at }) tid servers) ≡ learning stamp at tid servers
 learning_is stamp at tid [] = refl
 learning_is stamp at tid (server ∷ servers) = ap (λ (es : List Entry). record { stamp = stamp; node = record { 0 = at }; act = acts.Learn tid (record { node = record { 0 = at }; server = server }) outcomes.Commit } ∷ es) (learning_is stamp at tid servers)
 

@@ -33,6 +33,7 @@ pub mod TriedOpenings
 pub mod TriedAside
 pub mod Said
 pub mod Saying
+pub mod SayingSteps
 pub mod Worlds
 pub mod WorldTests
 pub mod TriedWorlds

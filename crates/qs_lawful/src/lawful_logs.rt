@@ -41,6 +41,7 @@ ghost use Rattle.qs_world.specs.World.{Host};
 ghost use Rattle.qs_lawful.specs.Holds.{Holds};
 ghost use Rattle.qs_lawful.specs.Logged.{HoldsHost, IsTrueEvent, KeepsLogs};
 ghost use Rattle.qs_lawful.specs.Logs.{found_votes, HoldsStopped};
+ghost use Rattle.qs_lawful.specs.SayingSteps.{EachLearntSays, EachStepSays};
 ghost use Rattle.qs_lawful.specs.Saying.{EachCommitEnters, EachCommitIsSaid, EachCommitSays, EachEndKeepsSaid, EachEndSays, EachKeepsSaid, EachLearnerIsHeld, EachLearningEnters, EachMadeIsSaid, EachPendingIsHeld, EachPlainEnters, EachQuietSays, EachVoteEnters, EachVoteIsSaid, EachVoteOnce, EachVoteSays};
 
 /// A server votes: a vote that it can commit stands in the log with its Prepare, of every other vote the log says nothing.
@@ -104,6 +105,16 @@ pub fn log_says_votes_and_commits()
     ensures quiet { EachQuietSays }
     ensures ends { EachEndSays }
     ensures commits { EachCommitSays }
+{}
+
+/// A whole step leaves what the log of its node says of contents and changes as the machine has it, with the records that wait for the next
+/// force and on the disk: committed files and notes are what its Commits leave, what is on record is what its Prepares have, and what is in
+/// doubt at its home is not committed. Where servers learn that a transaction is committed and a log has nothing in doubt of it, that log
+/// needs no Commit. A commit that is told is of a home of the run, and where the node waits for the outcome of a vote, its log has the vote
+/// in doubt.
+pub fn step_says_contents()
+    ensures learnt { EachLearntSays }
+    ensures step { EachStepSays }
 {}
 
 /// What another node does, a crash and a restart of it too, leaves what is held of the log of a node.

@@ -55,6 +55,7 @@ pub use lawful_logs::crash_is_lawful;
 pub use lawful_logs::others_keep_the_log;
 pub use lawful_logs::requests_keep_the_log;
 pub use lawful_logs::step_keeps_the_log;
+pub use lawful_logs::step_says_contents;
 pub use lawful_logs::stopped_node_may_restart;
 pub use lawful_logs::vote_keeps_the_log;
 pub use lawful_outcomes::abort_command_is_lawful;

@@ -23,6 +23,7 @@ pub mod DecideAbort
 pub mod DecideCommit
 pub mod Deciding
 pub mod Doubts
+mod DoubtsBefore
 pub mod During
 pub mod EventFaces
 pub mod EventGoes
@@ -58,6 +59,7 @@ pub mod LogClosing
 pub mod LogEnds
 pub mod LogFrames
 pub mod Logging
+mod LogsGrow
 pub mod Maps
 pub mod Meeting
 pub mod MetWork
@@ -75,6 +77,7 @@ pub mod OpenMoves
 pub mod Others
 pub mod OthersCame
 pub mod OutcomeGoes
+mod PastRecords
 pub mod PeerNoticed
 pub mod Placing
 pub mod Posted
@@ -104,6 +107,7 @@ pub mod Same
 pub mod SayYes
 pub mod SaysLogs
 pub mod NodeLists
+mod SaysNotices
 pub mod SaysOn
 pub mod SaysTells
 pub mod SaysOutcomes
@@ -317,5 +321,6 @@ pub mod ShownMoves
 pub mod ShownBegins
 pub mod Outside
 pub mod NodesAgree
-pub mod WholeLogs
+pub mod WholeKept
+mod WholeLogs
 pub mod EveryRunShown

@@ -1,5 +1,5 @@
 -- Nodes agree, and their logs stand together, as the agreement machine that shows each transaction does.
-use Rattle.std.proofs.Common.{◌≡◌, ℕ, ◌<◌, ◌||◌, not, nat_lt, Bool, true, false, Some, refl, sym, ap, ◌∙◌, arith}
+use Rattle.std.proofs.Common.{◌≡◌, ℕ, ◌<◌, ◌||◌, ◌==◌, not, nat_lt, Bool, true, false, None, Some, refl, sym, ap, subst, ◌∙◌, arith}
 use Rattle.std.specs.List.{list_any}
 use Rattle.std.proofs.lemmas.Bool.Decides.{nat_tests}
 use Rattle.qs_base.specs.Order.{same_tid}
@@ -10,16 +10,16 @@ use Rattle.qs_tm.specs.Manager as tm
 use Rattle.qs_tm.specs.declared.participant.Participant.{Participant}
 use Rattle.qs_world.specs.World.{World}
 use Rattle.qs_agree.specs.World as machine
-use Rattle.qs_agree.specs.World.{Committed, Aborted}
+use Rattle.qs_agree.specs.World.{Open, Committed, Aborted}
 use Rattle.qs_refine.specs.Begun.{has_begun, may_be_known}
 use Rattle.qs_refine.specs.EachMove.{ShowsAll}
 use Rattle.qs_refine.specs.Links.{names_node, node_no}
-use Rattle.qs_refine.specs.NodeFaces.{outcome_of}
+use Rattle.qs_refine.specs.NodeFaces.{outcome_of, part_at}
 use Rattle.qs_refine.specs.Places.{place}
 use Rattle.qs_refine.specs.ShownWorlds.{IsShown, IsShownWorld}
 use Rattle.qs_refine.specs.Sights.{list_of}
 use Rattle.qs_refine.specs.Steadies.{stage_of}
-use Rattle.qs_refine.specs.WorldLaws.{Knows, NodesAgree, LogsStand}
+use Rattle.qs_refine.specs.WorldLaws.{Knows, LearnersStand, NodesAgree, LogsStand}
 use Rattle.qs_refine.proofs.Doubts.{some_of}
 use Rattle.qs_refine.proofs.Facts.{invariant}
 use Rattle.qs_refine.proofs.Reading.{part_known}
@@ -77,3 +77,27 @@ logs_stand tid world n is numbered home_in n_in other committed doubt = by (may_
     by : (b : Bool) → may_be_known world tid ≡ b → (list_any (is_untold_of tid) (recovery (world.hosts tid.home.0).log).untold ≡ true) × (names_node (list_of tid (recovery (world.hosts tid.home.0).log)) (node_no n) ≡ true)
     by true past = told_by (is.shown tid (begun_of tid world home_in past))
     by false off = absurd (let none : list_any (same_tid tid) (recovery (world.hosts tid.home.0).log).committed ≡ false = (unbegun_unknown tid world tid.home.0 is.steady home_in numbered off).committed in cc (none, committed))
+
+pub learners_stand : LearnersStand
+learners_stand tid world n is home_in other committed learns =
+    let shown = known_shown tid world is home_in n learns.in_run learns.part learns.known in
+    let w = shown.machine in
+    let sees = shown.shows.seen.shown in
+    let logs = (sees.logs tid.home.0 home_in) in
+    let logged : w.commit_logged ≡ true = logs.committed refl ∙ committed in
+    let cell : w.cell ≡ Committed = (invariant w shown.shows.seen.lawful).outcomes.logged logged in
+    let at = sees.stage.nodes n (world.channels.inc n) learns.in_run in
+    let home_node : w.node w.home ≡ tid.home.0 = ap w.node sees.stage.home ∙ sees.stage.nodes tid.home.0 tid.inc home_in in
+    let face = sees.faces n learns.in_run learns.runs in
+    let open_now : outcome_of (part_at (world.hosts n).node tid) ≡ Open = ap (λ (p : Participant). outcome_of p) (part_known tid (world.hosts n).node learns.part learns.known) ∙ undecided learns.part learns.undecided in
+    let told = (shown.shows.seen.lawful.answered cell).in_doubt (place n (world.channels.inc n)) (λ same. other (sym at ∙ (same ∙ home_node)))
+    (sees.stage.up n (world.channels.inc n) learns.in_run ∙ rw (learns.runs) (nat_is (world.channels.inc n)))
+    ((face.running open_now).involved ∙ (ap (λ (p : Participant). p.involved) (part_known tid (world.hosts n).node learns.part learns.known) ∙ learns.involved))
+    (face.outcome ∙ open_now) in
+    (sym (logs.unended refl) ∙ told.1, sym (logs.named refl told.1 n) ∙ subst (λ (k : ℕ). w.commit_list k ≡ true) at told.0)
+  where
+    nat_is : (k : ℕ) → (k == k) ≡ true
+    nat_is k = grind (arith, nat_tests)
+
+    undecided : (part : Participant) → part.outcome ≡ None → outcome_of part ≡ Open
+    undecided part none = rw none refl

@@ -1,13 +1,13 @@
 -- A record that is appended: the flags say of its transaction what the log says then.
-use Rattle.std.proofs.Common.{◌≡◌, ℕ, ◌<◌, ◌||◌, ◌⊎◌, inl, inr, ◌==◌, not, Bool, true, false, List, [], ◌∷◌, length, Option, Some, None, refl, sym, ap, subst, ◌∙◌, arith}
-use Rattle.std.specs.List.{filter, list_any}
+use Rattle.std.proofs.Common.{◌≡◌, ℕ, ◌<◌, ◌&&◌, ◌||◌, ◌⊎◌, inl, inr, ◌==◌, not, Bool, true, false, List, [], ◌∷◌, length, Option, Some, None, refl, sym, ap, subst, ◌∙◌, arith}
+use Rattle.std.specs.List.{filter, list_all, list_any}
 use Rattle.std.specs.Map.{lookup}
 use Rattle.std.specs.BTreeMap.{is_at}
 use Rattle.std.proofs.lemmas.Bool.Decides.{nat_tests}
 use Rattle.qs_base.specs.Order.{same_tid, tid_cmp}
 use Rattle.qs_base.specs.declared.identifiers.NodeNo.{NodeNo}
 use Rattle.qs_base.specs.declared.identifiers.Tid.{Tid}
-use Rattle.qs_engage.specs.Nodes.{has_node, joined, no_nodes}
+use Rattle.qs_engage.specs.Nodes.{has_node, joined, no_nodes, same_node}
 use Rattle.qs_engage.specs.declared.nodes.Nodes.{Nodes}
 use Rattle.qs_record.specs.declared.record.Record.{Record}
 use Rattle.qs_record.specs.declared.record.Record.TheVariants as records
@@ -18,8 +18,10 @@ use Rattle.qs_tm.specs.declared.participant.Participant.{Participant}
 use Rattle.qs_step.specs.Bringing.{log, log_if, tid_of, is_forced}
 use Rattle.qs_step.specs.State.{NodeValue, Work, part_of}
 use Rattle.qs_refine.specs.Links.{names_node, node_no}
+use Rattle.qs_world.specs.Openings as openings
+use Rattle.qs_world.specs.Openings.{is_commit_of, is_in_run, is_whole_log}
 use Rattle.qs_refine.specs.Lists.{AreListed, last_list, tell_at, tell_of_part}
-use Rattle.qs_refine.specs.SaidLaws.{no_flags, flags_at, IsSaid, AreSaid, SaysOn}
+use Rattle.qs_refine.specs.SaidLaws.{is_prepare_of, lists_others, no_flags, flags_at, IsSaid, AreSaid, SaysOn}
 use Rattle.qs_refine.specs.Sights.{list_of}
 use Rattle.qs_refine.specs.Sound.{has_doubt}
 use Rattle.qs_refine.proofs.Doubts.{is_doubt_of, doubt_same, doubts_ended, doubts_marked, any_last}
@@ -32,6 +34,7 @@ use Rattle.qs_refine.proofs.Same.{tid_same}
 use Rattle.qs_refine.proofs.SaysOn.{on_itself, told_changed}
 use Rattle.qs_refine.proofs.SoundKnown.{same_is}
 use Rattle.std.specs.Prelude.{⊤}
+use Rattle.qs_refine.proofs.WholeKept.{whole_ended, whole_listed}
 
 some_list : (first : NodeNo) (others : List NodeNo) → not (length (first ∷ others) == 0) ≡ true
 some_list first others = grind (arith, nat_tests)
@@ -53,6 +56,9 @@ MayLog rec work = (is_forced rec ≡ false) ⊎ ((part : Participant) × (part_o
 pub record ListsTold (tid : Tid) (told : List NodeNo) (node : NodeValue) : Type 0 where
   pub named : (m : ℕ) → names_node told (node_no m) ≡ true → (m < 16) × (has_node (tell_at tid node) (node_no m) ≡ true)
   pub all : (m : ℕ) → m < 16 → has_node (tell_at tid node) (node_no m) ≡ true → names_node told (node_no m) ≡ true
+  pub run : list_all (is_in_run node.setting.nodes) told ≡ true  -- nodes of the run,
+  pub fresh : (flags_at tid node).listed ≡ false  -- and it is the first
+  pub others : not (openings.has_node told tid.home) ≡ true
 
 abbrev pub ListsAt : Record → NodeValue → Type 0
 ListsAt (records.Commit tid []) node = ⊤
@@ -129,6 +135,41 @@ lists_on rec node new said same lists has = lists_after node new said same has r
     told (records.Aborted u) tid first others is its = absurd (cc (is))
     told (records.End u) tid first others is its = absurd (cc (is))
 
+-- a Commit is of the home, or of a vote in doubt
+abbrev pub CommitsOwn : Record → NodeValue → Type 0
+CommitsOwn (records.Commit tid told) node = (same_node tid.home node.setting.node ≡ true) ⊎ ((said : Recovery) → AreSaid node said → has_doubt tid said ≡ true)
+CommitsOwn rec node = ⊤
+
+logs_own : (rec : Record) (node : NodeValue) → CommitsOwn rec node → (said : Recovery) → AreSaid node said → (t : Tid) → same_node t.home node.setting.node ≡ false → (is_commit_of t rec || false) ≡ true
+    → (has_doubt t said ≡ true) ⊎ ((is_prepare_of t rec || false) ≡ true)
+logs_own (records.Prepare u server covers changes) node its said is t off any = absurd (cc (any))
+logs_own (records.Aborted u) node its said is t off any = absurd (cc (any))
+logs_own (records.End u) node its said is t off any = absurd (cc (any))
+logs_own (records.Commit u told) node its said is t off any = by its
+  where
+    alone : (b : Bool) → (b || false) ≡ true → b ≡ true
+    alone true is = refl
+    alone false is = is
+
+    by : CommitsOwn (records.Commit u told) node → (has_doubt t said ≡ true) ⊎ (false ≡ true)
+    by (inl home) = absurd (let here : same_node t.home node.setting.node ≡ true = subst (λ (k : Tid). same_node k.home node.setting.node ≡ true) (sym (same_is t u (alone (same_tid t u) any))) home in cc (here, off))
+    by (inr doubt) = inl (subst (λ (k : Tid). has_doubt k said ≡ true) (sym (same_is t u (alone (same_tid t u) any))) (doubt said is))
+
+logs_others : (rec : Record) (node : NodeValue) → ListsAt rec node → (lists_others rec && true) ≡ true
+logs_others (records.Prepare tid server covers changes) node lists = refl
+logs_others (records.Commit tid []) node lists = refl
+logs_others (records.Commit tid (first ∷ others)) node lists = rw (lists.others) refl
+logs_others (records.Aborted tid) node lists = refl
+logs_others (records.End tid) node lists = refl
+
+-- and the log can still be taken up whole
+logs_whole : (rec : Record) (node : NodeValue) (said : Recovery) → ListsAt rec node → AreSaid node said → is_whole_log node.setting.nodes said ≡ true → is_whole_log node.setting.nodes (found_record said rec) ≡ true
+logs_whole (records.Prepare tid server covers changes) node said lists is all = all
+logs_whole (records.Commit tid []) node said lists is all = whole_ended node.setting.nodes tid said all
+logs_whole (records.Commit tid (first ∷ others)) node said lists is all = whole_listed tid (first ∷ others) node.setting.nodes said lists.run (sym (is tid).listed ∙ lists.fresh) all
+logs_whole (records.Aborted tid) node said lists is all = whole_ended node.setting.nodes tid said all
+logs_whole (records.End tid) node said lists is all = whole_ended node.setting.nodes tid said all
+
 module _ (rec : Record) (work : Work) (may : MayLog rec work) where
   abbrev told : Option Participant → InLog
   told o = elim o [ None ↦ no_flags | Some part ↦ part.log ]
@@ -161,15 +202,18 @@ module _ (rec : Record) (work : Work) (may : MayLog rec work) where
   tells : (t : Tid) → tell_at t (log rec work).node ≡ tell_at t work.node
   tells t = told_changed no_nodes tell_of_part (is_at (tid_cmp (tid_of rec))) (is_at (tid_cmp t)) (logged rec) (λ part. refl) work.node.manager.known
 
-  pub log_on : ListsIt rec work → SaysOn work (log rec work)
-  log_on lists = record {
+  pub log_on : ListsIt rec work → CommitsOwn rec work.node → SaysOn work (log rec work)
+  log_on lists owns = record {
     setting = refl;
     more = rec ∷ [];
+    others = logs_others rec work.node lists;
+    own = λ said is t off any. logs_own rec work.node owns said is t off any;
     records = refl;
     forced = ap (λ (f : Bool). work.out.force || f) (or_none (is_forced rec));
     commands = λ is. is;
     said = λ said is t. by said is t (same_tid t (tid_of rec)) refl;
     lists = λ said is has. lists_on rec work.node (log rec work).node said tells lists has;
+    whole = λ said is all. logs_whole rec work.node said lists is all;
   }
     where
       by : (said : Recovery) → AreSaid work.node said → (t : Tid) (b : Bool) → same_tid t (tid_of rec) ≡ b → IsSaid (log rec work).node (found_record said rec) t
@@ -184,6 +228,6 @@ module _ (rec : Record) (work : Work) (may : MayLog rec work) where
             listed = ap (λ (f : InLog). f.listed) flags ∙ ((is t).listed ∙ sym same.unended);
           }
 
-pub log_if_on : (rec : Option Record) (work : Work) → ((r : Record) → rec ≡ Some r → MayLog r work × ListsIt r work) → SaysOn work (log_if rec work)
+pub log_if_on : (rec : Option Record) (work : Work) → ((r : Record) → rec ≡ Some r → MayLog r work × (ListsIt r work × CommitsOwn r work.node)) → SaysOn work (log_if rec work)
 log_if_on None work may = on_itself work
-log_if_on (Some rec) work may = log_on rec work (may rec refl).0 (may rec refl).1
+log_if_on (Some rec) work may = log_on rec work (may rec refl).0 (may rec refl).1.0 (may rec refl).1.1

@@ -3,8 +3,8 @@ use Rattle.std.proofs.Common.{◌≡◌, ℕ, ◌<◌, ◌||◌, Bool, true, fal
 use Rattle.std.specs.Map.{lookup, set_value}
 use Rattle.std.specs.BTreeMap.{is_at}
 use Rattle.std.proofs.lemmas.Bool.Decides.{nat_tests}
-use Rattle.std.specs.List.{list_any}
-use Rattle.std.proofs.lemmas.List.Folds.{list_any-append}
+use Rattle.std.specs.List.{list_all, list_any}
+use Rattle.std.proofs.lemmas.List.Folds.{list_all-append, list_any-append}
 use Rattle.std.proofs.lemmas.List.Sums.{fold-append}
 use Rattle.qs_base.specs.Order.{same_tid, tid_cmp}
 use Rattle.qs_base.specs.declared.identifiers.ClientNo.{ClientNo}
@@ -29,8 +29,12 @@ use Rattle.qs_step.specs.Bringing.{enter, send, send_next, send_each, answer, is
 use Rattle.qs_step.specs.State.{Work, with_manager, with_queues, with_kept, with_doings, change_server, client_cmp}
 use Rattle.qs_step.specs.declared.state.Doings.{Doings}
 use Rattle.qs_step.specs.declared.state.OpenCommand.{OpenCommand}
-use Rattle.qs_refine.specs.SaidLaws.{no_flags, flags_at, AreSaid, SaysOn}
+use Rattle.qs_refine.specs.SaidLaws.{lists_others, no_flags, flags_at, AreSaid, SaysOn}
 use Rattle.qs_refine.specs.Links.{node_no}
+use Rattle.qs_step.specs.declared.setting.Setting.{Setting}
+use Rattle.qs_engage.specs.Nodes.{same_node}
+use Rattle.qs_refine.proofs.DoubtsBefore.{own_then}
+use Rattle.qs_world.specs.Openings.{is_whole_log}
 use Rattle.qs_refine.specs.Lists.{AreListed, tell_at, tell_of_part}
 use Rattle.qs_refine.specs.SoundSteps.{is_open_in_run, commands_in_run}
 use Rattle.qs_refine.proofs.Maps.{lookup_put}
@@ -61,8 +65,13 @@ on_then {a} {b} {c} first second = record {
   forced = second.forced ∙ (ap (λ (f : Bool). f || list_any is_forced second.more) first.forced ∙ (or_more a.out.force (list_any is_forced first.more) (list_any is_forced second.more)
       ∙ ap (λ (f : Bool). a.out.force || f) (sym (list_any-append is_forced first.more second.more))));
   commands = λ is. second.commands (first.commands is);
+  own = λ said is t off any. own_then t first.more second.more said (first.own said is t off) (second.own (fold found_record said first.more) (first.said said is) t (subst (λ (s : Setting). same_node t.home s.node ≡ false) (sym first.setting) off)) any;
+  others = list_all-append lists_others first.more second.more ∙ rw (first.others, second.others) refl;
   said = λ said is. subst (λ (r : Recovery). AreSaid c.node r) (sym (fold-append found_record said first.more second.more)) (second.said (fold found_record said first.more) (first.said said is));
   lists = λ said is has. subst (λ (r : Recovery). AreListed c.node r) (sym (fold-append found_record said first.more second.more)) (second.lists (fold found_record said first.more) (first.said said is) (first.lists said is has));
+  whole = λ said is all. subst (λ (r : Recovery). is_whole_log a.node.setting.nodes r ≡ true) (sym (fold-append found_record said first.more second.more))
+      (subst (λ (s : Setting). is_whole_log s.nodes (fold found_record (fold found_record said first.more) second.more) ≡ true) first.setting
+      (second.whole (fold found_record said first.more) (first.said said is) (subst (λ (s : Setting). is_whole_log s.nodes (fold found_record said first.more) ≡ true) (sym first.setting) (first.whole said is all))));
 }
 
 -- what piece of a work stays the same
@@ -88,11 +97,14 @@ pub two_on : (work new : Work) → SameRest work new
 two_on work new rest same tells = record {
   setting = rest.setting;
   more = [];
+  others = refl;
+  own = λ said is t off any. absurd (cc (any));
   records = rest.records ∙ sym (append_nil work.out.records);
   forced = rest.force ∙ or_none work.out.force;
   commands = rest.commands;
   said = λ said is tid. record { prepared = (same tid).0 ∙ (is tid).prepared; listed = (same tid).1 ∙ (is tid).listed };
   lists = tells;
+  whole = λ said is all. all;
 }
 
 pub flags_on : (work new : Work) → SameRest work new → ((tid : Tid) → flags_at tid new.node ≡ flags_at tid work.node) → KeepsTelling work new → SaysOn work new

@@ -1,18 +1,15 @@
 -- Decisions, outcomes that are told, and inquiries leave a node sound over its log.
 use Rattle.std.proofs.Common.{◌≡◌, inl, inr, ◌==◌, ◌&&◌, ◌||◌, not, Bool, true, false, List, [], ◌∷◌, fold, Option, Some, None, is_some, refl, sym, ap, subst, ◌∙◌, arith, if◌then◌else◌, is_none, ℕ, ◌<◌}
-use Rattle.std.specs.List.{list_any}
+use Rattle.std.specs.List.{list_all, list_any}
 use Rattle.std.specs.BTreeMap.{is_at}
 use Rattle.qs_base.specs.Order.{same_tid, tid_cmp}
 use Rattle.qs_base.specs.declared.identifiers.NodeNo.{NodeNo}
 use Rattle.qs_base.specs.declared.identifiers.Outcome.{Outcome}
 use Rattle.qs_base.specs.declared.identifiers.Outcome.TheVariants as outcomes
-use Rattle.qs_base.specs.declared.identifiers.ServerNo.{ServerNo}
 use Rattle.qs_base.specs.declared.identifiers.Tid.{Tid}
 use Rattle.qs_engage.specs.Nodes.{listed, same_node, has_node, no_nodes}
-use Rattle.qs_ops.specs.Server.{after_notice}
 use Rattle.qs_ops.specs.declared.answer.Cause.{Cause}
 use Rattle.qs_ops.specs.declared.answer.Cause.TheVariants as causes
-use Rattle.qs_ops.specs.declared.vote.Notice.{Notice}
 use Rattle.qs_packet.specs.declared.message.Message.TheVariants as messages
 use Rattle.qs_record.specs.declared.record.Record.{Record}
 use Rattle.qs_record.specs.declared.record.Record.TheVariants as records
@@ -26,66 +23,27 @@ use Rattle.qs_tm.specs.declared.participant.InLog.{InLog}
 use Rattle.qs_tm.specs.declared.participant.Participant.{Participant}
 use Rattle.qs_step.specs.Answering.{was_committed, answer_unknown, answer_known, inquiry_came}
 use Rattle.qs_step.specs.Bringing.{log, log_if, tid_of}
-use Rattle.qs_step.specs.Deciding.{notice_of, notify, end_member, due_endings, end_members, learn_member, learners_at, learn_members, give_notices, keep_outcome, decide, decide_commit}
-use Rattle.qs_step.specs.State.{Work, here, part_of, with_manager, change_server}
+use Rattle.qs_step.specs.Deciding.{learners_at, give_notices, keep_outcome, decide, decide_commit}
+use Rattle.qs_step.specs.State.{Work, here, part_of, with_manager}
 use Rattle.qs_step.specs.Telling.{names_at, end_record, record_learnt, learn, learn_unknown, take_outcome, tell_came, forget, end_told, take_told, take_names, keep_abort_told, is_other_node, told_unknown, told_known, told_at_home, told_came}
 use Rattle.qs_refine.specs.SaidLaws.{no_flags, flags_at, SaysOn}
 use Rattle.qs_refine.specs.Sound.{in_order}
 use Rattle.qs_refine.proofs.Forgetting.{forgotten, order_changed}
 use Rattle.qs_refine.proofs.Maps.{lookup_changed}
 use Rattle.qs_refine.proofs.Others.{forget_apart}
-use Rattle.qs_refine.proofs.SaysLogs.{MayLog, ListsIt, lists_told, log_on, log_if_on, flags_logged}
-use Rattle.qs_refine.proofs.SaysOn.{on_itself, on_then, fold_on, if_on, rest_on, two_on, grown_on, KeepsTelling, enter_on, send_on, sends_on, queues_on, server_on, part_on, absent_on}
+use Rattle.qs_refine.proofs.SaysLogs.{CommitsOwn, MayLog, ListsIt, lists_told, log_on, log_if_on, flags_logged}
+use Rattle.qs_refine.proofs.SaysOn.{on_itself, on_then, if_on, rest_on, two_on, grown_on, KeepsTelling, enter_on, send_on, sends_on, queues_on, part_on, absent_on}
 use Rattle.qs_refine.proofs.SoundKnown.{same_is}
 use Rattle.qs_refine.specs.Sights.{list_of}
+use Rattle.qs_world.specs.Openings as openings
+use Rattle.qs_world.specs.Openings.{is_in_run}
 use Rattle.qs_refine.specs.Lists.{is_commit, tell_at, tell_of_part}
 use Rattle.qs_refine.specs.Links.{names_node, node_no}
 use Rattle.qs_refine.proofs.NodeLists.{listed_within, listed_names, unlisted}
 use Rattle.qs_engage.specs.declared.nodes.Nodes.{Nodes}
 use Rattle.qs_restart.specs.Recovery.{is_untold_of}
+use Rattle.qs_refine.proofs.SaysNotices.{IsKnown, IsLoggedAs, learns_logged, notices_known, notices_on, part_known, part_logged}
 use Rattle.qs_refine.proofs.SaysTells.{NotCommitted, open_of, nobody_told, names_grow, tell_grows}
-
--- ---- notices
-
-notify_on : (tid : Tid) (notice : Notice) (server : ServerNo) (work : Work) → SaysOn work (notify tid notice server work)
-notify_on tid notice server work = on_then (server_on server (λ value. after_notice value tid notice) work) (part_on tid (outcome_rules.settled server) (λ part. (refl, refl)) (change_server server (λ value. after_notice value tid notice) work))
-
-end_member_on : (tid : Tid) (work : Work) (server : ServerNo) → SaysOn work (end_member tid work server)
-end_member_on tid work server = on_then (notify_on tid Rattle.qs_ops.specs.declared.vote.Notice.TheVariants.Ending server work) (enter_on _ _)
-
-pub end_members_on : (tid : Tid) (work : Work) → SaysOn work (end_members tid work)
-end_members_on tid work = fold_on (end_member tid) (end_member_on tid) (due_endings tid work) work
-
-learn_member_on : (tid : Tid) (outcome : Outcome) (work : Work) (server : ServerNo) → SaysOn work (learn_member tid outcome work server)
-learn_member_on tid outcome work server = on_then (notify_on tid (notice_of outcome) server work) (enter_on _ _)
-
-learn_members_on : (tid : Tid) (outcome : Outcome) (work : Work) → SaysOn work (learn_members tid outcome work)
-learn_members_on tid outcome work = fold_on (learn_member tid outcome) (learn_member_on tid outcome) (learners_at tid work) work
-
-pub notices_on : (tid : Tid) (outcome : Outcome) (work : Work) → SaysOn work (give_notices tid outcome work)
-notices_on tid outcomes.Commit work = learn_members_on tid outcomes.Commit work
-notices_on tid outcomes.Abort work = on_then (end_members_on tid work) (learn_members_on tid outcomes.Abort (end_members tid work))
-
--- the transaction stays known
-abbrev pub IsKnown : Tid → Work → Type 0
-IsKnown tid work = (part : Participant) × (part_of tid work ≡ Some part)
-
-pub part_known : (tid : Tid) (f : Participant → Participant) (work : Work) → IsKnown tid work → IsKnown tid (with_manager (tm.with_part tid f) work)
-part_known tid f work known = (f known.0, lookup_changed (is_at (tid_cmp tid)) f work.node.manager.known known.0 known.1)
-
-learns_known : (tid : Tid) (outcome : Outcome) (servers : List ServerNo) (work : Work) → IsKnown tid work → IsKnown tid (fold (learn_member tid outcome) work servers)
-learns_known tid outcome [] work known = known
-learns_known tid outcome (server ∷ servers) work known = learns_known tid outcome servers (learn_member tid outcome work server)
-    (part_known tid (outcome_rules.settled server) (change_server server (λ value. after_notice value tid (notice_of outcome)) work) known)
-
-ends_known : (tid : Tid) (servers : List ServerNo) (work : Work) → IsKnown tid work → IsKnown tid (fold (end_member tid) work servers)
-ends_known tid [] work known = known
-ends_known tid (server ∷ servers) work known = ends_known tid servers (end_member tid work server)
-    (part_known tid (outcome_rules.settled server) (change_server server (λ value. after_notice value tid Rattle.qs_ops.specs.declared.vote.Notice.TheVariants.Ending) work) known)
-
-pub notices_known : (tid : Tid) (outcome : Outcome) (work : Work) → IsKnown tid work → IsKnown tid (give_notices tid outcome work)
-notices_known tid outcomes.Commit work known = learns_known tid outcomes.Commit (learners_at tid work) work known
-notices_known tid outcomes.Abort work known = learns_known tid outcomes.Abort (learners_at tid (end_members tid work)) (end_members tid work) (ends_known tid (due_endings tid work) work known)
 
 -- ---- the decision
 
@@ -113,8 +71,18 @@ decided_may tid outcome work rec = by outcome (part_of tid work) refl
     by outcome None none is = absurd (cc (is))
     by outcome (Some part) known is = (of_it outcome part is, (part, known))
 
-pub decide_on : (tid : Tid) (outcome : Outcome) (cause : Option Cause) (work : Work) → NotCommitted tid work → SaysOn work (decide tid outcome cause work)
-decide_on tid outcome cause work closed =
+-- a commit that is decided is the first of its transaction in the log, and names nodes of the run
+abbrev pub MayList : Tid → Outcome → Work → Type 0
+MayList tid outcome work = outcome ≡ outcomes.Commit → (part : Participant) → part_of tid work ≡ Some part → (part.log.listed ≡ false) × ((list_all (is_in_run work.node.setting.nodes) (listed part.told) ≡ true) × ((not (openings.has_node (listed part.told) tid.home) ≡ true) × (same_node tid.home (here work) ≡ true)))
+
+abbrev flags_in : Option Participant → InLog
+flags_in o = elim o [ None ↦ no_flags | Some part ↦ part.log ]
+
+pub aborts_none : (tid : Tid) (work : Work) → MayList tid outcomes.Abort work
+aborts_none tid work is = absurd (cc (is))
+
+pub decide_on : (tid : Tid) (outcome : Outcome) (cause : Option Cause) (work : Work) → NotCommitted tid work → MayList tid outcome work → SaysOn work (decide tid outcome cause work)
+decide_on tid outcome cause work closed may_list =
     on_then (grown_on tid (outcome_rules.decided outcome) (λ part. refl) work (λ part known m below has. absurd (nobody_told part (closed part known) m has)))
     (on_then (log_if_on (tm.decision tid outcome work.node.manager).rec decided may)
     (on_then (rest_on (log_if (tm.decision tid outcome work.node.manager).rec decided) (keep_outcome tid outcome cause (log_if (tm.decision tid outcome work.node.manager).rec decided)) refl refl refl refl refl)
@@ -124,17 +92,32 @@ decide_on tid outcome cause work closed =
     decided : Work
     decided = with_manager (tm.decide tid outcome) work
 
-    may : (rec : Record) → (tm.decision tid outcome work.node.manager).rec ≡ Some rec → MayLog rec decided × ListsIt rec decided
+    may : (rec : Record) → (tm.decision tid outcome work.node.manager).rec ≡ Some rec → MayLog rec decided × (ListsIt rec decided × CommitsOwn rec decided.node)
     may rec is = let of_it : (tid_of rec ≡ tid) × IsKnown tid work = decided_may tid outcome work rec is in (
       inr (subst (λ (t : Tid). IsKnown t decided) (sym of_it.0) (part_known tid (outcome_rules.decided outcome) work of_it.1)),
-      lists outcome of_it.1.0 of_it.1.1 (sym (ap (λ (o : Option Participant). (made tid outcome o).rec) of_it.1.1) ∙ is),
+      (
+        lists outcome may_list of_it.1.0 of_it.1.1 (sym (ap (λ (o : Option Participant). (made tid outcome o).rec) of_it.1.1) ∙ is),
+        owns outcome may_list of_it.1.0 of_it.1.1 (sym (ap (λ (o : Option Participant). (made tid outcome o).rec) of_it.1.1) ∙ is),
+      ),
     )
       where
         told_in : Option Participant → Nodes
         told_in o = elim o [ None ↦ no_nodes | Some part ↦ tell_of_part part ]
 
-        lists : (o : Outcome) (part : Participant) → part_of tid work ≡ Some part → record_of tid o part ≡ Some rec → ListsIt rec (with_manager (tm.decide tid o) work)
-        lists outcomes.Commit part known is = written (writes_commit part) is
+        owns : (o : Outcome) → MayList tid o work → (part : Participant) → part_of tid work ≡ Some part → record_of tid o part ≡ Some rec → CommitsOwn rec (with_manager (tm.decide tid o) work).node
+        owns outcomes.Commit may_list part known is = by (writes_commit part) is
+          where
+            by : (b : Bool) → (if b then Some (records.Commit tid (listed part.told)) else None) ≡ Some rec → CommitsOwn rec (with_manager (tm.decide tid outcomes.Commit) work).node
+            by true is = let same : records.Commit tid (listed part.told) ≡ rec = cc (is) in subst (λ (r : Record). CommitsOwn r (with_manager (tm.decide tid outcomes.Commit) work).node) same (inl (may_list refl part known).1.1.1)
+            by false is = absurd (cc (is))
+        owns outcomes.Abort may_list part known is = by part.log.prepared is
+          where
+            by : (b : Bool) → (if b then Some (records.Aborted tid) else None) ≡ Some rec → CommitsOwn rec (with_manager (tm.decide tid outcomes.Abort) work).node
+            by true is = let same : records.Aborted tid ≡ rec = cc (is) in subst (λ (r : Record). CommitsOwn r (with_manager (tm.decide tid outcomes.Abort) work).node) same tt
+            by false is = absurd (cc (is))
+
+        lists : (o : Outcome) → MayList tid o work → (part : Participant) → part_of tid work ≡ Some part → record_of tid o part ≡ Some rec → ListsIt rec (with_manager (tm.decide tid o) work)
+        lists outcomes.Commit may_list part known is = written (writes_commit part) is
           where
             told_is : tell_at tid (with_manager (tm.decide tid outcomes.Commit) work).node ≡ part.told
             told_is = ap told_in (lookup_changed (is_at (tid_cmp tid)) (outcome_rules.decided outcomes.Commit) work.node.manager.known part known)
@@ -144,33 +127,59 @@ decide_on tid outcome cause work closed =
                 (lists_told tid (listed part.told) (with_manager (tm.decide tid outcomes.Commit) work).node (record {
                   named = λ m names. let its = listed_within part.told m names in (its.0, subst (λ (s : Nodes). has_node s (node_no m) ≡ true) (sym told_is) its.1);
                   all = λ m below has. listed_names part.told m below (subst (λ (s : Nodes). has_node s (node_no m) ≡ true) told_is has);
+                  run = (may_list refl part known).1.0;
+                  others = (may_list refl part known).1.1.0;
+                  fresh = ap (λ (o : Option Participant). (flags_in o).listed) (lookup_changed (is_at (tid_cmp tid)) (outcome_rules.decided outcomes.Commit) work.node.manager.known part known) ∙ (may_list refl part known).0;
                 }))
             written false is = absurd (cc (is))
-        lists outcomes.Abort part known is = ended part.log.prepared is
+        lists outcomes.Abort may_list part known is = ended part.log.prepared is
           where
             ended : (b : Bool) → (if b then Some (records.Aborted tid) else None) ≡ Some rec → ListsIt rec (with_manager (tm.decide tid outcomes.Abort) work)
             ended true is = let same : records.Aborted tid ≡ rec = cc (is) in subst (λ (r : Record). ListsIt r (with_manager (tm.decide tid outcomes.Abort) work)) same tt
             ended false is = absurd (cc (is))
 
-pub decide_commit_on : (tid : Tid) (work : Work) → NotCommitted tid work → SaysOn work (decide_commit tid work)
-decide_commit_on tid work closed = by (tm.need_past tid work.room work.node.manager)
+pub decide_commit_on : (tid : Tid) (work : Work) → NotCommitted tid work → MayList tid outcomes.Commit work → SaysOn work (decide_commit tid work)
+decide_commit_on tid work closed may_list = by (tm.need_past tid work.room work.node.manager)
   where
     by : (o : Option Rattle.std.proofs.Common.ℕ) → SaysOn work (elim o [ None ↦ decide tid outcomes.Commit None work | Some need ↦ decide tid outcomes.Abort (Some (causes.Room need work.room)) work ])
-    by None = decide_on tid outcomes.Commit None work closed
-    by (Some need) = decide_on tid outcomes.Abort (Some (causes.Room need work.room)) work closed
+    by None = decide_on tid outcomes.Commit None work closed may_list
+    by (Some need) = decide_on tid outcomes.Abort (Some (causes.Room need work.room)) work closed (aborts_none tid work)
 
 -- ---- an outcome is told
 
 learn_on : (tid : Tid) (outcome : Outcome) (part : Participant) (work : Work) → part_of tid work ≡ Some part → is_undecided part ≡ true → SaysOn work (learn tid outcome part work)
 learn_on tid outcome part work known open_now =
     on_then (grown_on tid (outcome_rules.took_outcome outcome) (λ part. refl) work (λ p its m below has. absurd (nobody_told p (open_of tid work part known open_now p its) m has)))
-    (on_then (notices_on tid outcome taken) (log_if_on (record_learnt tid outcome part) (give_notices tid outcome taken) (λ rec is. (inr (subst (λ (t : Tid). IsKnown t (give_notices tid outcome taken)) (sym (of_it rec part.log.prepared outcome is)) known_still), no_list rec part.log.prepared outcome is (give_notices tid outcome taken)))))
+    (on_then (notices_on tid outcome taken) (log_if_on (record_learnt tid outcome part) (give_notices tid outcome taken) (λ rec is. (inr (subst (λ (t : Tid). IsKnown t (give_notices tid outcome taken)) (sym (of_it rec part.log.prepared outcome is)) known_still), (no_list rec part.log.prepared outcome is (give_notices tid outcome taken), owns rec outcome is)))))
   where
     taken : Work
     taken = with_manager (tm.took_outcome tid outcome) work
 
     known_still : IsKnown tid (give_notices tid outcome taken)
     known_still = notices_known tid outcome taken (part_known tid (outcome_rules.took_outcome outcome) work (part, known))
+
+    -- a commit is logged where its vote is in doubt
+    owns : (rec : Record) (outcome : Outcome) → record_learnt tid outcome part ≡ Some rec → CommitsOwn rec (give_notices tid outcome (with_manager (tm.took_outcome tid outcome) work)).node
+    owns rec outcomes.Commit is = by part.log.prepared refl is
+      where
+        told : Work
+        told = with_manager (tm.took_outcome tid outcomes.Commit) work
+
+        still : IsLoggedAs tid part.log (give_notices tid outcomes.Commit told).node.manager
+        still = learns_logged tid part.log outcomes.Commit (learners_at tid told) told (part_logged tid part.log (outcome_rules.took_outcome outcomes.Commit) (λ part. refl) work.node.manager (record { part = part; known = known; flags_are = refl }))
+
+        flags : flags_at tid (give_notices tid outcomes.Commit told).node ≡ part.log
+        flags = ap flags_in still.known ∙ still.flags_are
+
+        by : (b : Bool) → part.log.prepared ≡ b → (if b then Some (end_record tid outcomes.Commit) else None) ≡ Some rec → CommitsOwn rec (give_notices tid outcomes.Commit told).node
+        by true prepared is = let same : records.Commit tid [] ≡ rec = cc (is) in subst (λ (r : Record). CommitsOwn r (give_notices tid outcomes.Commit told).node) same
+            (inr (λ said is. sym (is tid).prepared ∙ (ap (λ (f : InLog). f.prepared) flags ∙ prepared)))
+        by false prepared is = absurd (cc (is))
+    owns rec outcomes.Abort is = by part.log.prepared is
+      where
+        by : (b : Bool) → (if b then Some (end_record tid outcomes.Abort) else None) ≡ Some rec → CommitsOwn rec (give_notices tid outcomes.Abort (with_manager (tm.took_outcome tid outcomes.Abort) work)).node
+        by true is = let same : records.Aborted tid ≡ rec = cc (is) in subst (λ (r : Record). CommitsOwn r (give_notices tid outcomes.Abort (with_manager (tm.took_outcome tid outcomes.Abort) work)).node) same tt
+        by false is = absurd (cc (is))
 
     no_list : (rec : Record) (b : Bool) (outcome : Outcome) → (if b then Some (end_record tid outcome) else None) ≡ Some rec → (w : Work) → ListsIt rec w
     no_list rec true outcomes.Commit is w = let same : records.Commit tid [] ≡ rec = cc (is) in subst (λ (r : Record). ListsIt r w) same tt
@@ -243,7 +252,7 @@ forget_on tid work ordered prepared listed = on_then (two_on work forgot (record
 
 end_told_on : (b : Bool) (tid : Tid) (work : Work) → in_order work.node.manager.known ≡ true → SaysOn work (end_told b tid work)
 end_told_on false tid work ordered = on_itself work
-end_told_on true tid work ordered = on_then (log_on (records.End tid) work (inl refl) tt)
+end_told_on true tid work ordered = on_then (log_on (records.End tid) work (inl refl) tt tt)
     (forget_on tid (log (records.End tid) work) (order_changed tid (outcome_rules.logged (records.End tid)) work.node.manager ordered)
     (ap (λ (f : InLog). f.prepared) (flags_logged (records.End tid) work (inl refl))) (ap (λ (f : InLog). f.listed) (flags_logged (records.End tid) work (inl refl))))
 

@@ -1,12 +1,13 @@
 -- What a node does of itself at the end of a step, and as another one or itself restarted, leaves it sound over its log.
 use Rattle.std.proofs.Common.{◌≡◌, inr, ℕ, ◌==◌, ◌&&◌, ◌||◌, not, Bool, true, false, List, [], ◌∷◌, fold, Option, Some, None, is_none, refl, sym, ap, subst, ◌∙◌, if◌then◌else◌}
+use Rattle.std.specs.List.{list_all}
 use Rattle.qs_base.specs.declared.identifiers.NodeNo.{NodeNo}
 use Rattle.qs_base.specs.declared.identifiers.Outcome.{Outcome}
 use Rattle.qs_base.specs.declared.identifiers.Outcome.TheVariants as outcomes
 use Rattle.qs_base.specs.declared.identifiers.ServerNo.{ServerNo}
 use Rattle.qs_base.specs.declared.identifiers.Tid.{Tid}
 use Rattle.qs_engage.specs.Engage.{release_of}
-use Rattle.qs_engage.specs.Nodes.{listed, is_no_node}
+use Rattle.qs_engage.specs.Nodes.{listed, is_no_node, same_node}
 use Rattle.qs_ipc.specs.Ipc as ipc
 use Rattle.qs_ops.specs.Server.{after_vote, changes_in, vote_of}
 use Rattle.qs_ops.specs.declared.answer.Cause.{Cause}
@@ -25,17 +26,20 @@ use Rattle.qs_tm.specs.Participant.{is_undecided, is_forgotten}
 use Rattle.qs_tm.specs.declared.participant.InLog.{InLog}
 use Rattle.qs_tm.specs.declared.participant.Participant.{Participant}
 use Rattle.qs_step.specs.Bringing.{member_here}
-use Rattle.qs_step.specs.Deciding.{decide, end_members}
+use Rattle.qs_step.specs.Deciding.{decide, decide_commit, end_members}
 use Rattle.qs_step.specs.Restarts.{find_gone, inquire, notice_decided, notice_part, notice_tid, peer_restarted, resume_home, resume_part, resume_tid, known_tids, begin_incarnation}
 use Rattle.qs_step.specs.Settling.{is_pass_due, pass_rule, may_answer, is_quiet, say_yes, ready_rule, refusal_goes_to, send_refusal, refuse_rule, forget_rule, try, settle_tid, due_tids, settle}
 use Rattle.qs_step.specs.State.{Work, here, part_of, doings_of, with_node, with_manager, with_queues, with_doings, change_server}
 use Rattle.qs_step.specs.Telling.{record_learnt, end_record}
 use Rattle.qs_step.specs.Voting.{owes_note, issue_note, note_text, change_count, served_count, enter_vote, vote_with, vote_frame, vote_next, due_votes, vote_pass}
+use Rattle.qs_world.specs.Openings as openings
+use Rattle.qs_world.specs.Openings.{is_in_run}
 use Rattle.qs_refine.specs.SaidLaws.{no_flags, flags_at, SaysOn}
-use Rattle.qs_refine.specs.Sound.{is_sound, where_so}
-use Rattle.qs_refine.proofs.SaysLogs.{ListsIt, log_on, log_if_on}
+use Rattle.qs_refine.specs.Sound.{is_sound, same_flag, where_so}
+use Rattle.qs_refine.proofs.SaysLogs.{CommitsOwn, ListsIt, log_on, log_if_on}
 use Rattle.qs_refine.proofs.SaysOn.{on_itself, on_then, fold_on, if_on, rest_on, enter_on, send_on, sends_on, queues_on, doings_on, server_on, part_on}
-use Rattle.qs_refine.proofs.SaysOutcomes.{IsKnown, part_known, end_members_on, notices_on, notices_known, decide_on, decide_commit_on, forget_on}
+use Rattle.qs_refine.proofs.SaysNotices.{IsKnown, part_known, end_members_on, notices_on, notices_known}
+use Rattle.qs_refine.proofs.SaysOutcomes.{MayList, aborts_none, decide_on, decide_commit_on, forget_on}
 use Rattle.qs_refine.proofs.SaysRules.{issue_on, block_on}
 use Rattle.qs_refine.proofs.SoundHolds.{Holds, known_sound, is_open, open_held}
 use Rattle.qs_refine.proofs.SoundNotices.{end_members_hold}
@@ -44,6 +48,7 @@ use Rattle.qs_refine.proofs.SoundSettle.{ready_rule_sound, refuse_rule_sound, un
 use Rattle.qs_refine.proofs.SoundViews.{PartSound, seen}
 use Rattle.qs_refine.proofs.SoundVotes.{vote_next_holds, pass_open, pass_rule_sound}
 use Rattle.qs_refine.proofs.SaysTells.{open_of}
+use Rattle.qs_refine.proofs.WholeKept.{names_others, told_in_run}
 
 -- ---- votes
 
@@ -70,7 +75,7 @@ vote_with_on tid server votes.Recoverable work known =
     on_then (enter_vote_on tid server votes.Recoverable work)
     (on_then (doings_on tid (λ doings. record doings { prepared = true }) entered)
     (log_on (records.Prepare tid server (served_count tid server entered) (changes_in (server_at entered.node.servers server) tid)) (with_doings tid (λ doings. record doings { prepared = true }) entered)
-    (inr (part_known tid (participant.voted (member_here work server) votes.Recoverable (served_count tid server work)) (change_server server (λ value. after_vote value tid votes.Recoverable) work) known)) tt))
+    (inr (part_known tid (participant.voted (member_here work server) votes.Recoverable (served_count tid server work)) (change_server server (λ value. after_vote value tid votes.Recoverable) work) known)) tt tt))
   where
     entered : Work
     entered = enter_vote tid server votes.Recoverable work
@@ -100,19 +105,59 @@ module _ (tid : Tid) (part : Participant) (work : Work) (known : part_of tid wor
       by true is = vote_pass_on tid work (pass_open tid part work known open_now sound is)
       by false is = on_itself work
 
-  pub ready_on : is_undecided part ≡ true → SaysOn work (ready_rule tid part work)
-  ready_on open_now = if_on (may_answer tid part work) (if_on part.engage.home (if_on (is_quiet (doings_of tid work)) (decide_commit_on tid work (open_of tid work part known open_now)) (on_itself work)) (answers (release_of part.engage))) (on_itself work)
+  pub ready_on : is_undecided part ≡ true → is_sound work.node ≡ true → SaysOn work (ready_rule tid part work)
+  ready_on open_now sound = if_on (may_answer tid part work) (at part.engage.home refl) (on_itself work)
     where
+      s : PartSound work.node tid part
+      s = known_sound tid work.node part known sound
+
+      unless : (c b : Bool) → b ≡ false → where_so c b ≡ true → c ≡ false
+      unless true b none is = absurd (cc (none, is))
+      unless false b none is = refl
+
+      nowhere : (o : Option Outcome) → is_none o ≡ true → (Rattle.std.proofs.Common.is_some o && not (is_abort o)) ≡ false
+      nowhere None is = refl
+      nowhere (Some outcome) is = absurd (cc (is))
+
+      off : (a b : Bool) → b ≡ false → (a && b) ≡ false
+      off true b is = is
+      off false b is = refl
+
+      unlisted_yet : part.log.listed ≡ false
+      unlisted_yet =
+          let rest = (and_both (where_so (part.log.prepared || part.log.listed) part.log.unended) _ s.logged).1 in
+          let drawn : (where_so part.log.prepared part.involved ≡ true) × _ = and_both (where_so part.log.prepared part.involved) _ rest in
+          let lists : (where_so part.log.listed (part.engage.home && (Rattle.std.proofs.Common.is_some part.outcome && not (is_abort part.outcome))) ≡ true) × _ = and_both (where_so part.log.listed (part.engage.home && (Rattle.std.proofs.Common.is_some part.outcome && not (is_abort part.outcome)))) _ drawn.1 in
+          unless part.log.listed _ (off part.engage.home _ (nowhere part.outcome open_now)) lists.0
+
+      may_list : part.engage.home ≡ true → MayList tid outcomes.Commit work
+      may_list home _ other its = subst (λ (p : Participant). (p.log.listed ≡ false) × ((list_all (is_in_run work.node.setting.nodes) (listed p.told) ≡ true) × ((not (openings.has_node (listed p.told) tid.home) ≡ true) × (same_node tid.home (here work) ≡ true)))) (one part other (sym known ∙ its)) (unlisted_yet, (told_in_run work.node part s.peers, (names_others part.told tid.home s.outside, at_home)))
+        where
+          one : (a b : Participant) → Some a ≡ Some b → a ≡ b
+          one a b same = cc (same)
+
+          flagged : (a b : Bool) → same_flag a b ≡ true → a ≡ true → b ≡ true
+          flagged true true same on = refl
+          flagged true false same on = absurd (cc (same))
+          flagged false b same on = absurd (cc (on))
+
+          at_home : same_node tid.home (here work) ≡ true
+          at_home = flagged part.engage.home (same_node tid.home (here work)) s.homed home
+
       answers : (o : Option (NodeNo × ℕ)) → SaysOn work (elim o [ None ↦ work | Some superior ↦ say_yes tid part superior work ])
       answers None = on_itself work
       answers (Some superior) = on_then (part_on tid participant.released (λ part. (refl, refl)) work) (send_on _ _ (with_manager (tm.released tid) work))
+
+      at : (b : Bool) → part.engage.home ≡ b → SaysOn work (if b then (if is_quiet (doings_of tid work) then decide_commit tid work else work) else elim (release_of part.engage) [ None ↦ work | Some superior ↦ say_yes tid part superior work ])
+      at true home = if_on (is_quiet (doings_of tid work)) (decide_commit_on tid work (open_of tid work part known open_now) (may_list home)) (on_itself work)
+      at false away = answers (release_of part.engage)
 
   pub refuse_on : is_undecided part ≡ true → SaysOn work (refuse_rule tid part work)
   refuse_on open_now = if_on part.engage.home (first part.causes) (on_then (part_on tid participant.take_causes (λ part. (refl, refl)) work) (fold_on (send_refusal tid (refusal_goes_to tid part)) (λ w cause. send_on _ _ w) part.causes (with_manager (tm.take_causes tid) work)))
     where
       first : (list : List Cause) → SaysOn work (elim list [ [] ↦ work | cause ∷ more ↦ decide tid outcomes.Abort (Some cause) work ])
       first [] = on_itself work
-      first (cause ∷ more) = decide_on tid outcomes.Abort (Some cause) work (open_of tid work part known open_now)
+      first (cause ∷ more) = decide_on tid outcomes.Abort (Some cause) work (open_of tid work part known open_now) (aborts_none tid work)
 
   -- what is forgotten has nothing in the log
   pub forget_rule_on : is_sound work.node ≡ true → SaysOn work (forget_rule tid part work)
@@ -160,7 +205,7 @@ known_on tid rule work each = by (part_of tid work) refl
 settle_tid_on : (work : Work) (tid : Tid) → is_sound work.node ≡ true → SaysOn work (settle_tid work tid)
 settle_tid_on work tid sound =
     on_then (known_on tid pass_rule work (λ part known open_now. pass_on tid part work known open_now sound))
-    (on_then (known_on tid ready_rule passed (λ part known open_now. ready_on tid part passed known open_now))
+    (on_then (known_on tid ready_rule passed (λ part known open_now. ready_on tid part passed known open_now passed_sound))
     (on_then (known_on tid refuse_rule readied (λ part known open_now. refuse_on tid part readied known open_now))
     (known_on tid forget_rule refused (λ part known open_now. forget_rule_on tid part refused known refused_sound))))
   where
@@ -173,11 +218,14 @@ settle_tid_on work tid sound =
     refused : Work
     refused = try tid refuse_rule readied
 
+    passed_sound : is_sound passed.node ≡ true
+    passed_sound = undecided_known tid (pass_rule tid) work (λ part known open_now. pass_rule_sound tid part work known open_now) sound
+
     refused_sound : is_sound refused.node ≡ true
     refused_sound =
         undecided_known tid (refuse_rule tid) readied (λ part known open_now. refuse_rule_sound tid part readied known open_now)
         (undecided_known tid (ready_rule tid) passed (λ part known open_now. ready_rule_sound tid part passed known open_now)
-        (undecided_known tid (pass_rule tid) work (λ part known open_now. pass_rule_sound tid part work known open_now) sound))
+        passed_sound)
 
 pub settle_on : (work : Work) → is_sound work.node ≡ true → SaysOn work (settle work)
 settle_on work = each (due_tids work) work
@@ -218,8 +266,12 @@ peer_restarted_on peer old new work = on_then (queues_on (ipc.mark_queues peer) 
 
 resume_home_on : (tid : Tid) (part : Participant) (outcome : Outcome) (work : Work) → part_of tid work ≡ Some part → SaysOn work (resume_home tid part outcome work)
 resume_home_on tid part outcomes.Commit work known = sends_on (listed part.tell) (messages.Tell tid outcomes.Commit) work
-resume_home_on tid part outcomes.Abort work known = on_then (notices_on tid outcomes.Abort work) (log_if_on (record_learnt tid outcomes.Abort part) _ (λ rec is. (inr (subst (λ (t : Tid). IsKnown t (Rattle.qs_step.specs.Deciding.give_notices tid outcomes.Abort work)) (sym (of_it rec part.log.prepared is)) (notices_known tid outcomes.Abort work (part, known))), unlisted rec part.log.prepared is (Rattle.qs_step.specs.Deciding.give_notices tid outcomes.Abort work))))
+resume_home_on tid part outcomes.Abort work known = on_then (notices_on tid outcomes.Abort work) (log_if_on (record_learnt tid outcomes.Abort part) _ (λ rec is. (inr (subst (λ (t : Tid). IsKnown t (Rattle.qs_step.specs.Deciding.give_notices tid outcomes.Abort work)) (sym (of_it rec part.log.prepared is)) (notices_known tid outcomes.Abort work (part, known))), (unlisted rec part.log.prepared is (Rattle.qs_step.specs.Deciding.give_notices tid outcomes.Abort work), owns_none rec part.log.prepared is (Rattle.qs_step.specs.Deciding.give_notices tid outcomes.Abort work).node))))
   where
+    owns_none : (rec : Rattle.qs_record.specs.declared.record.Record.Record) (b : Bool) → (if b then Some (end_record tid outcomes.Abort) else None) ≡ Some rec → (node : Rattle.qs_step.specs.State.NodeValue) → CommitsOwn rec node
+    owns_none rec true is node = let same : end_record tid outcomes.Abort ≡ rec = cc (is) in subst (λ (r : Rattle.qs_record.specs.declared.record.Record.Record). CommitsOwn r node) same tt
+    owns_none rec false is node = absurd (cc (is))
+
     unlisted : (rec : Rattle.qs_record.specs.declared.record.Record.Record) (b : Bool) → (if b then Some (end_record tid outcomes.Abort) else None) ≡ Some rec → (w : Work) → ListsIt rec w
     unlisted rec true is w = let same : end_record tid outcomes.Abort ≡ rec = cc (is) in subst (λ (r : Rattle.qs_record.specs.declared.record.Record.Record). ListsIt r w) same tt
     unlisted rec false is w = absurd (cc (is))

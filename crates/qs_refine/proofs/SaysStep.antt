@@ -44,7 +44,7 @@ use Rattle.qs_refine.specs.SaidLaws.{SaysOn, BeginsNew}
 use Rattle.qs_refine.specs.Sound.{in_order, goes_in_run, where_so}
 use Rattle.qs_refine.specs.SoundSteps.{MayHappen, is_open_in_run, commands_in_run}
 use Rattle.qs_refine.proofs.SaysOn.{on_itself, on_then, fold_on, if_on, rest_on, enter_on, answer_on, kept_on, doings_on, put_on, plain_on}
-use Rattle.qs_refine.proofs.SaysOutcomes.{decide_on, tell_came_on, told_came_on, inquiry_came_on}
+use Rattle.qs_refine.proofs.SaysOutcomes.{aborts_none, decide_on, tell_came_on, told_came_on, inquiry_came_on}
 use Rattle.qs_refine.proofs.SaysRules.{issue_as_on, reply_came_on, request_came_on, serve_all_on, become_asked_on, undecided_on, ask_came_on, closer_came_on, refusal_came_on}
 use Rattle.qs_refine.proofs.SaysSettles.{peer_restarted_on}
 use Rattle.qs_refine.proofs.SoundParts.{and_both, both_and}
@@ -102,7 +102,7 @@ ask_on tid part work = if_on part.asked (on_itself work) (on_then (enter_on _ wo
 
 open_command_on : (client : ClientNo) (tid : Tid) (command : Command) (work : Work) → SaysOn work (open_command client tid command work)
 open_command_on client tid commands.Commit work = undecided_on tid (ask tid) work (λ part known open_now. ask_on tid part work)
-open_command_on client tid commands.Abort work = undecided_on tid (λ part. decide tid outcomes.Abort (Some causes.Asked)) work (λ part known open_now. decide_on tid outcomes.Abort (Some causes.Asked) work (open_of tid work part known open_now))
+open_command_on client tid commands.Abort work = undecided_on tid (λ part. decide tid outcomes.Abort (Some causes.Asked)) work (λ part known open_now. decide_on tid outcomes.Abort (Some causes.Asked) work (open_of tid work part known open_now) (aborts_none tid work))
 open_command_on client tid (commands.Request member op) work = request_command_on client tid member op work
 open_command_on client tid commands.Begin work = on_itself work
 open_command_on client tid commands.Take work = on_itself work
@@ -221,7 +221,7 @@ old_on which age (e ∷ es) work ordered all = by (is_one which e.0 e.1) both.0 
 
     by : (b : Bool) → where_so b (is_open_at work e.0) ≡ true → ((new : Work) → list_all (still_fits which age new) es ≡ true → SaysOn new (fold (abort_old age) new (picked which es)))
         → SaysOn work (fold (abort_old age) work (if b then e.0 ∷ picked which es else picked which es))
-    by true opened more = on_then (decide_on e.0 outcomes.Abort (Some (causes.Old age)) work (closed opened)) (more (abort_old age work e.0) (fits_on which age e.0 work es (behind e es ordered) both.1))
+    by true opened more = on_then (decide_on e.0 outcomes.Abort (Some (causes.Old age)) work (closed opened) (aborts_none e.0 work)) (more (abort_old age work e.0) (fits_on which age e.0 work es (behind e es ordered) both.1))
     by false opened more = more work both.1
 
 tick_on : (work : Work) → in_order work.node.manager.known ≡ true → SaysOn work (tick work)

@@ -1,9 +1,12 @@
 -- A node over its log: what it keeps of a transaction's records is what the log says, with the records that wait.
-use Rattle.std.specs.Prelude.{◌≡◌, ℕ, ◌<◌, ◌||◌, ◌&&◌, ⊤, Bool, true, false, not, List, [], ◌++◌, fold, Option, Some, None}
+use Rattle.std.specs.Prelude.{◌≡◌, ◌⊎◌, ℕ, ◌<◌, ◌||◌, ◌&&◌, ⊤, Bool, true, false, not, List, [], ◌++◌, fold, Option, Some, None}
 use Rattle.std.specs.List.{list_any, list_all}
+use Rattle.qs_base.specs.Order.{same_tid}
 use Rattle.qs_base.specs.declared.identifiers.Tid.{Tid}
+use Rattle.qs_engage.specs.Nodes.{same_node}
 use Rattle.qs_journal.specs.declared.script_line.Command.TheVariants as commands
 use Rattle.qs_record.specs.declared.record.Record.{Record}
+use Rattle.qs_record.specs.declared.record.Record.TheVariants as records
 use Rattle.qs_restart.specs.Recovery.{Recovery, Prepared, recovery, found_record, is_untold_of, names_transaction}
 use Rattle.qs_tm.specs.Manager as tm
 use Rattle.qs_tm.specs.declared.participant.InLog.{InLog}
@@ -13,7 +16,7 @@ use Rattle.qs_step.specs.State.{NodeValue, Work}
 use Rattle.qs_step.specs.Step.{after_step, effects_of}
 use Rattle.qs_step.specs.declared.event.Event.{Event}
 use Rattle.qs_step.specs.declared.event.Event.TheVariants as events
-use Rattle.qs_world.specs.Openings.{IsOpening, is_untold}
+use Rattle.qs_world.specs.Openings.{IsOpening, has_node, is_commit_of, is_untold, is_whole_log}
 use Rattle.qs_world.specs.World.{Host, Opening, World, start}
 use Rattle.qs_world.specs.Moves.{Move, Step, Cut, Stop, Rise, Meet, event_of, reopened, may_move, moved}
 use Rattle.qs_refine.specs.Lists.{AreListed}
@@ -44,8 +47,21 @@ SaidSeen = (node : NodeValue) (said : Recovery) → is_sound node ≡ true → i
 abbrev pub SeenSaid : Type 0
 SeenSaid = (node : NodeValue) (said : Recovery) → is_sound node ≡ true → AreSaid node said → is_sound_said node said ≡ true
 
+-- a Commit names others than the home
+abbrev pub lists_others : Record → Bool
+lists_others (records.Commit tid told) = not (has_node told tid.home)
+lists_others (records.Prepare tid server covers changes) = true
+lists_others (records.Aborted tid) = true
+lists_others (records.End tid) = true
+
+abbrev pub is_prepare_of : Tid → Record → Bool
+is_prepare_of tid (records.Prepare other server covers changes) = same_tid tid other
+is_prepare_of tid (records.Commit other told) = false
+is_prepare_of tid (records.Aborted other) = false
+is_prepare_of tid (records.End other) = false
+
 -- ---- a piece of a step leaves a node sound over its log: the setting stays, the log goes on by the records that it appended, and is forced
--- for these; what is open goes to nodes of the run; and whom a Commit in the log names is to be told
+-- for these; what is open goes to nodes of the run; whom a Commit in the log names is to be told; and a restart can take the log up whole
 
 pub record SaysOn (work new : Work) : Type 0 where
   pub setting : new.node.setting ≡ work.node.setting
@@ -53,8 +69,12 @@ pub record SaysOn (work new : Work) : Type 0 where
   pub records : new.out.records ≡ work.out.records ++ more
   pub forced : new.out.force ≡ (work.out.force || list_any is_forced more)
   pub commands : commands_in_run work.node ≡ true → commands_in_run new.node ≡ true
+  pub others : list_all lists_others more ≡ true
   pub said : (said : Recovery) → AreSaid work.node said → AreSaid new.node (fold found_record said more)
+  pub own : (said : Recovery) → AreSaid work.node said → (t : Tid) → same_node t.home work.node.setting.node ≡ false → list_any (is_commit_of t) more ≡ true
+      → (has_doubt t said ≡ true) ⊎ (list_any (is_prepare_of t) more ≡ true)  -- of what began elsewhere only a vote in doubt is committed
   pub lists : (said : Recovery) → AreSaid work.node said → AreListed work.node said → AreListed new.node (fold found_record said more)
+  pub whole : (said : Recovery) → AreSaid work.node said → is_whole_log work.node.setting.nodes said ≡ true → is_whole_log work.node.setting.nodes (fold found_record said more) ≡ true
 
 -- where a client begins a transaction, its number is new
 abbrev pub BeginsNew : Event → Work → Type 0

@@ -1,8 +1,10 @@
 -- Rules of a node's step that leave it sound over its log.
-use Rattle.std.specs.Prelude.{◌≡◌, ℕ, true, List, Option, Some, None, false}
+use Rattle.std.specs.Prelude.{◌≡◌, ℕ, true, List, Option, Some, None, false, not}
+use Rattle.std.specs.List.{list_all}
 use Rattle.qs_base.specs.declared.identifiers.Member.{Member}
 use Rattle.qs_base.specs.declared.identifiers.NodeNo.{NodeNo}
 use Rattle.qs_base.specs.declared.identifiers.Outcome.{Outcome}
+use Rattle.qs_base.specs.declared.identifiers.Outcome.TheVariants as outcomes
 use Rattle.qs_base.specs.declared.identifiers.Tid.{Tid}
 use Rattle.qs_journal.specs.declared.script_line.ScriptLine.{ScriptLine}
 use Rattle.qs_ops.specs.declared.answer.Cause.{Cause}
@@ -23,6 +25,9 @@ use Rattle.qs_step.specs.State.{Work, part_of}
 use Rattle.qs_step.specs.Step.{happen, answer_waiting}
 use Rattle.qs_step.specs.Telling.{tell_came, told_came}
 use Rattle.qs_step.specs.declared.event.Event.{Event}
+use Rattle.qs_engage.specs.Nodes.{listed, same_node}
+use Rattle.qs_world.specs.Openings as openings
+use Rattle.qs_world.specs.Openings.{is_in_run}
 use Rattle.qs_refine.specs.Lists.{is_commit}
 use Rattle.qs_refine.specs.SaidLaws.{SaysOn, BeginsNew}
 use Rattle.qs_refine.specs.Sound.{is_sound, in_order}
@@ -69,13 +74,14 @@ HappenSays = (event : Event) (work : Work) → MayHappen event work → BeginsNe
 -- ---- what the node does of itself
 
 abbrev pub DecideSays : Type 0
-DecideSays = (tid : Tid) (outcome : Outcome) (cause : Option Cause) (work : Work) → ((part : Participant) → part_of tid work ≡ Some part → is_commit part.outcome ≡ false) → SaysOn work (decide tid outcome cause work)
+DecideSays = (tid : Tid) (outcome : Outcome) (cause : Option Cause) (work : Work) → ((part : Participant) → part_of tid work ≡ Some part → is_commit part.outcome ≡ false)
+    → (outcome ≡ outcomes.Commit → (part : Participant) → part_of tid work ≡ Some part → (part.log.listed ≡ false) × ((list_all (is_in_run work.node.setting.nodes) (listed part.told) ≡ true) × ((not (openings.has_node (listed part.told) tid.home) ≡ true) × (same_node tid.home work.node.setting.node ≡ true)))) → SaysOn work (decide tid outcome cause work)
 
 abbrev pub PassSays : Type 0
 PassSays = (tid : Tid) (part : Participant) (work : Work) → part_of tid work ≡ Some part → is_undecided part ≡ true → is_sound work.node ≡ true → SaysOn work (pass_rule tid part work)
 
 abbrev pub ReadySays : Type 0
-ReadySays = (tid : Tid) (part : Participant) (work : Work) → part_of tid work ≡ Some part → is_undecided part ≡ true → SaysOn work (ready_rule tid part work)
+ReadySays = (tid : Tid) (part : Participant) (work : Work) → part_of tid work ≡ Some part → is_undecided part ≡ true → is_sound work.node ≡ true → SaysOn work (ready_rule tid part work)
 
 abbrev pub RefuseSays : Type 0
 RefuseSays = (tid : Tid) (part : Participant) (work : Work) → part_of tid work ≡ Some part → is_undecided part ≡ true → SaysOn work (refuse_rule tid part work)

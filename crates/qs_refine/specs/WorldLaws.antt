@@ -1,5 +1,5 @@
 -- What the agreement machine gives of the nodes of a world in which each transaction that has begun is shown: they agree, and their logs stand together.
-use Rattle.std.specs.Prelude.{◌≡◌, ◌≢◌, ℕ, ◌<◌, true, Some}
+use Rattle.std.specs.Prelude.{◌≡◌, ◌≢◌, ℕ, ◌<◌, true, None, Some}
 use Rattle.std.specs.List.{list_any}
 use Rattle.qs_base.specs.Order.{same_tid}
 use Rattle.qs_base.specs.declared.identifiers.Outcome.{Outcome}
@@ -30,4 +30,19 @@ NodesAgree = (tid : Tid) (world : World) (n m : ℕ) → IsShownWorld world → 
 abbrev pub LogsStand : Type 0
 LogsStand = (tid : Tid) (world : World) (n : ℕ) → IsShownWorld world → names_transaction tid ≡ true → tid.home.0 < world.size → n < world.size → n ≢ tid.home.0
     → list_any (same_tid tid) (recovery (world.hosts tid.home.0).log).committed ≡ true → has_doubt tid (recovery (world.hosts n).log) ≡ true
+    → (list_any (is_untold_of tid) (recovery (world.hosts tid.home.0).log).untold ≡ true) × (names_node (list_of tid (recovery (world.hosts tid.home.0).log)) (node_no n) ≡ true)
+
+-- a node that runs and is to learn the outcome: it has not decided, and is involved
+pub record IsToLearn (tid : Tid) (world : World) (n : ℕ) : Type 0 where
+  pub part : Participant
+  pub in_run : n < world.size
+  pub runs : world.channels.up n ≡ true
+  pub known : tm.part_of tid (world.hosts n).node.manager ≡ Some part
+  pub undecided : part.outcome ≡ None
+  pub involved : part.involved ≡ true
+
+-- nor is such a node
+abbrev pub LearnersStand : Type 0
+LearnersStand = (tid : Tid) (world : World) (n : ℕ) → IsShownWorld world → tid.home.0 < world.size → n ≢ tid.home.0
+    → list_any (same_tid tid) (recovery (world.hosts tid.home.0).log).committed ≡ true → IsToLearn tid world n
     → (list_any (is_untold_of tid) (recovery (world.hosts tid.home.0).log).untold ≡ true) × (names_node (list_of tid (recovery (world.hosts tid.home.0).log)) (node_no n) ≡ true)
