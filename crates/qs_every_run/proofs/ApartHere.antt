@@ -29,6 +29,7 @@ use Rattle.qs_lawful.specs.Face.{at_server, is_numbered}
 use Rattle.qs_lawful.specs.Holds.{Holds}
 use Rattle.qs_lawful.specs.Logs.{Every}
 use Rattle.qs_lawful.specs.Parcels.{HoldsChannels, IsParcel, pending, pending_from}
+use Rattle.qs_lawful.proofs.Still.{still_held}
 use Rattle.qs_every_run.specs.Joined.{Joined, book_in}
 use Rattle.qs_every_run.specs.Placed.{Field, IsPlaced, Placed, asked, field_of, goes_there, kept_between, message_of, sent_between, standing, waiting}
 use Rattle.qs_every_run.specs.PlacesApart.{EachLeavesNone, EachLeavesNoneAway}
@@ -100,7 +101,7 @@ stands_counted at member (r ∷ rs) there stands none = by (is_standing member r
 module _ (P : Opening → World → Type 0) (o : Opening) (world : World) (n : ℕ) (tid : Tid) (tx : TransactionValue) (j : Joined P o world) (n_in : n < world.size) (on : world.channels.up n ≡ true) (next : ℕ) (h : Holds next (book_in o world) (world.hosts n).node)
     (found : find_transaction (book_in o world) tid ≡ Some tx) (undecided : is_open tx.cell ≡ true) (placed : Placed tid tx (field_of world)) (off : (face_at (world.hosts n).node tid).on ≡ false) where
   idle : ipc.waits tid (world.hosts n).node.queues ≡ false
-  idle = (idle_free tid (world.hosts n).node (off_idle tid (world.hosts n).node ((steady world j.shown).sound n n_in).node off (none_decided next (book_in o world) tid tx (world.hosts n).node h found undecided))).idle
+  idle = (idle_free tid (world.hosts n).node (off_idle tid (world.hosts n).node ((steady world j.shown).sound n n_in).node off (none_decided (book_in o world) tid tx (world.hosts n).node (still_held next (book_in o world) (world.hosts n).node h) found undecided))).idle
 
   abbrev field : Field
   field = field_of world

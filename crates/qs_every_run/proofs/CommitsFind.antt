@@ -18,8 +18,8 @@ use Rattle.qs_lawful.specs.Given.{AtEach}
 use Rattle.qs_lawful.specs.GivenStep.{done_work, first_work}
 use Rattle.qs_every_run.specs.Agrees.{MakesStep}
 use Rattle.qs_every_run.specs.ComesFind.{CommandFinds, ComesFound}
-use Rattle.qs_every_run.specs.CommitsFind.{CommitsFind}
 use Rattle.qs_every_run.specs.Joined.{Joined, book_in}
+use Rattle.qs_every_run.specs.JoinedOwed.{EachCommitsSettled}
 use Rattle.qs_every_run.specs.JoinedPlaces.{PlacesAt}
 use Rattle.qs_every_run.specs.Placed.{field_of}
 use Rattle.qs_every_run.specs.PlacesEnds.{taken}
@@ -65,7 +65,7 @@ module _ (o : Opening) (world : World) (n stamp free : ℕ) (source : Source) (e
   turns [] work follow found = tt
   turns (tid ∷ tids) work follow found = (there work tid follow.0 found.0, turns tids (settle_tid work tid) follow.1 found.1)
 
-pub commits_find : CommitsFind
+pub commits_find : EachCommitsSettled PlacesAt
 commits_find o world n stamp free source event j makes =
     finds_settle o world n stamp free source event j makes (counts_have_room PlacesAt o world j n stamp free source event makes)
     (turns o world n stamp free source event j makes (due_tids (done_work (world.hosts n).node event free)) (done_work (world.hosts n).node event free) (turns_follow world n free source event) (turns_find o world n stamp free source event j makes))

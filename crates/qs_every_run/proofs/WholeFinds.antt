@@ -10,6 +10,7 @@ use Rattle.qs_step.specs.declared.event.Event.TheVariants as events
 use Rattle.qs_world.specs.Moves.{Source, taken_by}
 use Rattle.qs_world.specs.World.{Opening, World}
 use Rattle.qs_agree.specs.World as machine
+use Rattle.qs_agree.specs.Carry.{Leads}
 use Rattle.qs_agree.specs.Doomed.{IsDoomed}
 use Rattle.qs_agree.proofs.Carries.{leads_on}
 use Rattle.qs_refine.specs.Begun.{has_begun}
