@@ -28,7 +28,6 @@ use Rattle.qs_world.specs.World.{Parcel, World}
 use Rattle.qs_agree.specs.World as machine
 use Rattle.qs_agree.specs.World.{Committed}
 use Rattle.qs_agree.specs.Doomed.{IsDoomed}
-use Rattle.qs_agree.proofs.Carries.{leads_on}
 use Rattle.qs_agree.proofs.Doomed.{doom_stays}
 use Rattle.qs_refine.specs.Begun.{has_begun}
 use Rattle.qs_refine.specs.EachMove.{ShowsAll}

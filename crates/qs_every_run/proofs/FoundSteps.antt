@@ -232,20 +232,23 @@ module _ (t : Tid) (o : Opening) (world : World) (n stamp free : ℕ) (source : 
   comes_found (Noticed m new) is comes = let from = from_notice world n stamp m new event comes in subst (λ (e : Event). ComesFinds D t world n e first) (sym from.is) tt
 
   pub step_found : (found : StepFound t world n stamp free source event w) × Leads came.came.after.next found.next
-  step_found = (record {
-    done = record { now = c; leads = to_c; stands = c_stands };
-    next = next;
-    leads = leads_on c f next c_to_f f_to_next;
-    shows = subst (λ (q : Option Event). ShowsAll t (step_with world n stamp free source q) next) (sym makes.comes) refused.shows;
-    finds = record {
-      comes = comes_found source refl makes.comes;
-      settles = settles_found D t scene n c base knows refl small last ends held_ends (due_tids done) done here_done waits_stick;
-      waits = waits_found D t scene n c base knows refl small last ends held_ends (waiting_clients (settle done)) (settle done) here_settled
-          (step_open node event free may.0 may.1 (steady.sound n its.low).node (steady.commands n its.low)).0
-          (settle_keeps done (happens_keep event first (turns.fits o world n stamp free source event j makes) (turns.first_facts o world n stamp free source event j makes)))
-          (sticks_of t last last (keeps_itself t last));
-    };
-  }, leads_on c f next c_to_f f_to_next)
+  step_found = (
+    record {
+      done = record { now = c; leads = to_c; stands = c_stands };
+      next = next;
+      leads = leads_on c f next c_to_f f_to_next;
+      shows = subst (λ (q : Option Event). ShowsAll t (step_with world n stamp free source q) next) (sym makes.comes) refused.shows;
+      finds = record {
+        comes = comes_found source refl makes.comes;
+        settles = settles_found D t scene n c base knows refl small last ends held_ends (due_tids done) done here_done waits_stick;
+        waits = waits_found D t scene n c base knows refl small last ends held_ends (waiting_clients (settle done)) (settle done) here_settled
+            (step_open node event free may.0 may.1 (steady.sound n its.low).node (steady.commands n its.low)).0
+            (settle_keeps done (happens_keep event first (turns.fits o world n stamp free source event j makes) (turns.first_facts o world n stamp free source event j makes)))
+            (sticks_of t last last (keeps_itself t last));
+      };
+    },
+    leads_on c f next c_to_f f_to_next,
+  )
 
 -- as an event of whatever source comes
 pub event_came : (t : Tid) (world : World) (n stamp free : ℕ) (source : Source) (event : Event) (w : machine.World) → IsShownWorld world → MakesStep world n stamp source event → has_begun world t ≡ true → ShowsAll t world w → StepCame t world n free source event w

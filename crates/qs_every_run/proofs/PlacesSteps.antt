@@ -1,28 +1,28 @@
 -- What all places hold of each transaction goes on through each step: what had begun is shown by a machine that the one before leads to, and what begins in it was not there.
-use Rattle.std.proofs.Common.{◌≡◌, inl, inr, ℕ, ◌+◌, ◌<◌, ◌==◌, ◌&&◌, ◌||◌, Bool, true, false, ◌++◌, Option, Some, None, is_some, refl, sym, ap, subst, ◌∙◌, nat_lt, nat_le, if◌then◌else◌}
+use Rattle.std.proofs.Common.{◌≡◌, inl, inr, ℕ, ◌+◌, ◌<◌, ◌==◌, ◌&&◌, ◌||◌, Bool, true, false, Option, Some, None, is_some, refl, sym, ap, subst, ◌∙◌, nat_lt, nat_le, if◌then◌else◌}
 use Rattle.std.proofs.lemmas.Bool.{eqb-true}
 use Rattle.qs_base.specs.declared.identifiers.Tid.{Tid}
-use Rattle.qs_machine.specs.Book.{BookValue, find_transaction}
+use Rattle.qs_machine.specs.Book.{find_transaction}
 use Rattle.qs_machine.specs.Lawful.{IsLawful}
 use Rattle.qs_machine.specs.Transaction.{TransactionValue}
 use Rattle.qs_restart.specs.Recovery.{names_transaction}
 use Rattle.qs_step.specs.Step.{after_step, effects_of}
 use Rattle.qs_step.specs.declared.event.Event.{Event}
 use Rattle.qs_world.specs.Histories.{book_of}
-use Rattle.qs_world.specs.Moves.{Cut, Meet, Move, Rise, Source, Step, Stop, event_of, may_move, moved, step_with, stepped_host, taken_by}
+use Rattle.qs_world.specs.Moves.{Cut, Meet, Rise, Source, Step, Stop, event_of, may_move, moved, step_with, stepped_host, taken_by}
 use Rattle.qs_world.specs.World.{Opening, World}
-use Rattle.qs_refine.specs.Begun.{begun_among, has_begun}
+use Rattle.qs_refine.specs.Begun.{has_begun}
 use Rattle.qs_refine.specs.EachMove.{ShowsAll}
 use Rattle.qs_refine.specs.ShownWorlds.{IsShown, IsShownWorld}
 use Rattle.qs_refine.proofs.MoveGoes.{StepMay, step_may}
 use Rattle.qs_refine.proofs.Moving.{inc_taken, up_taken}
 use Rattle.qs_refine.proofs.Posted.{inc_all, up_all}
 use Rattle.qs_refine.proofs.ShownBegins.{each_begun_shown}
-use Rattle.qs_refine.proofs.ShownMoves.{home_in_run, move_shown}
+use Rattle.qs_refine.proofs.ShownMoves.{move_shown}
 use Rattle.qs_lawful.proofs.LastsAlways.{in_runs}
 use Rattle.qs_every_run.specs.Agrees.{MakesStep}
 use Rattle.qs_every_run.specs.Joined.{Joined, book_in}
-use Rattle.qs_every_run.specs.JoinedOwed.{IsStep, entries_in}
+use Rattle.qs_every_run.specs.JoinedOwed.{entries_in}
 use Rattle.qs_every_run.specs.JoinedPlaces.{PlacedOf, PlacesAt}
 use Rattle.qs_every_run.specs.PlacesSteps.{StepsKeepPlaces, WholeFound}
 use Rattle.qs_every_run.proofs.FreshFinds.{fresh_find}

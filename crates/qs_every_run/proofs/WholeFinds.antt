@@ -23,7 +23,7 @@ use Rattle.qs_every_run.specs.Joined.{Joined, book_in}
 use Rattle.qs_every_run.specs.JoinedPlaces.{PlacesAt}
 use Rattle.qs_every_run.specs.Placed.{field_of}
 use Rattle.qs_every_run.specs.PlacesEnds.{taken}
-use Rattle.qs_every_run.specs.PlacesFound.{StepFinds, StepFound}
+use Rattle.qs_every_run.specs.PlacesFound.{StepFound}
 use Rattle.qs_every_run.specs.PlacesSteps.{WholeFind, WholeFound}
 use Rattle.qs_every_run.specs.PlacesWhole.{ComesWell}
 use Rattle.qs_every_run.proofs.ComesFind.{comes_find, comes_later}

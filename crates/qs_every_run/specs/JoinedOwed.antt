@@ -1,5 +1,5 @@
 -- What is still to be shown so that every run is lawful: each is a law of its own, of a run's beginning, of what a step is given, or of what a move keeps.
-use Rattle.std.specs.Prelude.{◌≡◌, ℕ, ◌<◌, ◌==◌, ◌++◌, ⊤, true, false, List, None, Some, is_some, slice_get, Bool}
+use Rattle.std.specs.Prelude.{◌≡◌, ℕ, ◌<◌, ◌==◌, ⊤, true, false, List, None, Some, is_some, slice_get, Bool}
 use Rattle.qs_base.specs.declared.identifiers.ClientNo.{ClientNo}
 use Rattle.qs_base.specs.declared.identifiers.Tid.{Tid}
 use Rattle.qs_journal.specs.declared.entry.Act.{Act}
