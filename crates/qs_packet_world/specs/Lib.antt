@@ -1,0 +1,5 @@
+pub mod PacketWorld
+pub mod PacketMoves
+pub mod PacketRuns
+pub mod WorldShown
+pub mod PacketLaws
