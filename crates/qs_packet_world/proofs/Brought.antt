@@ -15,7 +15,7 @@ use Rattle.qs_world.specs.Moves as channelled
 use Rattle.qs_world.specs.Moves.{hand_next, message_from, node_no, notice_of}
 use Rattle.qs_world.specs.Posting.{next_parcel}
 use Rattle.qs_world.specs.World.{Client, Parcel}
-use Rattle.qs_packet_world.specs.PacketMoves.{Source, Commanded, Queues, Clock, Brought, WasSent, answer_at, event_by, event_of, handed_by, may_serve, taken_by}
+use Rattle.qs_packet_world.specs.PacketMoves.{Source, Commanded, Queues, Clock, Brought, SourceSent, answer_at, event_by, event_of, handed_by, may_serve, taken_by}
 use Rattle.qs_packet_world.specs.PacketWorld.{PacketWorld, hello, over}
 use Rattle.qs_packet_world.specs.WorldShown.{ShowsWorld, Stamped, source_by, source_in, stamps_in}
 use Rattle.qs_packet_world.proofs.StampsKept.{stamped_receive}
@@ -114,7 +114,7 @@ module _ (world : PacketWorld) (n stamp m : ℕ) (p : Packet Parcel) (c : Channe
 
 -- ---- whatever makes the step
 
-pub takes : (world : PacketWorld) (n stamp : ℕ) (source : Source) (c : Channels Parcel) → ShowsWorld world c → world.network.up n ≡ true → WasSent world n source → is_some (event_of world n stamp source) ≡ true → Takes world n stamp source c
+pub takes : (world : PacketWorld) (n stamp : ℕ) (source : Source) (c : Channels Parcel) → ShowsWorld world c → world.network.up n ≡ true → SourceSent world n source → is_some (event_of world n stamp source) ≡ true → Takes world n stamp source c
 takes world n stamp (Commanded k) c s on was some = record { event = refl; shows = s.shows; stamped = s.stamped; up = on; lines = refl; serves = refl }
 takes world n stamp Queues c s on was some = record { event = refl; shows = s.shows; stamped = s.stamped; up = on; lines = refl; serves = refl }
 takes world n stamp Clock c s on was some = record { event = refl; shows = s.shows; stamped = s.stamped; up = on; lines = refl; serves = refl }

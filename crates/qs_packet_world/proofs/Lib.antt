@@ -3,4 +3,7 @@ pub mod SendsShown
 pub mod Brought
 pub mod StepsGo
 pub mod MovesGo
+pub mod OpensWithin
 pub mod RunsGo
+pub mod RunsAgree
+pub mod PlaysRun

@@ -28,17 +28,17 @@ use Rattle.qs_packet_world.proofs.StepsGo.{both, cut_goes, in_order_low, later_l
 stop_goes : (world : PacketWorld) (n stamp : ℕ) (cause : CrashCause) (c : Channels Parcel) → ShowsWorld world c → MayMove world (Stop n stamp cause) → Goes world (Stop n stamp cause) c
 stop_goes world n stamp cause c s may = record {
   left = channel.moved (channel.Crash n) c;
-  run = (subst (λ (up : ℕ → Bool). (up n && (is_in_order world n stamp && is_crash cause)) ≡ true) (sym s.shows.up) may, refl);
+  run = (subst (λ (up : ℕ → Bool). (up n && (is_in_order world n stamp && is_crash cause)) ≡ true) (sym s.shows.up) may.may, refl);
   shown = stops_shown world n stamp cause (world.hosts n).log c s can.0 (in_order_low world n stamp (both (is_in_order world n stamp) _ can.1).0);
 }
   where
     can : (world.network.up n ≡ true) × ((is_in_order world n stamp && is_crash cause) ≡ true)
-    can = both (world.network.up n) _ may
+    can = both (world.network.up n) _ may.may
 
 rise_goes : (world : PacketWorld) (n stamp inc : ℕ) (c : Channels Parcel) → ShowsWorld world c → MayMove world (Rise n stamp inc) → Goes world (Rise n stamp inc) c
 rise_goes world n stamp inc c s may = record {
   left = channel.moved (channel.Restart n inc) c;
-  run = (subst (λ (up : ℕ → Bool). (not (up n) && (is_in_order world n stamp && nat_lt (c.inc n) inc)) ≡ true) (sym s.shows.up) (subst (λ (f : ℕ → ℕ). (not (world.network.up n) && (is_in_order world n stamp && nat_lt (f n) inc)) ≡ true) (sym s.shows.inc) may), refl);
+  run = (subst (λ (up : ℕ → Bool). (not (up n) && (is_in_order world n stamp && nat_lt (c.inc n) inc)) ≡ true) (sym s.shows.up) (subst (λ (f : ℕ → ℕ). (not (world.network.up n) && (is_in_order world n stamp && nat_lt (f n) inc)) ≡ true) (sym s.shows.inc) may.may), refl);
   shown = record {
     shows = by_restart hello n inc world.network c s.shows (down (world.network.up n) can.0, above);
     stamped = raised _ (with_at (stamps_in world.hosts) n stamp) (stamps_in (with_at world.hosts n host)) _ same
@@ -50,7 +50,7 @@ rise_goes world n stamp inc c s may = record {
     host = risen_host stamp inc (recovered_of (world.hosts n).log) (world.hosts n)
 
     can : (not (world.network.up n) ≡ true) × ((is_in_order world n stamp && nat_lt (world.network.inc n) inc) ≡ true)
-    can = both (not (world.network.up n)) _ may
+    can = both (not (world.network.up n)) _ may.may
 
     more : (is_in_order world n stamp ≡ true) × (nat_lt (world.network.inc n) inc ≡ true)
     more = both (is_in_order world n stamp) _ can.1
@@ -85,7 +85,7 @@ meet_goes world n stamp m p c s may = record {
     host = record (world.hosts n) { stamp = stamp }
 
     a : (world.network.up n ≡ true) × ((is_later world n stamp && ((not (m == n) && nat_lt m world.size) && (((world.network.end n m).known == 0) && nat_lt p.stamp stamp))) ≡ true)
-    a = both (world.network.up n) _ may.0
+    a = both (world.network.up n) _ may.may
 
     b : (is_later world n stamp ≡ true) × (((not (m == n) && nat_lt m world.size) && (((world.network.end n m).known == 0) && nat_lt p.stamp stamp)) ≡ true)
     b = both (is_later world n stamp) _ a.1
@@ -100,10 +100,10 @@ meet_goes world n stamp m p c s may = record {
     unmet = grind (arith, nat_tests, e.0)
 
     is : answer_at world n m p ≡ NewPeer 0 p.inc
-    is = first (world.network.end n m) p unmet (s.shows.packets m n p may.1).born
+    is = first (world.network.end n m) p unmet (s.shows.packets m n p may.sent).born
 
     g : (d : Channels Parcel) × channel.MovesOn c (channel.Meet n m p.inc ∷ []) d × Shows (network.stepped hello (network.Receive n m p (NewPeer 0 p.inc)) world.network) d
-    g = goes hello (network.Receive n m p (NewPeer 0 p.inc)) world.network c s.shows (a.0, may.1, is)
+    g = goes hello (network.Receive n m p (NewPeer 0 p.inc)) world.network c s.shows (a.0, may.sent, is)
 
     up : c.up n ≡ true
     up = ap (λ (f : ℕ → Bool). f n) s.shows.up ∙ a.0
@@ -112,13 +112,13 @@ meet_goes world n stamp m p c s may = record {
     unknown = ap (λ (k : ℕ). k == 0) (s.shows.own n m a.0).peer ∙ e.0
 
     some : nat_lt 0 p.inc ≡ true
-    some = grind (arith, nat_tests, (s.shows.packets m n p may.1).born)
+    some = grind (arith, nat_tests, (s.shows.packets m n p may.sent).born)
 
     there : p.inc ≤ c.inc m
-    there = grind (arith, (s.shows.packets m n p may.1).from, s.shows.inc)
+    there = grind (arith, (s.shows.packets m n p may.sent).from, s.shows.inc)
 
     risen : channelled.has_begun (over world c) stamp m p.inc ≡ true
-    risen = let b = (s.stamped.packets m n p may.1).began in grind (arith, nat_tests, there, b.is, b.by, e.1)
+    risen = let b = (s.stamped.packets m n p may.sent).began in grind (arith, nat_tests, there, b.is, b.by, e.1)
 
     may_there : channelled.may_move (over world c) (channelled.Meet n stamp m p.inc) ≡ true
     may_there = all (c.up n) (is_later world n stamp) (not (m == n) && nat_lt m world.size) (c.peer n m == 0) (nat_lt 0 p.inc) (channelled.has_begun (over world c) stamp m p.inc) up b.0 d.0 unknown some risen
@@ -143,13 +143,13 @@ take_goes world n m p c s may = record {
   left = c;
   run = refl;
   shown = record {
-    shows = aside_shown world n m p c s can.0 may.1 (answer_at world n m p) refl can.1;
+    shows = aside_shown world n m p c s can.0 may.sent (answer_at world n m p) refl can.1;
     stamped = stamped_receive world.born (stamps_in world.hosts) world.network n m p (answer_at world n m p) s.stamped;
   };
 }
   where
     can : (world.network.up n ≡ true) × (is_aside (answer_at world n m p) ≡ true)
-    can = both (world.network.up n) _ may.0
+    can = both (world.network.up n) _ may.may
 
 tick_goes : (world : PacketWorld) (n m stamp : ℕ) (c : Channels Parcel) → ShowsWorld world c → MayMove world (Tick n m stamp) → Goes world (Tick n m stamp) c
 tick_goes world n m stamp c s may = record {
@@ -162,7 +162,7 @@ tick_goes world n m stamp c s may = record {
 }
   where
     can : (world.network.up n ≡ true) × (nat_le (world.hosts n).stamp stamp ≡ true)
-    can = both (world.network.up n) _ may
+    can = both (world.network.up n) _ may.may
 
 -- ---- each of them
 

@@ -2,27 +2,31 @@
 use Rattle.std.proofs.Common.{ℕ, ◌≤◌, List, [], ◌∷◌, ◌++◌, refl, sym, subst, arith}
 use Rattle.std.proofs.lemmas.Bool.Decides.{nat_tests}
 use Rattle.qs_channels.specs.Channels.{Channels}
+use Rattle.qs_machine.specs.Book.{BookValue}
+use Rattle.qs_machine.specs.Lawful.{IsLawful}
 use Rattle.qs_world.specs.Moves as channelled
+use Rattle.qs_world.specs.Openings.{IsOpening}
 use Rattle.qs_world.specs.Runs as runs
 use Rattle.qs_world.specs.World.{Opening, Parcel, World, opened_channels}
-use Rattle.qs_packet_world.specs.PacketLaws.{AllBegin, EachRunLawful, EachRunShown}
+use Rattle.qs_packet_world.specs.PacketLaws.{EachRunLawful, EachRunShown}
 use Rattle.qs_packet_world.specs.PacketMoves.{Move, moved}
 use Rattle.qs_packet_world.specs.PacketRuns.{Run}
-use Rattle.qs_packet_world.specs.PacketWorld.{PacketWorld, over, start}
+use Rattle.qs_packet_world.specs.PacketWorld.{PacketWorld, over, setting_in, start, within}
 use Rattle.qs_packet_world.specs.WorldShown.{ShowsWorld, moves_of, run_moves}
 use Rattle.qs_packet_world.proofs.MovesGo.{each_move_goes}
+use Rattle.qs_packet_world.proofs.OpensWithin.{opens_alike, some_inc}
 
 -- as it begins
-start_shown : (o : Opening) → AllBegin o → ShowsWorld (start o) (opened_channels o.settings)
-start_shown o begin = record {
+start_shown : (o : Opening) → IsOpening o → ShowsWorld (start o) (opened_channels (setting_in o))
+start_shown o opens = record {
   shows = record {
     inc = refl;
     up = refl;
     own = λ n m up. record {
-      born = begin n;
+      born = some_inc o opens n;
       mine = refl;
       peer = refl;
-      there = least (o.settings m).inc;
+      there = least (setting_in o m).inc;
       waits = λ none. refl;
       none_acked = λ none. refl;
       kept = λ some. absurd (some refl);
@@ -65,7 +69,10 @@ runs_on (move ∷ moves) old new c s run =
     }
 
 pub each_run_shown : EachRunShown
-each_run_shown o moves new begin run = let r = runs_on moves (start o) new (opened_channels o.settings) (start_shown o begin) run in record { channels = r.left; run = r.run; shown = r.shown }
+each_run_shown o moves new opens run = let r = runs_on moves (start o) new (opened_channels (setting_in o)) (start_shown o opens) run in record { channels = r.left; run = r.run; shown = r.shown }
 
 pub each_run_lawful : EachRunLawful
-each_run_lawful lawful o moves new opens begin run = let r = each_run_shown o moves new begin run in lawful o (run_moves (start o) moves) (over new r.channels) opens r.run
+each_run_lawful lawful o moves new opens run =
+    let r = each_run_shown o moves new opens run in
+    let alike = opens_alike o opens in
+    subst (λ (book : BookValue). IsLawful book new.journal) alike.book (lawful (within o) (run_moves (start o) moves) (over new r.channels) alike.opens r.run)

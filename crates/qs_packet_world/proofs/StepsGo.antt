@@ -95,13 +95,13 @@ works world n stamp free source c t low (Some event) some = record {
     with_clients clients = record (over (step_with world n stamp free source (Some event)) (post_all n stamp out.messages there)) { clients = clients_after out.answers clients }
 
 pub step_goes : (world : PacketWorld) (n stamp free : ℕ) (source : Source) (c : Channels Parcel) → ShowsWorld world c → MayMove world (Step n stamp free source) → Goes world (Step n stamp free source) c
-step_goes world n stamp free source c s may = record { left = w.left; run = (may_there world n stamp source c s t may.0, w.same ∙ ap (λ (o : Option Event). channelled.step_with (over world c) n stamp free (source_in world n source) o) (sym t.event)); shown = w.shown }
+step_goes world n stamp free source c s may = record { left = w.left; run = (may_there world n stamp source c s t may.may, w.same ∙ ap (λ (o : Option Event). channelled.step_with (over world c) n stamp free (source_in world n source) o) (sym t.event)); shown = w.shown }
   where
     mays : MaysStep world n stamp source
-    mays = mays_step world n stamp source may.0
+    mays = mays_step world n stamp source may.may
 
     t : Takes world n stamp source c
-    t = takes world n stamp source c s mays.up may.1 mays.some
+    t = takes world n stamp source c s mays.up may.sent mays.some
 
     w : Works world n stamp free source c (event_of world n stamp source)
     w = works world n stamp free source c t mays.low (event_of world n stamp source) mays.some
@@ -136,13 +136,13 @@ cut_goes world n stamp free source is_kept cause c s may = record {
 }
   where
     can : (may_step world n stamp source ≡ true) × (is_crash cause ≡ true)
-    can = both (may_step world n stamp source) (is_crash cause) may.0
+    can = both (may_step world n stamp source) (is_crash cause) may.may
 
     mays : MaysStep world n stamp source
     mays = mays_step world n stamp source can.0
 
     t : Takes world n stamp source c
-    t = takes world n stamp source c s mays.up may.1 mays.some
+    t = takes world n stamp source c s mays.up may.sent mays.some
 
     w : CutsOff world n stamp free is_kept cause c (event_of world n stamp source)
     w = cuts_off world n stamp free is_kept cause c s mays.up mays.low (event_of world n stamp source) mays.some

@@ -3,3 +3,6 @@ pub mod PacketMoves
 pub mod PacketRuns
 pub mod WorldShown
 pub mod PacketLaws
+pub mod PacketAgrees
+pub mod PacketPlays
+pub mod PacketRows

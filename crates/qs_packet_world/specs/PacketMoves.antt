@@ -181,17 +181,30 @@ may_meet world n stamp m p =
     world.network.up n
     && (is_later world n stamp && ((not (m == n) && nat_lt m world.size) && (((world.network.end n m).known == 0) && nat_lt p.stamp stamp)))
 
--- the packet that a step takes was sent
-abbrev pub WasSent : PacketWorld → ℕ → Source → Type 0
-WasSent world n (Brought m p) = Among (world.network.packets m n) p
-WasSent world n source = ⊤
-
 -- a tick of a session has the stamp of the node's last step, or that of the step that it goes with
-abbrev pub MayMove : PacketWorld → Move → Type 0
-MayMove world (Step n stamp free source) = (may_step world n stamp source ≡ true) × WasSent world n source
-MayMove world (Cut n stamp free source is_kept cause) = ((may_step world n stamp source && is_crash cause) ≡ true) × WasSent world n source
-MayMove world (Stop n stamp cause) = (world.network.up n && (is_in_order world n stamp && is_crash cause)) ≡ true
-MayMove world (Rise n stamp inc) = (not (world.network.up n) && (is_in_order world n stamp && nat_lt (world.network.inc n) inc)) ≡ true
-MayMove world (Meet n stamp m p) = (may_meet world n stamp m p ≡ true) × Among (world.network.packets m n) p
-MayMove world (Take n m p) = ((world.network.up n && is_aside (answer_at world n m p)) ≡ true) × Among (world.network.packets m n) p
-MayMove world (Tick n m stamp) = (world.network.up n && nat_le (world.hosts n).stamp stamp) ≡ true
+abbrev pub may_move : PacketWorld → Move → Bool
+may_move world (Step n stamp free source) = may_step world n stamp source
+may_move world (Cut n stamp free source is_kept cause) = may_step world n stamp source && is_crash cause
+may_move world (Stop n stamp cause) = world.network.up n && (is_in_order world n stamp && is_crash cause)
+may_move world (Rise n stamp inc) = not (world.network.up n) && (is_in_order world n stamp && nat_lt (world.network.inc n) inc)
+may_move world (Meet n stamp m p) = may_meet world n stamp m p
+may_move world (Take n m p) = world.network.up n && is_aside (answer_at world n m p)
+may_move world (Tick n m stamp) = world.network.up n && nat_le (world.hosts n).stamp stamp
+
+-- the packet that a step takes was sent to its node
+abbrev pub SourceSent : PacketWorld → ℕ → Source → Type 0
+SourceSent world n (Brought m p) = Among (world.network.packets m n) p
+SourceSent world n source = ⊤
+
+abbrev pub WasSent : PacketWorld → Move → Type 0
+WasSent world (Step n stamp free source) = SourceSent world n source
+WasSent world (Cut n stamp free source is_kept cause) = SourceSent world n source
+WasSent world (Stop n stamp cause) = ⊤
+WasSent world (Rise n stamp inc) = ⊤
+WasSent world (Meet n stamp m p) = Among (world.network.packets m n) p
+WasSent world (Take n m p) = Among (world.network.packets m n) p
+WasSent world (Tick n m stamp) = ⊤
+
+pub record MayMove (world : PacketWorld) (move : Move) : Type 0 where
+  pub may : may_move world move ≡ true
+  pub sent : WasSent world move

@@ -1,7 +1,7 @@
 -- The world over packets: nodes with their logs, the ends of their sessions, all packets that were ever sent, their clients, and the journal.
 --
 -- Each packet may come at any later moment, any number of times, or never: so links may lose, repeat, hold and reorder them.
-use Rattle.std.specs.Prelude.{ℕ, true, List, [], Option}
+use Rattle.std.specs.Prelude.{ℕ, true, List, [], Option, nat_lt, if◌then◌else◌}
 use Rattle.qs_channels.specs.Channels.{Channels}
 use Rattle.qs_channels.specs.End.{fresh}
 use Rattle.qs_channels.specs.Network.{Network}
@@ -25,6 +25,13 @@ hello = record { stamp = 0; message = messages.Hello }
 
 -- ---- as it begins
 
+-- nodes have the incarnations of their settings; numbers that are no nodes of the run have one too, so that nothing is to be said of them apart
+abbrev pub setting_in : Opening → ℕ → Setting
+setting_in o n = if nat_lt n o.size then o.settings n else record (o.settings n) { inc = 1 }
+
+abbrev pub within : Opening → Opening
+within o = record o { settings = setting_in o }
+
 -- every node runs, with fresh ends, and nothing was sent
 abbrev pub opened_network : (ℕ → Setting) → Network Parcel
 opened_network settings = record { inc = λ n. (settings n).inc; up = λ n. true; end = λ n m. fresh (settings n).inc; packets = λ n m. [] }
@@ -32,9 +39,9 @@ opened_network settings = record { inc = λ n. (settings n).inc; up = λ n. true
 abbrev pub start : Opening → PacketWorld
 start o = record {
   size = o.size;
-  hosts = λ n. opened_host o.alloc (o.settings n) (o.logs n);
-  network = opened_network o.settings;
-  born = born_first o.settings;
+  hosts = λ n. opened_host o.alloc (setting_in o n) (o.logs n);
+  network = opened_network (setting_in o);
+  born = born_first (setting_in o);
   clients = λ k. opened_client (o.clients k);
   journal = [];
   last = (0, 0);

@@ -2,5 +2,7 @@
 #![tactic(auto)]
 
 mod packet_runs;
+mod rows;
 
-pub use packet_runs::every_run;
+pub use packet_runs::{every_run, nodes_agree};
+pub use rows::{plays, row_gone, row_remote};
