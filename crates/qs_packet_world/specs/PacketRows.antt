@@ -1,8 +1,14 @@
--- Two nodes over packets that are lost, repeated and late: their histories are those of the runs over channels.
-use Rattle.std.specs.Prelude.{◌≡◌, true, List, [], ◌∷◌, ◌++◌, codes}
+-- Two nodes over packets that are lost, repeated and late: their histories are lawful, those of runs over channels.
+use Rattle.std.specs.Prelude.{◌≡◌, ℕ, ◌==◌, true, List, [], ◌∷◌, ◌++◌, codes, None, if◌then◌else◌}
 use Rattle.std.specs.Global.{Global}
-use Rattle.qs_world.specs.Scenes.{alone}
+use Rattle.qs_journal.specs.declared.script_line.Command.TheVariants as commands
+use Rattle.qs_journal.specs.declared.script_line.ScriptLine.{ScriptLine}
+use Rattle.qs_machine.specs.Lawful.{first_broken}
+use Rattle.qs_world.specs.DrivenRuns.{put_at, said}
+use Rattle.qs_world.specs.Histories.{book_of}
+use Rattle.qs_world.specs.Scenes.{alone, setting_of}
 use Rattle.qs_world.specs.TwoNodes.{remote_script, remote_journal, gone_journal}
+use Rattle.qs_world.specs.World.{Opening}
 use Rattle.qs_packet_world.specs.PacketPlays.{Play, Commands, Serves, Ticks, Sends, Comes, Stops, Rises, may_play, played}
 use Rattle.qs_packet_world.specs.PacketWorld.{PacketWorld, start}
 
@@ -39,3 +45,30 @@ pub record RowGone (alloc : Global) : Type 0 where
   pub plays : may_play (start (alone alloc 2 remote_script)) gone_plays ≡ true
   pub journal : (gone_world alloc).journal ≡ gone_journal
   pub files : ((gone_world alloc).hosts 1).node.servers.files.table.contents ≡ []
+
+-- ---- two clients of node 0 put a file each at node 1
+
+abbrev pub pair_lines : ℕ → List ScriptLine
+pair_lines k =
+    if k == 0 then said 0 2 (codes "a") commands.Begin ∷ said 0 3 (codes "a") (put_at 1 (codes "f") (codes "x")) ∷ said 0 4 (codes "a") commands.Commit ∷ []
+    else if k == 1 then said 1 5 (codes "b") commands.Begin ∷ said 1 6 (codes "b") (put_at 1 (codes "g") (codes "y")) ∷ said 1 7 (codes "b") commands.Commit ∷ []
+    else []
+
+abbrev pub pair : Global → Opening
+pair alloc = record { alloc = alloc; size = 2; settings = setting_of 2; logs = λ n. []; clients = λ k. (0, pair_lines k) }
+
+-- the later request comes first, and is handed up where it comes again behind the other one; so do replies; then node 1 restarts, and its greeting comes
+-- before any message of its new incarnation
+abbrev pub reordered_plays : List Play
+reordered_plays =
+    Commands 0 1 0 ∷ Commands 0 2 1 ∷ Sends 0 2 1 ∷ Comes 1 3 0 0 ∷ Sends 1 3 0 ∷ Comes 0 4 1 0 ∷ Commands 0 5 0 ∷ Commands 0 6 1
+    ∷ Comes 1 7 0 0 ∷ Comes 1 7 0 1 ∷ Comes 1 8 0 0 ∷ Serves 1 9 ∷ Comes 0 10 1 0 ∷ Comes 0 10 1 1 ∷ Comes 0 11 1 0
+    ∷ Stops 1 12 ∷ Rises 1 13 2 ∷ Sends 1 13 0 ∷ Comes 0 14 1 0 ∷ Commands 0 15 0 ∷ Commands 0 16 1 ∷ []
+
+abbrev pub reordered_world : Global → PacketWorld
+reordered_world alloc = played (start (pair alloc)) reordered_plays
+
+pub record RowReordered (alloc : Global) : Type 0 where
+  pub plays : may_play (start (pair alloc)) reordered_plays ≡ true
+  pub lawful : first_broken (book_of (pair alloc)) (reordered_world alloc).journal ≡ None
+  pub ended : (((reordered_world alloc).clients 0).lines ≡ []) × (((reordered_world alloc).clients 1).lines ≡ [])

@@ -5,4 +5,4 @@ mod packet_runs;
 mod rows;
 
 pub use packet_runs::{every_run, nodes_agree};
-pub use rows::{plays, row_gone, row_remote};
+pub use rows::{plays, row_gone, row_remote, row_reordered};
