@@ -137,3 +137,11 @@ pub mod TurnsSettle
 pub mod OthersBeside
 pub mod PlacedSettles
 pub mod TurnsGo
+pub mod RecordMakes
+pub mod RecordRules
+pub mod RecordTold
+pub mod RecordSteps
+pub mod CommitsHome
+pub mod CommitsHomeRuns
+pub mod ListsHome
+pub mod NextOpening

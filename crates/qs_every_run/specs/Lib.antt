@@ -32,3 +32,5 @@ pub mod CutVotes
 pub mod TriedOwing
 pub mod PlacesJoined
 pub mod PlacesTurns
+pub mod CutRecords
+pub mod CoherentAgain

@@ -2,11 +2,13 @@
 //! a transaction, and the induction over the moves of a run.
 #![tactic(auto)]
 
+mod coherent_again;
 mod joined_agrees;
 mod joined_runs;
 pub mod placed;
 mod tried_owing;
 
+pub use coherent_again::{homes_log_commits, runs_leave_openings};
 pub use joined_agrees::{stages_are_sound, steps_agree};
 pub use joined_runs::runs_are_lawful;
 pub use tried_owing::owed_stands_open;

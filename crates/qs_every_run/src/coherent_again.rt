@@ -1,0 +1,16 @@
+//! The logs that a run leaves stand together, so that another run may begin over them.
+ghost use Rattle.qs_every_run.specs.JoinedPlaces.{PlacesAt};
+ghost use Rattle.qs_every_run.specs.CoherentAgain.{EachCommitsHome, EachRunCoherent, HomeLogged, StepCommitsHome};
+
+/// What a home has committed, and the log of another node has in doubt, the log of the home has committed.
+pub fn homes_log_commits()
+    ensures logged { HomeLogged }
+    ensures steps { StepCommitsHome PlacesAt }
+    ensures runs { EachCommitsHome PlacesAt }
+{}
+
+/// The logs that a run leaves stand together, whether its nodes run or not, and also right after a step that was cut off, with its batch lost or
+/// kept: another run may begin over them, with later incarnations of its nodes.
+pub fn runs_leave_openings()
+    ensures { EachRunCoherent PlacesAt }
+{}
