@@ -144,4 +144,11 @@ pub mod RecordSteps
 pub mod CommitsHome
 pub mod CommitsHomeRuns
 pub mod ListsHome
+pub mod StoreRules
+pub mod StoreTold
+pub mod StoreCommands
+pub mod StoreStages
+pub mod OwnShares
+pub mod OwnSteps
+pub mod OwnMoves
 pub mod NextOpening

@@ -30,12 +30,14 @@ use Rattle.qs_refine.proofs.SoundParts.{and_both}
 use Rattle.qs_lawful.specs.Logs.{Every}
 use Rattle.qs_lawful.specs.Said.{IsApart}
 use Rattle.qs_lawful.proofs.OpenedCommits.{commit_among}
-use Rattle.qs_every_run.specs.CoherentAgain.{EachRunCoherent, IsNextOpening, OwnChanges, is_own_record}
+use Rattle.qs_every_run.specs.CoherentAgain.{EachRunCoherent, IsNextOpening}
 use Rattle.qs_every_run.specs.Joined.{Joined}
 use Rattle.qs_every_run.specs.JoinedPlaces.{PlacesAt}
+use Rattle.qs_every_run.specs.OwnChanges.{OwnChangesAt, is_own_vote}
 use Rattle.qs_every_run.proofs.CommitsHomeRuns.{Has, each_commits_home}
 use Rattle.qs_every_run.proofs.JoinedOver.{each_run_joined}
 use Rattle.qs_every_run.proofs.ListsHome.{IsHomed, lists_home}
+use Rattle.qs_every_run.proofs.OwnMoves.{each_has_own_changes}
 use Rattle.qs_every_run.proofs.PlacesGoOn.{places_go}
 
 -- ---- tests
@@ -49,6 +51,10 @@ first_of a b is = rw is refl
 last_of : (a b : Bool) → b ≡ true → (a || b) ≡ true
 last_of true b is = refl
 last_of false b is = is
+
+recovers : (a b : Bool) → a ≡ true → (not a || b) ≡ true → b ≡ true
+recovers true b on is = is
+recovers false b on is = absurd (cc on)
 
 above : (a b c : ℕ) → nat_le a b ≡ true → b < c → nat_lt a c ≡ true
 above a b c le lt = grind (arith, nat_tests, le, lt)
@@ -101,7 +107,7 @@ module _ (tid : Tid) (n : ℕ) where
 
 -- ---- an opening over the logs of a world
 
-module _ (o : Opening) (world : World) (next : Opening) (j : Joined PlacesAt o world) (is : IsNextOpening world next) (owns : OwnChanges world)
+module _ (o : Opening) (world : World) (next : Opening) (j : Joined PlacesAt o world) (is : IsNextOpening world next) (owns : OwnChangesAt world)
     (home : (n : ℕ) → n < world.size → (tid : Tid) → nat_lt tid.home.0 world.size ≡ true → Has tid (world.hosts n).log → Has tid (world.hosts tid.home.0).log) where
   earlier : (tid : Tid) → is_past_tid world tid ≡ true → is_earlier next tid ≡ true
   earlier tid past = subst (λ (s : ℕ). (not (nat_lt tid.home.0 s) || nat_lt tid.inc (next.settings tid.home.0).inc) ≡ true) (sym is.size) (by (nat_lt tid.home.0 world.size) refl past)
@@ -136,27 +142,27 @@ module _ (o : Opening) (world : World) (next : Opening) (j : Joined PlacesAt o w
     here : (tid : Tid) → (tid.home.0 == me.0) ≡ true → (tid.home.0 == n) ≡ true
     here tid same = subst (λ (k : NodeNo). (tid.home.0 == k.0) ≡ true) (j.shown.steady.seated.node n low) same
 
-    one : (rec : Record) → fits rec ≡ true → is_past_record world rec ≡ true → lists_others rec ≡ true → is_own_record rec ≡ true → ((tid : Tid) → is_commit_of tid rec ≡ true → Has tid host.log) → is_record next n rec ≡ true
+    one : (rec : Record) → fits rec ≡ true → is_past_record world rec ≡ true → lists_others rec ≡ true → is_own_vote rec ≡ true → ((tid : Tid) → is_commit_of tid rec ≡ true → Has tid host.log) → is_record next n rec ≡ true
     one (records.Prepare tid server covers changes) steady past others own has =
-        both (is_earlier next tid) _ (earlier tid past) (both (is_recoverable server.0) (list_all (is_for server) changes) (and_both _ (is_recoverable server.0) steady).1 own)
+        both (is_earlier next tid) _ (earlier tid past) (both (is_recoverable server.0) (list_all (is_for server) changes) (and_both _ (is_recoverable server.0) steady).1 (recovers (is_recoverable server.0) (list_all (is_for server) changes) (and_both _ (is_recoverable server.0) steady).1 own))
     one (records.Commit tid []) steady past others own has = both (is_earlier next tid) _ (earlier tid past) (both (is_committed_at_home next tid) true (committed_home tid (has tid (same_tid-self tid))) refl)
     one (records.Commit tid (first ∷ more)) steady past others own has =
         both (is_earlier next tid) _ (earlier tid past) (both (is_committed_at_home next tid) _ (committed_home tid (has tid (same_tid-self tid))) (both (tid.home.0 == n) _ (here tid (and_both _ (tid.home.0 == me.0) steady).1) others))
     one (records.Aborted tid) steady past others own has = earlier tid past
     one (records.End tid) steady past others own has = earlier tid past
 
-    all : (recs : List Record) → list_all fits recs ≡ true → list_all (is_past_record world) recs ≡ true → list_all lists_others recs ≡ true → list_all is_own_record recs ≡ true → ((tid : Tid) → Has tid recs → Has tid host.log)
+    all : (recs : List Record) → list_all fits recs ≡ true → list_all (is_past_record world) recs ≡ true → list_all lists_others recs ≡ true → list_all is_own_vote recs ≡ true → ((tid : Tid) → Has tid recs → Has tid host.log)
         → list_all (is_record next n) recs ≡ true
     all [] steady past others own has = refl
     all (rec ∷ recs) steady past others own has = both (is_record next n rec) (list_all (is_record next n) recs)
-        (one rec (and_both (fits rec) _ steady).0 (and_both (is_past_record world rec) _ past).0 (and_both (lists_others rec) _ others).0 (and_both (is_own_record rec) _ own).0 (λ tid its. has tid (first_of (is_commit_of tid rec) _ its)))
-        (all recs (and_both (fits rec) _ steady).1 (and_both (is_past_record world rec) _ past).1 (and_both (lists_others rec) _ others).1 (and_both (is_own_record rec) _ own).1 (λ tid its. has tid (last_of (is_commit_of tid rec) _ its)))
+        (one rec (and_both (fits rec) _ steady).0 (and_both (is_past_record world rec) _ past).0 (and_both (lists_others rec) _ others).0 (and_both (is_own_vote rec) _ own).0 (λ tid its. has tid (first_of (is_commit_of tid rec) _ its)))
+        (all recs (and_both (fits rec) _ steady).1 (and_both (is_past_record world rec) _ past).1 (and_both (lists_others rec) _ others).1 (and_both (is_own_vote rec) _ own).1 (λ tid its. has tid (last_of (is_commit_of tid rec) _ its)))
 
     fit : list_all fits host.log ≡ true
     fit = (all_parted fits host.log host.waiting (j.shown.steady.nodes n low).records).0
 
     pub log_so : list_all (is_record next n) host.log ≡ true
-    log_so = all host.log fit (all_parted (is_past_record world) host.log host.waiting (j.shown.listed.past n low)).0 (all_parted lists_others host.log host.waiting (j.shown.listed.others n low)).0 (owns n low) (λ tid has. has)
+    log_so = all host.log fit (all_parted (is_past_record world) host.log host.waiting (j.shown.listed.past n low)).0 (all_parted lists_others host.log host.waiting (j.shown.listed.others n low)).0 (owns n low).logged (λ tid has. has)
 
     -- ---- votes
 
@@ -245,7 +251,7 @@ module _ (o : Opening) (world : World) (next : Opening) (j : Joined PlacesAt o w
   }
 
 pub each_run_coherent : EachRunCoherent PlacesAt
-each_run_coherent owed o moves world next opens run owns is = next_opens o world next j is owns (λ n low tid home_in has. each_commits_home owed o moves world opens run j.size n low tid home_in has)
+each_run_coherent owed o moves world next opens run is = next_opens o world next j is (each_has_own_changes o moves world opens run) (λ n low tid home_in has. each_commits_home owed o moves world opens run j.size n low tid home_in has)
   where
     j : Joined PlacesAt o world
     j = each_run_joined PlacesAt places_go owed o moves world opens run

@@ -1,11 +1,8 @@
 -- The logs that a run leaves stand together: another run may begin over them, with later incarnations of its nodes.
-use Rattle.std.specs.Prelude.{◌≡◌, ◌≢◌, ℕ, ◌<◌, ◌==◌, ◌++◌, nat_lt, Bool, true, false, List}
-use Rattle.std.specs.List.{list_all, list_any}
+use Rattle.std.specs.Prelude.{◌≡◌, ◌≢◌, ℕ, ◌<◌, ◌==◌, ◌++◌, nat_lt, true, false, List}
+use Rattle.std.specs.List.{list_any}
 use Rattle.qs_base.specs.Order.{same_tid}
 use Rattle.qs_base.specs.declared.identifiers.Tid.{Tid}
-use Rattle.qs_ipc.specs.Queue.{is_for}
-use Rattle.qs_record.specs.declared.record.Record.{Record}
-use Rattle.qs_record.specs.declared.record.Record.TheVariants as records
 use Rattle.qs_restart.specs.Recovery.{names_transaction, recovery}
 use Rattle.qs_step.specs.Answering.{was_committed}
 use Rattle.qs_step.specs.Step.{effects_of}
@@ -29,17 +26,6 @@ pub record IsNextOpening (world : World) (next : Opening) : Type 0 where
   pub settings : each_below next.size (λ n. is_setting next.size n (next.settings n)) ≡ true
   pub scripts : each_below client_count (λ k. is_script next.size k (next.clients k)) ≡ true
   pub labels : are_apart (all_labels next) ≡ true
-
--- ---- each Prepare has operations of its own server
-
-abbrev pub is_own_record : Record → Bool
-is_own_record (records.Prepare tid server covers changes) = list_all (is_for server) changes
-is_own_record (records.Commit tid told) = true
-is_own_record (records.Aborted tid) = true
-is_own_record (records.End tid) = true
-
-abbrev pub OwnChanges : World → Type 0
-OwnChanges world = (n : ℕ) → n < world.size → list_all is_own_record (world.hosts n).log ≡ true
 
 -- ---- where the log of another node has a Commit, so has the home's
 
@@ -68,4 +54,4 @@ EachCommitsHome P = Owed P → (o : Opening) (moves : List Move) (world : World)
 -- ---- the law
 
 abbrev pub EachRunCoherent : (Opening → World → Type 0) → Type 0
-EachRunCoherent P = Owed P → (o : Opening) (moves : List Move) (world : World) (next : Opening) → IsOpening o → Run (start o) moves world → OwnChanges world → IsNextOpening world next → IsOpening next
+EachRunCoherent P = Owed P → (o : Opening) (moves : List Move) (world : World) (next : Opening) → IsOpening o → Run (start o) moves world → IsNextOpening world next → IsOpening next

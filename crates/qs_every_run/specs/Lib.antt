@@ -33,4 +33,6 @@ pub mod TriedOwing
 pub mod PlacesJoined
 pub mod PlacesTurns
 pub mod CutRecords
+pub mod Stores
+pub mod OwnChanges
 pub mod CoherentAgain
