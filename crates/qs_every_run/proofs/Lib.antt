@@ -174,3 +174,14 @@ pub mod WholeFinds
 pub mod FreshFinds
 pub mod PlacesSteps
 pub mod WholeSteps
+pub mod RecordMakes
+pub mod RecordRules
+pub mod RecordTold
+pub mod RecordSteps
+pub mod CommitsHome
+pub mod CommitsHomeRuns
+pub mod ListsHome
+pub mod OwnShares
+pub mod OwnSteps
+pub mod OwnMoves
+pub mod NextOpening

@@ -99,7 +99,7 @@ module _ (tid : Tid) (here : NodeNo) (done : List Tid) where
       of (Some t) = one t (is_left_open here os t)
 
 -- what a home knows as committed is kept so, or its log had the Commit as it opened
-known_committed : (node : NodeValue) (tid : Tid) → tid.home ≡ node.setting.node → IsCrossed node → is_committed_at node tid ≡ true → was_committed tid node ≡ true
+pub known_committed : (node : NodeValue) (tid : Tid) → tid.home ≡ node.setting.node → IsCrossed node → is_committed_at node tid ≡ true → was_committed tid node ≡ true
 known_committed node tid home crossed is = of (or_split (was_committed tid node) (tm.told_of tid false (λ part. is_done part.outcome) node.manager) is)
   where
     home_is : (rest : Bool) → (tid.home.0 == node.setting.node.0) ≡ true

@@ -179,6 +179,11 @@ module _ (A : Tid → Type 0) (P : Store → Type 0) (k : IsKeptStore A P) where
   own_reply false true o reply own is = absurd (cc own)
   own_reply false false o reply own is = is
 
+  -- and no other server's operation
+  own_op : (a b : Bool) (o : Option Reply) (reply : Reply) → (if not a then None else if b then Some replies.Done else o) ≡ Some reply → a ≡ true
+  own_op true b o reply is = refl
+  own_op false b o reply is = absurd (cc is)
+
   serve_keeps : (server : ServerNo) (delivery : Delivery) (reply : Reply) (work : Work) → reply_here server delivery.tid delivery.op work.node ≡ Some reply → Keeps work (serve server delivery reply work)
   serve_keeps server delivery reply work says h = given (loan_keeps delivery.tid (lent_to delivery.op) (enter_serve server delivery reply work) (by (is_client server) refl))
     where
@@ -189,7 +194,8 @@ module _ (A : Tid → Type 0) (P : Store → Type 0) (k : IsKeptStore A P) where
           (with_manager (tm.served delivery.tid server) (with_doings delivery.tid (λ doings. record doings { served = true }) (if b then work else change_server server (λ value. after_serving value delivery.tid delivery.op reply) work)))))
       by true is = k.parts (store_of work) delivery.tid (participant.served server) (served_unasked server) h
       by false is = k.parts (store_of (change_server server (λ value. after_serving value delivery.tid delivery.op reply) work)) delivery.tid (participant.served server) (served_unasked server)
-          (k.serves (store_of work) server delivery.tid delivery.op reply (own_reply (not (is_for server delivery.op)) (is_client server) (reply_of (server_at work.node.servers server) delivery.tid delivery.op) reply is says) h)
+          (k.serves (store_of work) server delivery.tid delivery.op reply (own_op (is_for server delivery.op) (is_client server) (reply_of (server_at work.node.servers server) delivery.tid delivery.op) reply says)
+          (own_reply (not (is_for server delivery.op)) (is_client server) (reply_of (server_at work.node.servers server) delivery.tid delivery.op) reply is says) h)
 
       given : Keeps lends (serve server delivery reply work)
       given = if_keeps (same_node delivery.from (here lends)) (reply_came delivery.tid (member_here work server) delivery.number reply lends)

@@ -39,3 +39,6 @@ pub mod PlacesSteps
 pub mod ComesFind
 pub mod PlacesFound
 pub mod BegunBare
+pub mod CutRecords
+pub mod OwnChanges
+pub mod CoherentAgain

@@ -2,6 +2,7 @@
 //! a transaction, and the induction over the moves of a run.
 #![tactic(auto)]
 
+mod coherent_again;
 mod comes;
 pub mod found;
 mod joined_agrees;
@@ -9,6 +10,7 @@ mod joined_runs;
 pub mod placed;
 mod tried_owing;
 
+pub use coherent_again::{homes_log_commits, runs_leave_openings, votes_have_own_changes};
 pub use comes::{what_begins_is_bare, what_comes_finds};
 pub use joined_agrees::{stages_are_sound, steps_agree};
 pub use joined_runs::runs_are_lawful;

@@ -23,7 +23,7 @@ pub mod DecideAbort
 pub mod DecideCommit
 pub mod Deciding
 pub mod Doubts
-mod DoubtsBefore
+pub mod DoubtsBefore
 pub mod During
 pub mod EventFaces
 pub mod EventGoes
@@ -59,7 +59,7 @@ pub mod LogClosing
 pub mod LogEnds
 pub mod LogFrames
 pub mod Logging
-mod LogsGrow
+pub mod LogsGrow
 pub mod Maps
 pub mod Meeting
 pub mod MetWork
@@ -77,7 +77,7 @@ pub mod OpenMoves
 pub mod Others
 pub mod OthersCame
 pub mod OutcomeGoes
-mod PastRecords
+pub mod PastRecords
 pub mod PeerNoticed
 pub mod Placing
 pub mod Posted

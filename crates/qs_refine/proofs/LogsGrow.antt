@@ -75,7 +75,7 @@ module _ (world : World) (steady : IsSteadyWorld world) (n stamp free : ℕ) (so
   abbrev out : Effects
   out = effects_of host.node event free
 
-  records_named : list_all is_named_record out.records ≡ true
+  pub records_named : list_all is_named_record out.records ≡ true
   records_named = by (step_tidy world steady n free low up event (event_fits world steady n free low up stamp source event is) gives)
     where
       each : (s : Stage) → ((tid : Tid) → s.past tid ≡ true → names_transaction tid ≡ true) → list_all (is_tidy_record s) (step_work host.node event free).out.records ≡ true → list_all is_named_record out.records ≡ true

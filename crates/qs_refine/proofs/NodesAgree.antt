@@ -27,7 +27,7 @@ use Rattle.qs_refine.proofs.SoundParts.{and_both}
 use Rattle.qs_refine.proofs.SteadyGives.{past_of, unbegun_unknown}
 
 -- what may be known of a home of the run has begun
-begun_of : (tid : Tid) (world : World) → tid.home.0 < world.size → may_be_known world tid ≡ true → has_begun world tid ≡ true
+pub begun_of : (tid : Tid) (world : World) → tid.home.0 < world.size → may_be_known world tid ≡ true → has_begun world tid ≡ true
 begun_of tid world home_in is = by (nat_lt tid.home.0 world.size) (has_begun world tid) (grind (arith, nat_tests, home_in)) (and_both (names_transaction tid) _ is).1
   where
     by : (a b : Bool) → a ≡ true → (not a || b) ≡ true → b ≡ true

@@ -1,0 +1,5 @@
+use Rattle.qs_every_run.proofs.NextOpening.{each_run_coherent}
+use Rattle.qs_every_run.proofs.coherent_again.runs_leave_openings.Goals as goal
+
+pub returns : goal.returns
+returns c = each_run_coherent

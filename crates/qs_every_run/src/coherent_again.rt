@@ -1,0 +1,22 @@
+//! The logs that a run leaves stand together, so that another run may begin over them.
+ghost use Rattle.qs_every_run.specs.JoinedPlaces.{PlacesAt};
+ghost use Rattle.qs_every_run.specs.OwnChanges.{EachHasOwnChanges};
+ghost use Rattle.qs_every_run.specs.CoherentAgain.{EachCommitsHome, EachRunCoherent, HomeLogged, StepCommitsHome};
+
+/// What a home has committed, and the log of another node has in doubt, the log of the home has committed.
+pub fn homes_log_commits()
+    ensures logged { HomeLogged }
+    ensures steps { StepCommitsHome PlacesAt }
+    ensures runs { EachCommitsHome PlacesAt }
+{}
+
+/// Servers whose votes a log keeps have only changes of their own pending, and so has each of their votes in a log, in each world of a run.
+pub fn votes_have_own_changes()
+    ensures { EachHasOwnChanges }
+{}
+
+/// The logs that a run leaves stand together, whether its nodes run or not, and also right after a step that was cut off, with its batch lost or
+/// kept: another run may begin over them, with later incarnations of its nodes.
+pub fn runs_leave_openings()
+    ensures { EachRunCoherent PlacesAt }
+{}
