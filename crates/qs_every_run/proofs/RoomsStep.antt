@@ -53,7 +53,7 @@ module _ (T : Tid → Type 0) where
 
   pub room_kept : IsKeptStore (λ (tid : Tid). ⊤) (HasRoom T)
   room_kept = record {
-    serves = λ s server tid op reply own says h. record { shares = files_changed (FewAt T) server (λ value. after_serving value tid op reply) s.servers (λ is. serving_few T s.servers.files tid op reply (own s.servers server (λ (v : ServerValue). reply_of v tid op ≡ Some reply) is says) h.shares) h.shares; records = h.records };
+    serves = λ s server tid op reply fits says h. record { shares = files_changed (FewAt T) server (λ value. after_serving value tid op reply) s.servers (λ is. serving_few T s.servers.files tid op reply (own s.servers server (λ (v : ServerValue). reply_of v tid op ≡ Some reply) is says) h.shares) h.shares; records = h.records };
     votes = λ s server tid ballot h. record { shares = files_changed (FewAt T) server (λ value. after_vote value tid ballot) s.servers (λ is. voting_few T s.servers.files tid ballot h.shares) h.shares; records = h.records };
     notices = λ s server tid notice h. record { shares = files_changed (FewAt T) server (λ value. after_notice value tid notice) s.servers (λ is. notice_few T s.servers.files tid notice h.shares) h.shares; records = h.records };
     ticks = λ s h. record { shares = h.shares; records = h.records };
@@ -110,7 +110,7 @@ module _ (A : Tid → Type 0) where
 
   pub asked_kept : IsKeptStore A Asked
   asked_kept = record {
-    serves = λ s server tid op reply own says h. h;
+    serves = λ s server tid op reply fits says h. h;
     votes = λ s server tid ballot h. h;
     notices = λ s server tid notice h. h;
     ticks = λ s h. h;
