@@ -111,6 +111,7 @@ pub mod MarkedBefore
 pub mod CutCould
 pub mod BatchVotes
 pub mod TriedOwingRuns
+pub mod TriedApartRuns
 pub mod ServesGo
 pub mod StepsGo
 pub mod StepsWhole

@@ -30,5 +30,6 @@ pub mod Born
 pub mod CutCommits
 pub mod CutVotes
 pub mod TriedOwing
+pub mod TriedApart
 pub mod PlacesJoined
 pub mod PlacesTurns

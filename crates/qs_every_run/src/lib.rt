@@ -5,8 +5,10 @@
 mod joined_agrees;
 mod joined_runs;
 pub mod placed;
+mod tried_apart;
 mod tried_owing;
 
 pub use joined_agrees::{stages_are_sound, steps_agree};
 pub use joined_runs::runs_are_lawful;
+pub use tried_apart::issuers_are_engaged;
 pub use tried_owing::owed_stands_open;
