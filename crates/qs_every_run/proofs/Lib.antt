@@ -70,6 +70,13 @@ pub mod PlacedIssued
 pub mod PlacedTx
 pub mod PlacesBegin
 pub mod ApartHere
+pub mod AwaitedKept
+pub mod AwaitedRules
+pub mod AwaitedRequests
+pub mod AwaitedTurns
+pub mod AwaitedSettles
+pub mod AwaitedComes
+pub mod AwaitedSteps
 pub mod PlacesStop
 pub mod RestartPlaced
 pub mod RisenFields

@@ -18,6 +18,7 @@ pub mod Deeds
 pub mod Firsts
 pub mod Answering
 pub mod PlacesApart
+pub mod Awaited
 pub mod JoinedOwed
 pub mod JoinedPlaces
 pub mod StepLaws

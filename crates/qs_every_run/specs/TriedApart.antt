@@ -11,7 +11,7 @@ use Rattle.qs_machine.specs.declared.transaction.Request.{Request}
 use Rattle.qs_machine.specs.declared.transaction.RequestNo.{RequestNo}
 use Rattle.qs_tm.specs.Manager as tm
 use Rattle.qs_tm.specs.Participant.{is_answered_by}
-use Rattle.qs_world.specs.Driven.{Know, Stage, Take, cut, make, rise, rounds_of, stop, up_to}
+use Rattle.qs_world.specs.Driven.{Know, Stage, Take, cut, make, rise, rounds_of, stop}
 use Rattle.qs_world.specs.DrivenRuns.{late}
 use Rattle.qs_world.specs.Faults.{both}
 use Rattle.qs_world.specs.Histories.{book_of}
