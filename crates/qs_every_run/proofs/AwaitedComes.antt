@@ -36,7 +36,8 @@ use Rattle.qs_step.specs.State.{with_node}
 use Rattle.qs_every_run.proofs.AwaitedKept.{elsewhere}
 use Rattle.qs_every_run.proofs.AwaitedTurns.{came_on}
 use Rattle.qs_every_run.proofs.AwaitedRequests.{reply_on}
-use Rattle.qs_every_run.proofs.AwaitedRules.{become_on, block_on, inquiry_on, log_if_on, notices_on, send_each_on, tell_on, told_on, On, Kept, change_on, decide_on, fold_on, if_on, itself_on, send_on, then_on, undecided_on, waits_on}
+use Rattle.qs_every_run.proofs.AwaitedRules.{become_on, block_on, log_if_on, notices_on, send_each_on, On, Kept, change_on, decide_on, fold_on, if_on, itself_on, send_on, then_on, undecided_on, waits_on}
+use Rattle.qs_every_run.proofs.AwaitedTold.{inquiry_on, tell_on, told_on}
 
 module _ (D : Type 0) (tid : Tid) (member : Member) (number : ℕ) where
   abbrev L : Work → Work → Type 0

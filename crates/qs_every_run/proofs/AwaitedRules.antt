@@ -13,7 +13,7 @@ use Rattle.qs_base.specs.declared.identifiers.Outcome.TheVariants as outcomes
 use Rattle.qs_base.specs.declared.identifiers.ServerNo.{ServerNo}
 use Rattle.qs_base.specs.declared.identifiers.Tid.{Tid}
 use Rattle.qs_engage.specs.Engage as engage
-use Rattle.qs_engage.specs.Nodes.{listed, same_node}
+use Rattle.qs_engage.specs.Nodes.{listed}
 use Rattle.qs_engage.specs.declared.engage.Engage.{Engage}
 use Rattle.qs_kept.specs.Keeping.{is_outcome_of}
 use Rattle.qs_kept.specs.declared.kept.Decided.{Decided}
@@ -23,13 +23,12 @@ use Rattle.qs_ops.specs.declared.answer.Cause.{Cause}
 use Rattle.qs_packet.specs.declared.message.Message.{Message}
 use Rattle.qs_packet.specs.declared.message.Message.TheVariants as messages
 use Rattle.qs_record.specs.declared.record.Record.{Record}
-use Rattle.qs_record.specs.declared.record.Record.TheVariants as records
-use Rattle.qs_step.specs.Answering.{answer_known, answer_unknown, inquiry_at_home, inquiry_came, kept_outcome, was_committed}
+use Rattle.qs_step.specs.Answering.{kept_outcome}
 use Rattle.qs_step.specs.Asking.{become_asked, block, where_undecided}
 use Rattle.qs_step.specs.Bringing.{answer, is_other, log, log_if, send, send_each, send_next, tid_of}
 use Rattle.qs_step.specs.Deciding.{decide, decide_as, decide_commit, due_endings, end_member, end_members, give_notices, learn_member, learn_members, learners_at, notify}
-use Rattle.qs_step.specs.State.{Work, client_cmp, here, part_of, with_manager}
-use Rattle.qs_step.specs.Telling.{end_told, forget, is_other_node, keep_abort_told, learn, learn_unknown, names_at, record_learnt, take_names, take_outcome, take_told, tell_came, told_at_home, told_came, told_known, told_unknown}
+use Rattle.qs_step.specs.State.{Work, client_cmp, part_of, with_manager}
+use Rattle.qs_step.specs.Telling.{forget}
 use Rattle.qs_step.specs.declared.state.OpenCommand.{OpenCommand}
 use Rattle.qs_tm.specs.Manager as tm
 use Rattle.qs_tm.specs.Outcomes as outcome_rules
@@ -39,7 +38,7 @@ use Rattle.qs_tm.specs.declared.manager.Decision.{Decision}
 use Rattle.qs_tm.specs.declared.participant.Participant.{Participant}
 use Rattle.qs_lawful.proofs.Apart.{Apart, same_or_apart}
 use Rattle.qs_every_run.specs.Awaited.{IsWaiting, WaitsAt, WaitsOn}
-use Rattle.qs_every_run.proofs.AwaitedKept.{IsFree, IsOther, Stays, borrowed_on, forget_on, free_other, part_on, unknown_on, with_borrowed}
+use Rattle.qs_every_run.proofs.AwaitedKept.{IsFree, IsOther, Stays, borrowed_on, forget_on, free_other, part_on, with_borrowed}
 
 module _ (D : Type 0) (tid : Tid) (member : Member) (number : ℕ) where
   abbrev pub On : Work → Work → Type 0
@@ -203,32 +202,7 @@ module _ (D : Type 0) (tid : Tid) (member : Member) (number : ℕ) where
       by None = decide_on t outcomes.Commit None work
       by (Some need) = decide_on t outcomes.Abort (Some (Rattle.qs_ops.specs.declared.answer.Cause.TheVariants.Room need work.room)) work
 
-  -- ---- an outcome is told and taken in
-
-  learn_on : (t : Tid) (outcome : Outcome) (part : Participant) (work : Work) → (t ≡ tid → D) → On work (learn t outcome part work)
-  learn_on t outcome part work decides = then_on work managed (learn t outcome part work) (decided_on t (outcome_rules.took_outcome outcome) work decides)
-      (then_on managed (give_notices t outcome managed) (learn t outcome part work) (notices_on t outcome managed) (log_if_on (record_learnt t outcome part) (give_notices t outcome managed)))
-    where
-      managed : Work
-      managed = with_manager (tm.took_outcome t outcome) work
-
-  abort_on : (t : Tid) (work : Work) → On work (with_manager (tm.keep_abort t) work)
-  abort_on t work = waits_on work (with_manager (tm.keep_abort t) work) (λ w. inl (unknown_on tid member number work.node.commands work.node.kept.now work.node.setting.inc t (outcome_rules.aborted_participant (tm.is_home t work.node.manager)) work.node.manager w)) (λ k. k)
-
-  outcome_on : (t : Tid) (outcome : Outcome) (work : Work) → (t ≡ tid → D) → On work (take_outcome t outcome work)
-  outcome_on t outcome work decides = by (part_of t work)
-    where
-      unknown : (o : Outcome) → On work (learn_unknown t o work)
-      unknown outcomes.Commit = itself_on work
-      unknown outcomes.Abort = abort_on t work
-
-      by : (o : Option Participant) → On work (elim o [ None ↦ learn_unknown t outcome work | Some part ↦ if is_undecided part then learn t outcome part work else work ])
-      by None = unknown outcome
-      by (Some part) = if_on (is_undecided part) (learn t outcome part work) work work (λ so. learn_on t outcome part work decides) (λ so. itself_on work)
-
-  pub tell_on : (peer : NodeNo) (t : Tid) (outcome : Outcome) (work : Work) → (t ≡ tid → D) → On work (tell_came peer t outcome work)
-  tell_on peer t outcome work decides = if_on (same_node t.home (here work)) work (send peer (messages.Told t (names_at t outcome work)) (take_outcome t outcome work)) work (λ so. itself_on work)
-      (λ so. then_on work (take_outcome t outcome work) (send peer (messages.Told t (names_at t outcome work)) (take_outcome t outcome work)) (outcome_on t outcome work decides) (send_on peer (messages.Told t (names_at t outcome work)) (take_outcome t outcome work)))
+  -- ---- forgetting, and changes that are plain
 
   -- what is forgotten is decided, or not engaged
   pub forgets_on : (t : Tid) (work : Work) → (t ≡ tid → WaitsAt tid member number work.node → ⊥) → On work (forget t work)
@@ -241,74 +215,6 @@ module _ (D : Type 0) (tid : Tid) (member : Member) (number : ℕ) where
     outcome = outcome;
     waiting = λ p request m k a. subst (Rattle.qs_every_run.specs.Awaited.Among request) (sym (waiting p)) a;
   }
-
-  -- what is known as decided does not wait
-  open_still : (t : Tid) (part : Participant) (outcome : Outcome) (work : Work) → part_of t work ≡ Some part → part.outcome ≡ Some outcome → t ≡ tid → WaitsAt tid member number work.node → ⊥
-  open_still t part outcome work known is e w = let both : Some w.part ≡ Some part = sym w.known ∙ subst (λ (u : Tid). part_of u work ≡ Some part) e known in one w.part part both w.undecided
-    where
-      one : (a b : Participant) → Some a ≡ Some b → a.outcome ≡ None → ⊥
-      one a b both none = let same : a ≡ b = of a b both in cc (none, is, same)
-        where
-          of : (a b : Participant) → Some a ≡ Some b → a ≡ b
-          of a b both = cc both
-
-  names_on : (t : Tid) (further : List NodeNo) (work : Work) → On work (take_names t further work)
-  names_on t further work = then_on work (with_manager (tm.take_names t further) work) (take_names t further work) (change_on t (outcome_rules.take_names t.home further) work (λ same. plain (outcome_rules.take_names t.home further) (λ p. refl) (λ p. refl) (λ p. refl)))
-      (send_each_on (listed (tm.new_names t further work.node.manager)) (messages.Tell t outcomes.Abort) (with_manager (tm.take_names t further) work))
-
-  keep_on : (t : Tid) (peer : NodeNo) (work : Work) → On work (keep_abort_told t peer work)
-  keep_on t peer work = then_on work (with_manager (tm.keep_abort t) work) (keep_abort_told t peer work) (abort_on t work) (change_on t (outcome_rules.add_tell peer) (with_manager (tm.keep_abort t) work) (λ same. plain (outcome_rules.add_tell peer) (λ p. refl) (λ p. refl) (λ p. refl)))
-
-  taken_on : (peer : NodeNo) (t : Tid) (work : Work) → (t ≡ tid → WaitsAt tid member number work.node → ⊥) → On work (take_told peer t work)
-  taken_on peer t work none = by (same_or_apart t tid)
-    where
-      acked : Work
-      acked = with_manager (tm.acknowledged t peer) work
-
-      acked_on : On work acked
-      acked_on = change_on t (outcome_rules.acknowledged peer) work (λ same. plain (outcome_rules.acknowledged peer) (λ p. refl) (λ p. refl) (λ p. refl))
-
-      end : (b : Bool) → Apart t tid → On acked (end_told b t acked)
-      end false far = itself_on acked
-      end true far = then_on acked (log (records.End t) acked) (forget t (log (records.End t) acked)) (log_on (records.End t) acked) (forgets_on t (log (records.End t) acked) (λ e. absurd (far.differ e)))
-
-      ends_kept : (b : Bool) → is_some (kept_outcome tid work.node) ≡ true → is_some (kept_outcome tid (end_told b t acked).node) ≡ true
-      ends_kept true k = k
-      ends_kept false k = k
-
-      by : (t ≡ tid) ⊎ Apart t tid → On work (take_told peer t work)
-      by (inl e) = waits_on work (take_told peer t work) (λ w. absurd (none e w)) (ends_kept (tm.all_acknowledged t peer work.node.manager))
-      by (inr far) = then_on work acked (take_told peer t work) acked_on (end (tm.all_acknowledged t peer work.node.manager) far)
-
-  pub told_on : (peer : NodeNo) (t : Tid) (further : List NodeNo) (work : Work) → On work (told_came peer t further work)
-  told_on peer t further work = if_on (same_node t.home (here work)) (told_at_home peer t further work) work work (λ so. by (part_of t work) refl) (λ so. itself_on work)
-    where
-      known : (part : Participant) → part_of t work ≡ Some part → (o : Option Outcome) → part.outcome ≡ o → On work (told_known peer t further o work)
-      known part is None so = itself_on work
-      known part is (Some outcomes.Commit) so = taken_on peer t work (open_still t part outcomes.Commit work is so)
-      known part is (Some outcomes.Abort) so = names_on t further work
-
-      by : (o : Option Participant) → part_of t work ≡ o → On work (elim o [ None ↦ told_unknown peer t further work | Some part ↦ told_known peer t further part.outcome work ])
-      by None is = if_on (list_any (is_other_node t) further) (take_names t further (keep_abort_told t peer work)) work work
-          (λ so. then_on work (keep_abort_told t peer work) (take_names t further (keep_abort_told t peer work)) (keep_on t peer work) (names_on t further (keep_abort_told t peer work))) (λ so. itself_on work)
-      by (Some part) is = known part is part.outcome refl
-
-  -- ---- inquiries
-
-  pub inquiry_on : (peer : NodeNo) (t : Tid) (work : Work) → On work (inquiry_came peer t work)
-  inquiry_on peer t work = if_on (same_node t.home (here work)) (inquiry_at_home peer t work) work work (λ so. by (part_of t work)) (λ so. itself_on work)
-    where
-      known : (o : Option Outcome) → On work (answer_known peer t o work)
-      known None = change_on t (participant.add_told peer) work (λ same. plain (participant.add_told peer) (λ p. refl) (λ p. refl) (λ p. refl))
-      known (Some outcomes.Commit) = send_on peer (messages.Tell t outcomes.Commit) work
-      known (Some outcomes.Abort) = then_on work (with_manager (tm.add_tell t peer) work) (send peer (messages.Tell t outcomes.Abort) (with_manager (tm.add_tell t peer) work))
-          (change_on t (outcome_rules.add_tell peer) work (λ same. plain (outcome_rules.add_tell peer) (λ p. refl) (λ p. refl) (λ p. refl))) (send_on peer (messages.Tell t outcomes.Abort) (with_manager (tm.add_tell t peer) work))
-
-      by : (o : Option Participant) → On work (elim o [ None ↦ answer_unknown peer t work | Some part ↦ answer_known peer t part.outcome work ])
-      by None = if_on (was_committed t work.node) (send peer (messages.Tell t outcomes.Commit) work) (send peer (messages.Tell t outcomes.Abort) (keep_abort_told t peer work)) work
-          (λ so. send_on peer (messages.Tell t outcomes.Commit) work)
-          (λ so. then_on work (keep_abort_told t peer work) (send peer (messages.Tell t outcomes.Abort) (keep_abort_told t peer work)) (keep_on t peer work) (send_on peer (messages.Tell t outcomes.Abort) (keep_abort_told t peer work)))
-      by (Some part) = known part.outcome
 
   -- ---- asking, and refusals
 

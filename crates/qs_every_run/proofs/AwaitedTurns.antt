@@ -100,10 +100,10 @@ module _ (D : Type 0) (tid : Tid) (member : Member) (number : ℕ) where
   ask_on_on false t to work = itself_on D tid member number work
   ask_on_on true t to work = send_on D tid member number to (messages.AskVote t) work
 
-  issue_away_on : (t : Tid) (request : Outstanding) (op : Op) (work : Work) → L work (issue_away t request op work)
-  issue_away_on t request op work = then_on D tid member number work entered (issue_away t request op work) (entered_on t request op work)
-      (then_on D tid member number entered counted (issue_away t request op work) (change_on D tid member number t (participant.sent request.member.node) entered (λ e. sent_kept D tid member number request.member.node))
-      (then_on D tid member number counted told (issue_away t request op work) (send_on D tid member number request.member.node (messages.Request t (label_of t work.node) request.member request.number request.issuer op) counted) (ask_on_on (is_asked t work) t request.member.node told)))
+  -- once it is entered
+  pub away_on : (t : Tid) (request : Outstanding) (op : Op) (work : Work) → L (enter_issue t request op work) (issue_away t request op work)
+  away_on t request op work = then_on D tid member number entered counted (issue_away t request op work) (change_on D tid member number t (participant.sent request.member.node) entered (λ e. sent_kept D tid member number request.member.node))
+      (then_on D tid member number counted told (issue_away t request op work) (send_on D tid member number request.member.node (messages.Request t (label_of t work.node) request.member request.number request.issuer op) counted) (ask_on_on (is_asked t work) t request.member.node told))
     where
       entered : Work
       entered = enter_issue t request op work
@@ -113,6 +113,9 @@ module _ (D : Type 0) (tid : Tid) (member : Member) (number : ℕ) where
 
       told : Work
       told = send request.member.node (messages.Request t (label_of t work.node) request.member request.number request.issuer op) counted
+
+  issue_away_on : (t : Tid) (request : Outstanding) (op : Op) (work : Work) → L work (issue_away t request op work)
+  issue_away_on t request op work = then_on D tid member number work (enter_issue t request op work) (issue_away t request op work) (entered_on t request op work) (away_on t request op work)
 
   pub issue_as_on : (t : Tid) (request : Outstanding) (op : Op) (work : Work) → L work (issue_as t request op work)
   issue_as_on t request op work = if_on D tid member number (same_node request.member.node (here work)) (issue_here t request op work) (issue_away t request op work) work (λ so. issue_here_on t request op work) (λ so. issue_away_on t request op work)

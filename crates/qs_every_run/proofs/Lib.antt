@@ -72,10 +72,13 @@ pub mod PlacesBegin
 pub mod ApartHere
 pub mod AwaitedKept
 pub mod AwaitedRules
+pub mod AwaitedTold
 pub mod AwaitedRequests
 pub mod AwaitedTurns
+pub mod AwaitedIssued
 pub mod AwaitedSettles
 pub mod AwaitedComes
+pub mod AwaitedCommands
 pub mod AwaitedSteps
 pub mod PlacesStop
 pub mod RestartPlaced

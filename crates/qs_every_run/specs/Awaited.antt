@@ -14,9 +14,11 @@ use Rattle.qs_kept.specs.Loans.{is_standing_loan}
 use Rattle.qs_kept.specs.declared.kept.Begun.{Begun}
 use Rattle.qs_kept.specs.declared.kept.Kept.{Kept}
 use Rattle.qs_kept.specs.declared.kept.Lent.{Lent}
+use Rattle.qs_ops.specs.declared.operation.Op.{Op}
 use Rattle.qs_packet.specs.declared.message.Message.TheVariants as messages
 use Rattle.qs_step.specs.Answering.{kept_outcome}
-use Rattle.qs_step.specs.State.{NodeValue, Work, client_cmp}
+use Rattle.qs_step.specs.Requests.{issue_as}
+use Rattle.qs_step.specs.State.{NodeValue, Work, client_cmp, here, part_of}
 use Rattle.qs_step.specs.Step.{after_step, is_owner}
 use Rattle.qs_step.specs.declared.event.Event.{Event}
 use Rattle.qs_step.specs.declared.event.Event.TheVariants as events
@@ -100,6 +102,14 @@ ComesSo tid event work = ⊤
 abbrev pub StepsWaitOn : Type 0
 StepsWaitOn = (tid : Tid) (member : Member) (number : ℕ) (node : NodeValue) (event : Event) (free : ℕ) → same_node member.node node.setting.node ≡ false → ComesSo tid event (first_work node free)
     → IsWaiting tid member number node → IsWaiting tid member number (after_step node event free) ⊎ TakesIt tid member number event
+
+-- what is issued to another node waits then
+abbrev pub HoldsIt : Tid → Outstanding → Participant → Work → Type 0
+HoldsIt tid request part work = (is_by_files request ≡ true) ⊎ ((part.engage.home ≡ true) ⊎ IsBorrowed tid request.member request.number work.node.commands work.node.kept.now work.node.setting.inc)
+
+abbrev pub IssuesWait : Type 0
+IssuesWait = (tid : Tid) (request : Outstanding) (op : Op) (work : Work) (part : Participant) → part_of tid work ≡ Some part → part.outcome ≡ None → is_engaged part ≡ true → same_node request.member.node (here work) ≡ false → HoldsIt tid request part work
+    → IsWaiting tid request.member request.number (issue_as tid request op work).node
 
 -- so its node is engaged
 abbrev pub WaitsEngaged : Type 0

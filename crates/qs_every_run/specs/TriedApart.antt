@@ -1,23 +1,28 @@
 -- Who issued a request that stands at another node, tried on the states of runs: where its node gave that number in its present incarnation, it runs, is engaged,
--- and waits for that request; also after steps that were cut off and restarts.
-use Rattle.std.specs.Prelude.{◌≡◌, ℕ, zero, suc, ◌==◌, nat_le, Bool, true, false, not, ◌&&◌, ◌||◌, List, [], ◌∷◌, take, drop, fold}
+-- and waits for that request; and a reply that is on its way to a present incarnation is of a request that it issued, and that stands no more. Also after steps that were cut off and restarts.
+use Rattle.std.specs.Prelude.{◌≡◌, ℕ, zero, suc, ◌==◌, nat_le, Bool, true, false, not, ◌&&◌, ◌||◌, is_none, List, [], ◌∷◌, take, drop, fold}
 use Rattle.std.specs.Global.{Global}
 use Rattle.std.specs.List.{list_all, list_any}
+use Rattle.qs_base.specs.Order.{same_tid}
 use Rattle.qs_base.specs.declared.identifiers.Tid.{Tid}
 use Rattle.qs_machine.specs.Book.{BookValue}
 use Rattle.qs_machine.specs.Lawful.{book_after}
-use Rattle.qs_machine.specs.Transaction.{TransactionValue, is_open, sent_in, sent_on}
+use Rattle.qs_machine.specs.Transaction.{TransactionValue, is_open, sent_in, sent_on, standing_request}
 use Rattle.qs_machine.specs.declared.transaction.Request.{Request}
 use Rattle.qs_machine.specs.declared.transaction.RequestNo.{RequestNo}
+use Rattle.qs_packet.specs.declared.message.Message.{Message}
+use Rattle.qs_packet.specs.declared.message.Message.TheVariants as messages
 use Rattle.qs_tm.specs.Manager as tm
 use Rattle.qs_tm.specs.Participant.{is_answered_by}
-use Rattle.qs_world.specs.Driven.{Know, Stage, Take, cut, make, rise, rounds_of, stop}
+use Rattle.qs_world.specs.Driven.{Know, Stage, Take, cut, make, rise, rounds_of, stop, up_to}
 use Rattle.qs_world.specs.DrivenRuns.{late}
 use Rattle.qs_world.specs.Faults.{both}
 use Rattle.qs_world.specs.Histories.{book_of}
-use Rattle.qs_world.specs.World.{Opening, World, start}
+use Rattle.qs_world.specs.World.{Opening, Parcel, World, start}
 use Rattle.qs_refine.specs.NodeFaces.{face_at}
+use Rattle.qs_lawful.specs.Parcels.{way_between}
 use Rattle.qs_lawful.specs.Tried.{rich}
+use Rattle.qs_every_run.specs.Placed.{sent_between}
 
 -- the node waits for its reply
 abbrev waits_for_it : World → ℕ → Tid → RequestNo → Request → Bool
@@ -38,8 +43,25 @@ numbers_ok world tid tx entry = list_all (request_ok world tid tx entry.0) entry
 abbrev tx_ok : World → Tid × TransactionValue → Bool
 tx_ok world entry = not (is_open entry.1.cell) || list_all (numbers_ok world entry.0 entry.1) entry.1.requests
 
+-- a reply on its way is of a number that its receiver gave, which stands at its member no more
+abbrev tells_truly : World → ℕ → Message → Tid × TransactionValue → Bool
+tells_truly world n (messages.Answered tid member number reply) entry = not (same_tid tid entry.0 && is_open entry.1.cell)
+    || (is_none (standing_request entry.1 (way_between n member.node.0 number) member) && nat_le number (sent_in (world.channels.inc n) (sent_on entry.1 (way_between n member.node.0 number).link)))
+tells_truly world n message entry = true
+
+abbrev way_ok : World → List (Tid × TransactionValue) → ℕ → ℕ → Bool
+way_ok world txs n m = list_all (λ (parcel : Parcel). list_all (tells_truly world n parcel.message) txs) (sent_between world m n)
+    && not (list_any (λ (parcel : Parcel). is_reply parcel.message) (world.channels.waits m n))
+  where
+    is_reply : Message → Bool
+    is_reply (messages.Answered tid member number reply) = true
+    is_reply message = false
+
+abbrev ways_ok : World → List (Tid × TransactionValue) → Bool
+ways_ok world txs = list_all (λ (n : ℕ). not (world.channels.up n) || list_all (way_ok world txs n) (up_to world.size)) (up_to world.size)
+
 abbrev apart_ok : BookValue → World → Bool
-apart_ok first world = list_all (tx_ok world) (book_after first world.journal).transactions
+apart_ok first world = list_all (tx_ok world) (book_after first world.journal).transactions && ways_ok world (book_after first world.journal).transactions
 
 abbrev after_stages : Opening → ℕ → ℕ → World
 after_stages o clients n = fold make (start o) (take n (rounds_of o.size clients 16))
