@@ -75,6 +75,7 @@ pub mod AwaitedRules
 pub mod AwaitedTold
 pub mod AwaitedRequests
 pub mod AwaitedTurns
+pub mod AwaitedEngaged
 pub mod AwaitedIssued
 pub mod AwaitedSettles
 pub mod AwaitedComes

@@ -1,6 +1,6 @@
 -- A request that a node issued to another one waits at its own node until its reply comes: files vote no more before that, and a client does nothing else, so that a
 -- loan of its own stands, or the node is the home. So its node is engaged as long as it waits.
-use Rattle.std.specs.Prelude.{◌≡◌, ◌⊎◌, ℕ, ◌==◌, ◌&&◌, Bool, true, false, List, [], ◌∷◌, Some, None, is_some, ⊤}
+use Rattle.std.specs.Prelude.{◌≡◌, ◌⊎◌, ℕ, ◌==◌, ◌&&◌, ◌||◌, Bool, true, false, List, [], ◌∷◌, Some, None, is_some, ⊤}
 use Rattle.std.specs.BTreeMap.{is_at}
 use Rattle.std.specs.List.{find, list_any}
 use Rattle.std.specs.Map.{lookup}
@@ -18,6 +18,7 @@ use Rattle.qs_ops.specs.declared.operation.Op.{Op}
 use Rattle.qs_packet.specs.declared.message.Message.TheVariants as messages
 use Rattle.qs_step.specs.Answering.{kept_outcome}
 use Rattle.qs_step.specs.Requests.{issue_as}
+use Rattle.qs_step.specs.Settling.{is_lent}
 use Rattle.qs_step.specs.State.{NodeValue, Work, client_cmp, here, part_of}
 use Rattle.qs_step.specs.Step.{after_step, is_owner}
 use Rattle.qs_step.specs.declared.event.Event.{Event}
@@ -25,11 +26,11 @@ use Rattle.qs_step.specs.declared.event.Event.TheVariants as events
 use Rattle.qs_step.specs.declared.state.Issued.{Issued}
 use Rattle.qs_step.specs.declared.state.OpenCommand.{OpenCommand}
 use Rattle.qs_tm.specs.Manager as tm
-use Rattle.qs_tm.specs.Participant.{is_by_files}
+use Rattle.qs_tm.specs.Participant.{is_by_files, needs_pass}
 use Rattle.qs_tm.specs.declared.manager.Manager.{Manager}
 use Rattle.qs_tm.specs.declared.participant.Outstanding.{Outstanding}
 use Rattle.qs_tm.specs.declared.participant.Participant.{Participant}
-use Rattle.qs_refine.specs.Sound.{is_engaged}
+use Rattle.qs_refine.specs.Sound.{is_engaged, is_sound}
 use Rattle.qs_lawful.specs.GivenStep.{first_work}
 
 abbrev pub Among : {A : Type 0} → A → List A → Type 0
@@ -110,6 +111,10 @@ HoldsIt tid request part work = (is_by_files request ≡ true) ⊎ ((part.engage
 abbrev pub IssuesWait : Type 0
 IssuesWait = (tid : Tid) (request : Outstanding) (op : Op) (work : Work) (part : Participant) → part_of tid work ≡ Some part → part.outcome ≡ None → is_engaged part ≡ true → same_node request.member.node (here work) ≡ false → HoldsIt tid request part work
     → IsWaiting tid request.member request.number (issue_as tid request op work).node
+
+-- and it is engaged as it issues: where its own pass is due, and while a loan stands
+abbrev pub BusyEngaged : Type 0
+BusyEngaged = (tid : Tid) (node : NodeValue) (part : Participant) → is_sound node ≡ true → tm.part_of tid node.manager ≡ Some part → part.outcome ≡ None → (needs_pass part || is_lent tid node) ≡ true → is_engaged part ≡ true
 
 -- so its node is engaged
 abbrev pub WaitsEngaged : Type 0

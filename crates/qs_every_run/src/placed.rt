@@ -6,7 +6,7 @@ ghost use Rattle.qs_every_run.specs.PlacesComes.{MessageComes, NoticeComes, Requ
 ghost use Rattle.qs_every_run.specs.PlacesWhole.{ServeAllGoes, StepPlaces};
 ghost use Rattle.qs_every_run.specs.PlacesJoined.{WholeStepPlaces};
 ghost use Rattle.qs_every_run.specs.PlacesTurns.{FindsSettle, OthersBeside, PlacedSettles, TurnsGo, TurnsSettle, TurnsShown};
-ghost use Rattle.qs_every_run.specs.Awaited.{IssuesWait, StepsWaitOn, WaitsEngaged};
+ghost use Rattle.qs_every_run.specs.Awaited.{BusyEngaged, IssuesWait, StepsWaitOn, WaitsEngaged};
 ghost use Rattle.qs_every_run.specs.PlacesGo.{IssueGoes, SettleGoes, CommandGoes, WaitGoes};
 ghost use Rattle.qs_every_run.specs.PlacesEnds.{StepBegins, StepEnds};
 ghost use Rattle.qs_every_run.specs.PlacedLaws.{ReadyFree, FreeAgrees, QuietUnanimous, CommittedFree, CommittedWays, CommittedKeeps, CommittedUnanimous};
@@ -98,9 +98,11 @@ pub fn at_turns()
 {}
 
 /// A request to another node that waits for its reply waits on through a whole step, until that reply comes, the outcome comes, or its node
-/// decides: its client commands nothing else meanwhile, or files vote no more, so that its node is engaged. So it waits as it is issued.
+/// decides: its client commands nothing else meanwhile, or files vote no more, so that its node is engaged. So it waits as it is issued, where
+/// its node is engaged, as it is where its own pass is due and while a loan stands.
 pub fn requests_wait()
     ensures on { StepsWaitOn }
     ensures issues { IssuesWait }
+    ensures busy { BusyEngaged }
     ensures engaged { WaitsEngaged }
 {}
