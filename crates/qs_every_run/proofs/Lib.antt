@@ -82,6 +82,17 @@ pub mod PlacedIssued
 pub mod PlacedTx
 pub mod PlacesBegin
 pub mod ApartHere
+pub mod AwaitedKept
+pub mod AwaitedRules
+pub mod AwaitedTold
+pub mod AwaitedRequests
+pub mod AwaitedTurns
+pub mod AwaitedEngaged
+pub mod AwaitedIssued
+pub mod AwaitedSettles
+pub mod AwaitedComes
+pub mod AwaitedCommands
+pub mod AwaitedSteps
 pub mod PlacesStop
 pub mod RestartPlaced
 pub mod RisenFields
@@ -123,6 +134,7 @@ pub mod MarkedBefore
 pub mod CutCould
 pub mod BatchVotes
 pub mod TriedOwingRuns
+pub mod TriedApartRuns
 pub mod ServesGo
 pub mod StepsGo
 pub mod StepsWhole

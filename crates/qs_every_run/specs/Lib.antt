@@ -21,6 +21,7 @@ pub mod Deeds
 pub mod Firsts
 pub mod Answering
 pub mod PlacesApart
+pub mod Awaited
 pub mod JoinedOwed
 pub mod JoinedPlaces
 pub mod StepLaws
@@ -33,6 +34,7 @@ pub mod Born
 pub mod CutCommits
 pub mod CutVotes
 pub mod TriedOwing
+pub mod TriedApart
 pub mod PlacesJoined
 pub mod PlacesTurns
 pub mod PlacesSteps

@@ -9,6 +9,7 @@ ghost use Rattle.qs_every_run.specs.PlacesSteps.{FreshFind, StepsKeepPlaces, Who
 ghost use Rattle.qs_every_run.specs.JoinedOwed.{EachCommitsSettled};
 ghost use Rattle.qs_every_run.specs.JoinedPlaces.{PlacesAt};
 ghost use Rattle.qs_every_run.specs.PlacesTurns.{FindsSettle, OthersBeside, PlacedSettles, TurnsBegan, TurnsFollow, TurnsGo, TurnsSettle, TurnsShown};
+ghost use Rattle.qs_every_run.specs.Awaited.{BusyEngaged, IssuesWait, StepsWaitOn, WaitsEngaged};
 ghost use Rattle.qs_every_run.specs.PlacesGo.{IssueGoes, SettleGoes, CommandGoes, WaitGoes};
 ghost use Rattle.qs_every_run.specs.PlacesEnds.{StepBegins, StepEnds};
 ghost use Rattle.qs_every_run.specs.PlacedLaws.{ReadyFree, FreeAgrees, QuietUnanimous, CommittedFree, CommittedWays, CommittedKeeps, CommittedUnanimous};
@@ -113,4 +114,14 @@ pub fn each_step()
 /// What a home commits in a step is unanimous: what came found what it needed, and so did all that was issued and voted.
 pub fn home_commits_found()
     ensures { EachCommitsSettled PlacesAt }
+{}
+
+/// A request to another node that waits for its reply waits on through a whole step, until that reply comes, the outcome comes, or its node
+/// decides: its client commands nothing else meanwhile, or files vote no more, so that its node is engaged. So it waits as it is issued, where
+/// its node is engaged, as it is where its own pass is due and while a loan stands.
+pub fn requests_wait()
+    ensures on { StepsWaitOn }
+    ensures issues { IssuesWait }
+    ensures busy { BusyEngaged }
+    ensures engaged { WaitsEngaged }
 {}
