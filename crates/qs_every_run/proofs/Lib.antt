@@ -152,3 +152,4 @@ pub mod OwnShares
 pub mod OwnSteps
 pub mod OwnMoves
 pub mod NextOpening
+pub mod LogsStandFor

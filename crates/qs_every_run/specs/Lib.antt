@@ -36,3 +36,4 @@ pub mod CutRecords
 pub mod Stores
 pub mod OwnChanges
 pub mod CoherentAgain
+pub mod StandsFor

@@ -1,6 +1,7 @@
 //! The logs that a run leaves stand together, so that another run may begin over them.
 ghost use Rattle.qs_every_run.specs.JoinedPlaces.{PlacesAt};
 ghost use Rattle.qs_every_run.specs.OwnChanges.{EachHasOwnChanges};
+ghost use Rattle.qs_every_run.specs.StandsFor.{EachLogStandsFor};
 ghost use Rattle.qs_every_run.specs.CoherentAgain.{EachCommitsHome, EachRunCoherent, HomeLogged, StepCommitsHome};
 
 /// What a home has committed, and the log of another node has in doubt, the log of the home has committed.
@@ -19,4 +20,11 @@ pub fn votes_have_own_changes()
 /// kept: another run may begin over them, with later incarnations of its nodes.
 pub fn runs_leave_openings()
     ensures { EachRunCoherent PlacesAt }
+{}
+
+/// The log of a node stands for what the machine has of it at each moment of a run: where the node stops in place of a step, or within one, with
+/// its batch lost or kept, and restarts, both entries are lawful, and what the restart takes up, of contents, changes, votes and clients, is what
+/// the machine has.
+pub fn logs_stand_for_states()
+    ensures { EachLogStandsFor PlacesAt }
 {}
