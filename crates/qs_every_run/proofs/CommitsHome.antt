@@ -1,5 +1,5 @@
 -- A step commits of what began elsewhere only what the log of its home has committed: it had the vote in doubt before, and the home's Commit names it for as long.
-use Rattle.std.proofs.Common.{◌≡◌, ◌≢◌, ◌⊎◌, inl, inr, ℕ, ◌<◌, ◌==◌, ◌||◌, ◌&&◌, ◌++◌, not, nat_lt, Bool, true, false, List, [], ◌∷◌, fold, Option, Some, None, is_some, refl, sym, ap, subst, ◌∙◌, arith, if◌then◌else◌}
+use Rattle.std.proofs.Common.{◌≡◌, ◌≢◌, ◌⊎◌, inl, inr, ℕ, ◌<◌, ◌==◌, ◌||◌, ◌&&◌, ◌++◌, not, nat_lt, Bool, true, false, List, [], ◌∷◌, Option, Some, None, is_some, refl, sym, ap, subst, ◌∙◌, arith, if◌then◌else◌}
 use Rattle.std.proofs.lemmas.Bool.Decides.{nat_tests}
 use Rattle.std.proofs.lemmas.List.Folds.{list_any-append}
 use Rattle.std.proofs.lemmas.List.Sums.{fold-append}
@@ -13,8 +13,7 @@ use Rattle.qs_base.specs.declared.identifiers.ServerNo.{ServerNo}
 use Rattle.qs_base.specs.declared.identifiers.Tid.{Tid}
 use Rattle.qs_engage.specs.Nodes.{same_node}
 use Rattle.qs_journal.specs.declared.entry.Act.{Act}
-use Rattle.qs_machine.specs.Book.{BookValue, find_transaction, inc_at}
-use Rattle.qs_machine.specs.Lawful.{IsLawful}
+use Rattle.qs_machine.specs.Book.{find_transaction, inc_at}
 use Rattle.qs_machine.specs.Nodes as machine
 use Rattle.qs_machine.specs.Restart.{is_among, is_committed}
 use Rattle.qs_machine.specs.Transaction.{TransactionValue, is_commit, is_open, is_unanimous}
@@ -38,7 +37,7 @@ use Rattle.qs_agree.specs.World.{Committed}
 use Rattle.qs_refine.specs.Begun.{may_be_known}
 use Rattle.qs_refine.specs.MoveLaws.{AllClose}
 use Rattle.qs_refine.specs.SaidLaws.{is_prepare_of}
-use Rattle.qs_refine.specs.ShownWorlds.{IsShown, IsShownWorld}
+use Rattle.qs_refine.specs.ShownWorlds.{IsShown}
 use Rattle.qs_refine.specs.Sound.{has_doubt}
 use Rattle.qs_refine.specs.Steadies.{stage_of}
 use Rattle.qs_refine.specs.Tidy.{is_tidy_record}
@@ -58,9 +57,9 @@ use Rattle.qs_lawful.proofs.LastsWell.{LastsWell}
 use Rattle.qs_lawful.proofs.NumberedLogs.{opened_numbered, opening_named}
 use Rattle.qs_lawful.proofs.OpenedCommits.{commit_among}
 use Rattle.qs_lawful.proofs.Truths.{of_some}
-use Rattle.qs_every_run.specs.Agrees.{MakesStep, nodes_in}
+use Rattle.qs_every_run.specs.Agrees.{MakesStep}
 use Rattle.qs_every_run.specs.CoherentAgain.{HomeLogged, StepCommitsHome}
-use Rattle.qs_every_run.specs.CutRecords.{IsSource, StepsMakeRecords}
+use Rattle.qs_every_run.specs.CutRecords.{IsSource}
 use Rattle.qs_every_run.specs.CutVotes.{EntersVote, IsVoteDue, is_due_vote}
 use Rattle.qs_every_run.specs.Joined.{Joined, book_in}
 use Rattle.qs_every_run.specs.JoinedOwed.{Owed}
@@ -68,7 +67,7 @@ use Rattle.qs_every_run.specs.JoinedPlaces.{PlacesAt}
 use Rattle.qs_every_run.proofs.AgreesEach as agrees
 use Rattle.qs_every_run.proofs.CutCommits.{keeps_commits}
 use Rattle.qs_every_run.proofs.DueVotes.{steps_vote_due}
-use Rattle.qs_every_run.proofs.JoinedSteps.{step_entries, step_lawful}
+use Rattle.qs_every_run.proofs.JoinedSteps.{step_lawful}
 use Rattle.qs_every_run.proofs.RecordSteps.{steps_make_records}
 use Rattle.qs_every_run.proofs.RisesRunning.{known_committed}
 

@@ -153,3 +153,4 @@ pub mod OwnSteps
 pub mod OwnMoves
 pub mod NextOpening
 pub mod LogsStandFor
+pub mod NextRuns

@@ -1,23 +1,20 @@
 -- After a crash and a restart all stands together again, so what the node took up from its log is what the machine has.
-use Rattle.std.proofs.Common.{◌≡◌, ℕ, ◌≤◌, ◌<◌, ◌==◌, ◌||◌, ◌&&◌, not, nat_le, nat_lt, Bool, true, false, Some, refl, sym, ap, subst, ◌∙◌, arith, if◌then◌else◌}
+use Rattle.std.proofs.Common.{◌≡◌, ℕ, ◌<◌, ◌==◌, ◌||◌, ◌&&◌, not, nat_le, nat_lt, Bool, true, false, Some, refl, sym, subst, ◌∙◌, arith, if◌then◌else◌}
 use Rattle.std.proofs.lemmas.Bool.Decides.{nat_tests}
 use Rattle.std.specs.Prelude.{slice_get}
-use Rattle.qs_base.specs.declared.identifiers.NodeNo.{NodeNo}
 use Rattle.qs_machine.specs.Book.{BookValue}
 use Rattle.qs_machine.specs.Nodes as machine
 use Rattle.qs_restart.specs.Recovery.{recovery}
 use Rattle.qs_step.specs.Opening.{recovered_of}
-use Rattle.qs_world.specs.Moves.{Move, Rise, is_in_order, may_move, moved, risen_host, stamp_limit}
-use Rattle.qs_world.specs.World.{Host, Opening, World, inc_of}
+use Rattle.qs_world.specs.Moves.{Rise, is_in_order, may_move, moved, risen_host, stamp_limit}
+use Rattle.qs_world.specs.World.{Opening, World}
 use Rattle.qs_refine.proofs.SoundParts.{and_both}
-use Rattle.qs_lawful.specs.Holds.{Holds, is_next}
-use Rattle.qs_lawful.specs.Logged.{HoldsHost, HoldsLogged}
-use Rattle.qs_lawful.specs.Said.{HoldsSaid}
+use Rattle.qs_lawful.specs.Holds.{Holds}
+use Rattle.qs_lawful.specs.Logged.{HoldsLogged}
 use Rattle.qs_lawful.specs.Tables.{HoldsServers, is_seen}
 use Rattle.qs_lawful.specs.Worlds.{HoldsNodeAt, HoldsUp}
 use Rattle.qs_lawful.proofs.Truths.{of_some}
 use Rattle.qs_every_run.specs.Joined.{Joined, book_in}
-use Rattle.qs_every_run.specs.JoinedOwed.{Owed}
 use Rattle.qs_every_run.specs.JoinedPlaces.{PlacesAt}
 use Rattle.qs_every_run.specs.StandsFor.{EachLogStandsFor, IsRestored}
 use Rattle.qs_every_run.proofs.JoinedMoves.{each_move_joined}

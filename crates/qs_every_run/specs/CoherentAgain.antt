@@ -1,5 +1,5 @@
 -- The logs that a run leaves stand together: another run may begin over them, with later incarnations of its nodes.
-use Rattle.std.specs.Prelude.{◌≡◌, ◌≢◌, ℕ, ◌<◌, ◌==◌, ◌++◌, nat_lt, true, false, List}
+use Rattle.std.specs.Prelude.{◌≡◌, ◌≢◌, ℕ, ◌+◌, ◌<◌, ◌==◌, ◌++◌, nat_lt, true, false, List}
 use Rattle.std.specs.List.{list_any}
 use Rattle.qs_base.specs.Order.{same_tid}
 use Rattle.qs_base.specs.declared.identifiers.Tid.{Tid}
@@ -7,6 +7,7 @@ use Rattle.qs_restart.specs.Recovery.{names_transaction, recovery}
 use Rattle.qs_step.specs.Answering.{was_committed}
 use Rattle.qs_step.specs.Step.{effects_of}
 use Rattle.qs_step.specs.declared.event.Event.{Event}
+use Rattle.qs_step.specs.declared.setting.Setting.{Setting}
 use Rattle.qs_world.specs.Moves.{Move, Source, client_count}
 use Rattle.qs_world.specs.Openings.{IsOpening, all_labels, are_apart, each_below, is_commit_of, is_script, is_setting}
 use Rattle.qs_world.specs.Runs.{Run}
@@ -55,3 +56,13 @@ EachCommitsHome P = Owed P → (o : Opening) (moves : List Move) (world : World)
 
 abbrev pub EachRunCoherent : (Opening → World → Type 0) → Type 0
 EachRunCoherent P = Owed P → (o : Opening) (moves : List Move) (world : World) (next : Opening) → IsOpening o → Run (start o) moves world → IsNextOpening world next → IsOpening next
+
+-- so after each run another may follow: the same nodes over their logs, each in the incarnation after its last, with the same clients
+abbrev pub next_setting : Setting → ℕ → Setting
+next_setting setting inc = record setting { inc = inc + 1 }
+
+abbrev pub next_of : Opening → World → Opening
+next_of o world = record { alloc = o.alloc; size = world.size; settings = λ n. next_setting (o.settings n) (world.channels.inc n); logs = λ n. (world.hosts n).log; clients = o.clients }
+
+abbrev pub EachRunMayFollow : (Opening → World → Type 0) → Type 0
+EachRunMayFollow P = Owed P → (o : Opening) (moves : List Move) (world : World) → IsOpening o → Run (start o) moves world → IsOpening (next_of o world)

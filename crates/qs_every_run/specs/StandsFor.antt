@@ -1,5 +1,5 @@
 -- A log stands for what the machine has of its node, at each moment: a crash in place of a step or within one, with its batch lost or kept, and the restart behind it are lawful, and what the restart takes up is what the machine has.
-use Rattle.std.specs.Prelude.{◌≡◌, ℕ, ⊤, true, Some, slice_get}
+use Rattle.std.specs.Prelude.{◌≡◌, ℕ, true, Some, slice_get}
 use Rattle.qs_machine.specs.Lawful.{IsLawful}
 use Rattle.qs_machine.specs.Nodes as machine
 use Rattle.qs_restart.specs.Recovery.{recovery}

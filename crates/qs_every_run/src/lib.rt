@@ -8,7 +8,9 @@ mod joined_runs;
 pub mod placed;
 mod tried_owing;
 
-pub use coherent_again::{homes_log_commits, logs_stand_for_states, runs_leave_openings, votes_have_own_changes};
+pub use coherent_again::{
+    homes_log_commits, logs_stand_for_states, runs_leave_openings, votes_have_own_changes,
+};
 pub use joined_agrees::{stages_are_sound, steps_agree};
 pub use joined_runs::runs_are_lawful;
 pub use tried_owing::owed_stands_open;
