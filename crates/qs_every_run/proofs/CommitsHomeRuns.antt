@@ -30,7 +30,7 @@ use Rattle.qs_every_run.specs.JoinedOwed.{Owed}
 use Rattle.qs_every_run.specs.JoinedPlaces.{PlacesAt}
 use Rattle.qs_every_run.proofs.CommitsHome.{one_of, steps_commit_home}
 use Rattle.qs_every_run.proofs.JoinedMoves.{each_move_joined}
-use Rattle.qs_every_run.proofs.JoinedOver.{each_opens_joined}
+use Rattle.qs_every_run.proofs.JoinedOver.{each_opens_joined, each_run_joined}
 use Rattle.qs_every_run.proofs.PlacesGoOn.{places_go}
 
 -- ---- a Commit in a list of records
@@ -211,8 +211,11 @@ unnamed_old tid off more all has = one_of is_named_record (is_commit_of tid) ⊥
     of (records.End u) on is = cc is
 
 pub each_commits_home : EachCommitsHome PlacesAt
-each_commits_home owed o moves world opens run size n low tid home_in has = by (tid.home.0 == n) (names_transaction tid) refl refl
+each_commits_home owed o moves world opens run n low tid home_in has = by (tid.home.0 == n) (names_transaction tid) refl refl
   where
+    size : world.size ≡ o.size
+    size = (each_run_joined PlacesAt places_go owed o moves world opens run).size
+
     opened_low : (k : ℕ) → k < world.size → k < o.size
     opened_low k is = subst (λ (s : ℕ). k < s) size is
 

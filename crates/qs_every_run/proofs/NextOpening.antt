@@ -247,7 +247,7 @@ module _ (o : Opening) (world : World) (next : Opening) (j : Joined PlacesAt o w
   }
 
 pub each_run_coherent : EachRunCoherent PlacesAt
-each_run_coherent owed o moves world next opens run is = next_opens o world next j is (each_has_own_changes o moves world opens run) (λ n low tid home_in has. each_commits_home owed o moves world opens run j.size n low tid home_in has)
+each_run_coherent owed o moves world next opens run is = next_opens o world next j is (each_has_own_changes o moves world opens run) (λ n low tid home_in has. each_commits_home owed o moves world opens run n low tid home_in has)
   where
     j : Joined PlacesAt o world
     j = each_run_joined PlacesAt places_go owed o moves world opens run

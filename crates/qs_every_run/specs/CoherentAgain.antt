@@ -49,7 +49,7 @@ StepCommitsHome P = Owed P → (o : Opening) (world : World) (n stamp free : ℕ
 
 -- so it is in every world of a run, whatever names it
 abbrev pub EachCommitsHome : (Opening → World → Type 0) → Type 0
-EachCommitsHome P = Owed P → (o : Opening) (moves : List Move) (world : World) → IsOpening o → Run (start o) moves world → world.size ≡ o.size → (n : ℕ) → n < world.size → (tid : Tid) → nat_lt tid.home.0 world.size ≡ true
+EachCommitsHome P = Owed P → (o : Opening) (moves : List Move) (world : World) → IsOpening o → Run (start o) moves world → (n : ℕ) → n < world.size → (tid : Tid) → nat_lt tid.home.0 world.size ≡ true
     → list_any (is_commit_of tid) (world.hosts n).log ≡ true → list_any (is_commit_of tid) (world.hosts tid.home.0).log ≡ true
 
 -- ---- the law
