@@ -1,5 +1,5 @@
 -- A step commits of what began elsewhere only what the log of its home has committed: it had the vote in doubt before, and the home's Commit names it for as long.
-use Rattle.std.proofs.Common.{◌≡◌, ◌≢◌, ◌⊎◌, inl, inr, ℕ, ◌<◌, ◌==◌, ◌||◌, ◌&&◌, ◌++◌, not, nat_lt, Bool, true, false, List, [], ◌∷◌, fold, Option, Some, None, is_some, refl, sym, ap, subst, ◌∙◌, arith, if◌then◌else◌}
+use Rattle.std.proofs.Common.{◌≡◌, ◌≢◌, ◌⊎◌, inl, inr, ℕ, ◌<◌, ◌==◌, ◌||◌, ◌&&◌, ◌++◌, not, nat_lt, Bool, true, false, List, [], ◌∷◌, Option, Some, None, is_some, refl, sym, ap, subst, ◌∙◌, arith, if◌then◌else◌}
 use Rattle.std.proofs.lemmas.Bool.Decides.{nat_tests}
 use Rattle.std.proofs.lemmas.List.Folds.{list_any-append}
 use Rattle.std.proofs.lemmas.List.Sums.{fold-append}
@@ -13,8 +13,7 @@ use Rattle.qs_base.specs.declared.identifiers.ServerNo.{ServerNo}
 use Rattle.qs_base.specs.declared.identifiers.Tid.{Tid}
 use Rattle.qs_engage.specs.Nodes.{same_node}
 use Rattle.qs_journal.specs.declared.entry.Act.{Act}
-use Rattle.qs_machine.specs.Book.{BookValue, find_transaction, inc_at}
-use Rattle.qs_machine.specs.Lawful.{IsLawful}
+use Rattle.qs_machine.specs.Book.{find_transaction, inc_at}
 use Rattle.qs_machine.specs.Nodes as machine
 use Rattle.qs_machine.specs.Restart.{is_among, is_committed}
 use Rattle.qs_machine.specs.Transaction.{TransactionValue, is_commit, is_open, is_unanimous}
@@ -38,7 +37,7 @@ use Rattle.qs_agree.specs.World.{Committed}
 use Rattle.qs_refine.specs.Begun.{may_be_known}
 use Rattle.qs_refine.specs.MoveLaws.{AllClose}
 use Rattle.qs_refine.specs.SaidLaws.{is_prepare_of}
-use Rattle.qs_refine.specs.ShownWorlds.{IsShown, IsShownWorld}
+use Rattle.qs_refine.specs.ShownWorlds.{IsShown}
 use Rattle.qs_refine.specs.Sound.{has_doubt}
 use Rattle.qs_refine.specs.Steadies.{stage_of}
 use Rattle.qs_refine.specs.Tidy.{is_tidy_record}
@@ -58,17 +57,17 @@ use Rattle.qs_lawful.proofs.LastsWell.{LastsWell}
 use Rattle.qs_lawful.proofs.NumberedLogs.{opened_numbered, opening_named}
 use Rattle.qs_lawful.proofs.OpenedCommits.{commit_among}
 use Rattle.qs_lawful.proofs.Truths.{of_some}
-use Rattle.qs_every_run.specs.Agrees.{MakesStep, nodes_in}
+use Rattle.qs_every_run.specs.Agrees.{MakesStep}
 use Rattle.qs_every_run.specs.CoherentAgain.{HomeLogged, StepCommitsHome}
-use Rattle.qs_every_run.specs.CutRecords.{IsSource, StepsMakeRecords}
+use Rattle.qs_every_run.specs.CutRecords.{IsSource}
 use Rattle.qs_every_run.specs.CutVotes.{EntersVote, IsVoteDue, is_due_vote}
 use Rattle.qs_every_run.specs.Joined.{Joined, book_in}
-use Rattle.qs_every_run.specs.JoinedOwed.{Owed}
 use Rattle.qs_every_run.specs.JoinedPlaces.{PlacesAt}
 use Rattle.qs_every_run.proofs.AgreesEach as agrees
 use Rattle.qs_every_run.proofs.CutCommits.{keeps_commits}
+use Rattle.qs_every_run.proofs.WholeSteps.{whole_steps}
 use Rattle.qs_every_run.proofs.DueVotes.{steps_vote_due}
-use Rattle.qs_every_run.proofs.JoinedSteps.{step_entries, step_lawful}
+use Rattle.qs_every_run.proofs.JoinedSteps.{step_lawful}
 use Rattle.qs_every_run.proofs.RecordSteps.{steps_make_records}
 use Rattle.qs_every_run.proofs.RisesRunning.{known_committed}
 
@@ -155,7 +154,7 @@ module _ (node : NodeValue) (event : Event) (done : List Act) (tid : Tid) where
 
 -- ---- a step
 
-module _ (owed : Owed PlacesAt) (o : Opening) (world : World) (n stamp free : ℕ) (source : Source) (event : Event) (j : Joined PlacesAt o world) (makes : MakesStep world n stamp source event)
+module _ (o : Opening) (world : World) (n stamp free : ℕ) (source : Source) (event : Event) (j : Joined PlacesAt o world) (makes : MakesStep world n stamp source event)
     (tid : Tid) (named : names_transaction tid ≡ true) (home_in : nat_lt tid.home.0 world.size ≡ true) (far : (tid.home.0 == n) ≡ false) where
   abbrev host : Host
   host = world.hosts n
@@ -200,7 +199,7 @@ module _ (owed : Owed PlacesAt) (o : Opening) (world : World) (n stamp free : �
     committed : is_commit tx.cell ≡ true
 
   committed_before : list_any (is_commit_of tid) out.records ≡ true → CommittedBefore
-  committed_before some = of (every_among (IsCommitLogged n (book_in o world) state) (recovery (log_after host out)).committed tid (keeps_commits owed o world n stamp free source event j makes state) (among some))
+  committed_before some = of (every_among (IsCommitLogged n (book_in o world) state) (recovery (log_after host out)).committed tid (keeps_commits o world n stamp free source event j makes state) (among some))
     where
       state : machine.NodeValue
       state = record (j.held.nodes n its.low).state { committed = [] }
@@ -251,7 +250,7 @@ module _ (owed : Owed PlacesAt) (o : Opening) (world : World) (n stamp free : �
       its_vote = entered host.node event out.entries tid out.records (steps_make_records host.node event free).sources some
 
       due : IsVoteDue (book_in o world) tid (record { node = host.node.setting.node; server = its_vote.server }) (inc_at (book_in o world) (record { 0 = n })) its_vote.covers
-      due = steps_vote_due tid n stamp host.node event free (book_in o world) well.inv (step_lawful PlacesAt owed o world j n stamp free source event makes) (record { node = host.node.setting.node; server = its_vote.server }) votes.Recoverable its_vote.covers its_vote.enters
+      due = steps_vote_due tid n stamp host.node event free (book_in o world) well.inv (step_lawful PlacesAt whole_steps o world j n stamp free source event makes) (record { node = host.node.setting.node; server = its_vote.server }) votes.Recoverable its_vote.covers its_vote.enters
 
       late : (tx other : TransactionValue) → find_transaction (book_in o world) tid ≡ Some tx → find_transaction (book_in o world) tid ≡ Some other → is_commit other.cell ≡ true
           → is_due_vote (record { node = host.node.setting.node; server = its_vote.server }) (inc_at (book_in o world) (record { 0 = n })) its_vote.covers tx ≡ true → ⊥
@@ -275,4 +274,4 @@ module _ (owed : Owed PlacesAt) (o : Opening) (world : World) (n stamp free : �
       of (inr prepared) = absurd (none_prepared c prepared)
 
 pub steps_commit_home : StepCommitsHome PlacesAt
-steps_commit_home owed o world n stamp free source event j makes tid named home_in far some = step_commits_home owed o world n stamp free source event j makes tid named home_in far some
+steps_commit_home o world n stamp free source event j makes tid named home_in far some = step_commits_home o world n stamp free source event j makes tid named home_in far some

@@ -197,3 +197,5 @@ pub mod OwnShares
 pub mod OwnSteps
 pub mod OwnMoves
 pub mod NextOpening
+pub mod LogsStandFor
+pub mod NextRuns

@@ -1,5 +1,5 @@
 -- The logs that a run leaves are what a next run may begin with.
-use Rattle.std.proofs.Common.{◌≡◌, ◌≢◌, ◌⊎◌, inl, inr, ℕ, ◌<◌, ◌==◌, ◌||◌, ◌&&◌, ◌++◌, not, nat_le, nat_lt, zero, suc, Bool, true, false, List, [], ◌∷◌, flat_map, refl, sym, ap, subst, ◌∙◌, arith, if◌then◌else◌}
+use Rattle.std.proofs.Common.{◌≡◌, ◌⊎◌, inl, inr, ℕ, ◌<◌, ◌==◌, ◌||◌, ◌&&◌, ◌++◌, not, nat_le, nat_lt, zero, suc, Bool, true, false, List, [], ◌∷◌, flat_map, refl, sym, ap, subst, ◌∙◌, arith, if◌then◌else◌}
 use Rattle.std.proofs.lemmas.Bool.Decides.{nat_tests}
 use Rattle.std.proofs.lemmas.List.Folds.{list_any-append}
 use Rattle.std.specs.List.{filter, list_all, list_any}
@@ -9,21 +9,17 @@ use Rattle.qs_base.specs.declared.identifiers.NodeNo.{NodeNo}
 use Rattle.qs_base.specs.declared.identifiers.Tid.{Tid}
 use Rattle.qs_ipc.specs.Queue.{is_for}
 use Rattle.qs_machine.specs.Nodes.{is_recoverable}
-use Rattle.qs_machine.specs.Restart.{is_among}
 use Rattle.qs_record.specs.declared.record.Record.{Record}
 use Rattle.qs_record.specs.declared.record.Record.TheVariants as records
 use Rattle.qs_restart.specs.Recovery.{Prepared, Recovery, Untold, is_untold_of, names_transaction, recovery}
-use Rattle.qs_world.specs.Moves.{Move}
-use Rattle.qs_world.specs.Openings.{IsOpening, are_unended, each_below, has_node, is_commit_of, is_committed_at_home, is_doubt, is_earlier, is_list, is_open_vote, is_record, is_still_told, is_untold, is_whole_log, names_it}
+use Rattle.qs_world.specs.Openings.{IsOpening, are_unended, each_below, has_node, is_commit_of, is_committed_at_home, is_doubt, is_earlier, is_open_vote, is_record, is_still_told, is_untold, is_whole_log, names_it}
 use Rattle.qs_world.specs.World.{Host, Opening, World}
 use Rattle.qs_refine.specs.Links.{names_node, node_no}
 use Rattle.qs_refine.specs.Listed.{is_past_record, is_past_tid}
 use Rattle.qs_refine.specs.SaidLaws.{are_left_open, lists_others}
 use Rattle.qs_refine.specs.SaidLaws as said_laws
-use Rattle.qs_refine.specs.Sights.{list_of}
 use Rattle.qs_refine.specs.Sound.{has_doubt}
 use Rattle.qs_refine.specs.Steadies.{is_steady_record, stage_of}
-use Rattle.qs_refine.specs.Tidy.{Stage}
 use Rattle.qs_refine.proofs.NodesAgree.{logs_stand}
 use Rattle.qs_refine.proofs.SaidTidy.{all_parted}
 use Rattle.qs_refine.proofs.SoundParts.{and_both}
@@ -77,7 +73,7 @@ turned a b off same = by (subst (λ (k : ℕ). (a == k) ≡ false) same off) (it
     by : (a == a) ≡ false → (a == a) ≡ true → ⊥
     by off on = cc (off, on)
 
-each_so : (n : ℕ) (test : ℕ → Bool) → ((k : ℕ) → k < n → test k ≡ true) → each_below n test ≡ true
+pub each_so : (n : ℕ) (test : ℕ → Bool) → ((k : ℕ) → k < n → test k ≡ true) → each_below n test ≡ true
 each_so zero test all = refl
 each_so (suc n) test all = both (test n) (each_below n test) (all n (last_low n)) (each_so n test (λ k low. all k (lower k n low)))
 
@@ -251,7 +247,7 @@ module _ (o : Opening) (world : World) (next : Opening) (j : Joined PlacesAt o w
   }
 
 pub each_run_coherent : EachRunCoherent PlacesAt
-each_run_coherent owed o moves world next opens run is = next_opens o world next j is (each_has_own_changes o moves world opens run) (λ n low tid home_in has. each_commits_home owed o moves world opens run j.size n low tid home_in has)
+each_run_coherent owed o moves world next opens run is = next_opens o world next j is (each_has_own_changes o moves world opens run) (λ n low tid home_in has. each_commits_home owed o moves world opens run n low tid home_in has)
   where
     j : Joined PlacesAt o world
     j = each_run_joined PlacesAt places_go owed o moves world opens run

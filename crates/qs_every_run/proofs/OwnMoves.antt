@@ -1,20 +1,17 @@
 -- Each Prepare in a log has operations of its own server: as a run begins, and after each move; a restart finds what the log has.
-use Rattle.std.proofs.Common.{◌≡◌, ℕ, ◌<◌, ◌==◌, ◌||◌, ◌&&◌, ◌++◌, not, Bool, true, false, List, [], ◌∷◌, map, fold, Option, Some, None, refl, sym, ap, subst, ◌∙◌, if◌then◌else◌}
+use Rattle.std.proofs.Common.{◌≡◌, ℕ, ◌<◌, ◌==◌, ◌||◌, ◌++◌, not, Bool, true, false, List, [], ◌∷◌, fold, Option, Some, None, refl, sym, subst, ◌∙◌, if◌then◌else◌}
 use Rattle.std.proofs.lemmas.Bool.{eqb-true}
 use Rattle.std.proofs.lemmas.List.Folds.{list_all-append}
 use Rattle.std.specs.Global.{Global}
 use Rattle.std.specs.List.{filter, list_all}
 use Rattle.qs_base.specs.declared.identifiers.NodeNo.{NodeNo}
-use Rattle.qs_base.specs.declared.identifiers.ServerNo.{ServerNo}
 use Rattle.qs_base.specs.declared.identifiers.Tid.{Tid}
 use Rattle.qs_ipc.specs.Queue.{is_for}
-use Rattle.qs_journal.specs.declared.entry.CrashCause.{CrashCause}
 use Rattle.qs_kept.specs.Keeping.{no_kept}
 use Rattle.qs_kept.specs.declared.kept.Kept.{Kept}
 use Rattle.qs_machine.specs.Nodes.{is_recoverable}
 use Rattle.qs_ops.specs.Server.{after_keeping}
 use Rattle.qs_ops.specs.Servers as servers
-use Rattle.qs_ops.specs.declared.operation.Op.{Op}
 use Rattle.qs_record.specs.declared.record.Record.{Record}
 use Rattle.qs_record.specs.declared.record.Record.TheVariants as records
 use Rattle.qs_restart.specs.Recovery.{Prepared, Recovery, audit_no, files_no, found_record, is_in_doubt, is_of, is_vote_of, mark_committed, nothing_said, prepare_of, recovery, with_list}
@@ -23,7 +20,7 @@ use Rattle.qs_step.specs.Opening.{keep_changes, opened_node, opened_servers, rec
 use Rattle.qs_step.specs.Step.{after_step, effects_of, step_work}
 use Rattle.qs_step.specs.declared.event.Event.{Event}
 use Rattle.qs_step.specs.declared.setting.Setting.{Setting}
-use Rattle.qs_world.specs.Moves.{Cut, Meet, Move, Rise, Source, Step, Stop, cut_log, cut_with, event_of, log_after, moved, risen_host, step_with, stepped_host, stopped_host, waiting_after}
+use Rattle.qs_world.specs.Moves.{Cut, Meet, Move, Rise, Step, Stop, cut_log, cut_with, event_of, log_after, moved, risen_host, step_with, stepped_host, stopped_host, waiting_after}
 use Rattle.qs_world.specs.Openings.{IsOpening, is_earlier, is_record}
 use Rattle.qs_world.specs.Runs.{Run}
 use Rattle.qs_world.specs.World.{Host, Opening, World, start}
@@ -31,9 +28,8 @@ use Rattle.qs_refine.proofs.SoundBegin.{all_implied}
 use Rattle.qs_refine.proofs.SoundParts.{and_both}
 use Rattle.qs_lawful.specs.Logs.{Every}
 use Rattle.qs_lawful.proofs.CoherentOpenings.{each_is, every_of}
-use Rattle.qs_lawful.proofs.FoundMembers.{all_true}
 use Rattle.qs_lawful.proofs.LogRecords.{every_append, every_filter, every_map}
-use Rattle.qs_every_run.specs.OwnChanges.{EachHasOwnChanges, HasOwn, HasOwnChanges, HasOwnStore, HaveOwn, OwnChangesAt, is_own_vote}
+use Rattle.qs_every_run.specs.OwnChanges.{EachHasOwnChanges, HasOwnChanges, HasOwnStore, HaveOwn, OwnChangesAt, is_own_vote}
 use Rattle.qs_every_run.specs.Stores.{store_of}
 use Rattle.qs_every_run.proofs.OwnShares.{all_for, keeping_none, keeping_own}
 use Rattle.qs_every_run.proofs.OwnSteps.{changed_own, step_own}

@@ -24,8 +24,8 @@ use Rattle.qs_step.specs.Step.{happen, step_work}
 use Rattle.qs_step.specs.declared.event.Event.{Event}
 use Rattle.qs_step.specs.declared.event.Event.TheVariants as events
 use Rattle.qs_every_run.specs.OwnChanges.{HasNone, HasOwn, HasOwnStore, HaveOwn, is_own_vote}
-use Rattle.qs_every_run.specs.Stores.{IsKeptStore, IsNoVote, MayAsk, Store, store_of}
-use Rattle.qs_every_run.proofs.OwnShares.{all_for, changes_none, for_same, notice_none, notice_own, serving_none, serving_own, share_own, voting_none, voting_own}
+use Rattle.qs_every_run.specs.Stores.{IsKeptStore, IsNoVote, MayAsk, store_of}
+use Rattle.qs_every_run.proofs.OwnShares.{changes_none, for_same, notice_none, notice_own, serving_none, serving_own, share_own, voting_none, voting_own}
 use Rattle.qs_every_run.proofs.StoreStages.{answers_keep, happens_keep, settle_keeps}
 use Rattle.qs_every_run.proofs.StoreTold.{begin_incarnation_keeps}
 

@@ -1,5 +1,5 @@
 -- The logs that a run leaves stand together: another run may begin over them, with later incarnations of its nodes.
-use Rattle.std.specs.Prelude.{◌≡◌, ◌≢◌, ℕ, ◌<◌, ◌==◌, ◌++◌, nat_lt, true, false, List}
+use Rattle.std.specs.Prelude.{◌≡◌, ◌≢◌, ℕ, ◌+◌, ◌<◌, ◌==◌, ◌++◌, nat_lt, true, false, List}
 use Rattle.std.specs.List.{list_any}
 use Rattle.qs_base.specs.Order.{same_tid}
 use Rattle.qs_base.specs.declared.identifiers.Tid.{Tid}
@@ -7,6 +7,7 @@ use Rattle.qs_restart.specs.Recovery.{names_transaction, recovery}
 use Rattle.qs_step.specs.Answering.{was_committed}
 use Rattle.qs_step.specs.Step.{effects_of}
 use Rattle.qs_step.specs.declared.event.Event.{Event}
+use Rattle.qs_step.specs.declared.setting.Setting.{Setting}
 use Rattle.qs_world.specs.Moves.{Move, Source, client_count}
 use Rattle.qs_world.specs.Openings.{IsOpening, all_labels, are_apart, each_below, is_commit_of, is_script, is_setting}
 use Rattle.qs_world.specs.Runs.{Run}
@@ -42,16 +43,26 @@ HomeLogged = (tid : Tid) (world : World) (n : ℕ) → IsShownWorld world → na
 
 -- a step commits of what began elsewhere what the log of its home has committed
 abbrev pub StepCommitsHome : (Opening → World → Type 0) → Type 0
-StepCommitsHome P = Owed P → (o : Opening) (world : World) (n stamp free : ℕ) (source : Source) (event : Event) → Joined P o world → MakesStep world n stamp source event
+StepCommitsHome P = (o : Opening) (world : World) (n stamp free : ℕ) (source : Source) (event : Event) → Joined P o world → MakesStep world n stamp source event
     → (tid : Tid) → names_transaction tid ≡ true → nat_lt tid.home.0 world.size ≡ true → (tid.home.0 == n) ≡ false
     → list_any (is_commit_of tid) (effects_of (world.hosts n).node event free).records ≡ true → list_any (is_commit_of tid) (world.hosts tid.home.0).log ≡ true
 
 -- so it is in every world of a run, whatever names it
 abbrev pub EachCommitsHome : (Opening → World → Type 0) → Type 0
-EachCommitsHome P = Owed P → (o : Opening) (moves : List Move) (world : World) → IsOpening o → Run (start o) moves world → world.size ≡ o.size → (n : ℕ) → n < world.size → (tid : Tid) → nat_lt tid.home.0 world.size ≡ true
+EachCommitsHome P = Owed P → (o : Opening) (moves : List Move) (world : World) → IsOpening o → Run (start o) moves world → (n : ℕ) → n < world.size → (tid : Tid) → nat_lt tid.home.0 world.size ≡ true
     → list_any (is_commit_of tid) (world.hosts n).log ≡ true → list_any (is_commit_of tid) (world.hosts tid.home.0).log ≡ true
 
 -- ---- the law
 
 abbrev pub EachRunCoherent : (Opening → World → Type 0) → Type 0
 EachRunCoherent P = Owed P → (o : Opening) (moves : List Move) (world : World) (next : Opening) → IsOpening o → Run (start o) moves world → IsNextOpening world next → IsOpening next
+
+-- so after each run another may follow: the same nodes over their logs, each in the incarnation after its last, with the same clients
+abbrev pub next_setting : Setting → ℕ → Setting
+next_setting setting inc = record setting { inc = inc + 1 }
+
+abbrev pub next_of : Opening → World → Opening
+next_of o world = record { alloc = o.alloc; size = world.size; settings = λ n. next_setting (o.settings n) (world.channels.inc n); logs = λ n. (world.hosts n).log; clients = o.clients }
+
+abbrev pub EachRunMayFollow : (Opening → World → Type 0) → Type 0
+EachRunMayFollow P = Owed P → (o : Opening) (moves : List Move) (world : World) → IsOpening o → Run (start o) moves world → IsOpening (next_of o world)

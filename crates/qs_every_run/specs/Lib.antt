@@ -44,3 +44,4 @@ pub mod BegunBare
 pub mod CutRecords
 pub mod OwnChanges
 pub mod CoherentAgain
+pub mod StandsFor

@@ -1,7 +1,8 @@
 //! The logs that a run leaves stand together, so that another run may begin over them.
 ghost use Rattle.qs_every_run.specs.JoinedPlaces.{PlacesAt};
 ghost use Rattle.qs_every_run.specs.OwnChanges.{EachHasOwnChanges};
-ghost use Rattle.qs_every_run.specs.CoherentAgain.{EachCommitsHome, EachRunCoherent, HomeLogged, StepCommitsHome};
+ghost use Rattle.qs_every_run.specs.StandsFor.{EachLogStandsFor};
+ghost use Rattle.qs_every_run.specs.CoherentAgain.{EachCommitsHome, EachRunCoherent, EachRunMayFollow, HomeLogged, StepCommitsHome};
 
 /// What a home has committed, and the log of another node has in doubt, the log of the home has committed.
 pub fn homes_log_commits()
@@ -16,7 +17,15 @@ pub fn votes_have_own_changes()
 {}
 
 /// The logs that a run leaves stand together, whether its nodes run or not, and also right after a step that was cut off, with its batch lost or
-/// kept: another run may begin over them, with later incarnations of its nodes.
+/// kept: another run may begin over them, with later incarnations of its nodes. So after each run another may follow, of the same nodes and clients.
 pub fn runs_leave_openings()
-    ensures { EachRunCoherent PlacesAt }
+    ensures next { EachRunCoherent PlacesAt }
+    ensures follows { EachRunMayFollow PlacesAt }
+{}
+
+/// The log of a node stands for what the machine has of it at each moment of a run: where the node stops in place of a step, or within one, with
+/// its batch lost or kept, and restarts, both entries are lawful, and what the restart takes up, of contents, changes, votes and clients, is what
+/// the machine has.
+pub fn logs_stand_for_states()
+    ensures { EachLogStandsFor PlacesAt }
 {}

@@ -11,7 +11,9 @@ pub mod placed;
 mod tried_apart;
 mod tried_owing;
 
-pub use coherent_again::{homes_log_commits, runs_leave_openings, votes_have_own_changes};
+pub use coherent_again::{
+    homes_log_commits, logs_stand_for_states, runs_leave_openings, votes_have_own_changes,
+};
 pub use comes::{what_begins_is_bare, what_comes_finds};
 pub use joined_agrees::{stages_are_sound, steps_agree};
 pub use joined_runs::runs_are_lawful;
