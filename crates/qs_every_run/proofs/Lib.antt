@@ -125,3 +125,11 @@ pub mod TurnsSettle
 pub mod OthersBeside
 pub mod PlacedSettles
 pub mod TurnsGo
+pub mod FoundRecords
+pub mod BatchContents
+pub mod BatchSays
+pub mod BatchGoes
+pub mod CommitsApplied
+pub mod BatchHeld
+pub mod BatchWhole
+pub mod CutHeld

@@ -33,8 +33,8 @@ use Rattle.qs_lawful.specs.Entering.{book_at}
 use Rattle.qs_lawful.specs.Given.{AtEach}
 use Rattle.qs_lawful.specs.GivenStep.{done_work}
 use Rattle.qs_lawful.specs.Said.{HoldsSaid}
-use Rattle.qs_lawful.specs.WorldLaws.{StopsWell}
 use Rattle.qs_every_run.specs.Agrees.{MakesStep}
+use Rattle.qs_every_run.specs.CutBatches.{EachBatchFits}
 use Rattle.qs_every_run.specs.Joined.{Joined, book_in}
 use Rattle.qs_every_run.specs.Owing.{Owes}
 
@@ -58,11 +58,6 @@ EachCommitsSettled P = (o : Opening) (world : World) (n stamp free : ℕ) (sourc
 abbrev pub EachCountsRoom : (Opening → World → Type 0) → Type 0
 EachCountsRoom P = (o : Opening) (world : World) (n stamp free : ℕ) (source : Source) (event : Event) → Joined P o world → MakesStep world n stamp source event
     → AtEach HasCountRoom settle_tid (done_work (world.hosts n).node event free) (due_tids (done_work (world.hosts n).node event free))
-
--- a step that is cut off and whose batch is kept, as where it is lost
-abbrev pub EachKeepsItsBatch : (Opening → World → Type 0) → Type 0
-EachKeepsItsBatch P = (o : Opening) (world : World) (n stamp free : ℕ) (source : Source) (cause : CrashCause) → Joined P o world → may_move world (Cut n stamp free source true cause) ≡ true
-    → StopsWell (book_in o world) (moved (Cut n stamp free source true cause) world) n stamp cause
 
 -- what a home decided in a step that is cut off, with a record of it on the disk, was unanimous before
 abbrev pub CutsUnanimous : Opening → World → ℕ → ℕ → ℕ → Bool → CrashCause → Event → Type 0
@@ -128,5 +123,5 @@ pub record Owed (P : Opening → World → Type 0) : Type 0 where
   pub steps_owing : AfterStep P OwesThen
   -- what all places hold of each transaction
   pub places : Keeps P IsStep P
-  -- after a crash
-  pub keeps_its_batch : EachKeepsItsBatch P
+  -- the records of a step, where it is cut off with its batch kept
+  pub batches : EachBatchFits P

@@ -31,3 +31,4 @@ pub mod CutVotes
 pub mod TriedOwing
 pub mod PlacesJoined
 pub mod PlacesTurns
+pub mod CutBatches

@@ -4,7 +4,7 @@ ghost use Rattle.qs_every_run.specs.JoinedPlaces.{PlacesAt};
 ghost use Rattle.qs_every_run.specs.PlacesLaws.{PlacesGoOn};
 ghost use Rattle.qs_every_run.specs.JoinedRuns.{EachMoveJoined, EachOpensJoined, EachRunJoined, EachRunLawful};
 ghost use Rattle.qs_every_run.specs.Joined.{RunningAt};
-ghost use Rattle.qs_every_run.specs.CutCommits.{EachKeepsCommits, EachKeepsVotes};
+ghost use Rattle.qs_every_run.specs.CutCommits.{EachKeepsCommits, EachKeepsItsBatch, EachKeepsVotes};
 ghost use Rattle.qs_every_run.specs.CutVotes.{BatchLeavesVotes, DueVotesCut, EachMarkedBefore, StepsVoteDue};
 ghost use Rattle.qs_every_run.specs.Firsts.{CommitsStood, CommitsUnanimous, StepsCommitFirst, StepsVoteFirst};
 ghost use Rattle.qs_every_run.specs.Labels.{RequestsOwned};
@@ -72,6 +72,13 @@ pub fn steps_commit_first()
 pub fn kept_batches_are_settled()
     ensures commits { EachKeepsCommits PlacesAt }
     ensures votes { EachKeepsVotes PlacesAt }
+{}
+
+/// So the crash of a step that is cut off with its batch kept is lawful, and the machine after it has the world after it: what the log says with the batch
+/// a restart may find, where each record of the batch fits what the machine had before the step. Each vote stood on record or could be made then, and no
+/// vote that was told is lost; what the log has committed is what the restart applies, and what it has in doubt is on record then.
+pub fn kept_batches_are_held()
+    ensures { EachKeepsItsBatch PlacesAt }
 {}
 
 /// What commit was asked for, or has a request, began in the run, so it has an owner. And each label of a transaction of its own that a node keeps after
