@@ -1,6 +1,5 @@
 -- What a log says goes on record by record of a batch: each vote was on record or applied, or is the batch's own; what is on record stays found, or is over; and what is committed is what a restart would commit.
-use Rattle.std.proofs.Common.{◌≡◌, ◌⊎◌, inl, inr, ℕ, ◌==◌, ◌&&◌, ◌||◌, ◌++◌, not, Bool, true, false, List, [], ◌∷◌, map, Some, fold, refl, sym, ap, subst, ◌∙◌, arith, if◌then◌else◌, nat_le, nat_lt}
-use Rattle.std.proofs.lemmas.Bool.Decides.{nat_tests}
+use Rattle.std.proofs.Common.{◌≡◌, ◌⊎◌, inl, inr, ℕ, ◌==◌, ◌&&◌, ◌||◌, ◌++◌, not, Bool, true, false, List, [], ◌∷◌, map, Some, fold, refl, sym, ap, subst, ◌∙◌, if◌then◌else◌, is_some, nat_lt}
 use Rattle.std.proofs.lemmas.List.Folds.{list_any-append}
 use Rattle.std.proofs.lemmas.List.Sums.{fold-append}
 use Rattle.std.specs.List.{filter, list_any}
@@ -24,39 +23,12 @@ use Rattle.qs_restart.specs.Recovery.{Prepared, Recovery, found_record, is_of, i
 use Rattle.qs_lawful.specs.Logged.{HasAborted, StandsIn}
 use Rattle.qs_lawful.specs.Logs.{Every, IsVoteLogged}
 use Rattle.qs_lawful.specs.Said.{IsAsRecorded}
-use Rattle.qs_lawful.proofs.FoundMembers.{and_both}
 use Rattle.qs_lawful.proofs.LogFrames.{every_on}
 use Rattle.qs_lawful.proofs.LogRecords.{among_last, among_more, any_append, any_filter, every_append, every_filter, every_map, found_is, is_found, is_found_in}
 use Rattle.qs_every_run.specs.CutBatches.{FitCut, FitsCut, IsOwnCommit, IsOwnVote, is_record_of}
 use Rattle.qs_every_run.proofs.BatchContents.{Applies, SaysRecord, all_among_left, all_changes_left, commit_applies, ended_applies}
+use Rattle.qs_every_run.proofs.BatchFound.{found_named, less_than, marked_found, no_is, no_turned}
 use Rattle.qs_every_run.proofs.BatchVotes.{among_all}
-
-less_than : (a b : ℕ) → nat_lt a b ≡ true → nat_le a b ≡ true
-less_than a b e = grind (arith, nat_tests, e)
-
-no_is : (a b : ℕ) → (a == b) ≡ true → a ≡ b
-no_is a b e = grind (arith, nat_tests, e)
-
-no_turned : (a b : ℕ) → (a == b) ≡ false → (b == a) ≡ false
-no_turned a b e = grind (arith, nat_tests, e)
-
--- a Commit marks votes, and finds the same
-marked_found : (at : Voter) (covers : ℕ) (tid : Tid) (votes : List Prepared) → is_found_in at covers (map (mark_committed tid) votes) ≡ is_found_in at covers votes
-marked_found at covers tid [] = refl
-marked_found at covers tid (vote ∷ votes) = by (is_of tid vote) (marked_found at covers tid votes)
-  where
-    by : (b : Bool) → is_found_in at covers (map (mark_committed tid) votes) ≡ is_found_in at covers votes → is_found_in at covers ((if b then record vote { committed = true } else vote) ∷ map (mark_committed tid) votes) ≡ is_found_in at covers (vote ∷ votes)
-    by true more = ap (λ (b : Bool). is_found at covers vote || b) more
-    by false more = ap (λ (b : Bool). is_found at covers vote || b) more
-
--- a found vote is of a transaction that is named
-found_named : (at : Voter) (covers : ℕ) (votes : List Prepared) → is_found_in at covers votes ≡ true → names_transaction at.tid ≡ true
-found_named at covers [] is = absurd (cc is)
-found_named at covers (vote ∷ votes) is = by (is_found at covers vote) refl is (found_named at covers votes)
-  where
-    by : (b : Bool) → is_found at covers vote ≡ b → (b || is_found_in at covers votes) ≡ true → (is_found_in at covers votes ≡ true → names_transaction at.tid ≡ true) → names_transaction at.tid ≡ true
-    by true e i more = ap names_transaction (sym (found_is at covers vote e).0) ∙ (and_both (names_transaction vote.tid) _ e).0
-    by false e i more = more i
 
 module _ (here : ℕ) (book : BookValue) (state : machine.NodeValue) (there : slice_get book.nodes here ≡ Some state) (first : Recovery) where
   -- a vote that stood in the log
@@ -135,7 +107,7 @@ module _ (here : ℕ) (book : BookValue) (state : machine.NodeValue) (there : sl
               one = same_tid-true tid t near
 
               beyond : nat_lt r.covers covers ≡ true
-              beyond = own.beyond r (ap (λ (x : Tid). record_of state x server.0) one ∙ (ap (λ (k : ℕ). record_of state t k) (no_is server.0 s same) ∙ is))
+              beyond = own.of.beyond r (ap (λ (x : Tid). record_of state x server.0) one ∙ (ap (λ (k : ℕ). record_of state t k) (no_is server.0 s same) ∙ is))
 
               found_own : is_found at r.covers vote ≡ true
               found_own = rw (ap names_transaction one ∙ found_named at r.covers said.prepared found, near, same) (less_than r.covers covers beyond)
@@ -174,20 +146,37 @@ module _ (here : ℕ) (book : BookValue) (state : machine.NodeValue) (there : sl
           last true = refl
           last false = rw (same_tid-self tid) refl
 
+    -- what is found stands
+    found_stands : (at : Voter) (covers : ℕ) (votes : List Prepared) → Every (IsBehind before) votes → is_found_in at covers votes ≡ true → is_some (find_transaction book at.tid) ≡ true
+    found_stands at covers [] all found = absurd (cc found)
+    found_stands at covers (vote ∷ votes) all found = by (is_found at covers vote) refl found (found_stands at covers votes all.1)
+      where
+        of : IsBehind before vote → StandsIn book vote
+        of (inl old) = old.stands
+        of (inr new) = ap is_some new.0.own.due.found
+
+        by : (b : Bool) → is_found at covers vote ≡ b → (b || is_found_in at covers votes) ≡ true → (is_found_in at covers votes ≡ true → is_some (find_transaction book at.tid) ≡ true) → is_some (find_transaction book at.tid) ≡ true
+        by true e i more = subst (λ (t : Tid). is_some (find_transaction book t) ≡ true) (found_is at covers vote e).0 (of all.0)
+        by false e i more = more i
+
+    -- it is lost, if it stands, or among these
+    abbrev IsLostOr : Tid → List Tid → Type 0
+    IsLostOr tid done = (is_some (find_transaction book tid) ≡ true → may_be_lost here tid (find_transaction book tid) ≡ true) ⊎ (is_among done tid ≡ true)
+
     -- what is kept as a transaction's records are ended, which is over
-    ended_kept : (tid : Tid) (done : List Tid) → ((t : Tid) → is_among said.committed t ≡ true → is_among done t ≡ true) → (may_be_lost here tid (find_transaction book tid) ≡ true) ⊎ (is_among done tid ≡ true)
+    ended_kept : (tid : Tid) (done : List Tid) → ((t : Tid) → is_among said.committed t ≡ true → is_among done t ≡ true) → IsLostOr tid done
         → (t : Tid) (s covers : ℕ) → IsKeptIn said t s covers → (may_be_lost here t (find_transaction book t) ≡ true) ⊎ ((is_among done t ≡ true) ⊎ (is_found_in (voter t s) covers (filter (λ vote. not (is_of tid vote)) said.prepared) ≡ true))
     ended_kept tid done more over t s covers (inl lost) = inl lost
     ended_kept tid done more over t s covers (inr (inl among)) = inr (inl (more t among))
     ended_kept tid done more over t s covers (inr (inr found)) = by (same_tid t tid) refl over
       where
-        by : (b : Bool) → same_tid t tid ≡ b → (may_be_lost here tid (find_transaction book tid) ≡ true) ⊎ (is_among done tid ≡ true)
+        by : (b : Bool) → same_tid t tid ≡ b → IsLostOr tid done
             → (may_be_lost here t (find_transaction book t) ≡ true) ⊎ ((is_among done t ≡ true) ⊎ (is_found_in (voter t s) covers (filter (λ vote. not (is_of tid vote)) said.prepared) ≡ true))
-        by true same (inl lost) = inl (subst (λ (x : Tid). may_be_lost here x (find_transaction book x) ≡ true) (sym (same_tid-true t tid same)) lost)
+        by true same (inl lost) = inl (subst (λ (x : Tid). is_some (find_transaction book x) ≡ true → may_be_lost here x (find_transaction book x) ≡ true) (sym (same_tid-true t tid same)) lost (found_stands (voter t s) covers said.prepared goes.votes found))
         by true same (inr among) = inr (inl (subst (λ (x : Tid). is_among done x ≡ true) (sym (same_tid-true t tid same)) among))
         by false far _ = inr (inr (any_filter (is_found (voter t s) covers) (λ vote. not (is_of tid vote)) (λ vote i. ap not (ap (λ (x : Tid). same_tid x tid) (found_is (voter t s) covers vote i).0 ∙ far)) said.prepared found))
 
-    ended_goes : (tid : Tid) (rec : Record) → found_record said rec ≡ logs.ended tid said → (may_be_lost here tid (find_transaction book tid) ≡ true) ⊎ (is_among said.committed tid ≡ true) → GoesBehind (before ++ rec ∷ []) (found_record said rec)
+    ended_goes : (tid : Tid) (rec : Record) → found_record said rec ≡ logs.ended tid said → IsLostOr tid said.committed → GoesBehind (before ++ rec ∷ []) (found_record said rec)
     ended_goes tid rec e over = record {
       is = next_is rec;
       votes = subst (λ (r : Recovery). Every (IsBehind (before ++ rec ∷ [])) r.prepared) (sym e) (every_filter (IsBehind (before ++ rec ∷ [])) (λ vote. not (is_of tid vote)) said.prepared (votes_on rec));

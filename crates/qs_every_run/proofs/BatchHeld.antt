@@ -134,14 +134,14 @@ module _ (n : ℕ) (book : BookValue) (state : machine.NodeValue) (there : slice
       where
         by : (b : Bool) → is_crossed new.own.due.tx (member_at n v.server.0) ≡ b → (b || not (is_empty (pending_at state v.tid v.server.0))) ≡ true
         by true is = refl
-        by false is = ap (λ (ops : List Op). not (is_empty ops)) (new.own.pending (ap (λ (o : Option TransactionValue). crossed_in o (member_at n v.server.0)) new.own.due.found ∙ is)) ∙ ap not new.own.has
+        by false is = ap (λ (ops : List Op). not (is_empty ops)) (new.own.of.pending (ap (λ (o : Option TransactionValue). crossed_in o (member_at n v.server.0)) new.own.due.found ∙ is)) ∙ ap not new.own.of.has
 
     off_record : is_on_record state_now (found_of v) ≡ false
     off_record = by (record_of state v.tid v.server.0) refl
       where
         by : (o : Option OnRecord) → record_of state v.tid v.server.0 ≡ o → is_on_record state_now (found_of v) ≡ false
         by None is = ap (λ (o : Option OnRecord). elim o [ None ↦ false | Some rec ↦ rec.covers == v.covers ]) is
-        by (Some rec) is = ap (λ (o : Option OnRecord). elim o [ None ↦ false | Some rec ↦ rec.covers == v.covers ]) is ∙ covers_apart rec.covers v.covers (new.own.beyond rec is)
+        by (Some rec) is = ap (λ (o : Option OnRecord). elim o [ None ↦ false | Some rec ↦ rec.covers == v.covers ]) is ∙ covers_apart rec.covers v.covers (new.own.of.beyond rec is)
 
     new_is : is_new n now state_now (found_of v) ≡ true
     new_is = ap (λ (o : Option TransactionValue). is_new_vote n state_now o (found_of v)) cut.found ∙ rw (off_record, cut.could) refl
@@ -159,7 +159,7 @@ module _ (n : ℕ) (book : BookValue) (state : machine.NodeValue) (there : slice
 
   recorded : (v : Prepared) → IsEither n book state there first v → Then v → IsApart log v → IsToBeRecorded n now log v
   recorded v (inr new) then_is apart names clear = subst (λ (o : Option OnRecord). IsRecorded n now o v) (sym (then_is names ∙ ap (λ (b : Bool). if b then Some (vote_as_stopped n now state_now (found_of v)) else record_of state v.tid v.server.0) (new_is v new)))
-      (record { changes = new.own.pending; count = new.own.count })
+      (record { changes = new.own.of.pending; count = new.own.of.count })
   recorded v (inl old) then_is apart names clear = by old.logged
     where
       then_old : record_at n mid v.tid v.server.0 ≡ record_of state v.tid v.server.0

@@ -1,5 +1,5 @@
 -- What the records of a step's batch are, of what the machine had before the step: so that a restart which finds the batch, and none of the step's entries, finds what could be so.
-use Rattle.std.specs.Prelude.{◌≡◌, ⊤, ℕ, Bool, true, false, List, [], ◌∷◌, ◌++◌, length, Some, nat_lt, slice_get}
+use Rattle.std.specs.Prelude.{◌≡◌, ⊤, ℕ, Bool, true, false, List, [], ◌∷◌, ◌++◌, length, Some, is_some, nat_lt, slice_get}
 use Rattle.std.specs.List.{list_any}
 use Rattle.qs_base.specs.Order.{same_tid}
 use Rattle.qs_base.specs.declared.identifiers.ServerNo.{ServerNo}
@@ -19,6 +19,7 @@ use Rattle.qs_step.specs.Step.{effects_of}
 use Rattle.qs_step.specs.declared.event.Event.{Event}
 use Rattle.qs_world.specs.Moves.{Source}
 use Rattle.qs_world.specs.World.{Opening, World}
+use Rattle.qs_lawful.specs.Logs.{Every}
 use Rattle.qs_every_run.specs.Agrees.{MakesStep}
 use Rattle.qs_every_run.specs.CutVotes.{IsVoteDue}
 use Rattle.qs_every_run.specs.Joined.{Joined, book_in}
@@ -31,14 +32,18 @@ is_record_of tid (made.End t) = same_tid t tid
 
 -- ---- one record, of a node with that state as the step began, whose log had these Commits, behind other records of the step
 
--- a vote that was due as the step began, of what its member had pending then, which covers more than what is on record
-pub record IsOwnVote (here : ℕ) (book : BookValue) (state : machine.NodeValue) (tid : Tid) (server : ServerNo) (covers : ℕ) (changes : List Op) : Type 0 where
-  pub keeps : keeps_contents server.0 ≡ true
-  pub due : IsVoteDue book tid (member_at here server.0) state.inc covers
+-- a vote of what its member had pending as the step began, and it had something, which covers more than what is on record
+pub record IsOfPending (here : ℕ) (book : BookValue) (state : machine.NodeValue) (tid : Tid) (server : ServerNo) (covers : ℕ) (changes : List Op) : Type 0 where
   pub has : is_empty changes ≡ false
   pub pending : crossed_in (find_transaction book tid) (member_at here server.0) ≡ false → machine.pending_at state tid server.0 ≡ changes
   pub count : server.0 ≡ files_no → pending_in (find_transaction book tid) (member_at here server.0) state.inc ≡ length changes
   pub beyond : (rec : OnRecord) → machine.record_of state tid server.0 ≡ Some rec → nat_lt rec.covers covers ≡ true
+
+-- and it was due then
+pub record IsOwnVote (here : ℕ) (book : BookValue) (state : machine.NodeValue) (tid : Tid) (server : ServerNo) (covers : ℕ) (changes : List Op) : Type 0 where
+  pub keeps : keeps_contents server.0 ≡ true
+  pub due : IsVoteDue book tid (member_at here server.0) state.inc covers
+  pub of : IsOfPending here book state tid server covers changes
 
 -- a first Commit, and the first record of its transaction in the step
 pub record IsOwnCommit (committed : List Tid) (before : List Record) (tid : Tid) : Type 0 where
@@ -50,7 +55,7 @@ pub record IsOwnCommit (committed : List Tid) (before : List Record) (tid : Tid)
 abbrev pub FitsCut : ℕ → BookValue → machine.NodeValue → List Tid → List Record → Record → Type 0
 FitsCut here book state committed before (made.Prepare tid server covers changes) = IsOwnVote here book state tid server covers changes
 FitsCut here book state committed before (made.Commit tid told) = IsOwnCommit committed before tid
-FitsCut here book state committed before (made.Aborted tid) = may_be_lost here tid (find_transaction book tid) ≡ true
+FitsCut here book state committed before (made.Aborted tid) = is_some (find_transaction book tid) ≡ true → may_be_lost here tid (find_transaction book tid) ≡ true
 FitsCut here book state committed before (made.End tid) = is_among committed tid ≡ true
 
 -- ---- a batch
@@ -63,3 +68,14 @@ abbrev pub EachBatchFits : (Opening → World → Type 0) → Type 0
 EachBatchFits P = (o : Opening) (world : World) (n stamp free : ℕ) (source : Source) (event : Event) → Joined P o world → MakesStep world n stamp source event
     → (state : machine.NodeValue) → slice_get (book_in o world).nodes n ≡ Some state
     → FitCut n (book_in o world) state (recovery ((world.hosts n).log ++ (world.hosts n).waiting)).committed [] (effects_of (world.hosts n).node event free).records
+
+-- ---- what is owed of it
+
+abbrev pub IsVoteOfPending : ℕ → BookValue → machine.NodeValue → Record → Type 0
+IsVoteOfPending here book state (made.Prepare tid server covers changes) = IsOfPending here book state tid server covers changes
+IsVoteOfPending here book state rec = ⊤
+
+-- the votes of a step are of what was pending as it began
+abbrev pub EachVotesPending : (Opening → World → Type 0) → Type 0
+EachVotesPending P = (o : Opening) (world : World) (n stamp free : ℕ) (source : Source) (event : Event) → Joined P o world → MakesStep world n stamp source event
+    → (state : machine.NodeValue) → slice_get (book_in o world).nodes n ≡ Some state → Every (IsVoteOfPending n (book_in o world) state) (effects_of (world.hosts n).node event free).records

@@ -32,3 +32,4 @@ pub mod TriedOwing
 pub mod PlacesJoined
 pub mod PlacesTurns
 pub mod CutBatches
+pub mod CutRecords
