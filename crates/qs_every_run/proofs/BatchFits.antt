@@ -1,5 +1,5 @@
 -- Each record of a step fits what the machine had as it began, as far as its votes are of what was pending then: whatever else its log makes, it has a source that says so.
-use Rattle.std.proofs.Common.{◌≡◌, inl, inr, ℕ, ◌<◌, ◌≤◌, ◌+◌, ◌&&◌, ◌||◌, ◌++◌, append_assoc, arith, not, Bool, true, false, List, [], ◌∷◌, Option, Some, None, refl, sym, ap, subst, ◌∙◌}
+use Rattle.std.proofs.Common.{◌≡◌, inl, inr, ℕ, ◌<◌, ◌≤◌, ◌+◌, ◌&&◌, ◌||◌, ◌++◌, append_assoc, arith, not, Bool, true, false, List, [], ◌∷◌, length, Option, Some, None, refl, sym, ap, subst, ◌∙◌}
 use Rattle.std.specs.List.{list_any}
 use Rattle.std.specs.Prelude.{is_some, slice_get}
 use Rattle.qs_base.proofs.Same.{same_tid-self, same_tid-true}
@@ -12,17 +12,20 @@ use Rattle.qs_base.specs.declared.identifiers.ServerNo.{ServerNo}
 use Rattle.qs_base.specs.declared.identifiers.Tid.{Tid}
 use Rattle.qs_journal.specs.declared.entry.Act.{Act}
 use Rattle.qs_journal.specs.declared.entry.Act.TheVariants as acts
-use Rattle.qs_machine.specs.Book.{BookValue, cell_of_transaction, find_transaction}
+use Rattle.qs_laws.specs.Served.{keeps_contents}
+use Rattle.qs_machine.specs.Book.{BookValue, cell_of_transaction, find_transaction, pending_in}
 use Rattle.qs_machine.specs.Lawful.{IsLawful}
 use Rattle.qs_machine.specs.Nodes as machine
 use Rattle.qs_machine.specs.Restart.{is_among, member_at}
 use Rattle.qs_machine.specs.Transaction.{TransactionValue}
 use Rattle.qs_machine.specs.declared.transaction.Cell.TheVariants as cells
+use Rattle.qs_ops.specs.Server.{changes_in}
 use Rattle.qs_ops.specs.declared.operation.Op.{Op}
 use Rattle.qs_ops.specs.declared.vote.Vote.TheVariants as votes
 use Rattle.qs_record.specs.declared.record.Record.{Record}
 use Rattle.qs_record.specs.declared.record.Record.TheVariants as made
 use Rattle.qs_restart.specs.Recovery.{Prepared, Recovery, is_of, names_transaction, recovery}
+use Rattle.qs_servers.specs.Servers.{server_at}
 use Rattle.qs_step.specs.State.{NodeValue}
 use Rattle.qs_step.specs.Step.{effects_of}
 use Rattle.qs_step.specs.Telling.{end_record}
@@ -38,15 +41,18 @@ use Rattle.qs_refine.specs.SaidLaws.{AreSaid, IsSoundOver, no_flags}
 use Rattle.qs_lawful.specs.Logged.{HasCommitted}
 use Rattle.qs_lawful.specs.Logs.{Every}
 use Rattle.qs_lawful.specs.Said.{IsApart}
+use Rattle.qs_lawful.specs.Saying.{ArePending}
+use Rattle.qs_lawful.specs.Holds.{Holds}
 use Rattle.qs_lawful.specs.Worlds.{HoldsNodeAt, HoldsUp}
 use Rattle.qs_lawful.proofs.CoherentOpenings.{opens_soundly}
 use Rattle.qs_lawful.proofs.FoundMembers.{and_both}
 use Rattle.qs_lawful.proofs.LastsAlways.{in_runs}
 use Rattle.qs_lawful.proofs.LastsOpening.{lasts_first, lasts_ran}
 use Rattle.qs_lawful.proofs.LastsWell.{LastsWell}
+use Rattle.qs_lawful.proofs.SaidHeld.{pending_of}
 use Rattle.qs_lawful.proofs.NumberedLogs.{opened_numbered, opening_named}
 use Rattle.qs_every_run.specs.Agrees.{MakesStep}
-use Rattle.qs_every_run.specs.CutBatches.{FitCut, FitsCut, IsOwnVote, IsVoteOfPending, is_record_of}
+use Rattle.qs_every_run.specs.CutBatches.{FitCut, FitsCut, IsOwnVote, IsVoteOfStart, is_record_of}
 use Rattle.qs_every_run.specs.CutRecords.{IsSource, IsTold, commits_of, is_commit_record, one_if}
 use Rattle.qs_every_run.specs.CutVotes.{EntersVote, IsVoteDue}
 use Rattle.qs_every_run.specs.Firsts.{is_vote_of}
@@ -57,7 +63,7 @@ use Rattle.qs_every_run.proofs.BatchSources.{aborted_fits, end_fits}
 use Rattle.qs_every_run.proofs.DueVotes.{steps_vote_due}
 use Rattle.qs_every_run.proofs.JoinedHeld.{true_event}
 use Rattle.qs_every_run.proofs.JoinedLogged.{every_made}
-use Rattle.qs_every_run.proofs.JoinedSteps.{step_lawful, step_low, step_up}
+use Rattle.qs_every_run.proofs.JoinedSteps.{step_lawful, step_low, step_ordered, step_up}
 use Rattle.qs_every_run.proofs.RecordMakes.{commits_both}
 use Rattle.qs_every_run.proofs.RecordSteps.{steps_make_records}
 use Rattle.qs_every_run.proofs.VotesShut.{vote_keeps}
@@ -162,6 +168,20 @@ module _ (P : Opening → World → Type 0) (owed : Owed P) (unanimous : AfterSt
 
   -- ---- a vote
 
+  -- what the node has pending as the step begins the machine has
+  pending_now : (server : ServerNo) (tid : Tid) → keeps_contents server.0 ≡ true → ArePending n book state tid server (changes_in (server_at node.servers server) tid)
+  pending_now server tid keeps = subst (λ (s : machine.NodeValue). ArePending n book s tid server (changes_in (server_at node.servers server) tid)) same
+      (subst (λ (k : ℕ). ArePending k book held.state tid server (changes_in (server_at node.servers server) tid)) at.node (pending_of stamp book node tid held server keeps))
+    where
+      held : Holds stamp book node
+      held = up.next stamp (j.held.order n stamp (step_ordered P owed o world j n stamp free source event makes))
+
+      same : held.state ≡ state
+      same = one (sym held.there ∙ (ap (λ (k : ℕ). slice_get book.nodes k) at.node ∙ there))
+        where
+          one : {x y : machine.NodeValue} → Some x ≡ Some y → x ≡ y
+          one e = cc e
+
   entered : (tid : Tid) (server : ServerNo) (covers : ℕ) (changes : List Op) → From (made.Prepare tid server covers changes) → EntersVote tid (member_at n server.0) votes.Recoverable covers done
   entered tid server covers changes (inl e) = subst (λ (k : NodeNo). EntersVote tid (record { node = k; server = server }) votes.Recoverable covers done) me_is e
   entered tid server covers changes (inr (inl t)) = absurd (by t.outcome t.is)
@@ -178,12 +198,18 @@ module _ (P : Opening → World → Type 0) (owed : Owed P) (unanimous : AfterSt
       clash : made.Prepare tid server covers changes ≡ made.Aborted t.tid → ⊥
       clash e = cc e
 
-  vote_fits : (tid : Tid) (server : ServerNo) (covers : ℕ) (changes : List Op) → From (made.Prepare tid server covers changes) → IsVoteOfPending n book state (made.Prepare tid server covers changes) → IsOwnVote n book state tid server covers changes
+  vote_fits : (tid : Tid) (server : ServerNo) (covers : ℕ) (changes : List Op) → From (made.Prepare tid server covers changes) → IsVoteOfStart node book state (made.Prepare tid server covers changes) → IsOwnVote n book state tid server covers changes
   vote_fits tid server covers changes from of = let e : EntersVote tid (member_at n server.0) votes.Recoverable covers done = entered tid server covers changes from in record {
     keeps = vote_keeps n stamp done book tid (member_at n server.0) covers lawful e;
     due = subst (λ (i : ℕ). IsVoteDue book tid (member_at n server.0) i covers) (ap (λ (x : Option machine.NodeValue). elim x [ None ↦ 0 | Some s ↦ s.inc ]) there)
         (steps_vote_due tid n stamp node event free book well.inv lawful (member_at n server.0) votes.Recoverable covers e);
-    of = of;
+    of = record {
+      has = of.has;
+      pending = λ clean. subst (λ (ops : List Op). machine.pending_at state tid server.0 ≡ ops) (sym of.same) ((pending_now server tid (vote_keeps n stamp done book tid (member_at n server.0) covers lawful e)).changes clean);
+      count = λ is. sym (ap (λ (i : ℕ). pending_in (find_transaction book tid) (member_at n server.0) i) (ap (λ (x : Option machine.NodeValue). elim x [ None ↦ 0 | Some s ↦ s.inc ]) there))
+          ∙ ((pending_now server tid (vote_keeps n stamp done book tid (member_at n server.0) covers lawful e)).count is ∙ ap length (sym of.same));
+      beyond = of.beyond;
+    };
   }
 
   -- ---- the first record of what is committed
@@ -234,7 +260,7 @@ module _ (P : Opening → World → Type 0) (owed : Owed P) (unanimous : AfterSt
 
   -- ---- record by record
 
-  fit_all : (rest before : List Record) → records ≡ before ++ rest → Every From before → Every From rest → Every (IsVoteOfPending n book state) rest → FitCut n book state log.committed before rest
+  fit_all : (rest before : List Record) → records ≡ before ++ rest → Every From before → Every From rest → Every (IsVoteOfStart node book state) rest → FitCut n book state log.committed before rest
   fit_all [] before is front back of = tt
   fit_all (rec ∷ rest) before is front back of = (one rec is back.0 of.0, fit_all rest (before ++ rec ∷ []) (is ∙ sym (append_assoc before (rec ∷ []) rest)) (behind before front) back.1 of.1)
     where
@@ -242,7 +268,7 @@ module _ (P : Opening → World → Type 0) (owed : Owed P) (unanimous : AfterSt
       behind [] all = (back.0, tt)
       behind (x ∷ xs) all = (all.0, behind xs all.1)
 
-      one : (r : Record) → records ≡ before ++ r ∷ rest → From r → IsVoteOfPending n book state r → FitsCut n book state log.committed before r
+      one : (r : Record) → records ≡ before ++ r ∷ rest → From r → IsVoteOfStart node book state r → FitsCut n book state log.committed before r
       one (made.Prepare tid server covers changes) so from pending = vote_fits tid server covers changes from pending
       one (made.Commit tid told) so from pending = let c = commit_so tid told from in record {
         named = c.named;
@@ -259,5 +285,5 @@ module _ (P : Opening → World → Type 0) (owed : Owed P) (unanimous : AfterSt
       one (made.Aborted tid) so from pending = aborted_so tid from
       one (made.End tid) so from pending = end_so tid from
 
-  pub batch_fits : Every (IsVoteOfPending n book state) records → FitCut n book state log.committed [] records
+  pub batch_fits : Every (IsVoteOfStart node book state) records → FitCut n book state log.committed [] records
   batch_fits of = fit_all records [] refl tt (steps_make_records node event free).sources of

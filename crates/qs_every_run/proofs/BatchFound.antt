@@ -1,8 +1,13 @@
 -- Which votes of a log are found: a Commit that marks them finds the same, and each is of a transaction that is named.
-use Rattle.std.proofs.Common.{◌≡◌, ℕ, ◌==◌, ◌||◌, arith, Bool, true, false, List, [], ◌∷◌, map, refl, sym, ap, ◌∙◌, if◌then◌else◌, nat_le, nat_lt}
+use Rattle.std.proofs.Common.{◌≡◌, ◌⊎◌, inl, inr, ℕ, ◌==◌, ◌||◌, arith, Bool, true, false, List, [], ◌∷◌, map, Option, Some, None, refl, sym, ap, ◌∙◌, if◌then◌else◌, nat_le, nat_lt}
 use Rattle.std.proofs.lemmas.Bool.Decides.{nat_tests}
 use Rattle.qs_base.specs.declared.identifiers.Tid.{Tid}
+use Rattle.qs_machine.specs.Book.{cell_of_transaction}
+use Rattle.qs_machine.specs.Restart.{may_be_lost}
+use Rattle.qs_machine.specs.Transaction.{TransactionValue}
 use Rattle.qs_machine.specs.declared.state.Voter.{Voter}
+use Rattle.qs_machine.specs.declared.transaction.Cell.{Cell}
+use Rattle.qs_machine.specs.declared.transaction.Cell.TheVariants as cells
 use Rattle.qs_restart.specs.Recovery.{Prepared, is_of, mark_committed, names_transaction}
 use Rattle.qs_lawful.proofs.FoundMembers.{and_both}
 use Rattle.qs_lawful.proofs.LogRecords.{found_is, is_found, is_found_in}
@@ -33,3 +38,20 @@ found_named at covers (vote ∷ votes) is = by (is_found at covers vote) refl is
     by : (b : Bool) → is_found at covers vote ≡ b → (b || is_found_in at covers votes) ≡ true → (is_found_in at covers votes ≡ true → names_transaction at.tid ≡ true) → names_transaction at.tid ≡ true
     by true e i more = ap names_transaction (sym (found_is at covers vote e).0) ∙ (and_both (names_transaction vote.tid) _ e).0
     by false e i more = more i
+
+-- what is aborted may be lost; and each cell is that or is not
+pub lost_is : (here : ℕ) (tid : Tid) (o : Option TransactionValue) → cell_of_transaction o ≡ Some cells.Abort → may_be_lost here tid o ≡ true
+lost_is here tid None e = absurd (cc e)
+lost_is here tid (Some tx) e = let c : tx.cell ≡ cells.Abort = one e in rw c refl
+  where
+    one : {x y : Cell} → Some x ≡ Some y → x ≡ y
+    one p = cc p
+
+pub is_aborted_or : (o : Option TransactionValue) → (cell_of_transaction o ≡ Some cells.Abort) ⊎ (cell_of_transaction o ≡ Some cells.Abort → ⊥)
+is_aborted_or None = inr (λ e. cc e)
+is_aborted_or (Some tx) = by tx.cell
+  where
+    by : (c : Cell) → (Some c ≡ Some cells.Abort) ⊎ (Some c ≡ Some cells.Abort → ⊥)
+    by cells.Abort = inl refl
+    by cells.Open = inr (λ e. cc e)
+    by cells.Commit = inr (λ e. cc e)

@@ -27,7 +27,7 @@ use Rattle.qs_lawful.proofs.LogFrames.{every_on}
 use Rattle.qs_lawful.proofs.LogRecords.{among_last, among_more, any_append, any_filter, every_append, every_filter, every_map, found_is, is_found, is_found_in}
 use Rattle.qs_every_run.specs.CutBatches.{FitCut, FitsCut, IsOwnCommit, IsOwnVote, is_record_of}
 use Rattle.qs_every_run.proofs.BatchContents.{Applies, SaysRecord, all_among_left, all_changes_left, commit_applies, ended_applies}
-use Rattle.qs_every_run.proofs.BatchFound.{found_named, less_than, marked_found, no_is, no_turned}
+use Rattle.qs_every_run.proofs.BatchFound.{found_named, is_aborted_or, less_than, lost_is, marked_found, no_is, no_turned}
 use Rattle.qs_every_run.proofs.BatchVotes.{among_all}
 
 module _ (here : ℕ) (book : BookValue) (state : machine.NodeValue) (there : slice_get book.nodes here ≡ Some state) (first : Recovery) where
@@ -60,6 +60,12 @@ module _ (here : ℕ) (book : BookValue) (state : machine.NodeValue) (there : sl
   pub record IsSettled (tid : Tid) : Type 0 where
     pub clean : (server : ℕ) → crossed_in (find_transaction book tid) (member_at here server) ≡ false
     pub stands : HasAborted book tid → ⊥
+
+  aborted_lost : (tid : Tid) → HasAborted book tid → may_be_lost here tid (find_transaction book tid) ≡ true
+  aborted_lost tid has = lost_is here tid (find_transaction book tid) has
+
+  aborted_or : (tid : Tid) → HasAborted book tid ⊎ (HasAborted book tid → ⊥)
+  aborted_or tid = is_aborted_or (find_transaction book tid)
 
   -- ---- behind other records of the batch
 
@@ -100,18 +106,18 @@ module _ (here : ℕ) (book : BookValue) (state : machine.NodeValue) (there : sl
           at : Voter
           at = voter t s
 
-          here_found : (found : is_found_in at r.covers said.prepared ≡ true) → (a b : Bool) → same_tid tid t ≡ a → (server.0 == s) ≡ b → is_found_in at r.covers (filter others said.prepared ++ vote ∷ []) ≡ true
-          here_found found true true near same = any_append (is_found at r.covers) (filter others said.prepared) (vote ∷ []) (inr (ap (λ (b : Bool). b || false) found_own))
+          here_found : (HasAborted book t → ⊥) → (found : is_found_in at r.covers said.prepared ≡ true) → (a b : Bool) → same_tid tid t ≡ a → (server.0 == s) ≡ b → is_found_in at r.covers (filter others said.prepared ++ vote ∷ []) ≡ true
+          here_found stands found true true near same = any_append (is_found at r.covers) (filter others said.prepared) (vote ∷ []) (inr (ap (λ (b : Bool). b || false) found_own))
             where
               one : tid ≡ t
               one = same_tid-true tid t near
 
               beyond : nat_lt r.covers covers ≡ true
-              beyond = own.of.beyond r (ap (λ (x : Tid). record_of state x server.0) one ∙ (ap (λ (k : ℕ). record_of state t k) (no_is server.0 s same) ∙ is))
+              beyond = own.of.beyond.more (subst (λ (x : Tid). HasAborted book x → ⊥) (sym one) stands) r (ap (λ (x : Tid). record_of state x server.0) one ∙ (ap (λ (k : ℕ). record_of state t k) (no_is server.0 s same) ∙ is))
 
               found_own : is_found at r.covers vote ≡ true
               found_own = rw (ap names_transaction one ∙ found_named at r.covers said.prepared found, near, same) (less_than r.covers covers beyond)
-          here_found found true false near far = any_append (is_found at r.covers) (filter others said.prepared) (vote ∷ []) (inl (any_filter (is_found at r.covers) others (λ v i. passes v (found_is at r.covers v i).1) said.prepared found))
+          here_found stands found true false near far = any_append (is_found at r.covers) (filter others said.prepared) (vote ∷ []) (inl (any_filter (is_found at r.covers) others (λ v i. passes v (found_is at r.covers v i).1) said.prepared found))
             where
               and_off : (a b : Bool) → b ≡ false → not (a && b) ≡ true
               and_off true b e = ap not e
@@ -119,7 +125,7 @@ module _ (here : ℕ) (book : BookValue) (state : machine.NodeValue) (there : sl
 
               passes : (v : Prepared) → (v.server.0 == s) ≡ true → others v ≡ true
               passes v i = and_off (same_tid v.tid tid) (v.server.0 == server.0) (ap (λ (k : ℕ). k == server.0) (no_is v.server.0 s i) ∙ no_turned server.0 s far)
-          here_found found false b far _ = any_append (is_found at r.covers) (filter others said.prepared) (vote ∷ []) (inl (any_filter (is_found at r.covers) others (λ v i. passes v (found_is at r.covers v i).0) said.prepared found))
+          here_found stands found false b far _ = any_append (is_found at r.covers) (filter others said.prepared) (vote ∷ []) (inl (any_filter (is_found at r.covers) others (λ v i. passes v (found_is at r.covers v i).0) said.prepared found))
             where
               apart : (b : Bool) → same_tid t tid ≡ b → same_tid t tid ≡ false
               apart false e = e
@@ -131,7 +137,11 @@ module _ (here : ℕ) (book : BookValue) (state : machine.NodeValue) (there : sl
           by : IsKeptIn said t s r.covers → IsKeptIn (found_record said rec) t s r.covers
           by (inl lost) = inl lost
           by (inr (inl among)) = inr (inl among)
-          by (inr (inr found)) = inr (inr (here_found found (same_tid tid t) (server.0 == s) refl refl))
+          by (inr (inr found)) = of (aborted_or t)
+            where
+              of : HasAborted book t ⊎ (HasAborted book t → ⊥) → IsKeptIn (found_record said rec) t s r.covers
+              of (inl aborted) = inl (aborted_lost t aborted)
+              of (inr stands) = inr (inr (here_found stands found (same_tid tid t) (server.0 == s) refl refl))
 
       prepare_goes : GoesBehind (before ++ rec ∷ []) (found_record said rec)
       prepare_goes = record {

@@ -60,9 +60,6 @@ between true true c e = absurd (cc e)
 between true false c e = refl
 between false b c e = refl
 
-covers_apart : (a b : ℕ) → nat_lt a b ≡ true → (a == b) ≡ false
-covers_apart a b e = grind (arith, nat_tests, e)
-
 module _ (n : ℕ) (book : BookValue) (state : machine.NodeValue) (there : slice_get book.nodes n ≡ Some state) (lasts : Lasts book) (marks : (tid : Tid) (tx : TransactionValue) → find_transaction book tid ≡ Some tx → IsMarkedBefore book.place tx)
     (stamp : ℕ) (cause : CrashCause) (base records : List Record) (logged : HoldsLogged n book state (recovery base)) (said : HoldsSaid n book state (recovery base)) (fit : FitCut n book state (recovery base).committed [] records)
     (settled_votes : KeptVotes n book (recovery (base ++ records))) (settled_commits : Every (IsCommitLogged n book state) (recovery (base ++ records)).committed) where
@@ -141,7 +138,7 @@ module _ (n : ℕ) (book : BookValue) (state : machine.NodeValue) (there : slice
       where
         by : (o : Option OnRecord) → record_of state v.tid v.server.0 ≡ o → is_on_record state_now (found_of v) ≡ false
         by None is = ap (λ (o : Option OnRecord). elim o [ None ↦ false | Some rec ↦ rec.covers == v.covers ]) is
-        by (Some rec) is = ap (λ (o : Option OnRecord). elim o [ None ↦ false | Some rec ↦ rec.covers == v.covers ]) is ∙ covers_apart rec.covers v.covers (new.own.of.beyond rec is)
+        by (Some rec) is = ap (λ (o : Option OnRecord). elim o [ None ↦ false | Some rec ↦ rec.covers == v.covers ]) is ∙ new.own.of.beyond.apart rec is
 
     new_is : is_new n now state_now (found_of v) ≡ true
     new_is = ap (λ (o : Option TransactionValue). is_new_vote n state_now o (found_of v)) cut.found ∙ rw (off_record, cut.could) refl

@@ -1,5 +1,5 @@
 -- What the records of a step's batch are, of what the machine had before the step: so that a restart which finds the batch, and none of the step's entries, finds what could be so.
-use Rattle.std.specs.Prelude.{◌≡◌, ⊤, ℕ, Bool, true, false, List, [], ◌∷◌, ◌++◌, length, Some, is_some, nat_lt, slice_get}
+use Rattle.std.specs.Prelude.{◌≡◌, ◌==◌, ⊤, ℕ, Bool, true, false, List, [], ◌∷◌, ◌++◌, length, Some, is_some, nat_lt, slice_get}
 use Rattle.std.specs.List.{list_any}
 use Rattle.qs_base.specs.Order.{same_tid}
 use Rattle.qs_base.specs.declared.identifiers.ServerNo.{ServerNo}
@@ -10,15 +10,19 @@ use Rattle.qs_machine.specs.Nodes as machine
 use Rattle.qs_machine.specs.Restart.{is_among, may_be_lost, member_at}
 use Rattle.qs_machine.specs.Transaction.{is_empty}
 use Rattle.qs_machine.specs.declared.state.OnRecord.{OnRecord}
+use Rattle.qs_ops.specs.Server.{changes_in}
 use Rattle.qs_ops.specs.Servers.{files_no}
 use Rattle.qs_ops.specs.declared.operation.Op.{Op}
 use Rattle.qs_record.specs.declared.record.Record.{Record}
 use Rattle.qs_record.specs.declared.record.Record.TheVariants as made
 use Rattle.qs_restart.specs.Recovery.{names_transaction, recovery}
+use Rattle.qs_servers.specs.Servers.{server_at}
+use Rattle.qs_step.specs.State.{NodeValue}
 use Rattle.qs_step.specs.Step.{effects_of}
 use Rattle.qs_step.specs.declared.event.Event.{Event}
 use Rattle.qs_world.specs.Moves.{Source}
 use Rattle.qs_world.specs.World.{Opening, World}
+use Rattle.qs_lawful.specs.Logged.{HasAborted}
 use Rattle.qs_lawful.specs.Logs.{Every}
 use Rattle.qs_every_run.specs.Agrees.{MakesStep}
 use Rattle.qs_every_run.specs.CutVotes.{IsVoteDue}
@@ -32,12 +36,17 @@ is_record_of tid (made.End t) = same_tid t tid
 
 -- ---- one record, of a node with that state as the step began, whose log had these Commits, behind other records of the step
 
--- a vote of what its member had pending as the step began, and it had something, which covers more than what is on record
+-- what is on record of its member has other covers than a vote, and fewer where the transaction is not aborted
+pub record IsBeyond (book : BookValue) (state : machine.NodeValue) (tid : Tid) (server : ServerNo) (covers : ℕ) : Type 0 where
+  pub apart : (rec : OnRecord) → machine.record_of state tid server.0 ≡ Some rec → (rec.covers == covers) ≡ false
+  pub more : (HasAborted book tid → ⊥) → (rec : OnRecord) → machine.record_of state tid server.0 ≡ Some rec → nat_lt rec.covers covers ≡ true
+
+-- a vote of what its member had pending as the step began, and it had something
 pub record IsOfPending (here : ℕ) (book : BookValue) (state : machine.NodeValue) (tid : Tid) (server : ServerNo) (covers : ℕ) (changes : List Op) : Type 0 where
   pub has : is_empty changes ≡ false
   pub pending : crossed_in (find_transaction book tid) (member_at here server.0) ≡ false → machine.pending_at state tid server.0 ≡ changes
   pub count : server.0 ≡ files_no → pending_in (find_transaction book tid) (member_at here server.0) state.inc ≡ length changes
-  pub beyond : (rec : OnRecord) → machine.record_of state tid server.0 ≡ Some rec → nat_lt rec.covers covers ≡ true
+  pub beyond : IsBeyond book state tid server covers
 
 -- and it was due then
 pub record IsOwnVote (here : ℕ) (book : BookValue) (state : machine.NodeValue) (tid : Tid) (server : ServerNo) (covers : ℕ) (changes : List Op) : Type 0 where
@@ -71,11 +80,16 @@ EachBatchFits P = (o : Opening) (world : World) (n stamp free : ℕ) (source : S
 
 -- ---- what is owed of it
 
-abbrev pub IsVoteOfPending : ℕ → BookValue → machine.NodeValue → Record → Type 0
-IsVoteOfPending here book state (made.Prepare tid server covers changes) = IsOfPending here book state tid server covers changes
-IsVoteOfPending here book state rec = ⊤
+-- a vote of what its server had pending as the step began
+pub record IsOfStart (node : NodeValue) (book : BookValue) (state : machine.NodeValue) (tid : Tid) (server : ServerNo) (covers : ℕ) (changes : List Op) : Type 0 where
+  pub has : is_empty changes ≡ false
+  pub same : changes ≡ changes_in (server_at node.servers server) tid
+  pub beyond : IsBeyond book state tid server covers
 
--- the votes of a step are of what was pending as it began
-abbrev pub EachVotesPending : (Opening → World → Type 0) → Type 0
-EachVotesPending P = (o : Opening) (world : World) (n stamp free : ℕ) (source : Source) (event : Event) → Joined P o world → MakesStep world n stamp source event
-    → (state : machine.NodeValue) → slice_get (book_in o world).nodes n ≡ Some state → Every (IsVoteOfPending n (book_in o world) state) (effects_of (world.hosts n).node event free).records
+abbrev pub IsVoteOfStart : NodeValue → BookValue → machine.NodeValue → Record → Type 0
+IsVoteOfStart node book state (made.Prepare tid server covers changes) = IsOfStart node book state tid server covers changes
+IsVoteOfStart node book state rec = ⊤
+
+abbrev pub EachVoteOfStart : (Opening → World → Type 0) → Type 0
+EachVoteOfStart P = (o : Opening) (world : World) (n stamp free : ℕ) (source : Source) (event : Event) → Joined P o world → MakesStep world n stamp source event
+    → (state : machine.NodeValue) → slice_get (book_in o world).nodes n ≡ Some state → Every (IsVoteOfStart (world.hosts n).node (book_in o world) state) (effects_of (world.hosts n).node event free).records

@@ -34,7 +34,7 @@ use Rattle.qs_lawful.specs.Given.{AtEach}
 use Rattle.qs_lawful.specs.GivenStep.{done_work}
 use Rattle.qs_lawful.specs.Said.{HoldsSaid}
 use Rattle.qs_every_run.specs.Agrees.{MakesStep}
-use Rattle.qs_every_run.specs.CutBatches.{EachVotesPending}
+use Rattle.qs_every_run.specs.CutBatches.{EachVoteOfStart}
 use Rattle.qs_every_run.specs.Joined.{Joined, book_in}
 use Rattle.qs_every_run.specs.Owing.{Owes}
 
@@ -124,4 +124,4 @@ pub record Owed (P : Opening → World → Type 0) : Type 0 where
   -- what all places hold of each transaction
   pub places : Keeps P IsStep P
   -- the votes of a step, where it is cut off with its batch kept
-  pub votes : EachVotesPending P
+  pub votes : EachVoteOfStart P
