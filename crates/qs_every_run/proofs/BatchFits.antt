@@ -17,7 +17,7 @@ use Rattle.qs_machine.specs.Book.{BookValue, cell_of_transaction, find_transacti
 use Rattle.qs_machine.specs.Lawful.{IsLawful}
 use Rattle.qs_machine.specs.Nodes as machine
 use Rattle.qs_machine.specs.Restart.{is_among, member_at}
-use Rattle.qs_machine.specs.Transaction.{TransactionValue}
+use Rattle.qs_machine.specs.Transaction.{TransactionValue, is_empty}
 use Rattle.qs_machine.specs.declared.transaction.Cell.TheVariants as cells
 use Rattle.qs_ops.specs.Server.{changes_in}
 use Rattle.qs_ops.specs.declared.operation.Op.{Op}
@@ -182,8 +182,8 @@ module _ (P : Opening → World → Type 0) (owed : Owed P) (unanimous : AfterSt
           one : {x y : machine.NodeValue} → Some x ≡ Some y → x ≡ y
           one e = cc e
 
-  entered : (tid : Tid) (server : ServerNo) (covers : ℕ) (changes : List Op) → From (made.Prepare tid server covers changes) → EntersVote tid (member_at n server.0) votes.Recoverable covers done
-  entered tid server covers changes (inl e) = subst (λ (k : NodeNo). EntersVote tid (record { node = k; server = server }) votes.Recoverable covers done) me_is e
+  entered : (tid : Tid) (server : ServerNo) (covers : ℕ) (changes : List Op) → From (made.Prepare tid server covers changes) → EntersVote tid (member_at n server.0) votes.Recoverable covers done × (is_empty changes ≡ false)
+  entered tid server covers changes (inl e) = (subst (λ (k : NodeNo). EntersVote tid (record { node = k; server = server }) votes.Recoverable covers done) me_is e.0, e.1)
   entered tid server covers changes (inr (inl t)) = absurd (by t.outcome t.is)
     where
       by : (x : Outcome) → made.Prepare tid server covers changes ≡ end_record t.tid x → ⊥
@@ -199,12 +199,12 @@ module _ (P : Opening → World → Type 0) (owed : Owed P) (unanimous : AfterSt
       clash e = cc e
 
   vote_fits : (tid : Tid) (server : ServerNo) (covers : ℕ) (changes : List Op) → From (made.Prepare tid server covers changes) → IsVoteOfStart node book state (made.Prepare tid server covers changes) → IsOwnVote n book state tid server covers changes
-  vote_fits tid server covers changes from of = let e : EntersVote tid (member_at n server.0) votes.Recoverable covers done = entered tid server covers changes from in record {
+  vote_fits tid server covers changes from of = let e : EntersVote tid (member_at n server.0) votes.Recoverable covers done = (entered tid server covers changes from).0 in record {
     keeps = vote_keeps n stamp done book tid (member_at n server.0) covers lawful e;
     due = subst (λ (i : ℕ). IsVoteDue book tid (member_at n server.0) i covers) (ap (λ (x : Option machine.NodeValue). elim x [ None ↦ 0 | Some s ↦ s.inc ]) there)
         (steps_vote_due tid n stamp node event free book well.inv lawful (member_at n server.0) votes.Recoverable covers e);
     of = record {
-      has = of.has;
+      has = (entered tid server covers changes from).1;
       pending = λ clean. subst (λ (ops : List Op). machine.pending_at state tid server.0 ≡ ops) (sym of.same) ((pending_now server tid (vote_keeps n stamp done book tid (member_at n server.0) covers lawful e)).changes clean);
       count = λ is. sym (ap (λ (i : ℕ). pending_in (find_transaction book tid) (member_at n server.0) i) (ap (λ (x : Option machine.NodeValue). elim x [ None ↦ 0 | Some s ↦ s.inc ]) there))
           ∙ ((pending_now server tid (vote_keeps n stamp done book tid (member_at n server.0) covers lawful e)).count is ∙ ap length (sym of.same));
@@ -245,7 +245,7 @@ module _ (P : Opening → World → Type 0) (owed : Owed P) (unanimous : AfterSt
         where
           by : (b : Bool) → same_tid t tid ≡ b → same_tid t tid ≡ false
           by false e = e
-          by true e = absurd (let some : list_any (is_vote_of tid) done ≡ true = subst (λ (x : Tid). list_any (is_vote_of x) done ≡ true) (same_tid-true t tid e) (any_vote t (member_at n server.0) covers (entered t server covers changes from)) in
+          by true e = absurd (let some : list_any (is_vote_of tid) done ≡ true = subst (λ (x : Tid). list_any (is_vote_of x) done ≡ true) (same_tid-true t tid e) (any_vote t (member_at n server.0) covers (entered t server covers changes from).0) in
               let no_vote : list_any (is_vote_of tid) done ≡ false = c.unvoted in cc (some, no_vote))
       head (made.Aborted t) from off = by (same_tid t tid) refl
         where

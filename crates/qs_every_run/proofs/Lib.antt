@@ -109,6 +109,7 @@ pub mod MarkedBefore
 pub mod CutCould
 pub mod BatchVotes
 pub mod TriedOwingRuns
+pub mod TriedStaleRuns
 pub mod ServesGo
 pub mod StepsGo
 pub mod StepsWhole
@@ -135,6 +136,7 @@ pub mod BatchHeld
 pub mod BatchWhole
 pub mod CutHeld
 pub mod RecordMakes
+pub mod VotesKeep
 pub mod RecordRules
 pub mod RecordTold
 pub mod RecordSteps

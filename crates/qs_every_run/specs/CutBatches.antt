@@ -82,7 +82,6 @@ EachBatchFits P = (o : Opening) (world : World) (n stamp free : ℕ) (source : S
 
 -- a vote of what its server had pending as the step began
 pub record IsOfStart (node : NodeValue) (book : BookValue) (state : machine.NodeValue) (tid : Tid) (server : ServerNo) (covers : ℕ) (changes : List Op) : Type 0 where
-  pub has : is_empty changes ≡ false
   pub same : changes ≡ changes_in (server_at node.servers server) tid
   pub beyond : IsBeyond book state tid server covers
 

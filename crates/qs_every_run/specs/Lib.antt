@@ -29,6 +29,7 @@ pub mod Born
 pub mod CutCommits
 pub mod CutVotes
 pub mod TriedOwing
+pub mod TriedStale
 pub mod PlacesJoined
 pub mod PlacesTurns
 pub mod CutBatches
