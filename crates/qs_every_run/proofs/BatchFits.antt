@@ -18,6 +18,7 @@ use Rattle.qs_machine.specs.Lawful.{IsLawful}
 use Rattle.qs_machine.specs.Nodes as machine
 use Rattle.qs_machine.specs.Restart.{is_among, member_at}
 use Rattle.qs_machine.specs.Transaction.{TransactionValue, is_empty}
+use Rattle.qs_machine.specs.declared.state.OnRecord.{OnRecord}
 use Rattle.qs_machine.specs.declared.transaction.Cell.TheVariants as cells
 use Rattle.qs_ops.specs.Server.{changes_in}
 use Rattle.qs_ops.specs.declared.operation.Op.{Op}
@@ -38,7 +39,7 @@ use Rattle.qs_world.specs.Posting.{entries_of}
 use Rattle.qs_world.specs.World.{Host, Opening, World}
 use Rattle.qs_refine.proofs.SaysSeen.{said_seen}
 use Rattle.qs_refine.specs.SaidLaws.{AreSaid, IsSoundOver, no_flags}
-use Rattle.qs_lawful.specs.Logged.{HasCommitted}
+use Rattle.qs_lawful.specs.Logged.{IsRecordSafe, HasCommitted}
 use Rattle.qs_lawful.specs.Logs.{Every}
 use Rattle.qs_lawful.specs.Said.{IsApart}
 use Rattle.qs_lawful.specs.Saying.{ArePending}
@@ -58,6 +59,7 @@ use Rattle.qs_every_run.specs.CutVotes.{EntersVote, IsVoteDue}
 use Rattle.qs_every_run.specs.Firsts.{is_vote_of}
 use Rattle.qs_every_run.specs.Joined.{Joined, book_in}
 use Rattle.qs_every_run.specs.JoinedOwed.{AfterStep, Owed, StaysUnanimousThen}
+use Rattle.qs_every_run.proofs.BatchBeyond.{beyond_now}
 use Rattle.qs_every_run.proofs.BatchCommits.{Commits, commit_is}
 use Rattle.qs_every_run.proofs.BatchSources.{aborted_fits, end_fits}
 use Rattle.qs_every_run.proofs.DueVotes.{steps_vote_due}
@@ -198,7 +200,13 @@ module _ (P : Opening → World → Type 0) (owed : Owed P) (unanimous : AfterSt
       clash : made.Prepare tid server covers changes ≡ made.Aborted t.tid → ⊥
       clash e = cc e
 
-  vote_fits : (tid : Tid) (server : ServerNo) (covers : ℕ) (changes : List Op) → From (made.Prepare tid server covers changes) → IsVoteOfStart node book state (made.Prepare tid server covers changes) → IsOwnVote n book state tid server covers changes
+  kept_so : (tid : Tid) (server : ℕ) (rec : OnRecord) → machine.record_of state tid server ≡ Some rec → IsRecordSafe book log (machine.voter tid server) rec.covers
+  kept_so tid server rec is = up.log.all.kept tid server rec (ap (λ (s : machine.NodeValue). machine.record_of s tid server) (one (sym up.log.there ∙ there)) ∙ is)
+    where
+      one : {x y : machine.NodeValue} → Some x ≡ Some y → x ≡ y
+      one e = cc e
+
+  vote_fits : (tid : Tid) (server : ServerNo) (covers : ℕ) (changes : List Op) → From (made.Prepare tid server covers changes) → IsVoteOfStart node book state log (made.Prepare tid server covers changes) → IsOwnVote n book state tid server covers changes
   vote_fits tid server covers changes from of = let e : EntersVote tid (member_at n server.0) votes.Recoverable covers done = (entered tid server covers changes from).0 in record {
     keeps = vote_keeps n stamp done book tid (member_at n server.0) covers lawful e;
     due = subst (λ (i : ℕ). IsVoteDue book tid (member_at n server.0) i covers) (ap (λ (x : Option machine.NodeValue). elim x [ None ↦ 0 | Some s ↦ s.inc ]) there)
@@ -208,7 +216,7 @@ module _ (P : Opening → World → Type 0) (owed : Owed P) (unanimous : AfterSt
       pending = λ clean. subst (λ (ops : List Op). machine.pending_at state tid server.0 ≡ ops) (sym of.same) ((pending_now server tid (vote_keeps n stamp done book tid (member_at n server.0) covers lawful e)).changes clean);
       count = λ is. sym (ap (λ (i : ℕ). pending_in (find_transaction book tid) (member_at n server.0) i) (ap (λ (x : Option machine.NodeValue). elim x [ None ↦ 0 | Some s ↦ s.inc ]) there))
           ∙ ((pending_now server tid (vote_keeps n stamp done book tid (member_at n server.0) covers lawful e)).count is ∙ ap length (sym of.same));
-      beyond = of.beyond;
+      beyond = beyond_now n stamp free node event book well.inv lawful state log kept_so committed tid server covers (entered tid server covers changes from).0 of.beyond of.fresh;
     };
   }
 
@@ -260,7 +268,7 @@ module _ (P : Opening → World → Type 0) (owed : Owed P) (unanimous : AfterSt
 
   -- ---- record by record
 
-  fit_all : (rest before : List Record) → records ≡ before ++ rest → Every From before → Every From rest → Every (IsVoteOfStart node book state) rest → FitCut n book state log.committed before rest
+  fit_all : (rest before : List Record) → records ≡ before ++ rest → Every From before → Every From rest → Every (IsVoteOfStart node book state log) rest → FitCut n book state log.committed before rest
   fit_all [] before is front back of = tt
   fit_all (rec ∷ rest) before is front back of = (one rec is back.0 of.0, fit_all rest (before ++ rec ∷ []) (is ∙ sym (append_assoc before (rec ∷ []) rest)) (behind before front) back.1 of.1)
     where
@@ -268,7 +276,7 @@ module _ (P : Opening → World → Type 0) (owed : Owed P) (unanimous : AfterSt
       behind [] all = (back.0, tt)
       behind (x ∷ xs) all = (all.0, behind xs all.1)
 
-      one : (r : Record) → records ≡ before ++ r ∷ rest → From r → IsVoteOfStart node book state r → FitsCut n book state log.committed before r
+      one : (r : Record) → records ≡ before ++ r ∷ rest → From r → IsVoteOfStart node book state log r → FitsCut n book state log.committed before r
       one (made.Prepare tid server covers changes) so from pending = vote_fits tid server covers changes from pending
       one (made.Commit tid told) so from pending = let c = commit_so tid told from in record {
         named = c.named;
@@ -285,5 +293,5 @@ module _ (P : Opening → World → Type 0) (owed : Owed P) (unanimous : AfterSt
       one (made.Aborted tid) so from pending = aborted_so tid from
       one (made.End tid) so from pending = end_so tid from
 
-  pub batch_fits : Every (IsVoteOfStart node book state) records → FitCut n book state log.committed [] records
+  pub batch_fits : Every (IsVoteOfStart node book state log) records → FitCut n book state log.committed [] records
   batch_fits of = fit_all records [] refl tt (steps_make_records node event free).sources of

@@ -144,4 +144,5 @@ pub mod DecidedOnce
 pub mod VotesShut
 pub mod BatchSources
 pub mod BatchCommits
+pub mod BatchBeyond
 pub mod BatchFits

@@ -7,7 +7,7 @@ use Rattle.qs_base.specs.declared.identifiers.Tid.{Tid}
 use Rattle.qs_laws.specs.Served.{keeps_contents}
 use Rattle.qs_machine.specs.Book.{BookValue, crossed_in, find_transaction, pending_in}
 use Rattle.qs_machine.specs.Nodes as machine
-use Rattle.qs_machine.specs.Restart.{is_among, may_be_lost, member_at}
+use Rattle.qs_machine.specs.Restart.{is_among, is_found_as, may_be_lost, member_at}
 use Rattle.qs_machine.specs.Transaction.{is_empty}
 use Rattle.qs_machine.specs.declared.state.OnRecord.{OnRecord}
 use Rattle.qs_ops.specs.Server.{changes_in}
@@ -15,7 +15,7 @@ use Rattle.qs_ops.specs.Servers.{files_no}
 use Rattle.qs_ops.specs.declared.operation.Op.{Op}
 use Rattle.qs_record.specs.declared.record.Record.{Record}
 use Rattle.qs_record.specs.declared.record.Record.TheVariants as made
-use Rattle.qs_restart.specs.Recovery.{names_transaction, recovery}
+use Rattle.qs_restart.specs.Recovery.{Recovery, names_transaction, recovery}
 use Rattle.qs_servers.specs.Servers.{server_at}
 use Rattle.qs_step.specs.State.{NodeValue}
 use Rattle.qs_step.specs.Step.{effects_of}
@@ -23,7 +23,7 @@ use Rattle.qs_step.specs.declared.event.Event.{Event}
 use Rattle.qs_world.specs.Moves.{Source}
 use Rattle.qs_world.specs.World.{Opening, World}
 use Rattle.qs_lawful.specs.Logged.{HasAborted}
-use Rattle.qs_lawful.specs.Logs.{Every}
+use Rattle.qs_lawful.specs.Logs.{Every, found_votes}
 use Rattle.qs_every_run.specs.Agrees.{MakesStep}
 use Rattle.qs_every_run.specs.CutVotes.{IsVoteDue}
 use Rattle.qs_every_run.specs.Joined.{Joined, book_in}
@@ -80,15 +80,18 @@ EachBatchFits P = (o : Opening) (world : World) (n stamp free : ℕ) (source : S
 
 -- ---- what is owed of it
 
--- a vote of what its server had pending as the step began
-pub record IsOfStart (node : NodeValue) (book : BookValue) (state : machine.NodeValue) (tid : Tid) (server : ServerNo) (covers : ℕ) (changes : List Op) : Type 0 where
+-- a vote of what its server had pending as the step began; it covers more than what is on record and found in the log, and not as many as what is on record of an aborted transaction that
+-- the log has ended
+pub record IsOfStart (node : NodeValue) (book : BookValue) (state : machine.NodeValue) (log : Recovery) (tid : Tid) (server : ServerNo) (covers : ℕ) (changes : List Op) : Type 0 where
   pub same : changes ≡ changes_in (server_at node.servers server) tid
-  pub beyond : IsBeyond book state tid server covers
+  pub beyond : (rec : OnRecord) → machine.record_of state tid server.0 ≡ Some rec → list_any (is_found_as (machine.voter tid server.0) rec.covers) (found_votes log) ≡ true → nat_lt rec.covers covers ≡ true
+  pub fresh : (rec : OnRecord) → machine.record_of state tid server.0 ≡ Some rec → HasAborted book tid → list_any (is_found_as (machine.voter tid server.0) rec.covers) (found_votes log) ≡ false → (rec.covers == covers) ≡ false
 
-abbrev pub IsVoteOfStart : NodeValue → BookValue → machine.NodeValue → Record → Type 0
-IsVoteOfStart node book state (made.Prepare tid server covers changes) = IsOfStart node book state tid server covers changes
-IsVoteOfStart node book state rec = ⊤
+abbrev pub IsVoteOfStart : NodeValue → BookValue → machine.NodeValue → Recovery → Record → Type 0
+IsVoteOfStart node book state log (made.Prepare tid server covers changes) = IsOfStart node book state log tid server covers changes
+IsVoteOfStart node book state log rec = ⊤
 
 abbrev pub EachVoteOfStart : (Opening → World → Type 0) → Type 0
 EachVoteOfStart P = (o : Opening) (world : World) (n stamp free : ℕ) (source : Source) (event : Event) → Joined P o world → MakesStep world n stamp source event
-    → (state : machine.NodeValue) → slice_get (book_in o world).nodes n ≡ Some state → Every (IsVoteOfStart (world.hosts n).node (book_in o world) state) (effects_of (world.hosts n).node event free).records
+    → (state : machine.NodeValue) → slice_get (book_in o world).nodes n ≡ Some state
+    → Every (IsVoteOfStart (world.hosts n).node (book_in o world) state (recovery ((world.hosts n).log ++ (world.hosts n).waiting))) (effects_of (world.hosts n).node event free).records
