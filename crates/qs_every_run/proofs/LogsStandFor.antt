@@ -14,6 +14,7 @@ use Rattle.qs_lawful.specs.Logged.{HoldsLogged}
 use Rattle.qs_lawful.specs.Tables.{HoldsServers, is_seen}
 use Rattle.qs_lawful.specs.Worlds.{HoldsNodeAt, HoldsUp}
 use Rattle.qs_lawful.proofs.Truths.{of_some}
+use Rattle.qs_lawful.proofs.Still.{held_at}
 use Rattle.qs_every_run.specs.Joined.{Joined, book_in}
 use Rattle.qs_every_run.specs.JoinedPlaces.{PlacesAt}
 use Rattle.qs_every_run.specs.StandsFor.{EachLogStandsFor, IsRestored}
@@ -75,7 +76,7 @@ module _ (o : Opening) (world : World) (n stamp inc : ℕ) (may : may_move world
   up = at.runs runs
 
   holds : Holds stamp book (after.hosts n).node
-  holds = up.next stamp (j.held.order n stamp order_then)
+  holds = held_at n stamp book (after.hosts n).node at.node up.still (j.held.order n stamp order_then)
 
   same : holds.state ≡ at.state
   same = of_some (sym (subst (λ (k : ℕ). slice_get book.nodes k ≡ Some holds.state) at.node holds.there) ∙ at.there)
