@@ -7,3 +7,4 @@ pub mod PacketAgrees
 pub mod PacketPlays
 pub mod PacketRows
 pub mod PacketLawful
+pub mod PacketSessions
