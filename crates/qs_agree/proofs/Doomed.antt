@@ -1,13 +1,13 @@
 -- What dooms a transaction, and what is not committed while it lasts.
-use Rattle.std.proofs.Common.{◌≡◌, ◌≢◌, ◌⊎◌, ◌∙◌, ℕ, ◌<◌, ◌≤◌, inl, inr, true, List, [], ◌∷◌, refl, sym, subst, arith}
+use Rattle.std.proofs.Common.{◌≡◌, ◌≢◌, ◌⊎◌, ◌∙◌, ℕ, ◌<◌, ◌≤◌, inl, inr, true, List, [], ◌∷◌, refl, sym, subst, ap, arith}
 use Rattle.std.proofs.lemmas.Bool.Decides.{nat_tests}
 use Rattle.qs_agree.specs.World.{Outcome, Open, Committed, Aborted, World}
 use Rattle.qs_agree.specs.Guards.{Votes}
 use Rattle.qs_agree.specs.Step.{Event}
 use Rattle.qs_agree.specs.Laws.{Run}
 use Rattle.qs_agree.specs.Carry.{Leads}
-use Rattle.qs_agree.specs.Doomed.{IsDoomed, IsLeft, IsKeptBack, DoomStays, AbortDooms, EngagedPastDooms, PastHomeDooms, AbortVoteDooms, GoneDooms, RefusalDooms, LeftDooms, LeftBehindDooms, KeptBackDooms, BusyEngaged, EngagedOpen, LeftOpen, KeptBackOpen}
-use Rattle.qs_agree.proofs.Carries.{leads_on}
+use Rattle.qs_agree.specs.Doomed.{IsDoomed, IsLeft, IsKeptBack, DoomStays, AbortDooms, EngagedPastDooms, PastHomeDooms, AbortVoteDooms, GoneDooms, RefusalDooms, LeftDooms, LeftBehindDooms, KeptBackDooms, SentStays, LateDooms, BusyEngaged, EngagedOpen, LeftOpen, KeptBackOpen}
+use Rattle.qs_agree.proofs.Carries.{leads_on, reached_on}
 use Rattle.qs_agree.proofs.Counts.{Counts}
 use Rattle.qs_agree.proofs.Places.{Places}
 use Rattle.qs_agree.proofs.Tree.{engaged_open}
@@ -16,8 +16,9 @@ use Rattle.qs_agree.proofs.Whole.{Inv, Whole}
 use Rattle.qs_agree.proofs.Inv.{inv_step, inv_run}
 use Rattle.qs_agree.proofs.Heeded.{lasts_run}
 use Rattle.qs_agree.proofs.Lawful.{inv_reached, settled_at}
-use Rattle.qs_agree.proofs.Past.{Past, Missed, Behind}
+use Rattle.qs_agree.proofs.Past.{Past, Missed, Behind, Later}
 use Rattle.qs_agree.proofs.PastTable.{past_step, missed_step, behind_step}
+use Rattle.qs_agree.proofs.LaterTable.{later_step}
 
 -- ---- over a run
 
@@ -47,6 +48,21 @@ behind_run [] w v k p j i r later l = subst (λ (x : World). IsLeft x p k j) (sy
 behind_run (e ∷ es) w v k p j i r later l =
     let first : Behind w r.0 k p j = behind_step e w r.0 k p j i.counts r.1 in
     behind_run es r.0 v k p j (inv_step e w r.0 i r.1) r.2 (subst (λ (node : ℕ → ℕ). p < r.0.peer k (node p)) (sym first.node) (first.later later)) (first.left later l)
+
+later_run : (es : List Event) (w v : World) (k p : ℕ) → Run w es v → Later w v k p
+later_run [] w v k p r = subst (λ (x : World). Later w x k p) (sym r) (record { sent = λ m. omega arith; known = λ h. h; took = λ h l. refl })
+later_run (e ∷ es) w v k p r =
+    let first : Later w r.0 k p = later_step e w r.0 k p r.1 in
+    let rest : Later r.0 v k p = later_run es r.0 v k p r.2 in
+    let gone : Past w r.0 k 0 = past_step e w r.0 k 0 r.1 in
+    record {
+      sent = λ m. rises (w.sent p m) (r.0.sent p m) (v.sent p m) (first.sent m) (rest.sent m);
+      known = λ h. rest.known (first.known h);
+      took = λ h l. rest.took (gone.stopped h) (first.known l) ∙ first.took h l;
+    }
+  where
+    rises : (a b c : ℕ) → a ≤ b → b ≤ c → a ≤ c
+    rises a b c x y = omega (arith, x, y)
 
 -- ---- what is not committed
 
@@ -161,3 +177,33 @@ pub kept_back_dooms : KeptBackDooms
 kept_back_dooms w p m j r past kept v l =
     let its : Past w v p m = past_run l.events w v p m l.run in
     kept_back_not v p m j (later w v (inv_reached w r) l) (record { number = kept.number; was_sent = subst (λ (n : ℕ). j ≤ n) (sym (its.sent past)) kept.was_sent; unknown = its.peer past ∙ kept.unknown })
+
+-- ---- a request that is sent to a place which stopped before
+
+pub sent_stays : SentStays
+sent_stays w v p m l = (later_run l.events w v 0 p l.run).sent m
+
+pub late_dooms : LateDooms
+late_dooms w v p q r past some before now l more =
+    left_dooms v p q (v.sent p (w.node q)) (reached_on w v r l) ((past_run l.events w v q 0 l.run).stopped past)
+    (left (by (v.sent p (w.node q)) (w.sent p (w.node q)) (v.posted p q) (v.received q p) (w.received q p) (w.posted p q) more
+    (subst (λ (m : ℕ). v.posted p q ≡ v.sent p m) node_is (i.counts.posted_all p q (subst (λ (m : ℕ). v.peer p m ≡ q) (sym node_is) now) some))
+    ((later_run l.events w v q p l.run).took past (at (w.peer p (w.node q)) before)) (j.counts.received_posted q p) (j.counts.posted_sent p q)))
+  where
+    i : Inv v
+    i = later w v (inv_reached w r) l
+
+    j : Inv w
+    j = inv_reached w r
+
+    node_is : v.node q ≡ w.node q
+    node_is = ap (λ (f : ℕ → ℕ). f q) (past_run l.events w v q 0 l.run).node
+
+    left : (1 ≤ v.sent p (w.node q)) × ((v.sent p (w.node q) ≤ v.posted p q) × (v.received q p < v.sent p (w.node q))) → IsLeft v p q (v.sent p (w.node q))
+    left its = record { number = its.0; put = its.1.0; untaken = its.1.1 }
+
+    at : (a : ℕ) → a ≡ q → q ≤ a
+    at a is = omega (arith, is)
+
+    by : (new old put took had posted : ℕ) → old < new → put ≡ new → took ≡ had → had ≤ posted → posted ≤ old → (1 ≤ new) × ((new ≤ put) × (took < new))
+    by new old put took had posted more all same below within = (omega (arith, more), (omega (arith, all), omega (arith, more, same, below, within)))

@@ -1,5 +1,5 @@
 -- From one world to a later one: what a place k that stopped keeps, towards node m; and what was put for it by place p, up to number j.
-use Rattle.std.proofs.Common.{◌≡◌, ℕ, ◌<◌}
+use Rattle.std.proofs.Common.{◌≡◌, ℕ, ◌<◌, ◌≤◌}
 use Rattle.qs_agree.specs.World.{World}
 use Rattle.qs_agree.specs.Doomed.{IsPast, IsLeft}
 
@@ -19,3 +19,9 @@ pub record Behind (w v : World) (k p j : ℕ) : Type 0 where
   pub node : v.node ≡ w.node
   pub later : p < w.peer k (w.node p) → p < v.peer k (w.node p)
   pub left : p < w.peer k (w.node p) → IsLeft w p k j → IsLeft v p k j
+
+-- what p sends only grows; and what stopped as a place that it knows, or an earlier one of that node, takes nothing more of it
+pub record Later (w v : World) (k p : ℕ) : Type 0 where
+  pub sent : (m : ℕ) → w.sent p m ≤ v.sent p m
+  pub known : k ≤ w.peer p (w.node k) → k ≤ v.peer p (v.node k)
+  pub took : IsPast w k → k ≤ w.peer p (w.node k) → v.received k p ≡ w.received k p

@@ -33,6 +33,10 @@ pub record IsKeptBack (w : World) (p m j : ℕ) : Type 0 where
 abbrev pub DoomStays : Type 0
 DoomStays = (w v : World) → IsDoomed w → Leads w v → IsDoomed v
 
+-- nor is what was sent taken back
+abbrev pub SentStays : Type 0
+SentStays = (w v : World) (p m : ℕ) → Leads w v → w.sent p m ≤ v.sent p m
+
 -- ---- what dooms it
 
 abbrev pub AbortDooms : Type 0
@@ -67,6 +71,10 @@ LeftBehindDooms = (w : World) (p q j : ℕ) → IsReached w → p < w.peer q (w.
 -- a request that still waited to be put as its sender stopped
 abbrev pub KeptBackDooms : Type 0
 KeptBackDooms = (w : World) (p m j : ℕ) → IsReached w → IsPast w p → IsKeptBack w p m j → IsDoomed w
+
+-- a request that is sent to a place which stopped before, and which its sender knows all the while
+abbrev pub LateDooms : Type 0
+LateDooms = (w v : World) (p q : ℕ) → IsReached w → IsPast w q → 1 ≤ q → w.peer p (w.node q) ≡ q → v.peer p (w.node q) ≡ q → Leads w v → w.sent p (w.node q) < v.sent p (w.node q) → IsDoomed v
 
 -- ---- what is not committed while it lasts
 

@@ -5,7 +5,7 @@ ghost use Rattle.qs_agree.specs.Origins.{Origin, IsOrigin, first};
 ghost use Rattle.qs_agree.specs.Step.{Event, Refuse, Answer_running};
 ghost use Rattle.qs_agree.specs.Laws.{Run, IsSettled, IsAnswered, IsInvolved, IsAgreed, IsSilenced};
 ghost use Rattle.qs_agree.specs.Events.{Happens, IsOpposed, NeverCommits, IsRemembered};
-ghost use Rattle.qs_agree.specs.Doomed.{DoomStays, AbortDooms, EngagedPastDooms, PastHomeDooms, AbortVoteDooms, GoneDooms, RefusalDooms, LeftDooms, LeftBehindDooms, KeptBackDooms, BusyEngaged, EngagedOpen, LeftOpen, KeptBackOpen};
+ghost use Rattle.qs_agree.specs.Doomed.{DoomStays, AbortDooms, EngagedPastDooms, PastHomeDooms, AbortVoteDooms, GoneDooms, RefusalDooms, LeftDooms, LeftBehindDooms, KeptBackDooms, SentStays, LateDooms, BusyEngaged, EngagedOpen, LeftOpen, KeptBackOpen};
 
 /// Once commit is decided, every request was served and stands before a vote, and no vote was against it.
 pub fn unanimity()
@@ -53,6 +53,8 @@ pub fn doom()
     ensures left { LeftDooms }
     ensures left_behind { LeftBehindDooms }
     ensures kept_back { KeptBackDooms }
+    ensures sent { SentStays }
+    ensures late { LateDooms }
 {}
 
 /// While a place is engaged, and a request is still to be handed up or put, commit is not decided; and a place is engaged while anything is

@@ -1,15 +1,14 @@
 -- A step and its clients, in a world in which all stands together.
-use Rattle.std.proofs.Common.{◌≡◌, ℕ, true, sym, ap, subst}
+use Rattle.std.proofs.Common.{ℕ, sym, ap, subst}
 use Rattle.qs_laws.proofs.Rising.{IsRising}
 use Rattle.qs_machine.specs.Lawful.{book_after}
 use Rattle.qs_step.specs.State.{client_cmp}
 use Rattle.qs_step.specs.Step.{effects_of}
 use Rattle.qs_step.specs.declared.event.Event.{Event}
-use Rattle.qs_world.specs.Moves.{Source, is_in_order, is_later, step_with}
+use Rattle.qs_world.specs.Moves.{Source, step_with}
 use Rattle.qs_world.specs.Posting.{entries_of}
 use Rattle.qs_world.specs.World.{Opening, World}
 use Rattle.qs_refine.proofs.MoveGoes.{StepMay, step_may}
-use Rattle.qs_refine.proofs.SoundParts.{and_both}
 use Rattle.qs_lawful.specs.Aside.{IsOfStep}
 use Rattle.qs_lawful.specs.Logs.{Every}
 use Rattle.qs_lawful.specs.Scripts.{HoldsScripts}
@@ -29,10 +28,7 @@ module _ (P : Opening → World → Type 0) (o : Opening) (world : World) (j : J
   at = j.held.nodes n its.low
 
   rising : IsRising client_cmp (world.hosts n).node.commands
-  rising = ((at.runs its.runs).next stamp (j.held.order n stamp ordered)).clients.apart
-    where
-      ordered : is_in_order world n stamp ≡ true
-      ordered = (and_both (is_in_order world n stamp) _ (and_both (is_later world n stamp) _ (and_both (world.channels.up n) _ makes.may).1).0).0
+  rising = (at.runs its.runs).still.clients.apart
 
   -- of a client that commands nothing is in hand
   pub comes_free : IsFree event (world.hosts n).node.commands

@@ -31,7 +31,7 @@ use Rattle.qs_step.specs.declared.state.OpenCommand.{OpenCommand}
 use Rattle.qs_agree.specs.Doomed.{IsDoomed}
 use Rattle.qs_refine.proofs.SoundKnown.{same_is}
 use Rattle.qs_every_run.specs.Placed.{Field}
-use Rattle.qs_every_run.specs.PlacesGo.{CommandGoes, CommandsWell, Goes, IssuesWell, WaitGoes, WaitsWell}
+use Rattle.qs_every_run.specs.PlacesGo.{CommandGoes, CommandsWell, Goes, IssuesWell, MayGoYet, WaitGoes, WaitsWell}
 use Rattle.qs_every_run.proofs.LeftSteps.{aborting_leaves, asking_leaves, begun_leaves, request_leaves, take_leaves, yield_leaves}
 use Rattle.qs_every_run.proofs.PlacedVotes.{yield_placed}
 use Rattle.qs_every_run.proofs.PlacesGo.{beside, goes_by, goes_itself, goes_left, goes_then, is_beside, issue_goes_on}
@@ -181,7 +181,7 @@ module _ (D : Type 0) (t : Tid) (base : Field) (knows : ℕ → ℕ) (n stamp : 
           told None = still work
           told (Some decided) = said client (decided_answer decided command) work
 
-      borrower : (label : List ℕ) (begun : Begun) (issued : Option Issued) (command : Command) → CommandsWell D t base knows n stamp before client label command work → label_at label work.node ≡ Some begun → is_owner client begun.owner ≡ false → (o : Option Tid) → begun.tid ≡ o
+      borrower : (label : List ℕ) (begun : Begun) (issued : Option Issued) (command : Command) → (issued ≡ None → CommandsWell D t base knows n stamp before client label command work) → label_at label work.node ≡ Some begun → is_owner client begun.owner ≡ false → (o : Option Tid) → begun.tid ≡ o
           → G work (borrower_waits client issued o command work)
       borrower label begun (Some issued) command w found other o is = aborted (is_aborted issued.tid work.node)
         where
@@ -189,15 +189,19 @@ module _ (D : Type 0) (t : Tid) (base : Field) (knows : ℕ → ℕ) (n stamp : 
           aborted true = said client answers.Ended work
           aborted false = still work
       borrower label begun None command w found other None is = still work
-      borrower label begun None command w found other (Some tid) is = borrower_goes client tid command work (lends client label begun command work w found other tid is)
+      borrower label begun None command w found other (Some tid) is = borrower_goes client tid command work (lends client label begun command work (w refl) found other tid is)
 
-      at : (command : OpenCommand) → CommandsWell D t base knows n stamp before client command.line.label command.line.command work → (o : Option Begun) → label_at command.line.label work.node ≡ o → G work (elim o [ None ↦ work | Some begun ↦ waits_at client command begun work ])
+      at : (command : OpenCommand) → (MayGoYet client command work → CommandsWell D t base knows n stamp before client command.line.label command.line.command work) → (o : Option Begun) → label_at command.line.label work.node ≡ o → G work (elim o [ None ↦ work | Some begun ↦ waits_at client command begun work ])
       at command w None none = still work
       at command w (Some begun) found = which (is_owner client begun.owner) refl
         where
+          its : (a b : Begun) → Some a ≡ Some b → a ≡ b
+          its a b e = cc e
+
           which : (b : Bool) → is_owner client begun.owner ≡ b → G work (if b then owner_waits client begun.tid command.line.command work else borrower_waits client command.issued begun.tid command.line.command work)
           which true owns = owner begun.tid command.line.command
-          which false other = borrower command.line.label begun command.issued command.line.command w found other begun.tid refl
+          which false other = borrower command.line.label begun command.issued command.line.command
+              (λ none. w (record { unissued = none; lent = λ b is. subst (λ (k : Begun). is_owner client k.owner ≡ false) (its begun b (sym found ∙ is)) other })) found other begun.tid refl
 
       by : (o : Option OpenCommand) → lookup (is_at (client_cmp client)) work.node.commands ≡ o → G work (elim o [ None ↦ work | Some command ↦ wait_command client command work ])
       by None none = still work

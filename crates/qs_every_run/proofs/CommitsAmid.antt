@@ -38,7 +38,7 @@ use Rattle.qs_refine.proofs.DecideCommit.{decide_commit}
 use Rattle.qs_refine.proofs.Deciding as deciding
 use Rattle.qs_refine.proofs.Facts.{lawful_on}
 use Rattle.qs_refine.proofs.SettleStands.{home_clear, is_at_home}
-use Rattle.qs_lawful.specs.Holds.{Holds, HoldsAt, HoldsHome, HoldsTid}
+use Rattle.qs_lawful.specs.Holds.{HoldsAt, HoldsHome, HoldsStill, HoldsTid}
 use Rattle.qs_lawful.specs.Face.{face_of}
 use Rattle.qs_lawful.specs.Parcels.{pending}
 use Rattle.qs_lawful.proofs.Asking.{sent_each_node}
@@ -83,7 +83,7 @@ parts_say (Inquired ∷ xs) ys none = parts_say xs ys none
 -- ---- the home commits
 
 module _ (t : Tid) (scene : Scene) (base : Field) (stamp : ℕ) (before : BookValue) (work : Work) (part : Participant) (v : machine.World) (tx : TransactionValue) (is : Stands t scene t.home.0 work v) (field : ShowsField t scene base)
-    (others : (k : ℕ) → k < scene.size → scene.up k ≡ true → (k == t.home.0) ≡ false → IsBeside scene (book_amid t.home.0 stamp before work) k) (holds : Holds stamp (book_amid t.home.0 stamp before work) work.node)
+    (others : (k : ℕ) → k < scene.size → scene.up k ≡ true → (k == t.home.0) ≡ false → IsBeside scene (book_amid t.home.0 stamp before work) k) (holds : HoldsStill (book_amid t.home.0 stamp before work) work.node)
     (known : part_of t work ≡ Some part) (open_now : part.outcome ≡ None) (may : may_answer t part work ≡ true) (found : find_transaction (book_amid t.home.0 stamp before work) t ≡ Some tx) where
   abbrev n : ℕ
   n = t.home.0
@@ -160,7 +160,7 @@ module _ (t : Tid) (scene : Scene) (base : Field) (stamp : ℕ) (before : BookVa
 
   apart_from : (k : ℕ) → k < scene.size → scene.up k ≡ true → (k == n) ≡ false → IsFree t (scene.node k)
   apart_from k k_in up apart = let o = others k k_in up apart in
-      committed_free t (scene.node k) (place k (scene.inc k)) w lawful committed (picked (k == n) apart (goes.shown.faces k k_in up)) o.sound (λ other its. none_decided o.stamp book t tx (scene.node k) o.holds found undecided other its)
+      committed_free t (scene.node k) (place k (scene.inc k)) w lawful committed (picked (k == n) apart (goes.shown.faces k k_in up)) o.sound (λ other its. none_decided book t tx (scene.node k) o.holds found undecided other its)
     where
       picked : (b : Bool) → b ≡ false → ShowsFace (if b then face_at new.node t else face_at (scene.node k) t) (place k (scene.inc k)) w → ShowsFace (face_at (scene.node k) t) (place k (scene.inc k)) w
       picked false so f = f
@@ -255,10 +255,10 @@ module _ (t : Tid) (scene : Scene) (base : Field) (stamp : ℕ) (before : BookVa
       up = sym (field.up l.member.node.0) ∙ present.up
 
       by : (b : Bool) → (l.member.node.0 == n) ≡ b → agrees (l, its) ≡ true
-      by true same = free_agrees stamp book t tx amid work.node l its found undecided holds (ready_free t work part known may) life (ap (λ (k : ℕ). node_no k) (eqb-true l.member.node.0 n same) ∙ sym home.at.node)
+      by true same = free_agrees book t tx amid work.node l its found undecided holds (ready_free t work part known may) life (ap (λ (k : ℕ). node_no k) (eqb-true l.member.node.0 n same) ∙ sym home.at.node)
           (present.now ∙ (field.inc l.member.node.0 ∙ (ap scene.inc (eqb-true l.member.node.0 n same) ∙ sym home.at.inc)))
       by false apart = let o = others l.member.node.0 k_in up apart in
-          free_agrees o.stamp book t tx amid (scene.node l.member.node.0) l its found undecided o.holds (apart_from l.member.node.0 k_in up apart) life (sym o.at) (present.now ∙ (field.inc l.member.node.0 ∙ sym o.inc))
+          free_agrees book t tx amid (scene.node l.member.node.0) l its found undecided o.holds (apart_from l.member.node.0 k_in up apart) life (sym o.at) (present.now ∙ (field.inc l.member.node.0 ∙ sym o.inc))
 
   quiet : IsQuiet t tx amid
   quiet = record {

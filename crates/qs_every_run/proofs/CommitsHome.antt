@@ -62,7 +62,6 @@ use Rattle.qs_every_run.specs.CoherentAgain.{HomeLogged, StepCommitsHome}
 use Rattle.qs_every_run.specs.CutRecords.{IsSource}
 use Rattle.qs_every_run.specs.CutVotes.{EntersVote, IsVoteDue, is_due_vote}
 use Rattle.qs_every_run.specs.Joined.{Joined, book_in}
-use Rattle.qs_every_run.specs.JoinedOwed.{Owed}
 use Rattle.qs_every_run.specs.JoinedPlaces.{PlacesAt}
 use Rattle.qs_every_run.proofs.AgreesEach as agrees
 use Rattle.qs_every_run.proofs.CutCommits.{keeps_commits}
@@ -70,6 +69,7 @@ use Rattle.qs_every_run.proofs.DueVotes.{steps_vote_due}
 use Rattle.qs_every_run.proofs.JoinedSteps.{step_lawful}
 use Rattle.qs_every_run.proofs.RecordSteps.{steps_make_records}
 use Rattle.qs_every_run.proofs.RisesRunning.{known_committed}
+use Rattle.qs_every_run.proofs.WholeSteps.{whole_steps}
 
 equal : (a : ℕ) → (a == a) ≡ true
 equal a = grind (arith, nat_tests)
@@ -154,7 +154,7 @@ module _ (node : NodeValue) (event : Event) (done : List Act) (tid : Tid) where
 
 -- ---- a step
 
-module _ (owed : Owed PlacesAt) (o : Opening) (world : World) (n stamp free : ℕ) (source : Source) (event : Event) (j : Joined PlacesAt o world) (makes : MakesStep world n stamp source event)
+module _ (o : Opening) (world : World) (n stamp free : ℕ) (source : Source) (event : Event) (j : Joined PlacesAt o world) (makes : MakesStep world n stamp source event)
     (tid : Tid) (named : names_transaction tid ≡ true) (home_in : nat_lt tid.home.0 world.size ≡ true) (far : (tid.home.0 == n) ≡ false) where
   abbrev host : Host
   host = world.hosts n
@@ -199,7 +199,7 @@ module _ (owed : Owed PlacesAt) (o : Opening) (world : World) (n stamp free : �
     committed : is_commit tx.cell ≡ true
 
   committed_before : list_any (is_commit_of tid) out.records ≡ true → CommittedBefore
-  committed_before some = of (every_among (IsCommitLogged n (book_in o world) state) (recovery (log_after host out)).committed tid (keeps_commits owed o world n stamp free source event j makes state) (among some))
+  committed_before some = of (every_among (IsCommitLogged n (book_in o world) state) (recovery (log_after host out)).committed tid (keeps_commits o world n stamp free source event j makes state) (among some))
     where
       state : machine.NodeValue
       state = record (j.held.nodes n its.low).state { committed = [] }
@@ -250,7 +250,7 @@ module _ (owed : Owed PlacesAt) (o : Opening) (world : World) (n stamp free : �
       its_vote = entered host.node event out.entries tid out.records (steps_make_records host.node event free).sources some
 
       due : IsVoteDue (book_in o world) tid (record { node = host.node.setting.node; server = its_vote.server }) (inc_at (book_in o world) (record { 0 = n })) its_vote.covers
-      due = steps_vote_due tid n stamp host.node event free (book_in o world) well.inv (step_lawful PlacesAt owed o world j n stamp free source event makes) (record { node = host.node.setting.node; server = its_vote.server }) votes.Recoverable its_vote.covers its_vote.enters
+      due = steps_vote_due tid n stamp host.node event free (book_in o world) well.inv (step_lawful PlacesAt whole_steps o world j n stamp free source event makes) (record { node = host.node.setting.node; server = its_vote.server }) votes.Recoverable its_vote.covers its_vote.enters
 
       late : (tx other : TransactionValue) → find_transaction (book_in o world) tid ≡ Some tx → find_transaction (book_in o world) tid ≡ Some other → is_commit other.cell ≡ true
           → is_due_vote (record { node = host.node.setting.node; server = its_vote.server }) (inc_at (book_in o world) (record { 0 = n })) its_vote.covers tx ≡ true → ⊥
@@ -274,4 +274,4 @@ module _ (owed : Owed PlacesAt) (o : Opening) (world : World) (n stamp free : �
       of (inr prepared) = absurd (none_prepared c prepared)
 
 pub steps_commit_home : StepCommitsHome PlacesAt
-steps_commit_home owed o world n stamp free source event j makes tid named home_in far some = step_commits_home owed o world n stamp free source event j makes tid named home_in far some
+steps_commit_home o world n stamp free source event j makes tid named home_in far some = step_commits_home o world n stamp free source event j makes tid named home_in far some

@@ -108,7 +108,7 @@ keeps_log world n host same waits = record {
 
 -- ---- a step, whole or cut off
 
-module _ (owed : Owed PlacesAt) (o : Opening) (world : World) (n stamp free : ℕ) (source : Source) (event : Event) (j : Joined PlacesAt o world) (makes : MakesStep world n stamp source event) where
+module _ (o : Opening) (world : World) (n stamp free : ℕ) (source : Source) (event : Event) (j : Joined PlacesAt o world) (makes : MakesStep world n stamp source event) where
   abbrev was : Host
   was = world.hosts n
 
@@ -119,7 +119,7 @@ module _ (owed : Owed PlacesAt) (o : Opening) (world : World) (n stamp free : �
       → Has tid (was.log ++ was.waiting) ⊎ Has tid (world.hosts tid.home.0).log
   of_step tid named home_in far (inl log) = inl (has_first tid was.log was.waiting log)
   of_step tid named home_in far (inr (inl waits)) = inl (has_last tid was.log was.waiting waits)
-  of_step tid named home_in far (inr (inr made)) = inr (steps_commit_home owed o world n stamp free source event j makes tid named home_in far made)
+  of_step tid named home_in far (inr (inr made)) = inr (steps_commit_home o world n stamp free source event j makes tid named home_in far made)
 
   parts : (tid : Tid) → Has tid (was.log ++ (was.waiting ++ out.records)) → Has tid was.log ⊎ (Has tid was.waiting ⊎ Has tid out.records)
   parts tid has = of (has_split tid was.log (was.waiting ++ out.records) has)
@@ -157,29 +157,29 @@ module _ (owed : Owed PlacesAt) (o : Opening) (world : World) (n stamp free : �
 
 -- ---- each move
 
-move_home : Owed PlacesAt → (o : Opening) (world : World) (move : Move) → Joined PlacesAt o world → may_move world move ≡ true → CommitsHome world → CommitsHome (moved move world)
-move_home owed o world (Step n stamp free source) j may old = by (event_of world n stamp source) refl
+move_home : (o : Opening) (world : World) (move : Move) → Joined PlacesAt o world → may_move world move ≡ true → CommitsHome world → CommitsHome (moved move world)
+move_home o world (Step n stamp free source) j may old = by (event_of world n stamp source) refl
   where
     by : (found : Option Event) → event_of world n stamp source ≡ found → CommitsHome (step_with world n stamp free source found)
     by None none = old
     by (Some event) came = home_with world (step_with world n stamp free source (Some event)) n (stepped_host stamp (after_step (world.hosts n).node event free) (effects_of (world.hosts n).node event free) (world.hosts n)) refl (λ k. refl)
-        (stepped_commits owed o world n stamp free source event j (record { may = may; comes = came })) old
-move_home owed o world (Cut n stamp free source is_kept cause) j may old = by (event_of world n stamp source) refl
+        (stepped_commits o world n stamp free source event j (record { may = may; comes = came })) old
+move_home o world (Cut n stamp free source is_kept cause) j may old = by (event_of world n stamp source) refl
   where
     by : (found : Option Event) → event_of world n stamp source ≡ found → CommitsHome (cut_with world n stamp free is_kept cause found)
     by None none = old
     by (Some event) came = home_with world (cut_with world n stamp free is_kept cause (Some event)) n (stopped_host stamp (cut_log (world.hosts n) is_kept (effects_of (world.hosts n).node event free)) (world.hosts n)) refl (λ k. refl)
-        (cut_commits owed o world n stamp free source event j (record { may = (and_both (may_step world n stamp source) (is_crash cause) may).0; comes = came }) is_kept) old
-move_home owed o world (Stop n stamp cause) j may old = home_with world (stopped world n stamp cause (world.hosts n).log) n (stopped_host stamp (world.hosts n).log (world.hosts n)) refl (λ k. refl)
+        (cut_commits o world n stamp free source event j (record { may = (and_both (may_step world n stamp source) (is_crash cause) may).0; comes = came }) is_kept) old
+move_home o world (Stop n stamp cause) j may old = home_with world (stopped world n stamp cause (world.hosts n).log) n (stopped_host stamp (world.hosts n).log (world.hosts n)) refl (λ k. refl)
     (keeps_log world n (stopped_host stamp (world.hosts n).log (world.hosts n)) refl (λ tid has. absurd (cc has))) old
-move_home owed o world (Rise n stamp inc) j may old = home_with world (moved (Rise n stamp inc) world) n (risen_host stamp inc (recovered_of (world.hosts n).log) (world.hosts n)) refl (λ k. refl)
+move_home o world (Rise n stamp inc) j may old = home_with world (moved (Rise n stamp inc) world) n (risen_host stamp inc (recovered_of (world.hosts n).log) (world.hosts n)) refl (λ k. refl)
     (keeps_log world n (risen_host stamp inc (recovered_of (world.hosts n).log) (world.hosts n)) refl (λ tid has. has)) old
-move_home owed o world (Meet n stamp m inc) j may old = home_with world (moved (Meet n stamp m inc) world) n (record (world.hosts n) { stamp = stamp }) refl (λ k. refl)
+move_home o world (Meet n stamp m inc) j may old = home_with world (moved (Meet n stamp m inc) world) n (record (world.hosts n) { stamp = stamp }) refl (λ k. refl)
     (keeps_log world n (record (world.hosts n) { stamp = stamp }) refl (λ tid has. has)) old
 
 run_home : Owed PlacesAt → (o : Opening) (moves : List Move) (old new : World) → Joined PlacesAt o old → Run old moves new → CommitsHome old → CommitsHome new
 run_home owed o [] old new j run home = subst CommitsHome (sym run) home
-run_home owed o (move ∷ moves) old new j run home = run_home owed o moves (moved move old) new (each_move_joined PlacesAt places_go owed o old move j run.0) run.1 (move_home owed o old move j run.0 home)
+run_home owed o (move ∷ moves) old new j run home = run_home owed o moves (moved move old) new (each_move_joined PlacesAt places_go owed o old move j run.0) run.1 (move_home o old move j run.0 home)
 
 -- ---- as a run begins
 
@@ -237,5 +237,5 @@ each_commits_home owed o moves world opens run n low tid home_in has = by (tid.h
 
     by : (a b : Bool) → (tid.home.0 == n) ≡ a → names_transaction tid ≡ b → Has tid (world.hosts tid.home.0).log
     by true b here named = subst (λ (k : ℕ). Has tid (world.hosts k).log) (sym (eqb-true tid.home.0 n here)) has
-    by false true far named = run_home owed o moves (start o) world (each_opens_joined PlacesAt places_go owed o opens) run begun n low tid named home_in far (has_first tid (world.hosts n).log (world.hosts n).waiting has)
+    by false true far named = run_home owed o moves (start o) world (each_opens_joined PlacesAt places_go o opens) run begun n low tid named home_in far (has_first tid (world.hosts n).log (world.hosts n).waiting has)
     by false false far off = unnamed off (has_split tid (o.logs n) (grew n low).more (subst (Has tid) (grew n low).is has))

@@ -34,7 +34,7 @@ use Rattle.qs_refine.specs.Shows.{scene_of, sight}
 use Rattle.qs_refine.proofs.CommitIdles.{commit_idle, commit_clear, commit_unmet}
 use Rattle.qs_refine.proofs.ShownMoves.{steady}
 use Rattle.qs_lawful.specs.Face.{face_of, part_or_new}
-use Rattle.qs_lawful.specs.Holds.{Holds, HoldsAt, HoldsTid}
+use Rattle.qs_lawful.specs.Holds.{HoldsAt, HoldsStill, HoldsTid}
 use Rattle.qs_lawful.specs.Parcels.{is_asking_for, pending, pending_from}
 use Rattle.qs_lawful.proofs.Begins.{new_member}
 use Rattle.qs_every_run.specs.Placed.{message_of, field_of, asked, Placed}
@@ -199,8 +199,8 @@ committed_keeps tid world w all committed n m n_in m_in server number = kept (wo
 
 -- ---- what the reference machine has undecided no node has decided
 
-pub none_decided : (next : ℕ) (book : BookValue) (tid : Tid) (tx : TransactionValue) (node : NodeValue) → Holds next book node → find_transaction book tid ≡ Some tx → is_open tx.cell ≡ true → (part : Participant) → tm.part_of tid node.manager ≡ Some part → part.outcome ≡ None
-none_decided next book tid tx node h found undecided part known = by part.outcome refl
+pub none_decided : (book : BookValue) (tid : Tid) (tx : TransactionValue) (node : NodeValue) → HoldsStill book node → find_transaction book tid ≡ Some tx → is_open tx.cell ≡ true → (part : Participant) → tm.part_of tid node.manager ≡ Some part → part.outcome ≡ None
+none_decided book tid tx node h found undecided part known = by part.outcome refl
   where
     its : HoldsTid node.setting.node node.setting.inc tid tx (face_of node tid)
     its = subst (λ (o : Option TransactionValue). HoldsAt node.setting.node node.setting.inc tid o (face_of node tid)) found (h.at tid)
@@ -221,7 +221,7 @@ pub committed_unanimous : CommittedUnanimous
 committed_unanimous tid book world w tx is all committed holds places found undecided asked_for = by (places tx found undecided)
   where
     none_known : (k : ℕ) → k < world.size → world.channels.up k ≡ true → (part : Participant) → tm.part_of tid (world.hosts k).node.manager ≡ Some part → part.outcome ≡ None
-    none_known k k_in up = none_decided (holds k k_in up).0 book tid tx (world.hosts k).node (holds k k_in up).1 found undecided
+    none_known k k_in up = none_decided book tid tx (world.hosts k).node (holds k k_in up) found undecided
 
     free : (k : ℕ) → k < world.size → world.channels.up k ≡ true → IsFree tid (world.hosts k).node
     free k k_in up = committed_free tid (world.hosts k).node (Rattle.qs_refine.specs.Places.place k (world.channels.inc k)) w all.seen.lawful committed (all.seen.shown.faces k k_in up) ((steady world is).sound k k_in).node (none_known k k_in up)
@@ -231,7 +231,7 @@ committed_unanimous tid book world w tx is all committed holds places found unde
       idle = λ k k_in up. (free k k_in up).idle;
       ways = λ n m n_in m_in up. committed_ways tid world w all committed n m n_in m_in up;
       keeps = λ n m n_in m_in. committed_keeps tid world w all committed n m n_in m_in;
-      lives = λ l part life present. free_agrees (holds l.member.node.0 present.in_run present.up).0 book tid tx (field_of world) (world.hosts l.member.node.0).node l part found undecided (holds l.member.node.0 present.in_run present.up).1
+      lives = λ l part life present. free_agrees book tid tx (field_of world) (world.hosts l.member.node.0).node l part found undecided (holds l.member.node.0 present.in_run present.up)
           (free l.member.node.0 present.in_run present.up) life (sym ((steady world is).seated.node l.member.node.0 present.in_run)) (present.now ∙ sym ((steady world is).seated.inc l.member.node.0 present.in_run));
     }
 

@@ -39,13 +39,14 @@ use Rattle.qs_lawful.proofs.NumberedLogs.{opened_numbered, opening_named}
 use Rattle.qs_every_run.specs.Agrees.{MakesStep}
 use Rattle.qs_every_run.specs.CutCommits.{EachKeepsCommits, EachKeepsVotes, KeptVotes}
 use Rattle.qs_every_run.specs.Joined.{Joined, book_in}
-use Rattle.qs_every_run.specs.JoinedOwed.{AfterStep, Owed, StaysUnanimousThen, book_then}
+use Rattle.qs_every_run.specs.JoinedOwed.{AfterStep, WholeSteps, StaysUnanimousThen, book_then}
 use Rattle.qs_every_run.specs.JoinedPlaces.{PlacesAt}
 use Rattle.qs_every_run.proofs.JoinedHeld.{held_then}
 use Rattle.qs_every_run.proofs.JoinedLogged.{every_made}
 use Rattle.qs_every_run.proofs.JoinedParts.{lawful_both}
 use Rattle.qs_every_run.proofs.JoinedSteps.{step_entries, step_lawful, step_low, step_up}
 use Rattle.qs_every_run.proofs.StepUnanimous.{steps_stay_unanimous}
+use Rattle.qs_every_run.proofs.WholeSteps.{whole_steps}
 use Rattle.qs_every_run.proofs.UnanimousEarlier.{stood_earlier, unanimous_earlier}
 
 equal : (a : ℕ) → (a == a) ≡ true
@@ -57,7 +58,7 @@ next_apart a = grind (arith, nat_tests)
 turned : (a b : ℕ) → (a == b) ≡ false → (b == a) ≡ false
 turned a b e = grind (arith, nat_tests, e)
 
-module _ (P : Opening → World → Type 0) (owed : Owed P) (unanimous : AfterStep P StaysUnanimousThen) (o : Opening) (world : World) (n stamp free : ℕ) (source : Source) (event : Event) (j : Joined P o world) (makes : MakesStep world n stamp source event) where
+module _ (P : Opening → World → Type 0) (steps : WholeSteps P) (unanimous : AfterStep P StaysUnanimousThen) (o : Opening) (world : World) (n stamp free : ℕ) (source : Source) (event : Event) (j : Joined P o world) (makes : MakesStep world n stamp source event) where
   abbrev book : BookValue
   book = book_in o world
 
@@ -70,21 +71,21 @@ module _ (P : Opening → World → Type 0) (owed : Owed P) (unanimous : AfterSt
   abbrev log : List Record
   log = log_after (world.hosts n) (effects_of (world.hosts n).node event free)
 
-  lawful : IsLawful book (step_entries P owed o world j n stamp free source event makes)
-  lawful = step_lawful P owed o world j n stamp free source event makes
+  lawful : IsLawful book (step_entries P steps o world j n stamp free source event makes)
+  lawful = step_lawful P steps o world j n stamp free source event makes
 
   well : LastsWell book
   well = lasts_ran world.journal (book_of o) (lasts_first (opened_from o 0 o.size) (opens_soundly o j.opens) (opening_named (opened_from o 0 o.size) (opened_numbered o 0 o.size))) j.lawful
 
   lasts_now : Lasts now
-  lasts_now = subst Lasts (after_both world.journal (step_entries P owed o world j n stamp free source event makes) (book_of o))
-      (in_runs o (world.journal ++ step_entries P owed o world j n stamp free source event makes) j.opens (lawful_both world.journal (step_entries P owed o world j n stamp free source event makes) (book_of o) j.lawful lawful))
+  lasts_now = subst Lasts (after_both world.journal (step_entries P steps o world j n stamp free source event makes) (book_of o))
+      (in_runs o (world.journal ++ step_entries P steps o world j n stamp free source event makes) j.opens (lawful_both world.journal (step_entries P steps o world j n stamp free source event makes) (book_of o) j.lawful lawful))
 
   at : HoldsNodeAt now after n
-  at = (held_then P owed unanimous o world j n stamp free source event makes).nodes n (step_low P owed o world j n stamp free source event makes)
+  at = (held_then P steps unanimous o world j n stamp free source event makes).nodes n (step_low P steps o world j n stamp free source event makes)
 
   ups : after.channels.up n ≡ true
-  ups = ap (λ (f : ℕ → Bool). f n) (up_all n stamp (effects_of (world.hosts n).node event free).messages (taken_by world n source) ∙ up_taken world n source) ∙ step_up P owed o world j n stamp free source event makes
+  ups = ap (λ (f : ℕ → Bool). f n) (up_all n stamp (effects_of (world.hosts n).node event free).messages (taken_by world n source) ∙ up_taken world n source) ∙ step_up P steps o world j n stamp free source event makes
 
   logs : (after.hosts n).log ≡ log
   logs = picked (n == n) (equal n)
@@ -100,7 +101,7 @@ module _ (P : Opening → World → Type 0) (owed : Owed P) (unanimous : AfterSt
   committed_then tid among = every_made now n up.log.state lasts_now up.log.there (recovery (after.hosts n).log).committed up.log.on_disk.commits tid (subst (λ (rs : List Record). list_any (same_tid tid) (recovery rs).committed ≡ true) (sym logs) among)
 
   aside : (k : ℕ) → (k == n) ≡ false → (tid : Tid) (tx : TransactionValue) → find_transaction book tid ≡ Some tx → (later : TransactionValue) × (find_transaction now tid ≡ Some later) × GoesAside k tid tx later
-  aside k far tid tx found = goes_aside k (step_entries P owed o world j n stamp free source event makes) book well lawful (all (effects_of (world.hosts n).node event free).entries) tid tx found
+  aside k far tid tx found = goes_aside k (step_entries P steps o world j n stamp free source event makes) book well lawful (all (effects_of (world.hosts n).node event free).entries) tid tx found
     where
       all : (acts : List Act) → Every (λ (entry : Entry). (entry.node.0 == k) ≡ false) (entries_of n stamp acts)
       all [] = tt
@@ -173,7 +174,7 @@ module _ (P : Opening → World → Type 0) (owed : Owed P) (unanimous : AfterSt
       each (t ∷ tids) sub = (inr (of_found t (committed_then t (sub t (first t tids))) (find_transaction book t) refl), each tids (λ tid is. sub tid (behind tid t tids is)))
 
 pub keeps_commits : EachKeepsCommits PlacesAt
-keeps_commits owed o world n stamp free source event j makes state = keeps PlacesAt owed (steps_stay_unanimous owed) o world n stamp free source event j makes state
+keeps_commits o world n stamp free source event j makes state = keeps PlacesAt whole_steps steps_stay_unanimous o world n stamp free source event j makes state
 
 pub keeps_votes : EachKeepsVotes PlacesAt
-keeps_votes owed o world n stamp free source event j makes = keeps_votes_so PlacesAt owed (steps_stay_unanimous owed) o world n stamp free source event j makes
+keeps_votes o world n stamp free source event j makes = keeps_votes_so PlacesAt whole_steps steps_stay_unanimous o world n stamp free source event j makes

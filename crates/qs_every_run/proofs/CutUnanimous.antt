@@ -62,7 +62,7 @@ use Rattle.qs_lawful.proofs.LastsWell.{LastsWell}
 use Rattle.qs_lawful.proofs.NumberedLogs.{opened_numbered, opening_named}
 use Rattle.qs_every_run.specs.Agrees.{MakesStep}
 use Rattle.qs_every_run.specs.Joined.{Joined, book_in}
-use Rattle.qs_every_run.specs.JoinedOwed.{EachCutUnanimous, Owed, book_then}
+use Rattle.qs_every_run.specs.JoinedOwed.{EachCutUnanimous, WholeSteps, book_then}
 use Rattle.qs_every_run.proofs.JoinedLogged.{logged_by_log}
 use Rattle.qs_every_run.proofs.JoinedSteps.{step_entries, step_holds, step_lawful, step_low, step_up}
 use Rattle.qs_every_run.proofs.PlacesBegin.{begun_inc}
@@ -125,7 +125,7 @@ knows_commit tid node began is = record { runs = runs; over = over }
     over : tm.part_of tid node.manager ≡ None → was_committed tid node ≡ true
     over none = past (began_here node tid) began (at_home (same_node tid.home node.setting.node) home (seen None none))
 
-module _ (P : Opening → World → Type 0) (owed : Owed P) (o : Opening) (world : World) (j : Joined P o world) (n stamp free : ℕ) (source : Source) (event : Event) (makes : MakesStep world n stamp source event) where
+module _ (P : Opening → World → Type 0) (steps : WholeSteps P) (o : Opening) (world : World) (j : Joined P o world) (n stamp free : ℕ) (source : Source) (event : Event) (makes : MakesStep world n stamp source event) where
   abbrev book : BookValue
   book = book_in o world
 
@@ -139,7 +139,7 @@ module _ (P : Opening → World → Type 0) (owed : Owed P) (o : Opening) (world
   now = book_then o world n stamp free event
 
   low : n < world.size
-  low = step_low P owed o world j n stamp free source event makes
+  low = step_low P steps o world j n stamp free source event makes
 
   lasts : Lasts book
   lasts = in_runs o world.journal j.opens j.lawful
@@ -147,11 +147,11 @@ module _ (P : Opening → World → Type 0) (owed : Owed P) (o : Opening) (world
   well : LastsWell book
   well = lasts_ran world.journal (book_of o) (lasts_first (opened_from o 0 o.size) (opens_soundly o j.opens) (opening_named (opened_from o 0 o.size) (opened_numbered o 0 o.size))) j.lawful
 
-  lawful : IsLawful book (step_entries P owed o world j n stamp free source event makes)
-  lawful = step_lawful P owed o world j n stamp free source event makes
+  lawful : IsLawful book (step_entries P steps o world j n stamp free source event makes)
+  lawful = step_lawful P steps o world j n stamp free source event makes
 
   holds : Holds stamp now leaves
-  holds = step_holds P owed o world j n stamp free source event makes
+  holds = step_holds P steps o world j n stamp free source event makes
 
   shown : IsShownWorld new
   shown = move_shown world (Step n stamp free source) makes.may j.shown (each_begun_shown world (Step n stamp free source) makes.may j.shown)
@@ -168,7 +168,7 @@ module _ (P : Opening → World → Type 0) (owed : Owed P) (o : Opening) (world
   module _ (tid : Tid) (tx : TransactionValue) (found : find_transaction book tid ≡ Some tx) (undecided : is_open tx.cell ≡ true) where
     -- it stands there after the step
     stands : (later : TransactionValue) × (find_transaction now tid ≡ Some later)
-    stands = let p = goes_aside (n + 1) (step_entries P owed o world j n stamp free source event makes) book well lawful (all (effects_of (world.hosts n).node event free).entries) tid tx found in (p.0, p.1)
+    stands = let p = goes_aside (n + 1) (step_entries P steps o world j n stamp free source event makes) book well lawful (all (effects_of (world.hosts n).node event free).entries) tid tx found in (p.0, p.1)
       where
         apart : (a : ℕ) → (a == a + 1) ≡ false
         apart a = grind (arith, nat_tests)
@@ -209,7 +209,7 @@ module _ (P : Opening → World → Type 0) (owed : Owed P) (o : Opening) (world
         either false b is f g = absurd (g is)
 
         logged : list_any (same_tid tid) leaves.committed ≡ true → ⊥
-        logged is = never_before (logged_by_log book n at.state (world.hosts n) lasts (at.runs (step_up P owed o world j n stamp free source event makes)) (j.logged n low) tid
+        logged is = never_before (logged_by_log book n at.state (world.hosts n) lasts (at.runs (step_up P steps o world j n stamp free source event makes)) (j.logged n low) tid
             (subst (λ (tids : List Tid). list_any (same_tid tid) tids ≡ true) (steps_keep_logged world n stamp free source event j.shown makes (j.facts n low)) is))
           where
             at : HoldsNodeAt book world n
@@ -290,6 +290,6 @@ module _ (P : Opening → World → Type 0) (owed : Owed P) (o : Opening) (world
           by false far true on = absurd (elsewhere far on)
           by false far false off = absurd (down off)
 
-pub cuts_unanimous : (P : Opening → World → Type 0) → Owed P → EachCutUnanimous P
-cuts_unanimous P owed o world n stamp free source is_kept cause event j may comes tid w goes has all open_now committed tx found undecided =
-    decided_unanimous P owed o world j n stamp free source event (record { may = (and_both (may_step world n stamp source) (is_crash cause) may).0; comes = comes }) tid tx found undecided is_kept cause w goes has all open_now committed
+pub cuts_unanimous : (P : Opening → World → Type 0) → WholeSteps P → EachCutUnanimous P
+cuts_unanimous P steps o world n stamp free source is_kept cause event j may comes tid w goes has all open_now committed tx found undecided =
+    decided_unanimous P steps o world j n stamp free source event (record { may = (and_both (may_step world n stamp source) (is_crash cause) may).0; comes = comes }) tid tx found undecided is_kept cause w goes has all open_now committed

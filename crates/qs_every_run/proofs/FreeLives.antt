@@ -22,7 +22,7 @@ use Rattle.qs_ops.specs.Servers.{client_no, is_client_no, names_no, timers_no, w
 use Rattle.qs_step.specs.State.{NodeValue}
 use Rattle.qs_tm.specs.Participant.{member_of}
 use Rattle.qs_lawful.specs.Face.{Face, at_server, face_of, part_in, is_held, is_given_back, is_loan_here, is_loan_in}
-use Rattle.qs_lawful.specs.Holds.{Holds, HoldsAt, HoldsTid, HoldsMember}
+use Rattle.qs_lawful.specs.Holds.{HoldsAt, HoldsTid, HoldsMember, HoldsStill}
 use Rattle.qs_every_run.specs.Placed.{Field, IsLife, IsMember}
 use Rattle.qs_every_run.specs.PlacedLaws.{IsFree, FreeAgrees}
 
@@ -73,7 +73,7 @@ client_class c = by (client_no c == names_no) (client_no c == timers_no) (client
 same_count : (a b : ℕ) → a ≡ b → (a == b) ≡ true
 same_count a b e = grind (arith, nat_tests, e)
 
-module _ (stamp : ℕ) (book : BookValue) (tid : Tid) (tx : TransactionValue) (field : Field) (node : NodeValue) (found : find_transaction book tid ≡ Some tx) (undecided : is_open tx.cell ≡ true) (h : Holds stamp book node) (free : IsFree tid node) where
+module _ (book : BookValue) (tid : Tid) (tx : TransactionValue) (field : Field) (node : NodeValue) (found : find_transaction book tid ≡ Some tx) (undecided : is_open tx.cell ≡ true) (h : HoldsStill book node) (free : IsFree tid node) where
   abbrev here : NodeNo
   here = node.setting.node
 
@@ -143,4 +143,4 @@ module _ (stamp : ℕ) (book : BookValue) (tid : Tid) (tx : TransactionValue) (f
       by classes.Delayed is m = refl
 
 pub free_agrees : FreeAgrees
-free_agrees stamp book tid tx field node l part found undecided h free life at now = at_class stamp book tid tx field node found undecided h free l part life at now (class_of l.member.server.0) refl
+free_agrees book tid tx field node l part found undecided h free life at now = at_class book tid tx field node found undecided h free l part life at now (class_of l.member.server.0) refl

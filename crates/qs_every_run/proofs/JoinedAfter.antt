@@ -31,7 +31,7 @@ use Rattle.qs_lawful.proofs.OpenedCommits.{stays_among}
 use Rattle.qs_every_run.specs.Agrees.{MakesStep, nodes_in}
 use Rattle.qs_every_run.specs.Joined.{ChannelsAt, FactsAt, HeldAt, HomesAt, HomesHave, HoldsRunning, Joined, ClocksAt, LoggedAt, OwnersAt, RunningAt, ScriptsAt, WaysAt, book_in, ClientsAt, KeepsBackUnmet, QueuedAt}
 use Rattle.qs_every_run.specs.Owing.{Owes, OwesAt}
-use Rattle.qs_every_run.specs.JoinedOwed.{Owed, AfterStep, StaysUnanimousThen}
+use Rattle.qs_every_run.specs.JoinedOwed.{WholeSteps, AfterStep, StaysUnanimousThen}
 use Rattle.qs_every_run.proofs.BornMoves.{born_moved}
 use Rattle.qs_every_run.proofs.JoinedFacts.{steps_facts}
 use Rattle.qs_every_run.proofs.JoinedHeld as held_proofs
@@ -43,6 +43,7 @@ use Rattle.qs_every_run.proofs.JoinedWays.{lasts_now, steps_ways}
 use Rattle.qs_every_run.proofs.LabelsMoves.{labels_moved}
 use Rattle.qs_every_run.proofs.OwingElsewhere.{by_step, owes_on}
 use Rattle.qs_every_run.proofs.OwingSteps.{steps_owing}
+use Rattle.qs_every_run.proofs.RoomsMoves.{rooms_moved}
 use Rattle.qs_every_run.proofs.KeptBack.{none_before, nothing_waits, step_unmet}
 use Rattle.qs_every_run.proofs.StaysWorlds.{steps_keep_logged}
 use Rattle.qs_every_run.proofs.JoinedSteps.{step_at, step_entries, step_holds, step_journal, step_lawful, step_low, step_up}
@@ -74,7 +75,7 @@ pub record Known (o : Opening) (world new : World) : Type 0 where
   pub scripts : ScriptsAt o new
   pub owing : OwesAt new
 
-module _ (P : Opening → World → Type 0) (owed : Owed P) (unanimous : AfterStep P StaysUnanimousThen) (o : Opening) (world : World) (j : Joined P o world) where
+module _ (P : Opening → World → Type 0) (steps : WholeSteps P) (unanimous : AfterStep P StaysUnanimousThen) (o : Opening) (world : World) (j : Joined P o world) where
   abbrev book : BookValue
   book = book_in o world
 
@@ -93,6 +94,7 @@ module _ (P : Opening → World → Type 0) (owed : Owed P) (unanimous : AfterSt
     clocks = k.clocks;
     labels = labels_moved P o world j move may k.lawful;
     born = born_moved o world j.born move may;
+    rooms = rooms_moved o world j.rooms move may;
     channels = k.channels;
     unmet = k.unmet;
     queued = k.queued;
@@ -113,13 +115,13 @@ module _ (P : Opening → World → Type 0) (owed : Owed P) (unanimous : AfterSt
     new = moved step world
 
     abbrev entries : List Entry
-    entries = step_entries P owed o world j n stamp free source event makes
+    entries = step_entries P steps o world j n stamp free source event makes
 
     journal : new.journal ≡ world.journal ++ entries
-    journal = step_journal P owed o world j n stamp free source event makes
+    journal = step_journal P steps o world j n stamp free source event makes
 
     lawful_then : IsLawful (book_of o) new.journal
-    lawful_then = lawful_on o world new entries journal j.lawful (step_lawful P owed o world j n stamp free source event makes)
+    lawful_then = lawful_on o world new entries journal j.lawful (step_lawful P steps o world j n stamp free source event makes)
 
     sized : new.size ≡ world.size
     sized = ap (λ (e : Option Event). (step_with world n stamp free source e).size) makes.comes
@@ -129,7 +131,7 @@ module _ (P : Opening → World → Type 0) (owed : Owed P) (unanimous : AfterSt
         ∙ (up_all n stamp (effects_of (world.hosts n).node event free).messages (taken_by world n source) ∙ up_taken world n source)
 
     runs : new.channels.up n ≡ true
-    runs = ap (λ (f : ℕ → Bool). f n) ups ∙ step_up P owed o world j n stamp free source event makes
+    runs = ap (λ (f : ℕ → Bool). f n) ups ∙ step_up P steps o world j n stamp free source event makes
 
     own_then : (new.hosts n).node ≡ after_step (world.hosts n).node event free
     own_then = ap (λ (e : Option Event). ((step_with world n stamp free source e).hosts n).node) makes.comes ∙ picked (n == n) (grind (arith, nat_tests))
@@ -145,34 +147,34 @@ module _ (P : Opening → World → Type 0) (owed : Owed P) (unanimous : AfterSt
 
     held_then : HeldAt o new
     held_then = subst (λ (b : BookValue). HoldsWorld b new) (sym (book_on o world new entries journal))
-        (subst (λ (w : World). HoldsWorld (book_after book entries) w) (sym (ap (step_with world n stamp free source) makes.comes)) (held_proofs.held_then P owed unanimous o world j n stamp free source event makes))
+        (subst (λ (w : World). HoldsWorld (book_after book entries) w) (sym (ap (step_with world n stamp free source) makes.comes)) (held_proofs.held_then P steps unanimous o world j n stamp free source event makes))
 
     runs_then : RunningAt o new
     runs_then k low on = subst (λ (b : BookValue). HoldsRunning b (new.hosts k).node) (sym (book_on o world new entries journal)) (by (k == n) refl)
       where
         by : (b : Bool) → (k == n) ≡ b → HoldsRunning (book_after book entries) (new.hosts k).node
         by true near = subst (λ (i : ℕ). HoldsRunning (book_after book entries) (new.hosts i).node) (sym (eqb-true k n near))
-            (subst (λ (m : NodeValue). HoldsRunning (book_after book entries) m) (sym own_then) (held_proofs.own_running P owed unanimous o world j n stamp free source event makes))
+            (subst (λ (m : NodeValue). HoldsRunning (book_after book entries) m) (sym own_then) (held_proofs.own_running P steps unanimous o world j n stamp free source event makes))
         by false far = subst (λ (m : NodeValue). HoldsRunning (book_after book entries) m) (sym (same k far))
-            (held_proofs.other_running P owed unanimous o world j n stamp free source event makes k far (subst (λ (s : ℕ). k < s) sized low) (sym (ap (λ (f : ℕ → Bool). f k) ups) ∙ on))
+            (held_proofs.other_running P steps unanimous o world j n stamp free source event makes k far (subst (λ (s : ℕ). k < s) sized low) (sym (ap (λ (f : ℕ → Bool). f k) ups) ∙ on))
 
     low_then : n < new.size
-    low_then = subst (λ (s : ℕ). n < s) (sym sized) (step_low P owed o world j n stamp free source event makes)
+    low_then = subst (λ (s : ℕ). n < s) (sym sized) (step_low P steps o world j n stamp free source event makes)
 
     facts_then : FactsAt new
     facts_then k low = by (k == n) refl
       where
         by : (b : Bool) → (k == n) ≡ b → HasNodeFacts (new.hosts k).node
         by true near = subst (λ (i : ℕ). HasNodeFacts (new.hosts i).node) (sym (eqb-true k n near)) (subst HasNodeFacts (sym own_then)
-            (steps_facts o j.opens book world n stamp free j.scripts j.size (step_low P owed o world j n stamp free source event makes) (step_up P owed o world j n stamp free source event makes) (j.held.nodes n (step_low P owed o world j n stamp free source event makes)).run
-            source event makes.comes (j.facts n (step_low P owed o world j n stamp free source event makes))))
+            (steps_facts o j.opens book world n stamp free j.scripts j.size (step_low P steps o world j n stamp free source event makes) (step_up P steps o world j n stamp free source event makes) (j.held.nodes n (step_low P steps o world j n stamp free source event makes)).run
+            source event makes.comes (j.facts n (step_low P steps o world j n stamp free source event makes))))
         by false far = subst HasNodeFacts (sym (same k far)) (j.facts k (subst (λ (s : ℕ). k < s) sized low))
 
     homes_then : HomesAt o new
     homes_then = subst (λ (size : ℕ). HomesHave (book_in o new) size (nodes_in new)) (sym sized)
         (subst (λ (b : BookValue). HomesHave b world.size (nodes_in new)) (sym (book_on o world new entries journal))
-        (homes_after book world.size (nodes_in world) (nodes_in new) n stamp (effects_of (world.hosts n).node event free).entries (step_at P owed o world j n stamp free source event makes) (held_then.nodes n low_then).node same
-        (step_lawful P owed o world j n stamp free source event makes)
+        (homes_after book world.size (nodes_in world) (nodes_in new) n stamp (effects_of (world.hosts n).node event free).entries (step_at P steps o world j n stamp free source event makes) (held_then.nodes n low_then).node same
+        (step_lawful P steps o world j n stamp free source event makes)
         (subst (λ (b : BookValue). HoldsBeside b (new.hosts n).node) (book_on o world new entries journal) (runs_then n low_then runs).beside) j.homes))
 
     -- of what the machine does not know nothing waits: at its own node by the step, at others since it knows on what it knew
@@ -183,12 +185,12 @@ module _ (P : Opening → World → Type 0) (owed : Owed P) (unanimous : AfterSt
         none_now = subst (λ (b : BookValue). find_transaction b tid ≡ None) (book_on o world new entries journal) none
 
         own : waiting_at (after_step (world.hosts n).node event free) tid server ≡ []
-        own = nothing_waits stamp (book_after book entries) (after_step (world.hosts n).node event free) (step_holds P owed o world j n stamp free source event makes) tid server none_now
+        own = nothing_waits stamp (book_after book entries) (after_step (world.hosts n).node event free) (step_holds P steps o world j n stamp free source event makes) tid server none_now
 
         by : (b : Bool) → (k == n) ≡ b → waiting_at (new.hosts k).node tid server ≡ []
         by true near = subst (λ (i : ℕ). waiting_at (new.hosts i).node tid server ≡ []) (sym (eqb-true k n near)) (subst (λ (m : NodeValue). waiting_at m tid server ≡ []) (sym own_then) own)
         by false far = subst (λ (m : NodeValue). waiting_at m tid server ≡ []) (sym (same k far))
-            (j.queued k (subst (λ (s : ℕ). k < s) sized low) tid server (none_before entries book (lasts_now o world j.opens j.lawful) (step_lawful P owed o world j n stamp free source event makes) tid none_now))
+            (j.queued k (subst (λ (s : ℕ). k < s) sized low) tid server (none_before entries book (lasts_now o world j.opens j.lawful) (step_lawful P steps o world j n stamp free source event makes) tid none_now))
 
     own_log : (new.hosts n).log ≡ log_after (world.hosts n) (effects_of (world.hosts n).node event free)
     own_log = ap (λ (e : Option Event). ((step_with world n stamp free source e).hosts n).log) makes.comes ∙ picked (n == n) (grind (arith, nat_tests))
@@ -207,8 +209,8 @@ module _ (P : Opening → World → Type 0) (owed : Owed P) (unanimous : AfterSt
       where
         by : (b : Bool) → (k == n) ≡ b → is_among (recovery (new.hosts k).log).committed tid ≡ true
         by true near = subst (λ (i : ℕ). is_among (recovery (new.hosts i).log).committed tid ≡ true) (sym (eqb-true k n near)) (subst (λ (rs : List Record). is_among (recovery rs).committed tid ≡ true) (sym own_log)
-            (log_goes_on (world.hosts n) (effects_of (world.hosts n).node event free) tid (j.logged n (step_low P owed o world j n stamp free source event makes) tid
-            (subst (λ (ts : List Tid). is_among ts tid ≡ true) (steps_keep_logged world n stamp free source event j.shown makes (j.facts n (step_low P owed o world j n stamp free source event makes)))
+            (log_goes_on (world.hosts n) (effects_of (world.hosts n).node event free) tid (j.logged n (step_low P steps o world j n stamp free source event makes) tid
+            (subst (λ (ts : List Tid). is_among ts tid ≡ true) (steps_keep_logged world n stamp free source event j.shown makes (j.facts n (step_low P steps o world j n stamp free source event makes)))
             (subst (λ (m : NodeValue). is_among m.committed tid ≡ true) own_then (subst (λ (i : ℕ). is_among (new.hosts i).node.committed tid ≡ true) (eqb-true k n near) among))))))
         by false far = subst (λ (rs : List Record). is_among (recovery rs).committed tid ≡ true) (sym (same_log k far)) (j.logged k (subst (λ (s : ℕ). k < s) sized low) tid (subst (λ (m : NodeValue). is_among m.committed tid ≡ true) (same k far) among))
 
@@ -239,7 +241,7 @@ module _ (P : Opening → World → Type 0) (owed : Owed P) (unanimous : AfterSt
         by true near = subst (λ (i : ℕ). Owes (new.hosts i).node (world.journal ++ entries)) (sym (eqb-true k n near)) (subst (λ (m : NodeValue). Owes m (world.journal ++ entries)) (sym own_then)
             (steps_owing P o world n stamp free source event j makes))
         by false far = subst (λ (m : NodeValue). Owes m (world.journal ++ entries)) (sym (same k far)) (owes_on k (world.hosts k).node (j.held.nodes k k_low).node world.journal entries
-            (by_step k (world.hosts k).node entries (held_proofs.asides P owed unanimous o world j n stamp free source event makes k far k_low)) (j.owing k k_low (sym (ap (λ (f : ℕ → Bool). f k) ups) ∙ on)))
+            (by_step k (world.hosts k).node entries (held_proofs.asides P steps unanimous o world j n stamp free source event makes k far k_low)) (j.owing k k_low (sym (ap (λ (f : ℕ → Bool). f k) ups) ∙ on)))
           where
             k_low : k < world.size
             k_low = subst (λ (s : ℕ). k < s) sized low
@@ -256,11 +258,11 @@ module _ (P : Opening → World → Type 0) (owed : Owed P) (unanimous : AfterSt
       logged = logged_then;
       clocks = clocks_then;
       channels = subst (λ (b : BookValue). HoldsChannels b new.size new.channels) (sym (book_on o world new entries journal))
-          (subst (λ (w : World). HoldsChannels (book_after book entries) w.size w.channels) (sym (ap (step_with world n stamp free source) makes.comes)) (held_proofs.channels_then P owed unanimous o world j n stamp free source event makes));
+          (subst (λ (w : World). HoldsChannels (book_after book entries) w.size w.channels) (sym (ap (step_with world n stamp free source) makes.comes)) (held_proofs.channels_then P steps unanimous o world j n stamp free source event makes));
       unmet = subst (λ (w : World). KeepsBackUnmet w.channels) (sym (ap (step_with world n stamp free source) makes.comes)) (step_unmet world n stamp source event makes.comes (effects_of (world.hosts n).node event free).messages j.unmet);
       queued = queued_then;
-      ways = subst (λ (b : BookValue). HoldsWays b new) (sym (book_on o world new entries journal)) (steps_ways P o world n stamp free source event j makes (step_lawful P owed o world j n stamp free source event makes));
+      ways = subst (λ (b : BookValue). HoldsWays b new) (sym (book_on o world new entries journal)) (steps_ways P o world n stamp free source event j makes (step_lawful P steps o world j n stamp free source event makes));
       clients = clients_then P o world j n stamp free source event makes;
       owing = owing_then;
       scripts = subst (λ (b : BookValue). HoldsScripts o b new) (sym (book_on o world new entries journal)) (scripts_then P o world j n stamp free source event makes);
-    }) (owed.places o world step tt j may lawful_then)
+    }) (steps.places o world step tt j may lawful_then)

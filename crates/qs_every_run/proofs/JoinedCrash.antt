@@ -37,7 +37,7 @@ use Rattle.qs_lawful.proofs.ScriptsLike.{crash_scripts}
 use Rattle.qs_lawful.proofs.WaysOn.{crash_ways}
 use Rattle.qs_every_run.specs.Joined.{HomesAt, HoldsRunning, Joined, ClocksAt, LoggedAt, OwnersAt, RunningAt, book_in}
 use Rattle.qs_every_run.specs.Owing.{Owes, OwesAt}
-use Rattle.qs_every_run.specs.JoinedOwed.{AfterStep, Owed, StaysUnanimousThen}
+use Rattle.qs_every_run.specs.JoinedOwed.{AfterStep, WholeSteps, StaysUnanimousThen}
 use Rattle.qs_every_run.proofs.JoinedHeld as held_proofs
 use Rattle.qs_every_run.proofs.JoinedParts.{book_on, channels_later, lawful_on}
 use Rattle.qs_every_run.proofs.JoinedWays.{lasts_now}
@@ -46,7 +46,7 @@ use Rattle.qs_every_run.proofs.JoinedClocks.{by_order, in_order_stamp}
 use Rattle.qs_every_run.proofs.OwingElsewhere.{by_one, owes_on}
 use Rattle.qs_every_run.proofs.JoinedAfter.{Known, then_joined}
 
-module _ (P : Opening → World → Type 0) (owed : Owed P) (unanimous : AfterStep P StaysUnanimousThen) (o : Opening) (world : World) (j : Joined P o world) where
+module _ (P : Opening → World → Type 0) (steps : WholeSteps P) (unanimous : AfterStep P StaysUnanimousThen) (o : Opening) (world : World) (j : Joined P o world) where
   abbrev book : BookValue
   book = book_in o world
 
@@ -142,7 +142,7 @@ module _ (P : Opening → World → Type 0) (owed : Owed P) (unanimous : AfterSt
     }
 
     pub crash_joined : (IsLawful (book_of o) (moved move world).journal → P o (moved move world)) → Joined P o (moved move world)
-    crash_joined places = then_joined P owed unanimous o world j move may so (places so.lawful)
+    crash_joined places = then_joined P steps unanimous o world j move may so (places so.lawful)
       where
         so : Known o world (moved move world)
         so = subst (λ (w : World). Known o world w) (sym is) known

@@ -7,10 +7,11 @@ use Rattle.qs_step.specs.State.{NodeValue, work_on}
 use Rattle.qs_step.specs.declared.event.Event.{Event}
 use Rattle.qs_step.specs.declared.event.Event.TheVariants as events
 use Rattle.qs_world.specs.Histories.{opened_from}
-use Rattle.qs_world.specs.Moves.{Clock, Commanded, Handed, Noticed, Queues, Source, event_of, may_serve}
+use Rattle.qs_world.specs.Moves.{Clock, Commanded, Handed, Noticed, Queues, Source, event_of, is_in_order, is_later, may_serve}
 use Rattle.qs_world.specs.World.{Opening, World}
 use Rattle.qs_refine.proofs.EachMay.{from_client, from_node, from_notice}
 use Rattle.qs_refine.proofs.MoveGoes.{StepMay, step_may}
+use Rattle.qs_refine.proofs.SoundParts.{and_both}
 use Rattle.qs_lawful.specs.Agreed.{StepAgrees}
 use Rattle.qs_lawful.specs.BesideStep.{HappensSo}
 use Rattle.qs_lawful.specs.Coming.{ComesTo}
@@ -22,17 +23,21 @@ use Rattle.qs_lawful.specs.StepOn.{StepOn}
 use Rattle.qs_lawful.specs.Worlds.{HoldsNodeAt}
 use Rattle.qs_lawful.proofs.BesideWhole.{may_step_on}
 use Rattle.qs_lawful.proofs.CoherentOpenings.{opens_soundly}
+use Rattle.qs_lawful.proofs.FactsTold.{begin_incarnation_keeps}
 use Rattle.qs_lawful.proofs.GivenEvents.{event_comes}
 use Rattle.qs_lawful.proofs.LastsAlways.{in_runs}
+use Rattle.qs_lawful.proofs.Still.{held_at}
+use Rattle.qs_lawful.proofs.WholeStep.{first_held}
 use Rattle.qs_every_run.specs.Agrees.{MakesStep, nodes_in}
 use Rattle.qs_every_run.specs.Joined.{HoldsRunning, Joined, book_in}
-use Rattle.qs_every_run.specs.JoinedOwed.{Owed}
+use Rattle.qs_every_run.specs.StepLaws.{CountsHaveRoom}
 use Rattle.qs_every_run.proofs.AgreesEach.{steady}
 use Rattle.qs_every_run.proofs.AgreesPasses.{stages_sound}
 use Rattle.qs_every_run.proofs.JoinedClocks.{tick_room}
 use Rattle.qs_every_run.proofs.JoinedGone.{finds_gone}
 use Rattle.qs_every_run.proofs.JoinedLogged.{logged_by_log}
 use Rattle.qs_every_run.proofs.CountsServed.{room_before, room_first}
+use Rattle.qs_every_run.proofs.CountsRoom.{turns_have_room}
 
 -- ---- what comes, and that what waits can be counted
 
@@ -74,9 +79,30 @@ module _ (P : Opening → World → Type 0) (o : Opening) (world : World) (j : J
   pub counts : event ≡ events.ServeAll → AtEach CanCount serve_next (first_work node free) (ipc.turns (first_work node free).node.queues)
   counts served = room_first world j.shown n free its.low (subst (λ (s : Source). may_serve node s ≡ true) (serves source refl makes.comes served) its.serves) stamp (book_in o world) (stages_sound world n stamp free source event j.shown makes).first
 
+  -- and it is so
+  pub happens_so : Holds stamp (book_in o world) node → HappensSo stamp (book_in o world) event (first_work node free)
+  happens_so holds = so event refl
+    where
+      so : (e : Event) → event ≡ e → HappensSo stamp (book_in o world) event (first_work node free)
+      so (events.Command client line label command) is = subst (λ (x : Event). HappensSo stamp (book_in o world) x (first_work node free)) (sym is) tt
+      so (events.Received peer message) is = subst (λ (x : Event). HappensSo stamp (book_in o world) x (first_work node free)) (sym is) tt
+      so events.ServeAll is = subst (λ (x : Event). HappensSo stamp (book_in o world) x (first_work node free)) (sym is) tt
+      so (events.PeerRestarted peer old new) is = subst (λ (x : Event). HappensSo stamp (book_in o world) x (first_work node free)) (sym is)
+          (finds_gone P o world j n stamp free source peer old new (subst (λ (x : Event). MakesStep world n stamp source x) is makes) holds)
+      so events.Tick is = subst (λ (x : Event). HappensSo stamp (book_in o world) x (first_work node free)) (sym is) (tick_room P o world j n stamp free source event makes)
+
+  -- where a vote pass is due, the count of changes has room
+
+  ordered : is_in_order world n stamp ≡ true
+  ordered = (and_both (is_in_order world n stamp) _ (and_both (is_later world n stamp) _ (and_both (world.channels.up n) _ makes.may).1).0).0
+
+  pub counts_have_room : CountsHaveRoom o world n stamp free source event
+  counts_have_room = turns_have_room o j.opens world.journal j.lawful stamp node event free (j.rooms n its.low).shares (first_held stamp (book_in o world) node free (held_at n stamp (book_in o world) node at.node (at.runs its.runs).still (j.held.order n stamp ordered)))
+      (begin_incarnation_keeps (work_on node free) (j.facts n its.low)) comes_to
+
 -- ---- and all else
 
-module _ (P : Opening → World → Type 0) (owed : Owed P) (o : Opening) (world : World) (j : Joined P o world) (n stamp free : ℕ) (source : Source) (event : Event) (makes : MakesStep world n stamp source event)
+module _ (P : Opening → World → Type 0) (o : Opening) (world : World) (j : Joined P o world) (n stamp free : ℕ) (source : Source) (event : Event) (makes : MakesStep world n stamp source event)
     (holds : Holds stamp (book_in o world) (world.hosts n).node) (agreed : StepAgrees stamp (book_in o world) world.size (nodes_in world) n (world.hosts n).node event free) where
   abbrev node_now : NodeValue
   node_now = (world.hosts n).node
@@ -90,15 +116,6 @@ module _ (P : Opening → World → Type 0) (owed : Owed P) (o : Opening) (world
   at_now : HoldsNodeAt (book_in o world) world n
   at_now = j.held.nodes n low
 
-  -- what comes is so
-  so : (e : Event) → event ≡ e → HappensSo stamp (book_in o world) event (first_work node_now free)
-  so (events.Command client line label command) is = subst (λ (x : Event). HappensSo stamp (book_in o world) x (first_work node_now free)) (sym is) tt
-  so (events.Received peer message) is = subst (λ (x : Event). HappensSo stamp (book_in o world) x (first_work node_now free)) (sym is) tt
-  so events.ServeAll is = subst (λ (x : Event). HappensSo stamp (book_in o world) x (first_work node_now free)) (sym is) tt
-  so (events.PeerRestarted peer old new) is = subst (λ (x : Event). HappensSo stamp (book_in o world) x (first_work node_now free)) (sym is)
-      (finds_gone P owed o world j n stamp free source peer old new (subst (λ (x : Event). MakesStep world n stamp source x) is makes) holds)
-  so events.Tick is = subst (λ (x : Event). HappensSo stamp (book_in o world) x (first_work node_now free)) (sym is) (tick_room P o world j n stamp free source event makes)
-
   pub step_on : StepOn stamp (book_in o world) world.size (nodes_in world) n node_now event free
   step_on = record {
     at = at_now.node;
@@ -111,9 +128,9 @@ module _ (P : Opening → World → Type 0) (owed : Owed P) (o : Opening) (world
     logged = logged_by_log (book_in o world) n at_now.state (world.hosts n) (in_runs o world.journal j.opens j.lawful) (at_now.runs runs) (j.logged n low);
     comes = comes_to P o world j n stamp free source event makes;
     room = counts P o world j n stamp free source event makes;
-    so = so event refl;
+    so = happens_so P o world j n stamp free source event makes holds;
     agreed = agreed;
-    rooms = owed.rooms o world n stamp free source event j makes;
+    rooms = counts_have_room P o world j n stamp free source event makes;
   }
 
   pub given : MayStep stamp (book_in o world) node_now event free

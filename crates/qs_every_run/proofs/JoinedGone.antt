@@ -1,10 +1,7 @@
 -- What a node owes that restarted, the machine finds gone: the node did run in the incarnation that is known of it, restarted into a later one, and what it owes stands open.
-use Rattle.std.proofs.Common.{◌≡◌, ℕ, ◌+◌, ◌<◌, ◌==◌, ◌&&◌, ◌||◌, Bool, true, false, List, [], ◌∷◌, append-nil, Option, Some, None, is_some, refl, sym, ap, subst, ◌∙◌, arith}
+use Rattle.std.proofs.Common.{◌≡◌, ℕ, ◌<◌, ◌==◌, ◌&&◌, ◌||◌, Bool, true, false, List, [], ◌∷◌, append-nil, Option, Some, None, is_some, refl, sym, ap, subst, ◌∙◌, arith}
 use Rattle.std.proofs.lemmas.Bool.Decides.{nat_tests}
-use Rattle.std.proofs.lemmas.Option.{slice_get-map}
 use Rattle.std.specs.List.{list_any}
-use Rattle.std.specs.Option.{option_map}
-use Rattle.std.specs.Prelude.{slice_get}
 use Rattle.qs_base.specs.declared.identifiers.NodeNo.{NodeNo}
 use Rattle.qs_base.specs.declared.identifiers.Tid.{Tid}
 use Rattle.qs_ipc.specs.Ipc as ipc
@@ -12,12 +9,10 @@ use Rattle.qs_journal.specs.declared.entry.Act.{Act}
 use Rattle.qs_journal.specs.declared.entry.Act.TheVariants as acts
 use Rattle.qs_journal.specs.declared.entry.Entry.{Entry}
 use Rattle.qs_laws.proofs.GoneByEntries.{is_gone_whenever}
-use Rattle.qs_laws.proofs.Openings.{opening_names}
 use Rattle.qs_laws.specs.Gone.{is_restart_beyond, is_restart_into, ran_as, restarts_beyond, restarts_into, stands_open}
 use Rattle.qs_machine.specs.Book.{BookValue, find_transaction, inc_at}
 use Rattle.qs_machine.specs.Clauses.{is_gone_cause}
 use Rattle.qs_machine.specs.Nodes as machine
-use Rattle.qs_machine.specs.Opening.{opened_node}
 use Rattle.qs_machine.specs.Transaction.{TransactionValue}
 use Rattle.qs_machine.specs.declared.opened.Opened.{Opened}
 use Rattle.qs_ops.specs.declared.answer.Cause.TheVariants as causes
@@ -41,14 +36,13 @@ use Rattle.qs_lawful.specs.Holds.{Holds}
 use Rattle.qs_lawful.specs.Worlds.{HoldsNodeAt}
 use Rattle.qs_lawful.proofs.BesideGoes.{said_on}
 use Rattle.qs_lawful.proofs.CoherentOpenings.{opens_soundly}
-use Rattle.qs_lawful.proofs.OpenedVotes.{opened_there}
 use Rattle.qs_lawful.proofs.PeerRestarts.{by_marks, by_tid}
 use Rattle.qs_lawful.proofs.WholeStep.{first_held}
 use Rattle.qs_every_run.specs.Agrees.{MakesStep}
 use Rattle.qs_every_run.specs.Born.{HasRun}
 use Rattle.qs_every_run.specs.Joined.{HoldsRunning, Joined, book_in}
-use Rattle.qs_every_run.specs.JoinedOwed.{Owed}
 use Rattle.qs_every_run.proofs.AgreesEach.{steady}
+use Rattle.qs_every_run.proofs.LaterOwned.{opened_inc}
 use Rattle.qs_every_run.proofs.OwingEntries.{owed_open}
 use Rattle.qs_every_run.proofs.OwedBefore.{Back, Owing, back_begin, back_notice}
 
@@ -81,7 +75,7 @@ beyond m old inc less (entry ∷ rest) is = by (entry.node.0 == m.0) (is_restart
     by true false false one rest is = rest is
     by false b c one rest is = rest is
 
-module _ (P : Opening → World → Type 0) (owed : Owed P) (o : Opening) (world : World) (j : Joined P o world) (n stamp free : ℕ) (source : Source) (peer : NodeNo) (old new : ℕ)
+module _ (P : Opening → World → Type 0) (o : Opening) (world : World) (j : Joined P o world) (n stamp free : ℕ) (source : Source) (peer : NodeNo) (old new : ℕ)
     (makes : MakesStep world n stamp source (events.PeerRestarted peer old new)) (holds : Holds stamp (book_in o world) (world.hosts n).node) where
   abbrev node : NodeValue
   node = (world.hosts n).node
@@ -104,11 +98,7 @@ module _ (P : Opening → World → Type 0) (owed : Owed P) (o : Opening) (world
   -- ---- the node that restarted ran as it was known, and then in a later incarnation
 
   inc_first : (m : ℕ) → m < o.size → inc_at (book_of o) (node_no m) ≡ (o.settings m).inc
-  inc_first m low = ap (λ (ns : List machine.NodeValue). elim (slice_get ns m) [ None ↦ 0 | Some state ↦ state.inc ]) (opening_names opened (opens_soundly o j.opens)).nodes
-      ∙ ap (λ (s : Option machine.NodeValue). elim s [ None ↦ 0 | Some state ↦ state.inc ]) (slice_get-map opened_node opened m ∙ ap (option_map opened_node) (opened_there o 0 o.size m low)) ∙ ap (λ (k : ℕ). (o.settings k).inc) (itself m)
-    where
-      itself : (k : ℕ) → 0 + k ≡ k
-      itself k = grind (arith)
+  inc_first m low = opened_inc o j.opens (node_no m) low
 
   ran : (m inc : ℕ) → m < o.size → HasRun o world.journal m inc → ran_as (book_of o) world.journal (node_no m) inc ≡ true
   ran m inc low h = ap (λ (first : ℕ). first == inc || list_any (restarts_into (node_no m) inc) world.journal) (inc_first m low) ∙ h.ran

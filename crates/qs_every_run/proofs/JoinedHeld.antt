@@ -49,11 +49,12 @@ use Rattle.qs_lawful.proofs.LogLaws.{step_keeps}
 use Rattle.qs_lawful.proofs.NumberedLogs.{opened_numbered}
 use Rattle.qs_lawful.proofs.ParcelsKept.{channels_moved, channels_posted}
 use Rattle.qs_lawful.proofs.SameSettings.{step_same}
+use Rattle.qs_lawful.proofs.Still.{still_held}
 use Rattle.qs_lawful.proofs.StopsWhole.{back_by, next_by}
 use Rattle.qs_lawful.proofs.Truths.{of_some}
 use Rattle.qs_every_run.specs.Agrees.{MakesStep}
 use Rattle.qs_every_run.specs.Joined.{HoldsRunning, Joined, book_in}
-use Rattle.qs_every_run.specs.JoinedOwed.{AfterStep, HasOwner, Owed, StaysUnanimousThen, book_then, entries_in}
+use Rattle.qs_every_run.specs.JoinedOwed.{AfterStep, HasOwner, WholeSteps, StaysUnanimousThen, book_then, entries_in}
 use Rattle.qs_every_run.proofs.ClientsGo.{answers_aside, begins_owned, of_steps}
 use Rattle.qs_every_run.proofs.JoinedKept.{step_clients}
 use Rattle.qs_every_run.proofs.JoinedSaid.{step_said}
@@ -84,22 +85,7 @@ runs_at book world k its on state there = ap (λ (s : machine.NodeValue). s.up) 
     one : (a b : machine.NodeValue) → Some a ≡ Some b → a ≡ b
     one a b same = cc same
 
--- the same is held of a node with a later stamp
-holds_next : (stamp s : ℕ) (book : BookValue) (node : NodeValue) → Holds stamp book node → is_next s node.setting.node.0 book ≡ true → Holds s book node
-holds_next stamp s book node h next = record {
-  order = next;
-  run = h.run;
-  state = h.state;
-  there = h.there;
-  same = h.same;
-  at = h.at;
-  begun = h.begun;
-  clients = h.clients;
-  servers = h.servers;
-  waits = h.waits;
-}
-
-module _ (P : Opening → World → Type 0) (owed : Owed P) (unanimous : AfterStep P StaysUnanimousThen) (o : Opening) (world : World) (j : Joined P o world) (n stamp free : ℕ) (source : Source) (event : Event) (makes : MakesStep world n stamp source event) where
+module _ (P : Opening → World → Type 0) (steps : WholeSteps P) (unanimous : AfterStep P StaysUnanimousThen) (o : Opening) (world : World) (j : Joined P o world) (n stamp free : ℕ) (source : Source) (event : Event) (makes : MakesStep world n stamp source event) where
   abbrev node : NodeValue
   node = (world.hosts n).node
 
@@ -119,13 +105,13 @@ module _ (P : Opening → World → Type 0) (owed : Owed P) (unanimous : AfterSt
   host = stepped_host stamp (after_step node event free) (effects_of node event free) (world.hosts n)
 
   low : n < world.size
-  low = step_low P owed o world j n stamp free source event makes
+  low = step_low P steps o world j n stamp free source event makes
 
   up : world.channels.up n ≡ true
-  up = step_up P owed o world j n stamp free source event makes
+  up = step_up P steps o world j n stamp free source event makes
 
   lawful : IsLawful old entries
-  lawful = step_lawful P owed o world j n stamp free source event makes
+  lawful = step_lawful P steps o world j n stamp free source event makes
 
   whole : IsLawful (book_of o) (world.journal ++ entries)
   whole = lawful_both world.journal entries (book_of o) j.lawful lawful
@@ -134,7 +120,7 @@ module _ (P : Opening → World → Type 0) (owed : Owed P) (unanimous : AfterSt
   at = j.held.nodes n low
 
   held : Holds stamp now (after_step node event free)
-  held = step_holds P owed o world j n stamp free source event makes
+  held = step_holds P steps o world j n stamp free source event makes
 
   setting_is : (after_step node event free).setting ≡ node.setting
   setting_is = step_same node event free
@@ -188,9 +174,9 @@ module _ (P : Opening → World → Type 0) (owed : Owed P) (unanimous : AfterSt
     run = ap (λ (s : Setting). s.nodes) setting_is ∙ at.run;
     format = (held.same.extra, held.same.keep);
     accepted = refl;
-    kept = step_clients P owed o world j n stamp free source event makes;
+    kept = step_clients P steps o world j n stamp free source event makes;
     runs = λ is. record {
-      next = λ s next. holds_next stamp s now (after_step node event free) held (subst (λ (k : ℕ). is_next s k now ≡ true) (sym node_is) next);
+      still = still_held stamp now (after_step node event free) held;
       log = log_then;
       said = says_in (recovery (log_after (world.hosts n) (effects_of node event free) ++ waiting_after (world.hosts n) (effects_of node event free))) said_then.said;
       on_disk = says_in (recovery (log_after (world.hosts n) (effects_of node event free))) said_then.on_disk;
@@ -202,7 +188,7 @@ module _ (P : Opening → World → Type 0) (owed : Owed P) (unanimous : AfterSt
       there_n = subst (λ (k : ℕ). slice_get now.nodes k ≡ Some held.state) node_is held.there
 
       said_then : SaysBetween n now (log_after (world.hosts n) (effects_of node event free)) (waiting_after (world.hosts n) (effects_of node event free))
-      said_then = step_said P owed o world j n stamp free source event makes true_event
+      said_then = step_said P steps o world j n stamp free source event makes true_event
 
       says_in : (log : Recovery) → HoldsSaid n now said_then.state log → HoldsSaid n now held.state log
       says_in log = subst (λ (state : machine.NodeValue). HoldsSaid n now state log) (of_some (sym said_then.there ∙ there_n))
@@ -226,7 +212,7 @@ module _ (P : Opening → World → Type 0) (owed : Owed P) (unanimous : AfterSt
 
   pub own_running : HoldsRunning now (after_step node event free)
   own_running = record {
-    beside = (step_kept P owed o world j n stamp free source event makes).beside;
+    beside = (step_kept P steps o world j n stamp free source event makes).beside;
     young = steps_young world n stamp free source event j.shown makes (j.facts n low) (j.running n low up).beside.clock.room (j.running n low up).young;
   }
 
@@ -259,7 +245,7 @@ module _ (P : Opening → World → Type 0) (owed : Owed P) (unanimous : AfterSt
   pub channels_then : HoldsChannels now world.size after.channels
   channels_then = channels_posted now world.size n stamp (effects_of node event free).messages (taken_by world n source)
       (every_on (IsSent now node.setting) (λ (sending : Sending). IsParcel now world.size n sending.to.0 (record { stamp = stamp; message = sending.message })) (sent_parcel now node.setting stamp world.size n at.node at.run within)
-      (effects_of node event free).messages (step_sent P owed o world j n stamp free source event makes))
+      (effects_of node event free).messages (step_sent P steps o world j n stamp free source event makes))
       (channels_on old run_in entries lawful world.size (taken_by world n source) (taken_fits source makes.comes))
     where
       within : nat_lt n world.size ≡ true

@@ -16,12 +16,12 @@ use Rattle.qs_lawful.specs.Worlds.{HoldsKept}
 use Rattle.qs_lawful.proofs.SameSettings.{step_same}
 use Rattle.qs_every_run.specs.Agrees.{MakesStep}
 use Rattle.qs_every_run.specs.Joined.{Joined}
-use Rattle.qs_every_run.specs.JoinedOwed.{Owed, book_then}
+use Rattle.qs_every_run.specs.JoinedOwed.{WholeSteps, book_then}
 use Rattle.qs_every_run.proofs.JoinedSteps.{step_holds, step_kept, step_lawful, step_low}
 use Rattle.qs_every_run.proofs.KeptAfter.{kept_so}
 use Rattle.qs_every_run.proofs.LabelsMoves.{steps_labels}
 
-module _ (P : Opening → World → Type 0) (owed : Owed P) (o : Opening) (world : World) (j : Joined P o world) (n stamp free : ℕ) (source : Source) (event : Event) (makes : MakesStep world n stamp source event) where
+module _ (P : Opening → World → Type 0) (steps : WholeSteps P) (o : Opening) (world : World) (j : Joined P o world) (n stamp free : ℕ) (source : Source) (event : Event) (makes : MakesStep world n stamp source event) where
   abbrev node : NodeValue
   node = after_step (world.hosts n).node event free
 
@@ -32,7 +32,7 @@ module _ (P : Opening → World → Type 0) (owed : Owed P) (o : Opening) (world
   host = stepped_host stamp node (effects_of (world.hosts n).node event free) (world.hosts n)
 
   low : n < world.size
-  low = step_low P owed o world j n stamp free source event makes
+  low = step_low P steps o world j n stamp free source event makes
 
   shown : IsShownWorld after
   shown = subst IsShownWorld (ap (step_with world n stamp free source) makes.comes) (move_shown world (Step n stamp free source) makes.may j.shown (each_begun_shown world (Step n stamp free source) makes.may j.shown))
@@ -51,6 +51,6 @@ module _ (P : Opening → World → Type 0) (owed : Owed P) (o : Opening) (world
 
   pub step_clients : HoldsKept node.setting.node (inc_of world n) (book_then o world n stamp free event) node.kept.saved
   step_clients = subst (λ (i : ℕ). HoldsKept node.setting.node i (book_then o world n stamp free event) node.kept.saved) inc_is
-      (kept_so stamp (book_then o world n stamp free event) (stage_of after n) node (step_holds P owed o world j n stamp free source event makes)
-      (step_kept P owed o world j n stamp free source event makes).beside (step_kept P owed o world j n stamp free source event makes).facts tidy
-      (steps_labels P o world n stamp free source event j makes (step_lawful P owed o world j n stamp free source event makes)))
+      (kept_so stamp (book_then o world n stamp free event) (stage_of after n) node (step_holds P steps o world j n stamp free source event makes)
+      (step_kept P steps o world j n stamp free source event makes).beside (step_kept P steps o world j n stamp free source event makes).facts tidy
+      (steps_labels P o world n stamp free source event j makes (step_lawful P steps o world j n stamp free source event makes)))

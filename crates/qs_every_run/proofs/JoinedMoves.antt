@@ -41,9 +41,10 @@ use Rattle.qs_lawful.proofs.WaysOn.{rise_ways}
 use Rattle.qs_every_run.specs.Agrees.{nodes_in}
 use Rattle.qs_every_run.specs.Joined.{ClocksAt, FactsAt, HeldAt, HomesAt, HomesHave, HoldsRunning, Joined, LoggedAt, OwnersAt, RunningAt, book_in, ClientsAt, IsOwnClient, QueuedAt}
 use Rattle.qs_every_run.specs.Owing.{Owes, OwesAt}
-use Rattle.qs_every_run.specs.JoinedOwed.{Owed, AfterStep, IsBetweenSteps, Keeps, StaysUnanimousThen}
+use Rattle.qs_every_run.specs.JoinedOwed.{Owed, AfterStep, IsBetweenSteps, Keeps, StaysUnanimousThen, WholeSteps}
 use Rattle.qs_every_run.specs.JoinedRuns.{EachMoveJoined}
 use Rattle.qs_every_run.specs.PlacesLaws.{GoesOn}
+use Rattle.qs_every_run.proofs.ApartHere.{leaves_none}
 use Rattle.qs_every_run.proofs.JoinedFacts.{rises_facts}
 use Rattle.qs_every_run.proofs.JoinedHomes.{homes_after}
 use Rattle.qs_every_run.proofs.JoinedParts.{book_on, channels_later, lawful_on, seated_sound}
@@ -58,7 +59,7 @@ use Rattle.qs_every_run.proofs.JoinedAfter.{log_goes_on, step_joined, then_joine
 use Rattle.qs_every_run.proofs.JoinedCrash.{crash_joined}
 use Rattle.qs_every_run.proofs.CutUnanimous.{cuts_unanimous}
 
-module _ (P : Opening → World → Type 0) (between : Keeps P IsBetweenSteps P) (owed : Owed P) (unanimous : AfterStep P StaysUnanimousThen) (o : Opening) (world : World) (j : Joined P o world) where
+module _ (P : Opening → World → Type 0) (between : Keeps P IsBetweenSteps P) (steps : WholeSteps P) (owed : Owed P) (unanimous : AfterStep P StaysUnanimousThen) (o : Opening) (world : World) (j : Joined P o world) where
   abbrev book : BookValue
   book = book_in o world
 
@@ -178,7 +179,7 @@ module _ (P : Opening → World → Type 0) (between : Keeps P IsBetweenSteps P)
             (owes_on k (world.hosts k).node (j.held.nodes k low).node world.journal (rise_entry world n stamp inc ∷ []) (by_one k n far (world.hosts k).node (rise_entry world n stamp inc) refl tt) (j.owing k low runs))
 
     pub rise_joined : Joined P o risen_world
-    rise_joined = then_joined P owed unanimous o world j (Rise n stamp inc) may (record {
+    rise_joined = then_joined P steps unanimous o world j (Rise n stamp inc) may (record {
       size = refl;
       lawful = rise_lawful;
       held = rise_held;
@@ -237,7 +238,7 @@ module _ (P : Opening → World → Type 0) (between : Keeps P IsBetweenSteps P)
     known_inc = let low : nat_le inc (world.channels.inc m) ≡ true = (and_both (nat_le inc (world.channels.inc m)) _ (and_both (nat_lt 0 inc) _ (and_both (known_of world n m == 0) _ (and_both (not (m == n) && nat_lt m world.size) _ (and_both (is_later world n stamp) _ (and_both (world.channels.up n) _ may).1).1).1).1).1).0 in grind (arith, nat_tests, low)
 
     pub meet_joined : Joined P o met_world
-    meet_joined = then_joined P owed unanimous o world j (Meet n stamp m inc) may (record {
+    meet_joined = then_joined P steps unanimous o world j (Meet n stamp m inc) may (record {
       size = refl;
       lawful = j.lawful;
       held = meets book world n stamp m inc j.held may;
@@ -263,7 +264,7 @@ module _ (P : Opening → World → Type 0) (between : Keeps P IsBetweenSteps P)
     where
       by : (e : Option Event) → event_of world n stamp source ≡ e → Joined P o (moved (Step n stamp free source) world)
       by None none = subst (λ (e : Option Event). Joined P o (step_with world n stamp free source e)) (sym none) j
-      by (Some event) comes = step_joined P owed unanimous o world j n stamp free source event (record { may = may; comes = comes }) may
+      by (Some event) comes = step_joined P steps unanimous o world j n stamp free source event (record { may = may; comes = comes }) may
   move_joined (Cut n stamp free source is_kept cause) may = by (event_of world n stamp source) refl is_kept may
     where
       cut_ordered : (may_step world n stamp source && is_crash cause) ≡ true → is_in_order world n stamp ≡ true
@@ -271,11 +272,11 @@ module _ (P : Opening → World → Type 0) (between : Keeps P IsBetweenSteps P)
 
       by : (e : Option Event) → event_of world n stamp source ≡ e → (b : Bool) → may_move world (Cut n stamp free source b cause) ≡ true → Joined P o (moved (Cut n stamp free source b cause) world)
       by None none b may_b = subst (λ (e : Option Event). Joined P o (cut_with world n stamp free b cause e)) (sym none) j
-      by (Some event) comes true may_b = crash_joined P owed unanimous o world j n stamp cause (cut_log (world.hosts n) true (effects_of (world.hosts n).node event free)) (Cut n stamp free source true cause) may_b (ap (cut_with world n stamp free true cause) comes) (log_goes_on (world.hosts n) (effects_of (world.hosts n).node event free)) (cut_ordered may_b) (owed.keeps_its_batch o world n stamp free source cause j may_b) (between o world (Cut n stamp free source true cause) tt j may_b)
-      by (Some event) comes false may_b = crash_joined P owed unanimous o world j n stamp cause (cut_log (world.hosts n) false (effects_of (world.hosts n).node event free)) (Cut n stamp free source false cause) may_b (ap (cut_with world n stamp free false cause) comes) (λ tid is. is) (cut_ordered may_b) (by_cut book world n stamp free source cause lasts j.held may_b) (between o world (Cut n stamp free source false cause) tt j may_b)
-  move_joined (Stop n stamp cause) may = crash_joined P owed unanimous o world j n stamp cause (world.hosts n).log (Stop n stamp cause) may refl (λ tid is. is) (and_both (is_in_order world n stamp) _ (and_both (world.channels.up n) _ may).1).0 (by_stop book world n stamp cause lasts j.held may) (between o world (Stop n stamp cause) tt j may)
+      by (Some event) comes true may_b = crash_joined P steps unanimous o world j n stamp cause (cut_log (world.hosts n) true (effects_of (world.hosts n).node event free)) (Cut n stamp free source true cause) may_b (ap (cut_with world n stamp free true cause) comes) (log_goes_on (world.hosts n) (effects_of (world.hosts n).node event free)) (cut_ordered may_b) (owed.keeps_its_batch o world n stamp free source cause j may_b) (between o world (Cut n stamp free source true cause) tt j may_b)
+      by (Some event) comes false may_b = crash_joined P steps unanimous o world j n stamp cause (cut_log (world.hosts n) false (effects_of (world.hosts n).node event free)) (Cut n stamp free source false cause) may_b (ap (cut_with world n stamp free false cause) comes) (λ tid is. is) (cut_ordered may_b) (by_cut book world n stamp free source cause lasts j.held may_b) (between o world (Cut n stamp free source false cause) tt j may_b)
+  move_joined (Stop n stamp cause) may = crash_joined P steps unanimous o world j n stamp cause (world.hosts n).log (Stop n stamp cause) may refl (λ tid is. is) (and_both (is_in_order world n stamp) _ (and_both (world.channels.up n) _ may).1).0 (by_stop book world n stamp cause lasts j.held may) (between o world (Stop n stamp cause) tt j may)
   move_joined (Rise n stamp inc) may = rise_joined n stamp inc may
   move_joined (Meet n stamp m inc) may = meet_joined n stamp m inc may
 
 pub each_move_joined : (P : Opening → World → Type 0) → GoesOn P → EachMoveJoined P
-each_move_joined P goes owed o world move j may = move_joined P (goes.between (cuts_unanimous P owed)) owed (goes.unanimous owed) o world j move may
+each_move_joined P goes owed o world move j may = move_joined P (goes.between (leaves_none P owed.leaves_none) (cuts_unanimous P goes.steps)) goes.steps owed goes.unanimous o world j move may

@@ -22,9 +22,10 @@ use Rattle.qs_every_run.proofs.OwingFresh.{opens_owing}
 use Rattle.qs_every_run.proofs.JoinedMoves.{each_move_joined}
 use Rattle.qs_every_run.proofs.LabelsMoves.{labels_start}
 use Rattle.qs_every_run.proofs.OpensRunning.{opens_owned, opens_running}
+use Rattle.qs_every_run.proofs.RoomsMoves.{rooms_start}
 
 pub each_opens_joined : (P : Opening → World → Type 0) → GoesOn P → EachOpensJoined P
-each_opens_joined P goes owed o opens = record {
+each_opens_joined P goes o opens = record {
   opens = opens;
   size = refl;
   lawful = tt;
@@ -39,6 +40,7 @@ each_opens_joined P goes owed o opens = record {
   clocks = λ n low. none ((start o).hosts n).node.manager.ticks (opens_on_time o.alloc (o.settings n) (recovered_of (o.logs n)));
   labels = labels_start o;
   born = born_start o;
+  rooms = rooms_start o opens;
   channels = record { posted = λ n m i j. tt; waits = λ n m. tt; known = λ n m. least ((start o).channels.inc m) };
   unmet = λ n m some. refl;
   queued = λ n low tid server none. refl;
@@ -64,7 +66,7 @@ module _ (P : Opening → World → Type 0) (goes : GoesOn P) where
   over owed o (move ∷ moves) old new j run = over owed o moves (moved move old) new (each_move_joined P goes owed o old move j run.0) run.1
 
   pub each_run_joined : EachRunJoined P
-  each_run_joined owed o moves new opens run = over owed o moves (start o) new (each_opens_joined P goes owed o opens) run
+  each_run_joined owed o moves new opens run = over owed o moves (start o) new (each_opens_joined P goes o opens) run
 
   pub each_run_lawful : EachRunLawful P
   each_run_lawful owed o moves new opens run = (each_run_joined owed o moves new opens run).lawful

@@ -15,19 +15,19 @@ use Rattle.qs_lawful.proofs.NumberedLogs.{opened_numbered}
 use Rattle.qs_lawful.proofs.SaidWhole.{step_says}
 use Rattle.qs_every_run.specs.Agrees.{MakesStep, nodes_in}
 use Rattle.qs_every_run.specs.Joined.{Joined, book_in}
-use Rattle.qs_every_run.specs.JoinedOwed.{Owed, book_then}
+use Rattle.qs_every_run.specs.JoinedOwed.{WholeSteps, book_then}
 use Rattle.qs_every_run.proofs.JoinedSteps.{step_given, step_low, step_up}
 use Rattle.qs_every_run.proofs.SaidTells.{opened_length, tells_so}
 
-module _ (P : Opening → World → Type 0) (owed : Owed P) (o : Opening) (world : World) (j : Joined P o world) (n stamp free : ℕ) (source : Source) (event : Event) (makes : MakesStep world n stamp source event) (true_event : IsTrueEvent (book_in o world) event) where
+module _ (P : Opening → World → Type 0) (steps : WholeSteps P) (o : Opening) (world : World) (j : Joined P o world) (n stamp free : ℕ) (source : Source) (event : Event) (makes : MakesStep world n stamp source event) (true_event : IsTrueEvent (book_in o world) event) where
   abbrev node : NodeValue
   node = (world.hosts n).node
 
   low : n < world.size
-  low = step_low P owed o world j n stamp free source event makes
+  low = step_low P steps o world j n stamp free source event makes
 
   up : world.channels.up n ≡ true
-  up = step_up P owed o world j n stamp free source event makes
+  up = step_up P steps o world j n stamp free source event makes
 
   at : HoldsNodeAt (book_in o world) world n
   at = j.held.nodes n low
@@ -40,5 +40,5 @@ module _ (P : Opening → World → Type 0) (owed : Owed P) (o : Opening) (world
 
   pub step_said : SaysBetween n (book_then o world n stamp free event) (log_after (world.hosts n) (effects_of node event free)) (waiting_after (world.hosts n) (effects_of node event free))
   step_said = step_says (opened_from o 0 o.size) world.journal (opens_soundly o j.opens) (opened_numbered o 0 o.size) j.lawful stamp world.size (nodes_in world) n (world.hosts n) event free
-      (step_given P owed o world j n stamp free source event makes) in_run true_event (tells_so o world j.shown j.size n stamp free source event makes)
+      (step_given P steps o world j n stamp free source event makes) in_run true_event (tells_so o world j.shown j.size n stamp free source event makes)
       (at.runs up).log (record { state = at.state; there = at.there; said = (at.runs up).said; on_disk = (at.runs up).on_disk })

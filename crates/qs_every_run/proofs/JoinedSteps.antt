@@ -25,10 +25,11 @@ use Rattle.qs_lawful.specs.StepKeeps.{KeptThen}
 use Rattle.qs_lawful.specs.StepOn.{StepOn}
 use Rattle.qs_lawful.proofs.BesideSent.{sent_after}
 use Rattle.qs_lawful.proofs.StepKept as keeping
+use Rattle.qs_lawful.proofs.Still.{held_at}
 use Rattle.qs_lawful.proofs.WholeStep.{by_whole_step}
 use Rattle.qs_every_run.specs.Agrees.{MakesStep, PassesUndone, nodes_in}
 use Rattle.qs_every_run.specs.Joined.{Joined, book_in}
-use Rattle.qs_every_run.specs.JoinedOwed.{CommitsSettled, Owed}
+use Rattle.qs_every_run.specs.JoinedOwed.{CommitsSettled, WholeSteps}
 use Rattle.qs_every_run.proofs.AgreesPasses.{passes_agree, stages_sound, waits_agree}
 use Rattle.qs_every_run.proofs.AgreesWhole.{event_agrees}
 use Rattle.qs_every_run.proofs.JoinedGiven.{given, step_on}
@@ -43,7 +44,7 @@ settles_so stamp before size nodes n (tid ∷ tids) work passes commits sound = 
 
 -- ---- the step
 
-module _ (P : Opening → World → Type 0) (owed : Owed P) (o : Opening) (world : World) (j : Joined P o world) (n stamp free : ℕ) (source : Source) (event : Event) (makes : MakesStep world n stamp source event) where
+module _ (P : Opening → World → Type 0) (steps : WholeSteps P) (o : Opening) (world : World) (j : Joined P o world) (n stamp free : ℕ) (source : Source) (event : Event) (makes : MakesStep world n stamp source event) where
   abbrev node : NodeValue
   node = (world.hosts n).node
 
@@ -68,22 +69,22 @@ module _ (P : Opening → World → Type 0) (owed : Owed P) (o : Opening) (world
   agreed : StepAgrees stamp (book_in o world) world.size (nodes_in world) n node event free
   agreed = record {
     comes = event_agrees world n stamp free source event j.shown makes;
-    settles = settles_so stamp (book_in o world) world.size (nodes_in world) n (due_tids (done_work node event free)) (done_work node event free) (passes_agree world n stamp free source event j.shown makes) (owed.commits o world n stamp free source event j makes) (stages_sound world n stamp free source event j.shown makes).settles;
+    settles = settles_so stamp (book_in o world) world.size (nodes_in world) n (due_tids (done_work node event free)) (done_work node event free) (passes_agree world n stamp free source event j.shown makes) (steps.commits o world n stamp free source event j makes) (stages_sound world n stamp free source event j.shown makes).settles;
     waits = waits_agree world n stamp free source event j.shown makes;
   }
 
   holds : Holds stamp (book_in o world) node
-  holds = (at.runs its.runs).next stamp (j.held.order n stamp step_ordered)
+  holds = held_at n stamp (book_in o world) node at.node (at.runs its.runs).still (j.held.order n stamp step_ordered)
 
   pub step_given : StepOn stamp (book_in o world) world.size (nodes_in world) n node event free
-  step_given = step_on P owed o world j n stamp free source event makes holds agreed
+  step_given = step_on P o world j n stamp free source event makes holds agreed
 
   abbrev pub step_entries : List Entry
   step_entries = entries_of n stamp (effects_of node event free).entries
 
   both : (k : ℕ) → node.setting.node.0 ≡ k → IsLawful (book_in o world) (entries_of k stamp (effects_of node event free).entries) × Holds stamp (book_after (book_in o world) (entries_of k stamp (effects_of node event free).entries)) (after_step node event free)
   both k same = subst (λ (i : ℕ). IsLawful (book_in o world) (entries_of i stamp (effects_of node event free).entries) × Holds stamp (book_after (book_in o world) (entries_of i stamp (effects_of node event free).entries)) (after_step node event free)) same
-      (by_whole_step stamp (book_in o world) node event free holds (given P owed o world j n stamp free source event makes holds agreed))
+      (by_whole_step stamp (book_in o world) node event free holds (given P o world j n stamp free source event makes holds agreed))
 
   pub step_lawful : IsLawful (book_in o world) step_entries
   step_lawful = (both n at.node).0
@@ -100,7 +101,7 @@ module _ (P : Opening → World → Type 0) (owed : Owed P) (o : Opening) (world
     where
       kept : (k : ℕ) → node.setting.node.0 ≡ k → KeptThen stamp (book_after (book_in o world) (entries_of k stamp (effects_of node event free).entries)) world.size (nodes_in world) n (after_step node event free)
       kept k same = subst (λ (i : ℕ). KeptThen stamp (book_after (book_in o world) (entries_of i stamp (effects_of node event free).entries)) world.size (nodes_in world) n (after_step node event free)) same
-          (keeping.step_kept stamp (book_in o world) world.size (nodes_in world) n node event free (step_on P owed o world j n stamp free source event makes holds agreed) j.held.size).kept
+          (keeping.step_kept stamp (book_in o world) world.size (nodes_in world) n node event free (step_on P o world j n stamp free source event makes holds agreed) j.held.size).kept
 
   -- what it sends is so, and goes to another node of the run
   pub step_sent : Every (IsSent (book_after (book_in o world) step_entries) node.setting) (effects_of node event free).messages
@@ -108,4 +109,4 @@ module _ (P : Opening → World → Type 0) (owed : Owed P) (o : Opening) (world
     where
       sent : (k : ℕ) → node.setting.node.0 ≡ k → Every (IsSent (book_after (book_in o world) (entries_of k stamp (effects_of node event free).entries)) node.setting) (effects_of node event free).messages
       sent k same = subst (λ (i : ℕ). Every (IsSent (book_after (book_in o world) (entries_of i stamp (effects_of node event free).entries)) node.setting) (effects_of node event free).messages) same
-          (sent_after stamp (book_in o world) world.size (nodes_in world) n node event free (step_on P owed o world j n stamp free source event makes holds agreed))
+          (sent_after stamp (book_in o world) world.size (nodes_in world) n node event free (step_on P o world j n stamp free source event makes holds agreed))

@@ -16,7 +16,6 @@ use Rattle.qs_refine.specs.Steady.{IsSteady}
 use Rattle.qs_refine.proofs.Moving.{inc_taken}
 use Rattle.qs_refine.proofs.SteadyFrom.{steady_gives}
 use Rattle.qs_lawful.specs.Aside.{AnswersElsewhere, IsAside, IsOfStep}
-use Rattle.qs_lawful.specs.Holds.{is_next}
 use Rattle.qs_lawful.specs.Logs.{Every}
 use Rattle.qs_lawful.specs.Worlds.{HoldsNodeOf}
 use Rattle.qs_lawful.proofs.AsideIssued.{issued_held}
@@ -40,7 +39,7 @@ every_first P (x ∷ xs) ys all = (all.0, every_first P xs ys all.1)
 
 module _ (o : Opening) (world : World) (j : Joined PlacesAt o world) (n stamp free : ℕ) (source : Source) (event : Event) (makes : MakesStep world n stamp source event)
     (work : Work) (more : List Act) (whole : (effects_of (world.hosts n).node event free).entries ≡ work.out.entries ++ more) (lawful : AreLawful n stamp (book_in o world) work)
-    (k s : ℕ) (low : k < world.size) (up : world.channels.up k ≡ true) (far : (k == n) ≡ false) (next : is_next s k (book_amid n stamp (book_in o world) work) ≡ true) where
+    (k : ℕ) (low : k < world.size) (up : world.channels.up k ≡ true) (far : (k == n) ≡ false) where
   abbrev now : BookValue
   now = book_amid n stamp (book_in o world) work
 
@@ -68,9 +67,8 @@ module _ (o : Opening) (world : World) (j : Joined PlacesAt o world) (n stamp fr
     sound = (steady.sound k low).node;
     at = steady.seated.node k low;
     inc = steady.seated.inc k low ∙ sym (ap (λ (f : ℕ → ℕ). f k) (inc_taken world n source));
-    stamp = s;
-    holds = (other.runs up).next s next;
+    holds = (other.runs up).still;
   }
 
 pub others_beside : OthersBeside
-others_beside o world n stamp free source event j makes work more whole lawful k s low up far next = beside o world j n stamp free source event makes work more whole lawful k s low up far next
+others_beside o world n stamp free source event j makes work more whole lawful k low up far = beside o world j n stamp free source event makes work more whole lawful k low up far

@@ -1,5 +1,5 @@
 -- A request is issued: it waits at a server of its own node, or is put for the incarnation that is known and runs, or is kept back where none is known.
-use Rattle.std.proofs.Common.{map, ◌≡◌, ◌⊎◌, inl, inr, ℕ, ◌+◌, ◌<◌, ◌≤◌, ◌==◌, ◌&&◌, not, Bool, true, false, [], ◌∷◌, ◌++◌, length, Some, None, refl, sym, ap, subst, ◌∙◌, arith, if◌then◌else◌}
+use Rattle.std.proofs.Common.{map, ◌≡◌, ◌⊎◌, inl, inr, ℕ, ◌+◌, ◌<◌, ◌≤◌, ◌==◌, ◌&&◌, not, Bool, true, false, [], ◌∷◌, ◌++◌, length, refl, sym, ap, subst, ◌∙◌, arith, if◌then◌else◌}
 use Rattle.std.proofs.lemmas.Bool.Decides.{nat_tests}
 use Rattle.qs_base.specs.Order.{same_tid, same_member}
 use Rattle.qs_base.proofs.Same.{same_tid-self}
@@ -12,9 +12,9 @@ use Rattle.qs_ipc.specs.Queue.{is_for}
 use Rattle.qs_ipc.specs.declared.delivery.Delivery.{Delivery}
 use Rattle.qs_journal.specs.declared.entry.Act.TheVariants as acts
 use Rattle.qs_laws.proofs.Outcomes.{Inv}
-use Rattle.qs_machine.specs.Book.{BookValue, find_transaction}
+use Rattle.qs_machine.specs.Book.{BookValue, inc_at}
 use Rattle.qs_machine.specs.Lawful.{IsLawful}
-use Rattle.qs_machine.specs.Transaction.{TransactionValue, is_open, is_standing, standing_request}
+use Rattle.qs_machine.specs.Transaction.{is_standing}
 use Rattle.qs_machine.specs.declared.transaction.Request.{Request}
 use Rattle.qs_machine.specs.declared.transaction.RequestNo.{RequestNo}
 use Rattle.qs_ops.specs.declared.operation.Op.{Op}
@@ -36,6 +36,7 @@ use Rattle.qs_every_run.proofs.CountedQueues.{count_enqueued}
 use Rattle.qs_every_run.proofs.PlacedActs.{issue_obliged}
 use Rattle.qs_every_run.proofs.PlacedAmid.{act_on, entries, lawful_then, left_on}
 use Rattle.qs_every_run.proofs.FieldRoom.{goes_more, here_more, itself, more_back, more_grows, stays_more}
+use Rattle.qs_every_run.proofs.PlacedIssued.{numbered_next}
 use Rattle.qs_every_run.proofs.PlacedServes.{MoreRoom, one_if}
 use Rattle.qs_every_run.proofs.PlacedTx.{Grows}
 use Rattle.qs_every_run.proofs.PlacesLeft.{itself_leaves, send_leaves, sent_more}
@@ -46,9 +47,9 @@ module _ (t : Tid) (base : Field) (knows : ℕ → ℕ) (n stamp : ℕ) (before 
   abbrev pub its_no : RequestNo
   its_no = record { link = record { from = record { 0 = n }; to = request.member.node }; number = request.number }
 
-  -- no request of its number stands there
-  abbrev pub CrossesNone : Type 0
-  CrossesNone = (tx : TransactionValue) → find_transaction (book_amid n stamp before work) t ≡ Some tx → is_open tx.cell ≡ true → standing_request tx its_no request.member ≡ None
+  -- in the incarnation that the machine has
+  abbrev pub IsNow : Type 0
+  IsNow = inc_at (book_amid n stamp before work) (record { 0 = n }) ≡ base.inc n
 
   abbrev amid : Work → Field
   amid w = field_amid base knows n w
@@ -112,10 +113,11 @@ module _ (t : Tid) (base : Field) (knows : ℕ → ℕ) (n stamp : ℕ) (before 
             and_true true = refl
             and_true false = refl
 
-    pub issued_here : base.up n ≡ true → CrossesNone → IsLawful before (entries t base knows n stamp before i (issue_here t request op work)) → PlacedAmid t base knows n stamp before work → PlacedAmid t base knows n stamp before (issue_here t request op work)
-    issued_here on apart lawful placed = subst (λ (w : Work). IsLawful before (entries t base knows n stamp before i w) → PlacedAmid t base knows n stamp before w) (sym is) (λ allowed.
+    pub issued_here : base.up n ≡ true → IsNow → IsLawful before (entries t base knows n stamp before i (issue_here t request op work)) → PlacedAmid t base knows n stamp before work → PlacedAmid t base knows n stamp before (issue_here t request op work)
+    issued_here on now lawful placed = subst (λ (w : Work). IsLawful before (entries t base knows n stamp before i w) → PlacedAmid t base knows n stamp before w) (sym is) (λ allowed.
         act_on t base knows n stamp before i work queued (acts.Issue t (member_here work request.issuer) request.member request.number op) refl allowed
-        (λ h. issue_obliged t (amid work) (amid queued) queued_grows (book_amid n stamp before work) stamp n t (member_here work request.issuer) request.member request.number op n_in in_run (queued_room on _ refl refl) apart) placed) lawful
+        (λ h. issue_obliged t (amid work) (amid queued) queued_grows (book_amid n stamp before work) stamp n t (member_here work request.issuer) request.member request.number op n_in on now in_run (queued_room on _ refl refl)
+        (numbered_next (book_amid n stamp before work) n stamp t (member_here work request.issuer) request.member request.number op h)) placed) lawful
       where
         in_run : request.member.node.0 < base.size
         in_run = subst (λ (k : ℕ). k < base.size) (sym (ap (λ (k : NodeNo). k.0) own ∙ here_is)) n_in
@@ -201,11 +203,12 @@ module _ (t : Tid) (base : Field) (knows : ℕ → ℕ) (n stamp : ℕ) (before 
     asks_on false = itself_leaves t put
     asks_on true = send_leaves t request.member.node (messages.AskVote t) put (λ server number. refl)
 
-    pub issued_away : Reaches → CrossesNone → IsLawful before (entries t base knows n stamp before i (issue_away t request op work)) → PlacedAmid t base knows n stamp before work → PlacedAmid t base knows n stamp before (issue_away t request op work)
-    issued_away reach apart lawful placed = subst (λ (w : Work). IsLawful before (entries t base knows n stamp before i w) → PlacedAmid t base knows n stamp before w) (sym is) (λ allowed.
+    pub issued_away : base.up n ≡ true → IsNow → Reaches → IsLawful before (entries t base knows n stamp before i (issue_away t request op work)) → PlacedAmid t base knows n stamp before work → PlacedAmid t base knows n stamp before (issue_away t request op work)
+    issued_away on now reach lawful placed = subst (λ (w : Work). IsLawful before (entries t base knows n stamp before i w) → PlacedAmid t base knows n stamp before w) (sym is) (λ allowed.
         left_on t base knows n stamp before i put asking (asks_on (is_asked t work)) allowed
         (act_on t base knows n stamp before i work put (acts.Issue t (member_here work request.issuer) request.member request.number op) refl (lawful_then t base knows n stamp before i put asking (asks_on (is_asked t work)).more (asks_on (is_asked t work)).entries allowed)
-        (λ h. issue_obliged t (amid work) (amid put) put_grows (book_amid n stamp before work) stamp n t (member_here work request.issuer) request.member request.number op n_in in_run (put_room reach _ refl refl) apart) placed)) lawful
+        (λ h. issue_obliged t (amid work) (amid put) put_grows (book_amid n stamp before work) stamp n t (member_here work request.issuer) request.member request.number op n_in on now in_run (put_room reach _ refl refl)
+        (numbered_next (book_amid n stamp before work) n stamp t (member_here work request.issuer) request.member request.number op h)) placed)) lawful
       where
         asking : Work
         asking = ask_on (is_asked t work) t request.member.node put

@@ -1,7 +1,6 @@
 -- A home that is ready at the turn of a transaction is shown there by a machine, beside the other nodes as they were: so where all places hold what they should, its commit is unanimous.
-use Rattle.std.proofs.Common.{◌≡◌, ◌⊎◌, ℕ, ◌<◌, ◌==◌, Bool, true, false, List, [], ◌∷◌, ◌++◌, fold, Some, None, refl, sym, ap, subst, ◌∙◌, append_assoc, ◌+◌, ◌^◌, ◌&&◌, ◌||◌, not, nat_lt, arith}
+use Rattle.std.proofs.Common.{◌≡◌, ◌⊎◌, ℕ, ◌<◌, ◌==◌, Bool, true, false, List, [], ◌∷◌, ◌++◌, fold, Some, None, refl, sym, ap, subst, ◌∙◌, append_assoc}
 use Rattle.std.proofs.lemmas.Bool.{eqb-true}
-use Rattle.std.proofs.lemmas.Bool.Decides.{nat_tests}
 use Rattle.qs_base.specs.declared.identifiers.Tid.{Tid}
 use Rattle.qs_engage.specs.Nodes.{same_node}
 use Rattle.qs_journal.specs.declared.entry.Act.{Act}
@@ -29,11 +28,12 @@ use Rattle.qs_refine.proofs.SoundHolds.{known_sound}
 use Rattle.qs_lawful.specs.Amid.{GoesOn, InRun}
 use Rattle.qs_lawful.specs.Given.{AtEach}
 use Rattle.qs_lawful.specs.GivenStep.{done_work}
-use Rattle.qs_lawful.specs.Holds.{Holds}
+use Rattle.qs_lawful.specs.Holds.{Holds, HoldsStill}
 use Rattle.qs_lawful.specs.Standing.{Stands}
 use Rattle.qs_lawful.proofs.BesideCommands.{goes_wait}
 use Rattle.qs_lawful.proofs.BesideGoes.{goes_fold}
 use Rattle.qs_lawful.proofs.CoherentOpenings.{opens_soundly}
+use Rattle.qs_lawful.proofs.Still.{still_held}
 use Rattle.qs_every_run.specs.Agrees.{MakesStep, nodes_in}
 use Rattle.qs_every_run.specs.Joined.{Joined, book_in}
 use Rattle.qs_every_run.specs.JoinedOwed.{CommitsSettled}
@@ -45,31 +45,25 @@ use Rattle.qs_every_run.specs.PlacesCommits.{IsBeside, ShowsField}
 use Rattle.qs_every_run.specs.PlacesEnds.{taken}
 use Rattle.qs_every_run.specs.PlacesGo.{Extends}
 use Rattle.qs_every_run.specs.PlacesRules.{AreLawful}
-use Rattle.qs_every_run.specs.PlacesTurns.{IsPlacedThere, IsReadyAt, PlacedAtTurn, PlacedSettles, SettledBy, ShownAt, ShownAtTurn}
+use Rattle.qs_every_run.specs.PlacesTurns.{BeganAtTurn, IsPlacedThere, IsReadyAt, PlacedAtTurn, PlacedSettles, SettledBy, ShownAt}
 use Rattle.qs_every_run.proofs.CommitsAmid.{home_commits, world_shows_field}
 use Rattle.qs_every_run.proofs.LeftSteps.{rest_leaves, settle_leaves}
 use Rattle.qs_every_run.proofs.OthersBeside.{others_beside}
 use Rattle.qs_every_run.proofs.PlacesGo.{beside, extends_of, extends_then, is_beside}
 use Rattle.qs_every_run.proofs.PlacesJoined.{held_here}
 use Rattle.qs_every_run.proofs.PlacesLeft.{itself_leaves}
+use Rattle.qs_every_run.proofs.TurnsBegan.{turns_began}
 use Rattle.qs_every_run.proofs.TurnsSettle.{turns_settle}
-use Rattle.qs_every_run.proofs.TurnsShown.{turns_shown}
 
 -- ---- the home is the node in its step
 
 abbrev CommitsAt : Tid → Scene → Field → ℕ → BookValue → Work → Participant → machine.World → TransactionValue → ℕ → Type 0
 CommitsAt t scene base stamp before work part v tx n = shown.Stands t scene n work v → ShowsField t scene base → IsDoomed v ⊎ PlacedAmid t base (scene.knows n) n stamp before work
-    → ((k : ℕ) → k < scene.size → scene.up k ≡ true → (k == n) ≡ false → IsBeside scene (book_amid n stamp before work) k) → Holds stamp (book_amid n stamp before work) work.node
+    → ((k : ℕ) → k < scene.size → scene.up k ≡ true → (k == n) ≡ false → IsBeside scene (book_amid n stamp before work) k) → HoldsStill (book_amid n stamp before work) work.node
     → part_of t work ≡ Some part → part.outcome ≡ None → may_answer t part work ≡ true → find_transaction (book_amid n stamp before work) t ≡ Some tx → is_unanimous tx ≡ true
 
 commits_at : (t : Tid) (scene : Scene) (base : Field) (stamp : ℕ) (before : BookValue) (work : Work) (part : Participant) (v : machine.World) (tx : TransactionValue) (n : ℕ) → t.home.0 ≡ n → CommitsAt t scene base stamp before work part v tx n
 commits_at t scene base stamp before work part v tx n at = subst (CommitsAt t scene base stamp before work part v tx) at (home_commits t scene base stamp before work part v tx)
-
--- ---- each other node may act at a later stamp
-
-acts_later : (limit stamp n k at by : ℕ) → (nat_lt stamp limit && (nat_lt at stamp || ((at == stamp) && not (nat_lt n by)))) ≡ true → nat_lt (stamp + 1) limit ≡ true
-    → (nat_lt (stamp + 1) limit && (nat_lt at (stamp + 1) || ((at == stamp + 1) && not (nat_lt k by)))) ≡ true
-acts_later limit stamp n k at by order less = grind (arith, nat_tests, order, less)
 
 -- ---- what is entered behind a turn
 
@@ -101,7 +95,7 @@ module _ (o : Opening) (world : World) (j : Joined PlacesAt o world) (n stamp fr
 
   -- ---- at a turn
 
-  module _ (work : Work) (tid : Tid) (more : List Act) (whole : (effects_of node event free).entries ≡ (try tid pass_rule work).out.entries ++ more) (turn : ShownAtTurn world n source work tid) (placed : PlacedAtTurn o world n stamp source work tid)
+  module _ (work : Work) (tid : Tid) (more : List Act) (whole : (effects_of node event free).entries ≡ (try tid pass_rule work).out.entries ++ more) (began : BeganAtTurn o world n stamp work tid) (placed : PlacedAtTurn o world n stamp source work tid)
       (s : Stands stamp before world.size (nodes_in world) n (try tid pass_rule work)) where
     abbrev now : Work
     now = try tid pass_rule work
@@ -109,18 +103,18 @@ module _ (o : Opening) (world : World) (j : Joined PlacesAt o world) (n stamp fr
     lawful : AreLawful n stamp before now
     lawful = subst (λ (k : ℕ). IsLawful before (entries_of k stamp now.out.entries)) s.by.at s.held.lawful
 
-    holds : Holds stamp (book_amid n stamp before now) now.node
-    holds = subst (λ (k : ℕ). Holds stamp (book_after before (entries_of k stamp now.out.entries)) now.node) s.by.at s.held.holds
+    holds : HoldsStill (book_amid n stamp before now) now.node
+    holds = still_held stamp (book_amid n stamp before now) now.node (subst (λ (k : ℕ). Holds stamp (book_after before (entries_of k stamp now.out.entries)) now.node) s.by.at s.held.holds)
 
     module _ (ready : IsReadyAt work tid) (tx : TransactionValue) (found : find_transaction (book_amid n stamp before now) tid ≡ Some tx) where
-      there : IsPlacedThere o world n stamp source work tid
-      there = placed ready
-
       p : PlacedOf tid o world
-      p = j.places tid there.began
+      p = j.places tid (began s ready)
 
-      at : ShownAt world n source tid p.machine now
-      at = turn there.began p.machine p.shows
+      abbrev there : IsPlacedThere o world n stamp source work tid p.machine
+      there = placed ready (began s ready) p.machine p.shows
+
+      abbrev at : ShownAt world n source tid p.machine now
+      at = there.at
 
       home_is : tid.home.0 ≡ n
       home_is = eqb-true tid.home.0 now.node.setting.node.0 (flag ready.part.engage.home (same_node tid.home now.node.setting.node) ready.home (known_sound tid now.node ready.part ready.known at.stands.sound).homed) ∙ s.by.at
@@ -134,11 +128,11 @@ module _ (o : Opening) (world : World) (j : Joined PlacesAt o world) (n stamp fr
 
       others : (k : ℕ) → k < world.size → (taken_by world n source).up k ≡ true → (k == n) ≡ false → IsBeside (taken_scene world n source) (book_amid n stamp before now) k
       others k low up far = let up_then : world.channels.up k ≡ true = ap (λ (f : ℕ → Bool). f k) (sym (up_taken world n source)) ∙ up in
-          others_beside o world n stamp free source event j makes now more whole lawful k (stamp + 1) low up_then far (acts_later (2 ^ 62) stamp now.node.setting.node.0 k (book_amid n stamp before now).stamp (book_amid n stamp before now).node holds.order there.later)
+          others_beside o world n stamp free source event j makes now more whole lawful k low up_then far
 
       unanimous : is_unanimous tx ≡ true
       unanimous = commits_at tid (taken_scene world n source) (field_of (taken world n source)) stamp before now ready.part at.now tx n home_is
-          at.stands (world_shows_field tid (taken world n source)) (there.placed at.now at.stands lawful held) others holds ready.known ready.open_now ready.may found
+          at.stands (world_shows_field tid (taken world n source)) (there.placed lawful held) others holds ready.known ready.open_now ready.may found
 
     settled : CommitsSettled stamp before work tid
     settled part known open_now home may quiet tx found =
@@ -146,10 +140,10 @@ module _ (o : Opening) (world : World) (j : Joined PlacesAt o world) (n stamp fr
 
   -- ---- from turn to turn
 
-  turns : (tids : List Tid) (work : Work) → fold settle_tid work tids ≡ settle done → AtEach (ShownAtTurn world n source) settle_tid work tids → AtEach (PlacedAtTurn o world n stamp source) settle_tid work tids
+  turns : (tids : List Tid) (work : Work) → fold settle_tid work tids ≡ settle done → AtEach (BeganAtTurn o world n stamp) settle_tid work tids → AtEach (PlacedAtTurn o world n stamp source) settle_tid work tids
       → AtEach (SettledBy stamp before world.size (nodes_in world) n) settle_tid work tids
-  turns [] work is shows placed = tt
-  turns (tid ∷ tids) work is shows placed = (λ s. settled work tid (e.more ++ waits.more) whole shows.0 placed.0 s, turns tids (settle_tid work tid) is shows.1 placed.1)
+  turns [] work is began placed = tt
+  turns (tid ∷ tids) work is began placed = (λ s. settled work tid (e.more ++ waits.more) whole began.0 placed.0 s, turns tids (settle_tid work tid) is began.1 placed.1)
     where
       e : Extends (try tid pass_rule work) (fold settle_tid work (tid ∷ tids))
       e = turn_extends tid tids work
@@ -158,7 +152,7 @@ module _ (o : Opening) (world : World) (j : Joined PlacesAt o world) (n stamp fr
       whole = waits.entries ∙ (ap (λ (w : Work). w.out.entries ++ waits.more) (sym is) ∙ (ap (λ (xs : List Act). xs ++ waits.more) e.entries ∙ append_assoc (try tid pass_rule work).out.entries e.more waits.more))
 
   turns_so : AtEach (PlacedAtTurn o world n stamp source) settle_tid done (due_tids done) → AtEach (SettledBy stamp before world.size (nodes_in world) n) settle_tid done (due_tids done)
-  turns_so placed = turns (due_tids done) done refl (turns_shown world n stamp free source event j.shown makes) placed
+  turns_so placed = turns (due_tids done) done refl (turns_began o world n stamp free source event j makes) placed
 
 pub placed_settles : PlacedSettles
-placed_settles o world n stamp free source event j makes so rooms placed = turns_settle o world n stamp free source event j makes so rooms (turns_so o world j n stamp free source event makes placed)
+placed_settles o world n stamp free source event j makes rooms placed = turns_settle o world n stamp free source event j makes rooms (turns_so o world j n stamp free source event makes placed)

@@ -21,7 +21,7 @@ use Rattle.qs_machine.specs.declared.transaction.Part.{Part}
 use Rattle.qs_machine.specs.declared.transaction.Request.{Request}
 use Rattle.qs_machine.specs.declared.transaction.RequestNo.{RequestNo}
 use Rattle.qs_ops.specs.Members.{class_of, is_two_phase}
-use Rattle.qs_every_run.specs.Placed.{Field, EachLives, EachPlaced, IsMember, IsPlaced, IsPresent, Placed, asked, standing, waiting}
+use Rattle.qs_every_run.specs.Placed.{AreIssued, Field, EachLives, EachPlaced, IsMember, IsPlaced, IsPresent, Placed, asked, standing, waiting}
 use Rattle.qs_every_run.proofs.Entries.{Each, each_changed, each_found, each_on, changed_rises}
 
 -- ---- orders of keys
@@ -81,11 +81,12 @@ pub record PlacedIn (tid : Tid) (field : Field) (requests : List (RequestNo × L
 pub placed_in : (tid : Tid) (tx : TransactionValue) (field : Field) → Placed tid tx field → PlacedIn tid field tx.requests tx.parts
 placed_in tid tx field p = record { numbers = p.numbers; members = p.members; each = placed_each tid field tx.requests p.requests; bare = bare_lives tx field tx.parts p.lives }
 
-pub placed_of : (tid : Tid) (tx : TransactionValue) (field : Field) → is_empty tx.refusals ≡ true → is_empty tx.crossed ≡ true → PlacedIn tid field tx.requests tx.parts → Placed tid tx field
-placed_of tid tx field unrefused uncrossed p = record {
+pub placed_of : (tid : Tid) (tx : TransactionValue) (field : Field) → AreIssued tx field → is_empty tx.refusals ≡ true → is_empty tx.crossed ≡ true → PlacedIn tid field tx.requests tx.parts → Placed tid tx field
+placed_of tid tx field issued unrefused uncrossed p = record {
   numbers = p.numbers;
   members = p.members;
   requests = each_placed tid field tx.requests p.each;
+  issued = issued;
   lives = lives_bare tx field p.members p.bare;
   unrefused = unrefused;
   uncrossed = uncrossed;

@@ -196,8 +196,8 @@ module _ (D : Type 0) (t : Tid) (base : Field) (knows : ℕ → ℕ) (n stamp : 
       by (inr w) is lawful placed = inr (where_to (same_node request.member.node (here work)) refl lawful)
         where
           where_to : (b : Bool) → same_node request.member.node (here work) ≡ b → Lawfully (if b then issue_here t request op work else issue_away t request op work) → PlacedAmid t base knows n stamp before (if b then issue_here t request op work else issue_away t request op work)
-          where_to true same lawful = issued_here t base knows n stamp before is.inv request op work is.here is.in_run w.fits (node_of request.member.node (here work) same) is.up w.apart lawful placed
-          where_to false apart lawful = let r = w.reaches apart in issued_away t base knows n stamp before is.inv request op work is.here is.in_run w.in_run r.0 r.1 w.apart lawful placed
+          where_to true same lawful = issued_here t base knows n stamp before is.inv request op work is.here is.in_run w.fits (node_of request.member.node (here work) same) is.up is.inc lawful placed
+          where_to false apart lawful = let r = w.reaches apart in issued_away t base knows n stamp before is.inv request op work is.here is.in_run w.in_run r.0 is.up is.inc r.1 lawful placed
 
 pub issue_goes : IssueGoes
 issue_goes w t base knows n stamp before work request op well = issue_goes_on (IsDoomed w) t base knows n stamp before work request op well

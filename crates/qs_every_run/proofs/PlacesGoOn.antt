@@ -3,6 +3,7 @@ use Rattle.qs_every_run.specs.PlacesLaws.{PlacesGoOn}
 use Rattle.qs_every_run.proofs.PlacesBegin.{opens_places}
 use Rattle.qs_every_run.proofs.PlacesKept.{keeps_places}
 use Rattle.qs_every_run.proofs.StepUnanimous.{steps_stay_unanimous}
+use Rattle.qs_every_run.proofs.WholeSteps.{whole_steps}
 
 pub places_go : PlacesGoOn
-places_go = record { opens = opens_places; between = keeps_places; unanimous = steps_stay_unanimous }
+places_go = record { opens = opens_places; between = keeps_places; unanimous = steps_stay_unanimous; steps = whole_steps }

@@ -30,6 +30,7 @@ use Rattle.qs_every_run.specs.JoinedPlaces.{PlacedOf, PlacesAt}
 use Rattle.qs_every_run.specs.Placed.{EachPlaced, Placed, field_of, message_of}
 use Rattle.qs_every_run.proofs.JoinedParts.{seated_sound}
 use Rattle.qs_every_run.proofs.MetFields.{room_then, same_nodes}
+use Rattle.qs_every_run.proofs.PlacedIssued.{issued_left}
 use Rattle.qs_every_run.proofs.PlacedTx.{HasRoom, bare_lives, bare_on, lives_bare, placed_on}
 use Rattle.qs_every_run.proofs.Entries.{each_on}
 
@@ -177,6 +178,7 @@ module _ (o : Opening) (world : World) (j : Joined PlacesAt o world) (n stamp m 
             numbers = placed.numbers;
             members = placed.members;
             requests = requests;
+            issued = issued_left tx tx (field_of world) (field_of after) refl (λ k l. refl) nodes.up nodes.inc placed.issued;
             lives = lives_bare tx (field_of after) placed.members (each_on Rattle.qs_machine.specs.Transaction.life_cmp (Rattle.qs_every_run.proofs.PlacedTx.IsBare (field_of world)) (Rattle.qs_every_run.proofs.PlacedTx.IsBare (field_of after)) (bare_on (field_of world) (field_of after) nodes) tx.parts (bare_lives tx (field_of world) tx.parts placed.lives));
             unrefused = placed.unrefused;
             uncrossed = placed.uncrossed;

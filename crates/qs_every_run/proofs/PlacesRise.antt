@@ -1,16 +1,22 @@
 -- What all places hold through a restart: what is undecided after it was so before, and is doomed, or so placed as before.
-use Rattle.std.proofs.Common.{◌≡◌, ◌⊎◌, inl, inr, ℕ, ◌+◌, ◌<◌, ◌==◌, ◌&&◌, ◌||◌, not, Bool, true, false, List, [], ◌∷◌, Some, refl, sym, ap, subst, ◌∙◌, arith, nat_lt, nat_le, if◌then◌else◌}
+use Rattle.std.proofs.Common.{◌≡◌, ◌⊎◌, inl, inr, ℕ, ◌+◌, ◌<◌, ◌≤◌, ◌==◌, ◌&&◌, ◌||◌, not, Bool, true, false, List, [], ◌∷◌, Some, refl, sym, ap, subst, ◌∙◌, arith, nat_lt, nat_le, if◌then◌else◌}
 use Rattle.std.proofs.lemmas.Bool.{eqb-true}
 use Rattle.std.proofs.lemmas.Bool.Decides.{nat_tests}
+use Rattle.std.specs.BTreeMap.{is_at}
+use Rattle.std.specs.List.{find}
+use Rattle.std.specs.Map.{lookup}
+use Rattle.std.specs.Prelude.{is_some}
 use Rattle.qs_base.specs.declared.identifiers.Tid.{Tid}
 use Rattle.qs_journal.specs.declared.entry.Entry.{Entry}
 use Rattle.qs_journal.specs.declared.entry.Found.{Found}
 use Rattle.qs_machine.specs.Book.{BookValue, find_transaction}
 use Rattle.qs_machine.specs.Nodes.{is_recoverable}
 use Rattle.qs_machine.specs.Restart.{restart}
-use Rattle.qs_machine.specs.Transaction.{TransactionValue, is_empty, is_open, life_cmp, request_cmp}
+use Rattle.qs_machine.specs.Transaction.{TransactionValue, is_empty, is_open, is_standing, life_cmp, link_cmp, request_cmp, requests_in, sent_in, sent_on}
+use Rattle.qs_machine.specs.declared.transaction.Link.{Link}
 use Rattle.qs_machine.specs.declared.transaction.Request.{Request}
 use Rattle.qs_machine.specs.declared.transaction.RequestNo.{RequestNo}
+use Rattle.qs_machine.specs.declared.transaction.Sent.{Sent}
 use Rattle.qs_restart.specs.Recovery.{names_transaction, recovery}
 use Rattle.qs_restart.specs.declared.recovered.Recovered.{Recovered}
 use Rattle.qs_step.specs.Opening.{recovered_of}
@@ -32,7 +38,7 @@ use Rattle.qs_lawful.proofs.LastsAlways.{in_runs}
 use Rattle.qs_lawful.proofs.Turning.{stood}
 use Rattle.qs_every_run.specs.Joined.{Joined, book_in}
 use Rattle.qs_every_run.specs.JoinedPlaces.{PlacedOf, PlacesAt}
-use Rattle.qs_every_run.specs.Placed.{IsPlaced, Placed, field_of}
+use Rattle.qs_every_run.specs.Placed.{AreIssued, IsIssued, IsPlaced, Placed, field_of}
 use Rattle.qs_every_run.proofs.Entries.{each_on}
 use Rattle.qs_every_run.proofs.JoinedParts.{book_on}
 use Rattle.qs_every_run.proofs.PlacedTx.{EachBare, IsBare, PlacedIn, placed_in, placed_of}
@@ -121,9 +127,32 @@ module _ (o : Opening) (world : World) (j : Joined PlacesAt o world) (n stamp in
         absurd (let was : has_begun world tid ≡ true = begun_down book world lasts j.held tid p.0 p.1 (p.2.undecided undecided) low (subst (λ (i : ℕ). world.channels.up i ≡ false) (sym (eqb-true k n near)) off) in cc (none, was))
 
     placed_then : (tx later_tx : TransactionValue) → KeepsTx (field_of after) tx later_tx → Placed tid tx (field_of world) → Placed tid later_tx (field_of after)
-    placed_then tx later_tx keeps placed = placed_of tid later_tx (field_of after) (ap is_empty keeps.refusals ∙ placed.unrefused) (ap is_empty keeps.crossed ∙ placed.uncrossed)
+    placed_then tx later_tx keeps placed = placed_of tid later_tx (field_of after) issued (ap is_empty keeps.refusals ∙ placed.unrefused) (ap is_empty keeps.crossed ∙ placed.uncrossed)
         (record { numbers = subst (Rattle.qs_laws.proofs.Rising.IsRising request_cmp) (sym keeps.requests) in_old.numbers; members = parts.0; each = subst (λ (rs : List (RequestNo × List Request)). Rattle.qs_every_run.proofs.Entries.Each request_cmp (IsPlaced tid (field_of after)) rs) (sym keeps.requests) requests; bare = parts.1 })
       where
+        -- who issued what stands ran, so it is another node
+        issued : AreIssued later_tx (field_of after)
+        issued at member stands = by (at.link.from.0 == n) refl
+          where
+            was : IsIssued tx (field_of world) at
+            was = placed.issued at member (subst (λ (rs : List (RequestNo × List Request)). is_some (find (is_standing member) (requests_in rs at)) ≡ true) keeps.requests stands)
+
+            given : at.number ≤ sent_in (world.channels.inc at.link.from.0) (sent_on later_tx at.link)
+            given = subst (λ (es : List (Link × Sent)). at.number ≤ sent_in (world.channels.inc at.link.from.0) (lookup (is_at (link_cmp at.link)) es)) (sym keeps.sent) was.given
+
+            far : (b : Bool) → b ≡ false → (if b then inc else world.channels.inc at.link.from.0) ≡ world.channels.inc at.link.from.0
+            far b is = rw is refl
+
+            far_up : (b : Bool) → b ≡ false → (if b then true else world.channels.up at.link.from.0) ≡ world.channels.up at.link.from.0
+            far_up b is = rw is refl
+
+            by : (b : Bool) → (at.link.from.0 == n) ≡ b → IsIssued later_tx (field_of after) at
+            by true same = absurd (let down : world.channels.up at.link.from.0 ≡ false = subst (λ (k : ℕ). world.channels.up k ≡ false) (sym (eqb-true at.link.from.0 n same)) off in let up = was.up in cc (up, down))
+            by false apart = record {
+              up = far_up (at.link.from.0 == n) apart ∙ was.up;
+              given = subst (λ (i : ℕ). at.number ≤ sent_in i (sent_on later_tx at.link)) (sym (far (at.link.from.0 == n) apart)) given;
+            }
+
         in_old : PlacedIn tid (field_of world) tx.requests tx.parts
         in_old = placed_in tid tx (field_of world) placed
 

@@ -1,5 +1,5 @@
 -- What all places hold through a crash, between two steps or in one: it is doomed, or so placed as before.
-use Rattle.std.proofs.Common.{◌≡◌, ℕ, ◌+◌, ◌<◌, ◌==◌, ◌&&◌, ◌||◌, Bool, true, false, List, [], ◌∷◌, Option, Some, None, refl, sym, ap, subst, ◌∙◌, nat_lt, nat_le, if◌then◌else◌}
+use Rattle.std.proofs.Common.{◌≡◌, ℕ, ◌+◌, ◌<◌, ◌==◌, ◌&&◌, ◌||◌, Bool, is_some, true, false, List, [], ◌∷◌, Option, Some, None, refl, sym, ap, subst, ◌∙◌, nat_lt, nat_le, if◌then◌else◌}
 use Rattle.std.proofs.lemmas.Bool.{eqb-true}
 use Rattle.qs_base.specs.declared.identifiers.Tid.{Tid}
 use Rattle.qs_journal.specs.declared.entry.Act.TheVariants as acts
@@ -32,15 +32,17 @@ use Rattle.qs_refine.proofs.SoundParts.{and_both}
 use Rattle.qs_lawful.specs.Holds.{Holds}
 use Rattle.qs_lawful.specs.Lasting.{Lasts}
 use Rattle.qs_lawful.proofs.LastsAlways.{in_runs}
+use Rattle.qs_lawful.proofs.Still.{held_at}
 use Rattle.qs_every_run.specs.Joined.{Joined, book_in}
 use Rattle.qs_every_run.specs.JoinedPlaces.{PlacedOf, PlacesAt}
+use Rattle.qs_every_run.specs.PlacesApart.{EachLeavesNone}
 use Rattle.qs_every_run.specs.JoinedOwed.{CutsUnanimous}
 use Rattle.qs_every_run.specs.Placed.{HoldsPlaced, field_of}
 use Rattle.qs_every_run.proofs.JoinedParts.{book_on}
 use Rattle.qs_every_run.proofs.PlacesBegin.{begun_up}
 use Rattle.qs_every_run.proofs.StopsPlaced.{cut_holds, stop_holds}
 
-module _ (o : Opening) (world : World) (j : Joined PlacesAt o world) (n stamp : ℕ) (cause : CrashCause) (log : List Record) (n_in : n < world.size) (on : world.channels.up n ≡ true) (ordered : is_in_order world n stamp ≡ true) (shown : IsShownWorld (stopped world n stamp cause log)) where
+module _ (o : Opening) (world : World) (j : Joined PlacesAt o world) (n stamp : ℕ) (cause : CrashCause) (log : List Record) (n_in : n < world.size) (on : world.channels.up n ≡ true) (ordered : is_in_order world n stamp ≡ true) (shown : IsShownWorld (stopped world n stamp cause log)) (apart : EachLeavesNone PlacesAt) where
   abbrev book : BookValue
   book = book_in o world
 
@@ -51,7 +53,7 @@ module _ (o : Opening) (world : World) (j : Joined PlacesAt o world) (n stamp : 
   entry = entry_of n stamp (acts.Crash cause)
 
   own : Holds stamp book (world.hosts n).node
-  own = ((j.held.nodes n n_in).runs on).next stamp (j.held.order n stamp ordered)
+  own = held_at n stamp book (world.hosts n).node (j.held.nodes n n_in).node ((j.held.nodes n n_in).runs on).still (j.held.order n stamp ordered)
 
   lasts : Lasts book
   lasts = in_runs o world.journal j.opens j.lawful
@@ -79,7 +81,7 @@ module _ (o : Opening) (world : World) (j : Joined PlacesAt o world) (n stamp : 
 
     unbegun : has_begun world tid ≡ false → (b : Bool) → (tid.home.0 == n) ≡ b → (tx : TransactionValue) → find_transaction (book_in o after) tid ≡ Some tx → is_open tx.cell ≡ true → ⊥
     unbegun none false far tx found undecided = absurd (let was : has_begun world tid ≡ true = begun_away tid far begun in cc (none, was))
-    unbegun none true near tx found undecided = absurd (let was : has_begun world tid ≡ true = begun_up book world lasts j.held tid tx (found_then tx found) undecided (home_in_run after shown tid begun) (ap world.channels.up at ∙ on) stamp (subst (λ (k : ℕ). Holds stamp book (world.hosts k).node) (sym at) own) in cc (none, was))
+    unbegun none true near tx found undecided = absurd (let was : has_begun world tid ≡ true = begun_up book world lasts j.held tid (ap is_some (found_then tx found)) (home_in_run after shown tid begun) (ap world.channels.up at ∙ on) in cc (none, was))
       where
         at : tid.home.0 ≡ n
         at = eqb-true tid.home.0 n near
@@ -97,21 +99,21 @@ module _ (o : Opening) (world : World) (j : Joined PlacesAt o world) (n stamp : 
   -- with nothing of the step kept of it
   pub alone_places : (tid : Tid) → has_begun after tid ≡ true → ((w : machine.World) → has_begun world tid ≡ true → ShowsAll tid world w → StopsAlone tid world after n w) → PlacedOf tid o after
   alone_places tid begun alone = crash_places tid (λ was. let p : PlacedOf tid o world = j.places tid was in let goes : StopsAlone tid world after n p.machine = alone p.machine was p.shows in
-      placed_in tid p.machine goes.goes (stop_holds tid book world n stamp cause log p.machine goes j.shown p.shows n_in on stamp own p.placed)) begun
+      placed_in tid p.machine goes.goes (stop_holds tid book world n stamp cause log p.machine goes j.shown p.shows n_in on stamp own (λ tx found undecided. apart o world n tid tx j n_in on stamp own found undecided) p.placed)) begun
 
   -- with a record of it kept
   pub kept_places : (tid : Tid) (leaves : NodeValue) → has_begun after tid ≡ true
       → ((w : machine.World) → has_begun world tid ≡ true → ShowsAll tid world w → (goes : CutsOff tid leaves after w) × (w.cell ≡ Open → goes.goes.next.cell ≡ Committed → (tx : TransactionValue) → find_transaction book tid ≡ Some tx → is_open tx.cell ≡ true → is_unanimous tx ≡ true))
       → PlacedOf tid o after
   kept_places tid leaves begun kept = crash_places tid (λ was. let p : PlacedOf tid o world = j.places tid was in let goes = kept p.machine was p.shows in
-      placed_in tid p.machine goes.0.goes (cut_holds tid book world n stamp cause log p.machine leaves goes.0 j.shown p.shows n_in on stamp own goes.1 p.placed)) begun
+      placed_in tid p.machine goes.0.goes (cut_holds tid book world n stamp cause log p.machine leaves goes.0 j.shown p.shows n_in on stamp own (λ tx found undecided. apart o world n tid tx j n_in on stamp own found undecided) goes.1 p.placed)) begun
 
-module _ (o : Opening) (world : World) (j : Joined PlacesAt o world) where
+module _ (o : Opening) (world : World) (j : Joined PlacesAt o world) (apart : EachLeavesNone PlacesAt) where
   ordered_so : (n stamp : ℕ) (source : Source) → may_step world n stamp source ≡ true → is_in_order world n stamp ≡ true
   ordered_so n stamp source may = (and_both (is_in_order world n stamp) _ (and_both (is_later world n stamp) _ (and_both (world.channels.up n) _ may).1).0).0
 
   pub stop_places : (n stamp : ℕ) (cause : CrashCause) → may_move world (Stop n stamp cause) ≡ true → PlacesAt o (moved (Stop n stamp cause) world)
-  stop_places n stamp cause may tid begun = alone_places o world j n stamp cause (world.hosts n).log (in_run world n stamp tests.1) tests.0 tests.1 (move_shown world (Stop n stamp cause) may j.shown (each_begun_shown world (Stop n stamp cause) may j.shown)) tid begun
+  stop_places n stamp cause may tid begun = alone_places o world j n stamp cause (world.hosts n).log (in_run world n stamp tests.1) tests.0 tests.1 (move_shown world (Stop n stamp cause) may j.shown (each_begun_shown world (Stop n stamp cause) may j.shown)) apart tid begun
       (λ w was shows. stop_goes_alone tid world n stamp cause w may j.shown was shows)
     where
       tests : (world.channels.up n ≡ true) × (is_in_order world n stamp ≡ true)
@@ -145,8 +147,8 @@ module _ (o : Opening) (world : World) (j : Joined PlacesAt o world) where
           shown_so = subst IsShownWorld (ap (cut_with world n stamp free is_kept cause) comes) shown
 
           of : (tid : Tid) → has_begun (stopped world n stamp cause log) tid ≡ true → (b : Bool) → is_cut_with tid is_kept world n free event ≡ b → PlacedOf tid o (stopped world n stamp cause log)
-          of tid begun false lost = alone_places o world j n stamp cause log its.low its.runs ordered shown_so tid begun
+          of tid begun false lost = alone_places o world j n stamp cause log its.low its.runs ordered shown_so apart tid begun
               (λ w was shows. subst (λ (v : World). StopsAlone tid world v n w) (ap (cut_with world n stamp free is_kept cause) comes) (cut_goes_alone tid world n stamp free source is_kept cause event w may j.shown was shows comes lost))
-          of tid begun true kept = kept_places o world j n stamp cause log its.low its.runs ordered shown_so tid (after_step (world.hosts n).node event free) begun
+          of tid begun true kept = kept_places o world j n stamp cause log its.low its.runs ordered shown_so apart tid (after_step (world.hosts n).node event free) begun
               (λ w was shows. let goes : CutsOff tid (after_step (world.hosts n).node event free) (stopped world n stamp cause log) w = subst (λ (v : World). CutsOff tid (after_step (world.hosts n).node event free) v w) (ap (cut_with world n stamp free is_kept cause) comes) (cut_goes_kept tid world n stamp free source is_kept cause event w may j.shown was shows comes kept) in
               (goes, λ open_now committed tx found undecided. unanimous event comes tid w goes was shows open_now committed tx found undecided))

@@ -28,6 +28,7 @@ use Rattle.qs_every_run.proofs.PlacedTx.{EachBare, IsBare, life_total}
 -- the transaction goes on, with lives of the field
 pub record KeepsTx (field : Field) (tx later : TransactionValue) : Type 0 where
   pub requests : later.requests ≡ tx.requests
+  pub sent : later.sent ≡ tx.sent
   pub refusals : later.refusals ≡ tx.refusals
   pub crossed : later.crossed ≡ tx.crossed
   pub undecided : is_open later.cell ≡ true → is_open tx.cell ≡ true
@@ -38,11 +39,12 @@ module _ (field : Field) where
   Keeps tid tx later = KeepsTx field tx later
 
   keeps_self : (tid : Tid) (tx : TransactionValue) → Keeps tid tx tx
-  keeps_self tid tx = record { requests = refl; refusals = refl; crossed = refl; undecided = λ is. is; parts = λ rising each. (rising, each) }
+  keeps_self tid tx = record { requests = refl; sent = refl; refusals = refl; crossed = refl; undecided = λ is. is; parts = λ rising each. (rising, each) }
 
   keeps_then : (tid : Tid) (tx mid later : TransactionValue) → Keeps tid tx mid → Keeps tid mid later → Keeps tid tx later
   keeps_then tid tx mid later a b = record {
     requests = b.requests ∙ a.requests;
+    sent = b.sent ∙ a.sent;
     refusals = b.refusals ∙ a.refusals;
     crossed = b.crossed ∙ a.crossed;
     undecided = λ is. a.undecided (b.undecided is);
@@ -74,10 +76,10 @@ module _ (field : Field) where
 
   learns : (here : ℕ) (tid : Tid) (server : ℕ) (book : BookValue) → Goes book (learn_found here tid server book)
   learns here tid server book = goes_if (is_some (record_at here book tid server)) book (with_transaction tid (with_learnt (member_at here server)) book) book
-      (turned_by Keeps keeps_self tid (with_learnt (member_at here server)) book _ refl (λ tx found. record { requests = refl; refusals = refl; crossed = refl; undecided = λ is. is; parts = λ rising each. (rising, each) })) (goes_self book)
+      (turned_by Keeps keeps_self tid (with_learnt (member_at here server)) book _ refl (λ tx found. record { requests = refl; sent = refl; refusals = refl; crossed = refl; undecided = λ is. is; parts = λ rising each. (rising, each) })) (goes_self book)
 
   decides : (tid : Tid) (outcome : Outcome) (cause : Option Cause) (book : BookValue) → Goes book (decide tid outcome cause book)
-  decides tid outcome cause book = turned_by Keeps keeps_self tid (decided_at book.place outcome cause) book (decide tid outcome cause book) refl (λ tx found. record { requests = refl; refusals = refl; crossed = refl; undecided = shut outcome; parts = λ rising each. (rising, each) })
+  decides tid outcome cause book = turned_by Keeps keeps_self tid (decided_at book.place outcome cause) book (decide tid outcome cause book) refl (λ tx found. record { requests = refl; sent = refl; refusals = refl; crossed = refl; undecided = shut outcome; parts = λ rising each. (rising, each) })
     where
       shut : {X : Type 0} (o : Outcome) → is_open (Rattle.qs_machine.specs.Transaction.cell_of o) ≡ true → X
       shut outcomes.Commit is = absurd (cc is)
@@ -103,6 +105,7 @@ module _ (field : Field) where
     found : (tid : Tid) (server covers changes : ℕ) → is_recoverable server ≡ true → (tx : TransactionValue) → Keeps tid tx (found_at (member_at here server) inc covers changes tx)
     found tid server covers changes kept tx = record {
       requests = refl;
+      sent = refl;
       refusals = refl;
       crossed = refl;
       undecided = λ is. is;

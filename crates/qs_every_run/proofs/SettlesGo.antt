@@ -1,7 +1,8 @@
 -- A node settles a transaction, its own vote pass with it: at the turn of each server a note is issued well and a vote is for commit, or it is doomed.
-use Rattle.std.proofs.Common.{◌≡◌, ◌⊎◌, inl, inr, ℕ, Bool, true, false, Option, Some, None, refl, sym, subst, if◌then◌else◌}
+use Rattle.std.proofs.Common.{◌≡◌, ◌⊎◌, inl, inr, ℕ, Bool, true, false, Option, Some, None, is_none, refl, sym, subst, if◌then◌else◌}
 use Rattle.qs_base.specs.Order.{same_tid}
 use Rattle.qs_base.specs.declared.identifiers.NodeNo.{NodeNo}
+use Rattle.qs_base.specs.declared.identifiers.Outcome.{Outcome}
 use Rattle.qs_base.specs.declared.identifiers.ServerNo.{ServerNo}
 use Rattle.qs_base.specs.declared.identifiers.Tid.{Tid}
 use Rattle.qs_machine.specs.Book.{BookValue}
@@ -13,6 +14,7 @@ use Rattle.qs_step.specs.Requests.{issue_as, next_number}
 use Rattle.qs_step.specs.Settling.{is_pass_due, pass_rule, settle_tid, try}
 use Rattle.qs_step.specs.State.{Work, part_of}
 use Rattle.qs_step.specs.Voting.{due_votes, issue_note, owes_note, vote_frame, vote_next, vote_pass, vote_with}
+use Rattle.qs_tm.specs.Participant.{is_undecided}
 use Rattle.qs_tm.specs.declared.participant.Participant.{Participant}
 use Rattle.qs_agree.specs.Doomed.{IsDoomed}
 use Rattle.qs_refine.proofs.SoundKnown.{same_is}
@@ -24,7 +26,7 @@ use Rattle.qs_every_run.proofs.LeftOutcomes.{ended_leaves}
 use Rattle.qs_every_run.proofs.LeftRequests.{vote_leaves}
 use Rattle.qs_every_run.proofs.LeftSteps.{rest_leaves, settle_leaves}
 use Rattle.qs_every_run.proofs.PlacedVotes.{vote_placed}
-use Rattle.qs_every_run.proofs.PlacesGo.{beside, goes_by, goes_fold, goes_itself, goes_left, goes_then, goes_undecided, is_beside, issue_goes_on}
+use Rattle.qs_every_run.proofs.PlacesGo.{beside, goes_by, goes_fold, goes_itself, goes_left, goes_then, is_beside, issue_goes_on}
 
 module _ (D : Type 0) (t : Tid) (base : Field) (knows : ℕ → ℕ) (n stamp : ℕ) (before : BookValue) where
   abbrev G : Work → Work → Type 0
@@ -52,17 +54,25 @@ module _ (D : Type 0) (t : Tid) (base : Field) (knows : ℕ → ℕ) (n stamp : 
       by true owes = note_goes work work.node.setting.audit (well.notes owes)
       by false free = vote_goes work server (vote_of (server_at work.node.servers server) t work.room (vote_frame work)) (well.votes free)
 
-  pass_goes : (work : Work) (part : Participant) → part_of t work ≡ Some part → PassesWell D t base knows n stamp before work → G work (pass_rule t part work)
-  pass_goes work part known well = by (is_pass_due t part work) refl
+  pass_goes : (work : Work) (part : Participant) → part_of t work ≡ Some part → part.outcome ≡ None → PassesWell D t base knows n stamp before work → G work (pass_rule t part work)
+  pass_goes work part known undecided well = by (is_pass_due t part work) refl
     where
       by : (b : Bool) → is_pass_due t part work ≡ b → G work (if b then vote_pass t work else work)
       by true due = goes_then D t base knows n stamp before work (end_members t work) (vote_pass t work) (goes_left D t base knows n stamp before work (end_members t work) (ended_leaves t t work))
-          (goes_fold D t base knows n stamp before (VotesWell D t base knows n stamp before) (vote_next t) next_goes (due_votes t work) (end_members t work) (well part known due))
+          (goes_fold D t base knows n stamp before (VotesWell D t base knows n stamp before) (vote_next t) next_goes (due_votes t work) (end_members t work) (well part known undecided due))
       by false off = goes_itself D t base knows n stamp before work
 
   -- its turn, once its own votes are cast
   pub turn_goes : (work : Work) → PassesWell D t base knows n stamp before work → G work (try t pass_rule work)
-  turn_goes work well = goes_undecided D t base knows n stamp before t (pass_rule t) work (λ part known. pass_goes work part known well)
+  turn_goes work well = by (part_of t work) refl
+    where
+      picked : (part : Participant) → part_of t work ≡ Some part → (o : Option Outcome) → part.outcome ≡ o → G work (if is_none o then pass_rule t part work else work)
+      picked part known None undecided = pass_goes work part known undecided well
+      picked part known (Some outcome) decided = goes_itself D t base knows n stamp before work
+
+      by : (o : Option Participant) → part_of t work ≡ o → G work (elim o [ None ↦ work | Some part ↦ if is_undecided part then pass_rule t part work else work ])
+      by None none = goes_itself D t base knows n stamp before work
+      by (Some part) known = picked part known part.outcome refl
 
   own_goes : (work : Work) → PassesWell D t base knows n stamp before work → G work (settle_tid work t)
   own_goes work well = goes_then D t base knows n stamp before work (try t pass_rule work) (settle_tid work t) (turn_goes work well)

@@ -52,7 +52,7 @@ use Rattle.qs_refine.proofs.Facts.{invariant}
 use Rattle.qs_refine.proofs.ShownBegins.{each_begun_shown}
 use Rattle.qs_refine.proofs.ShownMoves.{move_shown, shown_gives, steady}
 use Rattle.qs_refine.proofs.SoundKnown.{nothing_waits}
-use Rattle.qs_lawful.specs.Holds.{Holds}
+use Rattle.qs_lawful.specs.Holds.{HoldsStill}
 use Rattle.qs_lawful.specs.Lasting.{Lasts}
 use Rattle.qs_lawful.specs.Logs.{Every}
 use Rattle.qs_lawful.proofs.AsideGoes.{GoesAside, goes_aside}
@@ -61,9 +61,10 @@ use Rattle.qs_lawful.proofs.LastsAlways.{in_runs}
 use Rattle.qs_lawful.proofs.LastsOpening.{lasts_first, lasts_ran}
 use Rattle.qs_lawful.proofs.LastsWell.{LastsWell}
 use Rattle.qs_lawful.proofs.NumberedLogs.{opened_numbered, opening_named}
+use Rattle.qs_lawful.proofs.Still.{still_held}
 use Rattle.qs_every_run.specs.Agrees.{MakesStep}
 use Rattle.qs_every_run.specs.Joined.{Joined, book_in}
-use Rattle.qs_every_run.specs.JoinedOwed.{Owed, entries_in, book_then}
+use Rattle.qs_every_run.specs.JoinedOwed.{entries_in, book_then}
 use Rattle.qs_every_run.specs.JoinedPlaces.{PlacedOf, PlacesAt}
 use Rattle.qs_every_run.specs.Placed.{IsLife, IsPresent, Placed, field_of}
 use Rattle.qs_every_run.specs.PlacedLaws.{IsFree, IsQuiet}
@@ -73,7 +74,9 @@ use Rattle.qs_every_run.proofs.FreeLives.{free_agrees}
 use Rattle.qs_every_run.proofs.JoinedParts.{book_on, lawful_on}
 use Rattle.qs_every_run.proofs.JoinedSteps.{step_holds, step_journal, step_low}
 use Rattle.qs_every_run.proofs.PlacesBegin.{begun_down}
+use Rattle.qs_every_run.proofs.PlacesSteps.{steps_keep_places}
 use Rattle.qs_every_run.proofs.Quiets.{quiet_unanimous}
+use Rattle.qs_every_run.proofs.WholeSteps.{whole_steps}
 
 -- ---- once commit is decided no request waits at a node, whatever it knows
 
@@ -131,7 +134,7 @@ life_agrees l (e ∷ parts) all = by (is_at (life_cmp l) e.0) refl (life_agrees 
 
 -- ---- the step
 
-module _ (owed : Owed PlacesAt) (o : Opening) (world : World) (j : Joined PlacesAt o world) (n stamp free : ℕ) (source : Source) (event : Event) (makes : MakesStep world n stamp source event) (lawful : IsLawful (book_in o world) (entries_in world n stamp free event)) where
+module _ (o : Opening) (world : World) (j : Joined PlacesAt o world) (n stamp free : ℕ) (source : Source) (event : Event) (makes : MakesStep world n stamp source event) (lawful : IsLawful (book_in o world) (entries_in world n stamp free event)) where
   abbrev move : Move
   move = Step n stamp free source
 
@@ -148,7 +151,7 @@ module _ (owed : Owed PlacesAt) (o : Opening) (world : World) (j : Joined Places
   now = book_then o world n stamp free event
 
   journal : new.journal ≡ world.journal ++ entries
-  journal = step_journal PlacesAt owed o world j n stamp free source event makes
+  journal = step_journal PlacesAt whole_steps o world j n stamp free source event makes
 
   book_now : book_in o new ≡ now
   book_now = book_on o world new entries journal
@@ -157,7 +160,7 @@ module _ (owed : Owed PlacesAt) (o : Opening) (world : World) (j : Joined Places
   lawful_new = lawful_on o world new entries journal j.lawful lawful
 
   places : PlacesAt o new
-  places = owed.places o world move tt j makes.may lawful_new
+  places = steps_keep_places o world move tt j makes.may lawful_new
 
   shown : IsShownWorld new
   shown = move_shown world move makes.may j.shown (each_begun_shown world move makes.may j.shown)
@@ -183,8 +186,8 @@ module _ (owed : Owed PlacesAt) (o : Opening) (world : World) (j : Joined Places
       picked : (b : Bool) → b ≡ true → (if b then stepped_host stamp (after_step (world.hosts n).node event free) (effects_of (world.hosts n).node event free) (world.hosts n) else world.hosts n).node ≡ after_step (world.hosts n).node event free
       picked b is = rw is refl
 
-  own : Holds stamp now (new.hosts n).node
-  own = subst (λ (node : NodeValue). Holds stamp now node) (sym own_node) (step_holds PlacesAt owed o world j n stamp free source event makes)
+  own : HoldsStill now (new.hosts n).node
+  own = subst (HoldsStill now) (sym own_node) (still_held stamp now (after_step (world.hosts n).node event free) (step_holds PlacesAt whole_steps o world j n stamp free source event makes))
 
   others : (k : ℕ) → (k == n) ≡ false → Every (λ (entry : Entry). (entry.node.0 == k) ≡ false) entries
   others k far = all (effects_of (world.hosts n).node event free).entries
@@ -240,16 +243,16 @@ module _ (owed : Owed PlacesAt) (o : Opening) (world : World) (j : Joined Places
       lives l part life present = by (l.member.node.0 == n) refl
         where
           by : (b : Bool) → (l.member.node.0 == n) ≡ b → agrees (l, part) ≡ true
-          by true near = free_agrees stamp now tid later (field_of new) (new.hosts n).node l part found_later still_open own idle life (at_node (eqb-true l.member.node.0 n near)) (present.now ∙ (ap new.channels.inc (eqb-true l.member.node.0 n near) ∙ sym ((steady new shown).seated.inc n n_in)))
+          by true near = free_agrees now tid later (field_of new) (new.hosts n).node l part found_later still_open own idle life (at_node (eqb-true l.member.node.0 n near)) (present.now ∙ (ap new.channels.inc (eqb-true l.member.node.0 n near) ∙ sym ((steady new shown).seated.inc n n_in)))
             where
               n_in : n < new.size
-              n_in = subst (λ (s : ℕ). n < s) (sym sized) (step_low PlacesAt owed o world j n stamp free source event makes)
+              n_in = subst (λ (s : ℕ). n < s) (sym sized) (step_low PlacesAt whole_steps o world j n stamp free source event makes)
 
               n_up : new.channels.up n ≡ true
               n_up = ap new.channels.up (sym (eqb-true l.member.node.0 n near)) ∙ present.up
 
               idle : IsFree tid (new.hosts n).node
-              idle = committed_free tid (new.hosts n).node (place n (new.channels.inc n)) v all.seen.lawful committed (face n n_in n_up) (sound n n_in) (none_decided stamp now tid later (new.hosts n).node own found_later still_open)
+              idle = committed_free tid (new.hosts n).node (place n (new.channels.inc n)) v all.seen.lawful committed (face n n_in n_up) (sound n n_in) (none_decided now tid later (new.hosts n).node own found_later still_open)
 
               at_node : l.member.node.0 ≡ n → l.member.node ≡ (new.hosts n).node.setting.node
               at_node is = ap (λ (k : ℕ). Rattle.qs_refine.specs.Links.node_no k) is ∙ sym ((steady new shown).seated.node n n_in)
@@ -271,7 +274,7 @@ module _ (owed : Owed PlacesAt) (o : Opening) (world : World) (j : Joined Places
           by (inr placed) = quiet_unanimous tid later (field_of new) placed asked quiet
 
 pub steps_stay_unanimous : StepsStayUnanimous
-steps_stay_unanimous owed o world n stamp free source event j makes lawful k far low off tid tx later among found found_later home undecided unanimous =
-    stays owed o world j n stamp free source event makes lawful tid tx later found found_later
+steps_stay_unanimous o world n stamp free source event j makes lawful k far low off tid tx later among found found_later home undecided unanimous =
+    stays o world j n stamp free source event makes lawful tid tx later found found_later
     (ap (λ (i : ℕ). i == n) home ∙ far) (subst (λ (i : ℕ). i < world.size) (sym home) low) (subst (λ (i : ℕ). world.channels.up i ≡ false) (sym home) off)
     (subst (λ (i : ℕ). is_among (recovery (world.hosts i).log).committed tid ≡ true) (sym home) among) undecided unanimous

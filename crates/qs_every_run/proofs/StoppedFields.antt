@@ -1,5 +1,5 @@
 -- A free node stops: its lives agree, and requests stay placed where none was on its way to it, nor kept back by it, or each of these dooms.
-use Rattle.std.proofs.Common.{◌≡◌, ◌⊎◌, inl, inr, ℕ, ◌+◌, ◌-◌, ◌<◌, ◌≤◌, ◌==◌, ◌&&◌, Bool, true, false, List, [], ◌∷◌, length, map, Some, zero, suc, refl, sym, ap, subst, ◌∙◌, arith, if◌then◌else◌}
+use Rattle.std.proofs.Common.{◌≡◌, ◌⊎◌, inl, inr, ℕ, ◌+◌, ◌-◌, ◌<◌, ◌≤◌, ◌==◌, ◌&&◌, Bool, true, false, List, [], ◌∷◌, length, map, Some, None, zero, suc, refl, sym, ap, subst, ◌∙◌, arith, if◌then◌else◌}
 use Rattle.std.proofs.lemmas.Bool.{eqb-true}
 use Rattle.std.proofs.lemmas.Bool.Decides.{nat_tests}
 use Rattle.std.specs.List.{filter}
@@ -9,7 +9,7 @@ use Rattle.qs_ipc.specs.Ipc.{queue_at}
 use Rattle.qs_ipc.specs.declared.delivery.Delivery.{Delivery}
 use Rattle.qs_journal.specs.declared.entry.CrashCause.{CrashCause}
 use Rattle.qs_machine.specs.Book.{BookValue, find_transaction}
-use Rattle.qs_machine.specs.Transaction.{TransactionValue, agrees, is_open}
+use Rattle.qs_machine.specs.Transaction.{TransactionValue, agrees, is_open, standing_request}
 use Rattle.qs_machine.specs.declared.transaction.Life.{Life}
 use Rattle.qs_machine.specs.declared.transaction.Part.{Part}
 use Rattle.qs_machine.specs.declared.transaction.Request.{Request}
@@ -31,8 +31,10 @@ use Rattle.qs_refine.proofs.StepAll.{node_stopped}
 use Rattle.qs_lawful.specs.Face.{is_numbered}
 use Rattle.qs_lawful.specs.Holds.{Holds}
 use Rattle.qs_lawful.specs.Parcels.{pending, pending_from}
-use Rattle.qs_every_run.specs.Placed.{Field, message_of, sent_between, kept_between, field_of, standing, waiting, asked, IsPlaced, EachPlaced, IsLife, IsPresent, EachLives, Placed}
+use Rattle.qs_lawful.proofs.Still.{still_held}
+use Rattle.qs_every_run.specs.Placed.{AreIssued, Field, message_of, sent_between, kept_between, field_of, standing, waiting, asked, IsIssued, IsPlaced, EachPlaced, IsLife, IsPresent, EachLives, Placed}
 use Rattle.qs_every_run.specs.PlacedLaws.{IsFree}
+use Rattle.qs_every_run.specs.PlacesApart.{NoneOf}
 use Rattle.qs_every_run.proofs.CommitsPlaced.{NoneIn, none_in, none_then}
 use Rattle.qs_every_run.proofs.FreeLives.{free_agrees}
 use Rattle.qs_every_run.proofs.Quiets.{none_counted}
@@ -42,7 +44,9 @@ module _ (tid : Tid) (book : BookValue) (tx : TransactionValue) (world : World) 
     (free : IsFree tid (world.hosts n).node)
     -- what was on its way to it, and what it kept back
     (left : (k i : ℕ) → k < world.size → has_request (all_said tid (map message_of (pending world.channels k n i (world.channels.inc n)))) ≡ true → IsDoomed v)
-    (kept_back : (m : ℕ) → m < world.size → world.channels.peer n m ≡ 0 → has_request (all_said tid (map message_of (world.channels.waits n m))) ≡ true → IsDoomed v) where
+    (kept_back : (m : ℕ) → m < world.size → world.channels.peer n m ≡ 0 → has_request (all_said tid (map message_of (world.channels.waits n m))) ≡ true → IsDoomed v)
+    -- and none that it issued stands
+    (none_of_it : NoneOf n tx) where
   abbrev after : World
   after = stopped world n stamp cause log
 
@@ -185,13 +189,22 @@ module _ (tid : Tid) (book : BookValue) (tx : TransactionValue) (world : World) 
       both (inr first) (inl doomed) = inl doomed
       both (inr first) (inr rest) = inr (first, rest)
 
+  -- ---- who issued them
+
+  issued : AreIssued tx old → AreIssued tx new
+  issued are at member stands = by (at.link.from.0 == n) refl
+    where
+      by : (b : Bool) → (at.link.from.0 == n) ≡ b → IsIssued tx new at
+      by true same = absurd (let none : standing_request tx at member ≡ None = none_of_it at member (eqb-true at.link.from.0 n same) in cc (stands, none))
+      by false apart = let i : IsIssued tx old at = are at member stands in record { up = up_is at.link.from.0 apart ∙ i.up; given = i.given }
+
   -- ---- lives
 
   life : (l : Life) (part : Part) → IsLife tx old l part → IsLife tx new l part
   life l part its = record { kept = its.kept; member = its.member; cast = its.cast; made = its.made; lives = by its.lives }
     where
       over : (b : Bool) → (l.member.node.0 == n) ≡ b → IsPresent old l → IsPresent new l ⊎ (agrees (l, part) ≡ true)
-      over true same present = inr (free_agrees next book tid tx old (world.hosts n).node l part found undecided h free its
+      over true same present = inr (free_agrees book tid tx old (world.hosts n).node l part found undecided (still_held next book (world.hosts n).node h) free its
           (ap (λ (k : ℕ). Rattle.qs_refine.specs.Links.node_no k) (eqb-true l.member.node.0 n same) ∙ sym ((steady world is).seated.node n n_in))
           (present.now ∙ (ap world.channels.inc (eqb-true l.member.node.0 n same) ∙ sym ((steady world is).seated.inc n n_in))))
       over false apart present = inl (record { in_run = present.in_run; up = up_is l.member.node.0 apart ∙ present.up; now = present.now })
@@ -209,4 +222,4 @@ module _ (tid : Tid) (book : BookValue) (tx : TransactionValue) (world : World) 
     where
       by : IsDoomed v ⊎ EachPlaced tid new tx.requests → IsDoomed v ⊎ Placed tid tx new
       by (inl doomed) = inl doomed
-      by (inr requests) = inr (record { numbers = placed.numbers; members = placed.members; requests = requests; lives = lives tx.parts placed.lives; unrefused = placed.unrefused; uncrossed = placed.uncrossed })
+      by (inr requests) = inr (record { numbers = placed.numbers; members = placed.members; requests = requests; issued = issued placed.issued; lives = lives tx.parts placed.lives; unrefused = placed.unrefused; uncrossed = placed.uncrossed })

@@ -27,15 +27,17 @@ use Rattle.qs_refine.proofs.Facts.{invariant}
 use Rattle.qs_refine.proofs.ShownMoves.{steady}
 use Rattle.qs_lawful.specs.Holds.{Holds}
 use Rattle.qs_lawful.specs.Parcels.{pending}
+use Rattle.qs_lawful.proofs.Still.{still_held}
 use Rattle.qs_every_run.specs.Placed.{message_of, field_of, Placed}
 use Rattle.qs_every_run.specs.PlacedLaws.{IsFree}
+use Rattle.qs_every_run.specs.PlacesApart.{LeavesNone}
 use Rattle.qs_every_run.specs.StopLaws.{StopsPlaced, CutPlaced, StopHolds, CutHolds}
 use Rattle.qs_every_run.proofs.CommitsPlaced.{idle_free, none_decided}
 use Rattle.qs_every_run.proofs.StoppedFields.{placed_then}
 use Rattle.qs_every_run.proofs.UnanimousPlaced.{unanimous_placed}
 
 module _ (tid : Tid) (book : BookValue) (tx : TransactionValue) (world : World) (n stamp : ℕ) (cause : CrashCause) (log : List Record) (w : machine.World) (goes : StopsAlone tid world (stopped world n stamp cause log) n w)
-    (is : IsShownWorld world) (all : ShowsAll tid world w) (n_in : n < world.size) (on : world.channels.up n ≡ true) (found : find_transaction book tid ≡ Some tx) (undecided : is_open tx.cell ≡ true) (next : ℕ) (h : Holds next book (world.hosts n).node) where
+    (is : IsShownWorld world) (all : ShowsAll tid world w) (n_in : n < world.size) (on : world.channels.up n ≡ true) (found : find_transaction book tid ≡ Some tx) (undecided : is_open tx.cell ≡ true) (next : ℕ) (h : Holds next book (world.hosts n).node) (apart : LeavesNone tid world n tx) where
   abbrev v : machine.World
   v = goes.goes.next
 
@@ -52,7 +54,7 @@ module _ (tid : Tid) (book : BookValue) (tx : TransactionValue) (world : World) 
   face = all.seen.shown.faces n n_in on
 
   free : on_now ≡ false → IsFree tid (world.hosts n).node
-  free off = idle_free tid (world.hosts n).node (off_idle tid (world.hosts n).node ((steady world is).sound n n_in).node off (none_decided next book tid tx (world.hosts n).node h found undecided))
+  free off = idle_free tid (world.hosts n).node (off_idle tid (world.hosts n).node ((steady world is).sound n n_in).node off (none_decided book tid tx (world.hosts n).node (still_held next book (world.hosts n).node h) found undecided))
 
   abbrev to_it : ℕ → ℕ → Bool
   to_it k i = has_request (all_said tid (map message_of (pending world.channels k n i (world.channels.inc n))))
@@ -61,7 +63,7 @@ module _ (tid : Tid) (book : BookValue) (tx : TransactionValue) (world : World) 
   by_it m = has_request (all_said tid (map message_of (world.channels.waits n m)))
 
   then_placed : Placed tid tx (field_of world) → on_now ≡ false → ((k i : ℕ) → k < world.size → to_it k i ≡ true → IsDoomed v) → ((m : ℕ) → m < world.size → world.channels.peer n m ≡ 0 → by_it m ≡ true → IsDoomed v) → After
-  then_placed placed off left kept_back = placed_then tid book tx world n stamp cause log v is n_in on found undecided next h (free off) left kept_back placed
+  then_placed placed off left kept_back = placed_then tid book tx world n stamp cause log v is n_in on found undecided next h (free off) left kept_back (apart placed off) placed
 
   -- ---- undecided: its place stopped, and nothing else happened
 
@@ -120,14 +122,14 @@ module _ (tid : Tid) (book : BookValue) (tx : TransactionValue) (world : World) 
   stays_placed placed Aborted aborted = inl (doom_stays w v (abort_dooms w all.seen.lawful.reached aborted) goes.goes.leads)
 
 pub stops_placed : StopsPlaced
-stops_placed tid book tx world n stamp cause log w goes is all n_in on found undecided next h (inl doomed) = inl (doom_stays w goes.goes.next doomed goes.goes.leads)
-stops_placed tid book tx world n stamp cause log w goes is all n_in on found undecided next h (inr placed) = stays_placed tid book tx world n stamp cause log w goes is all n_in on found undecided next h placed w.cell refl
+stops_placed tid book tx world n stamp cause log w goes is all n_in on found undecided next h apart (inl doomed) = inl (doom_stays w goes.goes.next doomed goes.goes.leads)
+stops_placed tid book tx world n stamp cause log w goes is all n_in on found undecided next h apart (inr placed) = stays_placed tid book tx world n stamp cause log w goes is all n_in on found undecided next h apart placed w.cell refl
 
 -- ---- with a record of it kept
 
 pub cut_placed : CutPlaced
-cut_placed tid book tx world n stamp cause log w leaves goes is all n_in on found undecided next h decides (inl doomed) = inl (doom_stays w goes.goes.next doomed goes.goes.leads)
-cut_placed tid book tx world n stamp cause log w leaves goes is all n_in on found undecided next h decides (inr placed) = by goes.fate
+cut_placed tid book tx world n stamp cause log w leaves goes is all n_in on found undecided next h apart decides (inl doomed) = inl (doom_stays w goes.goes.next doomed goes.goes.leads)
+cut_placed tid book tx world n stamp cause log w leaves goes is all n_in on found undecided next h apart decides (inr placed) = by goes.fate
   where
     After : Type 0
     After = IsDoomed goes.goes.next ⊎ Placed tid tx (field_of (stopped world n stamp cause log))
@@ -141,9 +143,9 @@ cut_placed tid book tx world n stamp cause log w leaves goes is all n_in on foun
     -- decided before: nobody is engaged, and nothing is on its way
     decided : w.cell ≡ Committed → After
     decided committed = placed_then tid book tx world n stamp cause log goes.goes.next is n_in on found undecided next h
-        (idle_free tid (world.hosts n).node (off_idle tid (world.hosts n).node ((steady world is).sound n n_in).node (off committed) (none_decided next book tid tx (world.hosts n).node h found undecided)))
+        (idle_free tid (world.hosts n).node (off_idle tid (world.hosts n).node ((steady world is).sound n n_in).node (off committed) (none_decided book tid tx (world.hosts n).node (still_held next book (world.hosts n).node h) found undecided)))
         (λ k i k_in has. absurd (let none : has_request (all_said tid (map message_of (pending world.channels k n i (world.channels.inc n)))) ≡ false = commit_clear tid (sight tid (scene_of world)) w all.seen.lawful committed all.seen.shown k i n k_in n_in on in cc (has, none)))
-        (λ m m_in unknown has. absurd (let none : has_request (all_said tid (map message_of (world.channels.waits n m))) ≡ false = commit_unmet tid (sight tid (scene_of world)) w all.seen.lawful committed all.seen.shown n m n_in m_in on unknown in cc (has, none))) placed
+        (λ m m_in unknown has. absurd (let none : has_request (all_said tid (map message_of (world.channels.waits n m))) ≡ false = commit_unmet tid (sight tid (scene_of world)) w all.seen.lawful committed all.seen.shown n m n_in m_in on unknown in cc (has, none))) (apart placed (off committed)) placed
 
     of_cell : (o : Outcome) → w.cell ≡ o → goes.goes.next.cell ≡ Committed → After
     of_cell Open open_now committed = inr (unanimous_placed tid tx (field_of world) (field_of (stopped world n stamp cause log)) refl (decides open_now committed) placed)
@@ -157,7 +159,7 @@ cut_placed tid book tx world n stamp cause log w leaves goes is all n_in on foun
 -- ---- the reference machine keeps of each transaction what it had
 
 pub stop_holds : StopHolds
-stop_holds tid book world n stamp cause log w goes is all n_in on next h places tx found undecided = stops_placed tid book tx world n stamp cause log w goes is all n_in on found undecided next h (places tx found undecided)
+stop_holds tid book world n stamp cause log w goes is all n_in on next h apart places tx found undecided = stops_placed tid book tx world n stamp cause log w goes is all n_in on found undecided next h (apart tx found undecided) (places tx found undecided)
 
 pub cut_holds : CutHolds
-cut_holds tid book world n stamp cause log w leaves goes is all n_in on next h decides places tx found undecided = cut_placed tid book tx world n stamp cause log w leaves goes is all n_in on found undecided next h (λ open_now committed. decides open_now committed tx found undecided) (places tx found undecided)
+cut_holds tid book world n stamp cause log w leaves goes is all n_in on next h apart decides places tx found undecided = cut_placed tid book tx world n stamp cause log w leaves goes is all n_in on found undecided next h (apart tx found undecided) (λ open_now committed. decides open_now committed tx found undecided) (places tx found undecided)

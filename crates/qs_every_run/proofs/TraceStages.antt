@@ -49,6 +49,8 @@ use Rattle.qs_tm.specs.Manager as tm
 use Rattle.qs_tm.specs.Members as members
 use Rattle.qs_tm.specs.Outcomes.{told_with_own}
 use Rattle.qs_tm.specs.Participant.{is_forgotten}
+use Rattle.qs_lawful.specs.Given.{AtEach}
+use Rattle.qs_lawful.specs.GivenStep.{done_work, first_work}
 use Rattle.qs_every_run.specs.Deeds.{Deeds, IsKeptSo, IsStill, TakesInSo, deeds_of}
 use Rattle.qs_every_run.specs.Traces.{IsKept, IsOrdinary, TakesIn, Trace, fresh_command, trace_of}
 use Rattle.qs_every_run.proofs.PassDoings.{due_off, ended_off, vote_off}
@@ -111,6 +113,11 @@ module _ (P : Deeds → Type 0) (k : IsKeptSo P) where
 
   settle_keeps : (work : Work) → Keeps work (settle work)
   settle_keeps work = rules.fold_keeps P k settle_tid settle_tid_keeps (due_tids work) work
+
+  -- at each turn of a transaction, once its own votes are cast
+  turns_keep : (tids : List Tid) (work : Work) → P (deeds_of work) → AtEach (λ (w : Work) (tid : Tid). P (deeds_of (try tid pass_rule w))) settle_tid work tids
+  turns_keep [] work h = tt
+  turns_keep (tid ∷ tids) work h = (passes_keep work tid h, turns_keep tids (settle_tid work tid) (settle_tid_keeps work tid h))
 
   -- ---- commands that stayed open
 
@@ -195,6 +202,10 @@ module _ (P Q : Deeds → Type 0) (p : IsKeptSo P) (q : IsKeptSo Q) where
       rules.fold_keeps Q q wait_on (waits_keep Q q) (waiting_clients (settle (happen event (begin_incarnation (work_on node free))))) (settle (happen event (begin_incarnation (work_on node free))))
       (settle_keeps Q q (happen event (begin_incarnation (work_on node free)))
       (happens_taken event t event (begin_incarnation (work_on node free)) refl (told.begin_incarnation_keeps P p (work_on node free) h)))
+
+  -- and up to each turn as it settles
+  pub turns_done : (node : NodeValue) (event : Event) (free : ℕ) → TakesInSo event P Q → P (deeds_of (work_on node free)) → AtEach (λ (w : Work) (tid : Tid). Q (deeds_of (try tid pass_rule w))) settle_tid (done_work node event free) (due_tids (done_work node event free))
+  turns_done node event free t h = turns_keep Q q (due_tids (done_work node event free)) (done_work node event free) (happens_taken event t event (first_work node free) refl (told.begin_incarnation_keeps P p (work_on node free) h))
 
 -- ---- what asks nothing of what was noted
 

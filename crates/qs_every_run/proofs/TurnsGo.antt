@@ -123,13 +123,13 @@ found_placed : (o : Opening) (world : World) (n stamp free : ℕ) (source : Sour
     → AtEach (FindsAtTurn o world n stamp free source event) settle_tid work tids → AtEach (PlacedAtTurn o world n stamp source) settle_tid work tids
 found_placed o world n stamp free source event [] work goes finds = tt
 found_placed o world n stamp free source event (tid ∷ tids) work goes finds = (
-  λ ready. let x : IsFoundThere o world n stamp free source event work tid = finds.0 ready in
-      record { began = x.began; later = x.later; placed = λ v stands lawful old. goes.0 v (x.finds v stands).0 old (x.finds v stands).1 lawful },
+  λ ready began w shows. let x : IsFoundThere o world n stamp free source event work tid w = finds.0 ready began w shows in
+      record { at = x.at; placed = λ lawful old. goes.0 x.at.now x.comes old x.passes lawful },
   found_placed o world n stamp free source event tids (settle_tid work tid) goes.1 finds.1,
 )
 
 pub finds_settle : FindsSettle
-finds_settle o world n stamp free source event j makes so rooms finds =
+finds_settle o world n stamp free source event j makes rooms finds =
     let done_at : Work = done_work (world.hosts n).node event free in
-    placed_settles o world n stamp free source event j makes so rooms
+    placed_settles o world n stamp free source event j makes rooms
     (found_placed o world n stamp free source event (due_tids done_at) done_at (turns_go world n stamp free (book_in o world) source event j.shown makes (amid o world j n stamp free source event makes)) finds)

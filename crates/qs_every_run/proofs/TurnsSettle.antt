@@ -53,6 +53,7 @@ use Rattle.qs_lawful.proofs.SameSettingTold.{begin_same}
 use Rattle.qs_lawful.proofs.SameSettings.{happen_same}
 use Rattle.qs_lawful.proofs.Stages.{by_undecided}
 use Rattle.qs_lawful.proofs.StandsOn.{keeps_standing, stands_on}
+use Rattle.qs_lawful.proofs.Still.{held_at}
 use Rattle.qs_lawful.proofs.WholeStep.{by_happen, first_held}
 use Rattle.qs_every_run.specs.Agrees.{MakesStep, PassesUndone, nodes_in}
 use Rattle.qs_every_run.specs.Joined.{Joined, book_in}
@@ -61,13 +62,12 @@ use Rattle.qs_every_run.specs.JoinedPlaces.{PlacesAt}
 use Rattle.qs_every_run.specs.PlacesTurns.{SettledBy, TurnsSettle}
 use Rattle.qs_every_run.proofs.AgreesPasses.{passes_agree, stages_sound}
 use Rattle.qs_every_run.proofs.AgreesWhole.{event_agrees}
-use Rattle.qs_every_run.proofs.JoinedGiven.{comes_to, counts}
+use Rattle.qs_every_run.proofs.JoinedGiven.{comes_to, counts, happens_so}
 use Rattle.qs_every_run.proofs.JoinedLogged.{logged_by_log}
 use Rattle.qs_every_run.proofs.JoinedSound.{sound_gives}
 use Rattle.qs_world.specs.Moves.{is_in_order, is_later}
 
-module _ (o : Opening) (world : World) (j : Joined PlacesAt o world) (n stamp free : ℕ) (source : Source) (event : Event) (makes : MakesStep world n stamp source event)
-    (so : HappensSo stamp (book_in o world) event (first_work (world.hosts n).node free)) where
+module _ (o : Opening) (world : World) (j : Joined PlacesAt o world) (n stamp free : ℕ) (source : Source) (event : Event) (makes : MakesStep world n stamp source event) where
   abbrev before : BookValue
   before = book_in o world
 
@@ -101,10 +101,13 @@ module _ (o : Opening) (world : World) (j : Joined PlacesAt o world) (n stamp fr
   -- ---- as its event comes
 
   holds : Holds stamp before node
-  holds = (at.runs its.runs).next stamp (j.held.order n stamp ordered)
+  holds = held_at n stamp before node at.node (at.runs its.runs).still (j.held.order n stamp ordered)
 
   held : HoldsWork stamp before first
   held = first_held stamp before node free holds
+
+  so : HappensSo stamp before event first
+  so = happens_so PlacesAt o world j n stamp free source event makes holds
 
   goes : Goes stamp before run (work_on node free) first
   goes = goes_incarnation stamp before run (work_on node free)
@@ -184,4 +187,4 @@ module _ (o : Opening) (world : World) (j : Joined PlacesAt o world) (n stamp fr
   turns_so rooms settled = turns (due_tids done) done stands_done (passes_agree world n stamp free source event j.shown makes) (stages_sound world n stamp free source event j.shown makes).settles rooms settled
 
 pub turns_settle : TurnsSettle
-turns_settle o world n stamp free source event j makes so rooms settled = turns_so o world j n stamp free source event makes so rooms settled
+turns_settle o world n stamp free source event j makes rooms settled = turns_so o world j n stamp free source event makes rooms settled

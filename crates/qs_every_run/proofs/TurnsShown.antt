@@ -10,7 +10,7 @@ use Rattle.qs_restart.specs.Recovery.{recovery}
 use Rattle.qs_step.specs.Bringing.{is_forced}
 use Rattle.qs_step.specs.Settling.{due_tids, pass_rule, settle_tid, try}
 use Rattle.qs_step.specs.State.{Work, part_of}
-use Rattle.qs_step.specs.Step.{accept, happen}
+use Rattle.qs_step.specs.Step.{accept}
 use Rattle.qs_step.specs.declared.event.Event.{Event}
 use Rattle.qs_tm.specs.declared.participant.Participant.{Participant}
 use Rattle.qs_world.specs.Moves.{Source}
@@ -29,7 +29,6 @@ use Rattle.qs_refine.specs.Shows.{Scene, Shows, sent_to, sight, sight_during, sa
 use Rattle.qs_refine.specs.ShownWorlds.{IsShownWorld}
 use Rattle.qs_refine.specs.Sights.{ShowsSight, is_in_doubt}
 use Rattle.qs_refine.specs.Sound.{is_superior}
-use Rattle.qs_refine.specs.SoundSteps.{begun}
 use Rattle.qs_refine.specs.Stands.{Stands}
 use Rattle.qs_refine.specs.StepLaws.{stepped}
 use Rattle.qs_refine.specs.Steady.{IsSteady}
@@ -48,8 +47,9 @@ use Rattle.qs_refine.proofs.SoundParts.{and_both}
 use Rattle.qs_refine.proofs.SteadyFrom.{begun_low, steady_gives}
 use Rattle.qs_refine.proofs.StepEdges.{step_ends}
 use Rattle.qs_lawful.specs.Given.{AtEach}
+use Rattle.qs_lawful.specs.GivenStep.{done_work}
 use Rattle.qs_every_run.specs.Agrees.{MakesStep}
-use Rattle.qs_every_run.specs.PlacesTurns.{ShownAt, ShownAtTurn, TurnsShown}
+use Rattle.qs_every_run.specs.PlacesTurns.{FollowsAtTurn, ShownAt, ShownAtTurn, TurnsFollow, TurnsShown}
 
 -- ---- what shows a scene at the end of a step shows it in the middle, where the log has what was forced
 
@@ -141,54 +141,67 @@ module _ (t : Tid) (world : World) (n : ℕ) (source : Source) (later : Scene) (
       superior = λ part m known is. knows_still m (superior_in part m known is) (s.superior part m known is);
     }
 
--- ---- from turn to turn
+-- ---- from turn to turn, from what is done of what came
+
+module _ (world : World) (n free : ℕ) (source : Source) (event : Event) where
+  abbrev done : Work
+  done = done_work (world.hosts n).node event free
+
+  -- what shows it there leads to what shows it here
+  abbrev Follows : Work → Type 0
+  Follows work = (t : Tid) (u : machine.World) → Stands t (taken_scene world n source) n done u → ShownAt world n source t u work
+
+  on_settling : (work : Work) (tid : Tid) → Follows work → Follows (settle_tid work tid)
+  on_settling work tid follows t u stands = by (follows t u stands)
+    where
+      by : ShownAt world n source t u work → ShownAt world n source t u (settle_tid work tid)
+      by s = let goes = settle_tid_goes t tid (taken_scene world n source) n work s.now s.stands in record { now = goes.next; leads = leads_on u s.now goes.next s.leads goes.leads; stands = goes.stands }
+
+  at_turn : (work : Work) (tid : Tid) → Follows work → FollowsAtTurn world n free source event work tid
+  at_turn work tid follows u stands = by (follows tid u stands)
+    where
+      by : ShownAt world n source tid u work → ShownAt world n source tid u (try tid pass_rule work)
+      by s = let goes = try_stands tid (taken_scene world n source) n pass_rule (pass_stands tid (taken_scene world n source) n) work s.now s.stands in
+          record { now = goes.next; leads = leads_on u s.now goes.next s.leads goes.leads; stands = goes.stands }
+
+  turns : (tids : List Tid) (work : Work) → Follows work → AtEach (FollowsAtTurn world n free source event) settle_tid work tids
+  turns [] work follows = tt
+  turns (tid ∷ tids) work follows = (at_turn work tid follows, turns tids (settle_tid work tid) (on_settling work tid follows))
+
+pub turns_follow : TurnsFollow
+turns_follow world n free source event = turns world n free source event (due_tids (done_work (world.hosts n).node event free)) (done_work (world.hosts n).node event free)
+    (λ t u stands. record { now = u; leads = record { events = []; run = refl }; stands = stands })
+
+-- ---- and from the step's beginning
 
 module _ (world : World) (is : IsShownWorld world) (n stamp free : ℕ) (source : Source) (event : Event) (makes : MakesStep world n stamp source event) where
-  its : StepMay world n source
+  abbrev its : StepMay world n source
   its = step_may world n stamp source makes.may
 
   steady : IsSteady world
   steady = steady_gives world is.steady is.listed
 
-  -- each that has begun is shown there
-  abbrev Here : Work → Type 0
-  Here work = (t : Tid) → has_begun world t ≡ true → (w : machine.World) → ShowsAll t world w → ShownAt world n source t w work
-
   home_low : (t : Tid) → has_begun world t ≡ true → t.home.0 < world.size
   home_low t began = let there : nat_lt t.home.0 world.size ≡ true = (and_both (nat_lt t.home.0 world.size) _ (and_both (names_transaction t) _ began).1).0 in grind (arith, nat_tests, there)
 
-  abbrev done : Work
-  done = happen event (begun (world.hosts n).node free)
+  -- what is shown to come is shown once it is done
+  abbrev pub came_shown : (t : Tid) (w : machine.World) → StepCame t world n free source event w → ShownAt world n source t w (done_work (world.hosts n).node event free)
+  came_shown t w came = record {
+    now = came.came.after.next;
+    leads = leads_on w came.came.mid came.came.after.next came.came.leads came.came.after.leads;
+    stands = stands_taken t world n source came.later came.size came.inc came.log came.taken its.low its.runs (done_work (world.hosts n).node event free) came.came.after.next came.came.after.stands;
+  }
 
-  here_done : Here done
-  here_done t began w all = by (step_came t world w steady (home_low t began) (begun_low world t began) all (shown_fit world is) n free its.low its.runs stamp source event its.serves makes.comes)
+  -- so is each that has begun
+  shown_done : (t : Tid) → has_begun world t ≡ true → (w : machine.World) → ShowsAll t world w → ShownAt world n source t w (done_work (world.hosts n).node event free)
+  shown_done t began w all = came_shown t w (step_came t world w steady (home_low t began) (begun_low world t began) all (shown_fit world is) n free its.low its.runs stamp source event its.serves makes.comes)
+
+  begun_turns : (tids : List Tid) (work : Work) → AtEach (FollowsAtTurn world n free source event) settle_tid work tids → AtEach (ShownAtTurn world n source) settle_tid work tids
+  begun_turns [] work follow = tt
+  begun_turns (tid ∷ tids) work follow = (λ began w all. by w (shown_done tid began w all), begun_turns tids (settle_tid work tid) follow.1)
     where
-      by : StepCame t world n free source event w → ShownAt world n source t w done
-      by came = record {
-        now = came.came.after.next;
-        leads = leads_on w came.came.mid came.came.after.next came.came.leads came.came.after.leads;
-        stands = stands_taken t world n source came.later came.size came.inc came.log came.taken its.low its.runs done came.came.after.next came.came.after.stands;
-      }
-
-  on_settling : (work : Work) (tid : Tid) → Here work → Here (settle_tid work tid)
-  on_settling work tid here t began w all = by (here t began w all)
-    where
-      by : ShownAt world n source t w work → ShownAt world n source t w (settle_tid work tid)
-      by s = let goes = settle_tid_goes t tid (taken_scene world n source) n work s.now s.stands in record { now = goes.next; leads = leads_on w s.now goes.next s.leads goes.leads; stands = goes.stands }
-
-  at_turn : (work : Work) (tid : Tid) → Here work → ShownAtTurn world n source work tid
-  at_turn work tid here began w all = by (here tid began w all)
-    where
-      by : ShownAt world n source tid w work → ShownAt world n source tid w (try tid pass_rule work)
-      by s = let goes = try_stands tid (taken_scene world n source) n pass_rule (pass_stands tid (taken_scene world n source) n) work s.now s.stands in
-          record { now = goes.next; leads = leads_on w s.now goes.next s.leads goes.leads; stands = goes.stands }
-
-  turns : (tids : List Tid) (work : Work) → Here work → AtEach (ShownAtTurn world n source) settle_tid work tids
-  turns [] work here = tt
-  turns (tid ∷ tids) work here = (at_turn work tid here, turns tids (settle_tid work tid) (on_settling work tid here))
-
-  turns_so : AtEach (ShownAtTurn world n source) settle_tid done (due_tids done)
-  turns_so = turns (due_tids done) done here_done
+      by : (w : machine.World) → ShownAt world n source tid w (done_work (world.hosts n).node event free) → ShownAt world n source tid w (try tid pass_rule work)
+      by w d = let s = follow.0 d.now d.stands in record { now = s.now; leads = leads_on w d.now s.now d.leads s.leads; stands = s.stands }
 
 pub turns_shown : TurnsShown
-turns_shown world n stamp free source event is makes = turns_so world is n stamp free source event makes
+turns_shown world n stamp free source event is makes = begun_turns world is n stamp free source event makes (due_tids (done_work (world.hosts n).node event free)) (done_work (world.hosts n).node event free) (turns_follow world n free source event)

@@ -46,7 +46,7 @@ both_and : (a b : Bool) → (a && b) ≡ true → (a ≡ true) × (b ≡ true)
 both_and true b is = (refl, is)
 both_and false b is = absurd (cc is)
 
-both_or : (a b : Bool) → (a || b) ≡ false → (a ≡ false) × (b ≡ false)
+pub both_or : (a b : Bool) → (a || b) ≡ false → (a ≡ false) × (b ≡ false)
 both_or false b is = (refl, is)
 both_or true b is = absurd (cc is)
 
@@ -143,13 +143,13 @@ decide_unanimous book n stamp tid cause h = at (slice_get book.nodes n) (held (i
     at (Some node) is = of_known node (find_transaction book tid) refl (held node.up 2 (broken_act book stamp n node (acts.Decide tid outcomes.Commit cause)) is).1
 
 module _ (tid : Tid) (n stamp : ℕ) where
-  gives : (P : TransactionValue → Type 0) (book : BookValue) (t : Tid) (f : TransactionValue → TransactionValue) → ((tx : TransactionValue) → P tx → P (f tx)) → Gives tid P P book t f
+  pub gives : (P : TransactionValue → Type 0) (book : BookValue) (t : Tid) (f : TransactionValue → TransactionValue) → ((tx : TransactionValue) → P tx → P (f tx)) → Gives tid P P book t f
   gives P book t f keeps = record { own = λ same tx found p. keeps tx p; other = λ apart tx p. p }
 
-  aside : (P : TransactionValue → Type 0) (book : BookValue) (t : Tid) (f : TransactionValue → TransactionValue) → same_tid t tid ≡ false → Gives tid P P book t f
+  pub aside : (P : TransactionValue → Type 0) (book : BookValue) (t : Tid) (f : TransactionValue → TransactionValue) → same_tid t tid ≡ false → Gives tid P P book t f
   aside P book t f apart = record { own = λ same tx found p. absurd (cc (same, apart)); other = λ apart tx p. p }
 
-  aside_for : (P : TransactionValue → Type 0) (book : BookValue) (t : Tid) (f : Member → TransactionValue → TransactionValue) (o : Option Member) → same_tid t tid ≡ false → GivesFor tid P P book t f o
+  pub aside_for : (P : TransactionValue → Type 0) (book : BookValue) (t : Tid) (f : Member → TransactionValue → TransactionValue) (o : Option Member) → same_tid t tid ≡ false → GivesFor tid P P book t f o
   aside_for P book t f None apart = λ tx p. p
   aside_for P book t f (Some other) apart = aside P book t (f other) apart
 

@@ -43,7 +43,7 @@ HomeLogged = (tid : Tid) (world : World) (n : ℕ) → IsShownWorld world → na
 
 -- a step commits of what began elsewhere what the log of its home has committed
 abbrev pub StepCommitsHome : (Opening → World → Type 0) → Type 0
-StepCommitsHome P = Owed P → (o : Opening) (world : World) (n stamp free : ℕ) (source : Source) (event : Event) → Joined P o world → MakesStep world n stamp source event
+StepCommitsHome P = (o : Opening) (world : World) (n stamp free : ℕ) (source : Source) (event : Event) → Joined P o world → MakesStep world n stamp source event
     → (tid : Tid) → names_transaction tid ≡ true → nat_lt tid.home.0 world.size ≡ true → (tid.home.0 == n) ≡ false
     → list_any (is_commit_of tid) (effects_of (world.hosts n).node event free).records ≡ true → list_any (is_commit_of tid) (world.hosts tid.home.0).log ≡ true
 

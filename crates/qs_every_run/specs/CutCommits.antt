@@ -12,11 +12,10 @@ use Rattle.qs_lawful.specs.Logs.{Every, IsCommitLogged}
 use Rattle.qs_lawful.specs.Said.{IsApart, IsUndone}
 use Rattle.qs_every_run.specs.Agrees.{MakesStep}
 use Rattle.qs_every_run.specs.Joined.{Joined, book_in}
-use Rattle.qs_every_run.specs.JoinedOwed.{Owed}
 
 -- the machine has what it has committed, or its home was to decide it and it is unanimous
 abbrev pub EachKeepsCommits : (Opening → World → Type 0) → Type 0
-EachKeepsCommits P = Owed P → (o : Opening) (world : World) (n stamp free : ℕ) (source : Source) (event : Event) → Joined P o world → MakesStep world n stamp source event
+EachKeepsCommits P = (o : Opening) (world : World) (n stamp free : ℕ) (source : Source) (event : Event) → Joined P o world → MakesStep world n stamp source event
     → (state : machine.NodeValue) → Every (IsCommitLogged n (book_in o world) state) (recovery (log_after (world.hosts n) (effects_of (world.hosts n).node event free))).committed
 
 -- each vote is of a member that keeps its votes in a log; where a Commit stands behind it it is among the Commits, and otherwise none stands before it; and what is in doubt at its home is not committed
@@ -27,5 +26,5 @@ pub record KeptVotes (n : ℕ) (book : BookValue) (log : Recovery) : Type 0 wher
   pub undone : Every (IsUndone n book) log.prepared
 
 abbrev pub EachKeepsVotes : (Opening → World → Type 0) → Type 0
-EachKeepsVotes P = Owed P → (o : Opening) (world : World) (n stamp free : ℕ) (source : Source) (event : Event) → Joined P o world → MakesStep world n stamp source event
+EachKeepsVotes P = (o : Opening) (world : World) (n stamp free : ℕ) (source : Source) (event : Event) → Joined P o world → MakesStep world n stamp source event
     → KeptVotes n (book_in o world) (recovery (log_after (world.hosts n) (effects_of (world.hosts n).node event free)))

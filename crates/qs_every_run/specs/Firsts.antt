@@ -43,10 +43,14 @@ pub record CommitsFirst (tid : Tid) (done : List Act) : Type 0 where
   pub is : done ≡ before ++ acts.Decide tid outcomes.Commit cause ∷ after
   pub unnoted : list_any (is_noted tid) before ≡ false
 
+-- where nothing was noted that forbids its commit, the step did none of it
+pub record Unnoted (tid : Tid) (d : Deeds) : Type 0 where
+  pub none : is_quiet (doings_in tid d) ≡ true → list_any (is_noted tid) d.trace.entries ≡ false
+
 -- it is not committed, and what was noted forbids that
 pub record StaysOpen (tid : Tid) (d : Deeds) : Type 0 where
   pub none : list_any (is_commit_of tid) d.trace.entries ≡ false
-  pub unnoted : is_quiet (doings_in tid d) ≡ true → list_any (is_noted tid) d.trace.entries ≡ false
+  pub unnoted : Unnoted tid d
 
 abbrev pub CommitsSo : Tid → Deeds → Type 0
 CommitsSo tid d = CommitsFirst tid d.trace.entries ⊎ StaysOpen tid d

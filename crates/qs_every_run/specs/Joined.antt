@@ -27,6 +27,7 @@ use Rattle.qs_every_run.specs.Agrees.{nodes_in}
 use Rattle.qs_every_run.specs.Born.{BornAt}
 use Rattle.qs_every_run.specs.Labels.{HoldsLabels}
 use Rattle.qs_every_run.specs.Owing.{OwesAt}
+use Rattle.qs_every_run.specs.Rooms.{RoomsAt}
 
 -- the machine after what the world's journal has
 abbrev pub book_in : Opening → World → BookValue
@@ -116,6 +117,7 @@ pub record Joined (P : Opening → World → Type 0) (o : Opening) (world : Worl
   pub clocks : ClocksAt world
   pub labels : LabelsAt o world
   pub born : BornAt o world
+  pub rooms : RoomsAt o world
   pub channels : ChannelsAt o world
   pub unmet : KeepsBackUnmet world.channels
   pub queued : QueuedAt o world

@@ -1,5 +1,5 @@
 -- What is still to be shown so that every run is lawful: each is a law of its own, of a run's beginning, of what a step is given, or of what a move keeps.
-use Rattle.std.specs.Prelude.{◌≡◌, ℕ, ◌<◌, ◌==◌, ◌++◌, ⊤, true, false, List, None, Some, is_some, slice_get, Bool}
+use Rattle.std.specs.Prelude.{◌≡◌, ℕ, ◌<◌, ◌==◌, ⊤, true, false, List, None, Some, is_some, slice_get, Bool}
 use Rattle.qs_base.specs.declared.identifiers.ClientNo.{ClientNo}
 use Rattle.qs_base.specs.declared.identifiers.Tid.{Tid}
 use Rattle.qs_journal.specs.declared.entry.Act.{Act}
@@ -27,13 +27,13 @@ use Rattle.qs_refine.specs.Begun.{has_begun}
 use Rattle.qs_refine.specs.CutLaws.{CutsOff}
 use Rattle.qs_refine.specs.EachMove.{ShowsAll}
 use Rattle.qs_lawful.specs.Aside.{StaysUnanimous}
-use Rattle.qs_lawful.specs.BesideStep.{HasCountRoom}
 use Rattle.qs_lawful.specs.Entering.{book_at}
 use Rattle.qs_lawful.specs.Given.{AtEach}
 use Rattle.qs_lawful.specs.GivenStep.{done_work}
 use Rattle.qs_lawful.specs.WorldLaws.{StopsWell}
 use Rattle.qs_every_run.specs.Agrees.{MakesStep}
 use Rattle.qs_every_run.specs.Joined.{Joined, book_in}
+use Rattle.qs_every_run.specs.PlacesApart.{EachLeavesNoneAway}
 
 -- ---- as a run begins
 
@@ -50,11 +50,6 @@ CommitsSettled stamp before work tid = (part : Participant) → tm.part_of tid (
 abbrev pub EachCommitsSettled : (Opening → World → Type 0) → Type 0
 EachCommitsSettled P = (o : Opening) (world : World) (n stamp free : ℕ) (source : Source) (event : Event) → Joined P o world → MakesStep world n stamp source event
     → AtEach (CommitsSettled stamp (book_in o world)) settle_tid (done_work (world.hosts n).node event free) (due_tids (done_work (world.hosts n).node event free))
-
--- where a vote pass is due, the count of changes has room
-abbrev pub EachCountsRoom : (Opening → World → Type 0) → Type 0
-EachCountsRoom P = (o : Opening) (world : World) (n stamp free : ℕ) (source : Source) (event : Event) → Joined P o world → MakesStep world n stamp source event
-    → AtEach HasCountRoom settle_tid (done_work (world.hosts n).node event free) (due_tids (done_work (world.hosts n).node event free))
 
 -- a step that is cut off and whose batch is kept, as where it is lost
 abbrev pub EachKeepsItsBatch : (Opening → World → Type 0) → Type 0
@@ -104,14 +99,15 @@ IsBetweenSteps move = ⊤
 abbrev pub Keeps : (Opening → World → Type 0) → (Move → Type 0) → (Opening → World → Type 0) → Type 0
 Keeps P kind X = (o : Opening) (world : World) (move : Move) → kind move → Joined P o world → may_move world move ≡ true → IsLawful (book_of o) (moved move world).journal → X o (moved move world)
 
+-- ---- what the induction over a run takes for granted of whole steps
+
+pub record WholeSteps (P : Opening → World → Type 0) : Type 0 where
+  pub commits : EachCommitsSettled P  -- what a step is given
+  pub places : Keeps P IsStep P  -- what all places hold of each transaction goes on through it
+
 -- ---- all that is owed
 
 pub record Owed (P : Opening → World → Type 0) : Type 0 where
-  -- what a step is given
-  pub commits : EachCommitsSettled P
-  pub rooms : EachCountsRoom P
-  -- after a whole step
-  -- what all places hold of each transaction
-  pub places : Keeps P IsStep P
-  -- after a crash
+  -- as a node crashes
   pub keeps_its_batch : EachKeepsItsBatch P
+  pub leaves_none : EachLeavesNoneAway P  -- where it is not engaged, no request of its own stands at another node

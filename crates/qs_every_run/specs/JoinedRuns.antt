@@ -10,7 +10,7 @@ use Rattle.qs_every_run.specs.JoinedOwed.{Owed}
 
 -- all stands together as a run begins, and after each move
 abbrev pub EachOpensJoined : (Opening → World → Type 0) → Type 0
-EachOpensJoined P = Owed P → (o : Opening) → IsOpening o → Joined P o (start o)
+EachOpensJoined P = (o : Opening) → IsOpening o → Joined P o (start o)
 
 abbrev pub EachMoveJoined : (Opening → World → Type 0) → Type 0
 EachMoveJoined P = Owed P → (o : Opening) (world : World) (move : Move) → Joined P o world → may_move world move ≡ true → Joined P o (moved move world)

@@ -1,16 +1,17 @@
 -- What all places hold of a transaction that is undecided, those that run and those that died: each request that stands in the reference
--- machine waits at a node that runs or is on its way to one, and each life that is over agrees to commit. Else it is doomed.
-use Rattle.std.specs.Prelude.{◌≡◌, ◌⊎◌, ℕ, ◌+◌, ◌-◌, ◌==◌, ◌<◌, ◌≤◌, ◌&&◌, Bool, true, false, List, [], ◌∷◌, ⊤, length, map, Some, nat_lt, if◌then◌else◌}
+-- machine waits at a node that runs or is on its way to one, who issued it runs still, and each life that is over agrees to commit. Else it is doomed.
+use Rattle.std.specs.Prelude.{◌≡◌, ◌⊎◌, ℕ, ◌+◌, ◌-◌, ◌==◌, ◌<◌, ◌≤◌, ◌&&◌, Bool, true, false, List, [], ◌∷◌, ⊤, length, map, Some, is_some, nat_lt, if◌then◌else◌}
 use Rattle.std.specs.List.{filter, flat_map, list_all}
 use Rattle.qs_base.specs.declared.identifiers.Class.TheVariants as classes
 use Rattle.qs_base.specs.declared.identifiers.ClientNo.{ClientNo}
+use Rattle.qs_base.specs.declared.identifiers.Member.{Member}
 use Rattle.qs_base.specs.declared.identifiers.ServerNo.{ServerNo}
 use Rattle.qs_base.specs.declared.identifiers.Tid.{Tid}
 use Rattle.qs_laws.proofs.Rising.{IsRising}
 use Rattle.qs_ops.specs.Members.{class_of, is_two_phase}
 use Rattle.qs_ops.specs.Servers.{client_no}
 use Rattle.qs_machine.specs.Book.{BookValue, find_transaction}
-use Rattle.qs_machine.specs.Transaction.{TransactionValue, agrees, is_empty, is_open, is_standing, life_cmp, part_of, request_cmp}
+use Rattle.qs_machine.specs.Transaction.{TransactionValue, agrees, is_empty, is_open, is_standing, life_cmp, part_of, request_cmp, sent_in, sent_on, standing_request}
 use Rattle.qs_machine.specs.declared.transaction.Life.{Life}
 use Rattle.qs_machine.specs.declared.transaction.Part.{Part}
 use Rattle.qs_machine.specs.declared.transaction.Request.{Request}
@@ -81,6 +82,17 @@ abbrev pub EachPlaced : Tid → Field → List (RequestNo × List Request) → T
 EachPlaced tid field [] = ⊤
 EachPlaced tid field (entry ∷ entries) = IsPlaced tid field entry.0 entry.1 × EachPlaced tid field entries
 
+-- ---- who issued a request
+
+-- its node runs, and gave that number in its present incarnation: so the next number that it gives is another
+pub record IsIssued (tx : TransactionValue) (field : Field) (at : RequestNo) : Type 0 where
+  pub up : field.up at.link.from.0 ≡ true
+  pub given : at.number ≤ sent_in (field.inc at.link.from.0) (sent_on tx at.link)
+
+-- each number of a link under which a request stands
+abbrev pub AreIssued : TransactionValue → Field → Type 0
+AreIssued tx field = (at : RequestNo) (member : Member) → is_some (standing_request tx at member) ≡ true → IsIssued tx field at
+
 -- ---- lives
 
 -- of a node that runs, in its present incarnation
@@ -110,6 +122,7 @@ pub record Placed (tid : Tid) (tx : TransactionValue) (field : Field) : Type 0 w
   pub numbers : IsRising request_cmp tx.requests  -- each number of a link once
   pub members : IsRising life_cmp tx.parts  -- and each life
   pub requests : EachPlaced tid field tx.requests
+  pub issued : AreIssued tx field
   pub lives : EachLives tx field tx.parts
   pub unrefused : is_empty tx.refusals ≡ true
   pub uncrossed : is_empty tx.crossed ≡ true

@@ -24,7 +24,7 @@ use Rattle.qs_refine.specs.ShownWorlds.{IsShownWorld}
 use Rattle.qs_refine.specs.Sound.{is_sound}
 use Rattle.qs_refine.specs.Faces.{ShowsFace}
 use Rattle.qs_lawful.specs.Face.{face_of, part_in}
-use Rattle.qs_lawful.specs.Holds.{Holds}
+use Rattle.qs_lawful.specs.Holds.{HoldsStill}
 use Rattle.qs_every_run.specs.Placed.{Field, field_of, asked, IsLife, IsPresent, Placed, HoldsPlaced}
 
 -- ---- a node at which nothing of it is open: no request waits, no loan stands, and every vote covers what was served
@@ -40,7 +40,7 @@ ReadyFree = (tid : Tid) (work : Work) (part : Participant) → part_of tid work 
 
 -- its present lives agree
 abbrev pub FreeAgrees : Type 0
-FreeAgrees = (stamp : ℕ) (book : BookValue) (tid : Tid) (tx : TransactionValue) (field : Field) (node : NodeValue) (l : Life) (part : Part) → find_transaction book tid ≡ Some tx → is_open tx.cell ≡ true → Holds stamp book node → IsFree tid node
+FreeAgrees = (book : BookValue) (tid : Tid) (tx : TransactionValue) (field : Field) (node : NodeValue) (l : Life) (part : Part) → find_transaction book tid ≡ Some tx → is_open tx.cell ≡ true → HoldsStill book node → IsFree tid node
     → IsLife tx field l part → l.member.node ≡ node.setting.node → l.inc ≡ node.setting.inc → agrees (l, part) ≡ true
 
 -- where nothing waits at nodes that run, nothing is on its way or kept back and all present lives agree, the transaction is unanimous
@@ -71,5 +71,5 @@ CommittedKeeps = (tid : Tid) (world : World) (w : machine.World) → ShowsAll ti
 
 abbrev pub CommittedUnanimous : Type 0
 CommittedUnanimous = (tid : Tid) (book : BookValue) (world : World) (w : machine.World) (tx : TransactionValue) → IsShownWorld world → ShowsAll tid world w → w.cell ≡ Committed
-    → ((k : ℕ) → k < world.size → world.channels.up k ≡ true → (stamp : ℕ) × Holds stamp book (world.hosts k).node)
+    → ((k : ℕ) → k < world.size → world.channels.up k ≡ true → HoldsStill book (world.hosts k).node)
     → HoldsPlaced tid book (field_of world) w → find_transaction book tid ≡ Some tx → is_open tx.cell ≡ true → is_some tx.asked ≡ true → is_unanimous tx ≡ true

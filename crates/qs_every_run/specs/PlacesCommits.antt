@@ -16,7 +16,7 @@ use Rattle.qs_refine.specs.Messages.{all_said}
 use Rattle.qs_refine.specs.Shows.{Scene, scene_of}
 use Rattle.qs_refine.specs.Sound.{is_sound}
 use Rattle.qs_refine.specs.Stands.{Stands}
-use Rattle.qs_lawful.specs.Holds.{Holds}
+use Rattle.qs_lawful.specs.Holds.{HoldsStill}
 use Rattle.qs_every_run.specs.Placed.{Field, asked, field_of}
 use Rattle.qs_every_run.specs.PlacesAmid.{PlacedAmid, book_amid}
 
@@ -38,11 +38,10 @@ pub record IsBeside (scene : Scene) (book : BookValue) (k : ℕ) : Type 0 where
   pub sound : is_sound (scene.node k) ≡ true
   pub at : (scene.node k).setting.node ≡ node_no k
   pub inc : (scene.node k).setting.inc ≡ scene.inc k
-  pub stamp : ℕ
-  pub holds : Holds stamp book (scene.node k)
+  pub holds : HoldsStill book (scene.node k)
 
 abbrev pub HomeCommitsUnanimous : Type 0
 HomeCommitsUnanimous = (t : Tid) (scene : Scene) (base : Field) (stamp : ℕ) (before : BookValue) (work : Work) (part : Participant) (v : machine.World) (tx : TransactionValue)
     → Stands t scene t.home.0 work v → ShowsField t scene base → IsDoomed v ⊎ PlacedAmid t base (scene.knows t.home.0) t.home.0 stamp before work
-    → ((k : ℕ) → k < scene.size → scene.up k ≡ true → (k == t.home.0) ≡ false → IsBeside scene (book_amid t.home.0 stamp before work) k) → Holds stamp (book_amid t.home.0 stamp before work) work.node
+    → ((k : ℕ) → k < scene.size → scene.up k ≡ true → (k == t.home.0) ≡ false → IsBeside scene (book_amid t.home.0 stamp before work) k) → HoldsStill (book_amid t.home.0 stamp before work) work.node
     → part_of t work ≡ Some part → part.outcome ≡ None → may_answer t part work ≡ true → find_transaction (book_amid t.home.0 stamp before work) t ≡ Some tx → is_unanimous tx ≡ true

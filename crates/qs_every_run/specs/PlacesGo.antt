@@ -45,7 +45,7 @@ use Rattle.qs_lawful.specs.Given.{AtEach}
 use Rattle.qs_every_run.specs.Placed.{Field}
 use Rattle.qs_every_run.specs.PlacedActs.{is_against}
 use Rattle.qs_every_run.specs.PlacesAmid.{PlacedAmid}
-use Rattle.qs_every_run.specs.PlacesRules.{AreLawful, CrossesNone, IsAmid, Reaches}
+use Rattle.qs_every_run.specs.PlacesRules.{AreLawful, IsAmid, Reaches}
 
 -- no node restarts in a step
 abbrev pub is_restart : Act → Bool
@@ -69,10 +69,9 @@ pub record Goes (D : Type 0) (t : Tid) (base : Field) (knows : ℕ → ℕ) (n s
 
 -- ---- what is issued and voted
 
--- a request that is issued crosses none, and goes to a node that it reaches
+-- a request that is issued goes to a node that it reaches
 pub record IssuesWell (t : Tid) (base : Field) (knows : ℕ → ℕ) (n stamp : ℕ) (before : BookValue) (request : Outstanding) (op : Op) (work : Work) : Type 0 where
   pub fits : is_for request.member.server op ≡ true
-  pub apart : CrossesNone t n stamp before request work
   pub in_run : request.member.node.0 < base.size
   pub reaches : same_node request.member.node (here work) ≡ false → (is_other work.node.setting request.member.node ≡ true) × Reaches base knows request.member.node.0
 
@@ -90,7 +89,7 @@ pub record VotesWell (D : Type 0) (t : Tid) (base : Field) (knows : ℕ → ℕ)
 
 -- where its own pass is due
 abbrev pub PassesWell : Type 0 → Tid → Field → (ℕ → ℕ) → ℕ → ℕ → BookValue → Work → Type 0
-PassesWell D t base knows n stamp before work = (part : Participant) → part_of t work ≡ Some part → is_pass_due t part work ≡ true → AtEach (VotesWell D t base knows n stamp before) (vote_next t) (end_members t work) (due_votes t work)
+PassesWell D t base knows n stamp before work = (part : Participant) → part_of t work ≡ Some part → part.outcome ≡ None → is_pass_due t part work ≡ true → AtEach (VotesWell D t base knows n stamp before) (vote_next t) (end_members t work) (due_votes t work)
 
 -- ---- what clients command
 
@@ -105,9 +104,13 @@ CommandsWell D t base knows n stamp before client label command work = (begun : 
     → next_number t member.node work ≡ Some number
     → D ⊎ IssuesWell t base knows n stamp before (record { issuer = client_server client; member = member; number = number; count = 0 }) op (with_issued client (record { tid = t; member = member; number = number }) work)
 
--- of a command that stayed open
+-- a command that stayed open may be issued yet: a borrower's that was not
+pub record MayGoYet (client : ClientNo) (command : OpenCommand) (work : Work) : Type 0 where
+  pub unissued : command.issued ≡ None
+  pub lent : (begun : Begun) → label_at command.line.label work.node ≡ Some begun → is_owner client begun.owner ≡ false
+
 abbrev pub WaitsWell : Type 0 → Tid → Field → (ℕ → ℕ) → ℕ → ℕ → BookValue → Work → ClientNo → Type 0
-WaitsWell D t base knows n stamp before work client = (command : OpenCommand) → lookup (is_at (client_cmp client)) work.node.commands ≡ Some command → CommandsWell D t base knows n stamp before client command.line.label command.line.command work
+WaitsWell D t base knows n stamp before work client = (command : OpenCommand) → lookup (is_at (client_cmp client)) work.node.commands ≡ Some command → MayGoYet client command work → CommandsWell D t base knows n stamp before client command.line.label command.line.command work
 
 -- ---- the laws
 

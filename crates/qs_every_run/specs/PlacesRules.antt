@@ -1,5 +1,5 @@
 -- What all places hold of a transaction in the middle of a step goes on through each rule: most leave it, and those that bear on it find room for what they do.
-use Rattle.std.specs.Prelude.{◌≡◌, ◌⊎◌, ℕ, ◌<◌, ◌==◌, ◌&&◌, not, true, false, Some, None}
+use Rattle.std.specs.Prelude.{◌≡◌, ◌⊎◌, ℕ, ◌<◌, ◌==◌, ◌&&◌, not, true, false, Some}
 use Rattle.qs_base.specs.Order.{same_tid}
 use Rattle.qs_base.specs.declared.identifiers.ClientNo.{ClientNo}
 use Rattle.qs_base.specs.declared.identifiers.ServerNo.{ServerNo}
@@ -8,10 +8,8 @@ use Rattle.qs_ipc.specs.Ipc as ipc
 use Rattle.qs_ipc.specs.Queue.{is_for}
 use Rattle.qs_ipc.specs.declared.delivery.Delivery.{Delivery}
 use Rattle.qs_laws.proofs.Outcomes.{Inv}
-use Rattle.qs_machine.specs.Book.{BookValue, find_transaction, inc_at}
+use Rattle.qs_machine.specs.Book.{BookValue, inc_at}
 use Rattle.qs_machine.specs.Lawful.{IsLawful}
-use Rattle.qs_machine.specs.Transaction.{TransactionValue, is_open, standing_request}
-use Rattle.qs_machine.specs.declared.transaction.RequestNo.{RequestNo}
 use Rattle.qs_ops.specs.declared.operation.Op.{Op}
 use Rattle.qs_ops.specs.declared.reply.Reply.{Reply}
 use Rattle.qs_ops.specs.declared.vote.Vote.{Vote}
@@ -60,14 +58,7 @@ OthersLeave = (t tid : Tid) (work : Work) → same_tid tid t ≡ false → Leave
 abbrev pub RestLeaves : Type 0
 RestLeaves = (t tid : Tid) (work : Work) → LeavesPlaces t work (try tid forget_rule (try tid refuse_rule (try tid ready_rule work)))
 
--- ---- rules that bear on it
-
-abbrev pub request_no : ℕ → Outstanding → RequestNo
-request_no n request = record { link = record { from = record { 0 = n }; to = request.member.node }; number = request.number }
-
--- no request of its number stands at its member
-abbrev pub CrossesNone : Tid → ℕ → ℕ → BookValue → Outstanding → Work → Type 0
-CrossesNone t n stamp before request work = (tx : TransactionValue) → find_transaction (book_amid n stamp before work) t ≡ Some tx → is_open tx.cell ≡ true → standing_request tx (request_no n request) request.member ≡ None
+-- ---- rules that bear on it; a request that is issued has the next number, so none of that number stands
 
 -- the incarnation of a node that is known runs, or none is known
 abbrev pub Reaches : Field → (ℕ → ℕ) → ℕ → Type 0
@@ -75,11 +66,11 @@ Reaches base knows m = ((knows m == 0) ≡ true) ⊎ ((base.up m ≡ true) × ((
 
 abbrev pub IssueHereGoesOn : Type 0
 IssueHereGoesOn = (t : Tid) (base : Field) (knows : ℕ → ℕ) (n stamp : ℕ) (before : BookValue) (work : Work) (request : Outstanding) (op : Op) → IsAmid base n stamp before work → is_for request.member.server op ≡ true → request.member.node ≡ here work
-    → CrossesNone t n stamp before request work → GoesOn t base knows n stamp before work (issue_here t request op work)
+    → GoesOn t base knows n stamp before work (issue_here t request op work)
 
 abbrev pub IssueAwayGoesOn : Type 0
 IssueAwayGoesOn = (t : Tid) (base : Field) (knows : ℕ → ℕ) (n stamp : ℕ) (before : BookValue) (work : Work) (request : Outstanding) (op : Op) → IsAmid base n stamp before work → request.member.node.0 < base.size → is_other work.node.setting request.member.node ≡ true
-    → Reaches base knows request.member.node.0 → CrossesNone t n stamp before request work → GoesOn t base knows n stamp before work (issue_away t request op work)
+    → Reaches base knows request.member.node.0 → GoesOn t base knows n stamp before work (issue_away t request op work)
 
 abbrev pub ServeGoesOn : Type 0
 ServeGoesOn = (t : Tid) (base : Field) (knows : ℕ → ℕ) (n stamp : ℕ) (before : BookValue) (work : Work) (server : ServerNo) (delivery : Delivery) (reply : Reply) → IsAmid base n stamp before work

@@ -1,5 +1,5 @@
 -- The turn of a transaction as a node settles, once its own votes are cast: the machine that shows it there, and what its commit is settled by.
-use Rattle.std.specs.Prelude.{◌≡◌, ◌⊎◌, ℕ, ◌+◌, ◌^◌, ◌<◌, ◌==◌, nat_lt, true, false, List, ◌++◌, Some, None}
+use Rattle.std.specs.Prelude.{◌≡◌, ◌⊎◌, ℕ, ◌<◌, ◌==◌, true, false, List, ◌++◌, Some, None}
 use Rattle.qs_base.specs.declared.identifiers.Tid.{Tid}
 use Rattle.qs_journal.specs.declared.entry.Act.{Act}
 use Rattle.qs_machine.specs.Book.{BookValue}
@@ -19,10 +19,9 @@ use Rattle.qs_refine.specs.EachMove.{ShowsAll}
 use Rattle.qs_refine.specs.MoveLaws.{taken_scene}
 use Rattle.qs_refine.specs.ShownWorlds.{IsShownWorld}
 use Rattle.qs_refine.specs.Stands as shown
-use Rattle.qs_lawful.specs.BesideStep.{HappensSo, HasCountRoom}
+use Rattle.qs_lawful.specs.BesideStep.{HasCountRoom}
 use Rattle.qs_lawful.specs.Given.{AtEach}
 use Rattle.qs_lawful.specs.GivenStep.{done_work, first_work}
-use Rattle.qs_lawful.specs.Holds.{is_next}
 use Rattle.qs_lawful.specs.Standing.{Stands}
 use Rattle.qs_every_run.specs.Agrees.{MakesStep, nodes_in}
 use Rattle.qs_every_run.specs.Joined.{Joined, book_in}
@@ -47,7 +46,14 @@ pub record ShownAt (world : World) (n : ℕ) (source : Source) (tid : Tid) (w : 
   pub leads : Leads w now
   pub stands : shown.Stands tid (taken_scene world n source) n work now
 
--- whatever machine showed it before the step leads to one that shows it at its turn
+-- whatever machine shows it once what came is done leads to one that shows it at its turn
+abbrev pub FollowsAtTurn : World → ℕ → ℕ → Source → Event → Work → Tid → Type 0
+FollowsAtTurn world n free source event work tid = (u : machine.World) → shown.Stands tid (taken_scene world n source) n (done_work (world.hosts n).node event free) u → ShownAt world n source tid u (passed work tid)
+
+abbrev pub TurnsFollow : Type 0
+TurnsFollow = (world : World) (n free : ℕ) (source : Source) (event : Event) → AtEach (FollowsAtTurn world n free source event) settle_tid (done_work (world.hosts n).node event free) (due_tids (done_work (world.hosts n).node event free))
+
+-- and so does whatever showed it before the step
 abbrev pub ShownAtTurn : World → ℕ → Source → Work → Tid → Type 0
 ShownAtTurn world n source work tid = has_begun world tid ≡ true → (w : machine.World) → ShowsAll tid world w → ShownAt world n source tid w (passed work tid)
 
@@ -62,7 +68,6 @@ SettledBy stamp before size nodes n work tid = Stands stamp before size nodes n 
 
 abbrev pub TurnsSettle : Type 0
 TurnsSettle = (o : Opening) (world : World) (n stamp free : ℕ) (source : Source) (event : Event) → Joined PlacesAt o world → MakesStep world n stamp source event
-    → HappensSo stamp (book_in o world) event (first_work (world.hosts n).node free)
     → AtEach HasCountRoom settle_tid (done_work (world.hosts n).node event free) (due_tids (done_work (world.hosts n).node event free))
     → AtEach (SettledBy stamp (book_in o world) world.size (nodes_in world) n) settle_tid (done_work (world.hosts n).node event free) (due_tids (done_work (world.hosts n).node event free))
     → AtEach (CommitsSettled stamp (book_in o world)) settle_tid (done_work (world.hosts n).node event free) (due_tids (done_work (world.hosts n).node event free))
@@ -72,7 +77,7 @@ TurnsSettle = (o : Opening) (world : World) (n stamp free : ℕ) (source : Sourc
 abbrev pub OthersBeside : Type 0
 OthersBeside = (o : Opening) (world : World) (n stamp free : ℕ) (source : Source) (event : Event) → Joined PlacesAt o world → MakesStep world n stamp source event
     → (work : Work) (more : List Act) → (effects_of (world.hosts n).node event free).entries ≡ work.out.entries ++ more → AreLawful n stamp (book_in o world) work
-    → (k s : ℕ) → k < world.size → world.channels.up k ≡ true → (k == n) ≡ false → is_next s k (book_amid n stamp (book_in o world) work) ≡ true → IsBeside (taken_scene world n source) (book_amid n stamp (book_in o world) work) k
+    → (k : ℕ) → k < world.size → world.channels.up k ≡ true → (k == n) ≡ false → IsBeside (taken_scene world n source) (book_amid n stamp (book_in o world) work) k
 
 -- ---- commits
 
@@ -85,21 +90,26 @@ pub record IsReadyAt (work : Work) (tid : Tid) : Type 0 where
   pub may : may_answer tid part (passed work tid) ≡ true
   pub quiet : is_quiet (doings_of tid (passed work tid)) ≡ true
 
--- it began before the step, a later stamp is left for the other nodes, and what all places held as the step began they hold there, or it is doomed
-pub record IsPlacedThere (o : Opening) (world : World) (n stamp : ℕ) (source : Source) (work : Work) (tid : Tid) : Type 0 where
-  pub began : has_begun world tid ≡ true
-  pub later : nat_lt (stamp + 1) (2 ^ 62) ≡ true
-  pub placed : (v : machine.World) → shown.Stands tid (taken_scene world n source) n (passed work tid) v → AreLawful n stamp (book_in o world) (passed work tid)
-      → IsDoomed v ⊎ Here tid (OpenPlaced tid (field_of world)) (book_in o world)
-      → IsDoomed v ⊎ PlacedAmid tid (field_of (taken world n source)) ((taken_by world n source).peer n) n stamp (book_in o world) (passed work tid)
+-- so it began before the step: what begins in it nobody asks to commit there
+abbrev pub BeganAtTurn : Opening → World → ℕ → ℕ → Work → Tid → Type 0
+BeganAtTurn o world n stamp work tid = Stands stamp (book_in o world) world.size (nodes_in world) n (passed work tid) → IsReadyAt work tid → has_begun world tid ≡ true
+
+abbrev pub TurnsBegan : Type 0
+TurnsBegan = (o : Opening) (world : World) (n stamp free : ℕ) (source : Source) (event : Event) → Joined PlacesAt o world → MakesStep world n stamp source event
+    → AtEach (BeganAtTurn o world n stamp) settle_tid (done_work (world.hosts n).node event free) (due_tids (done_work (world.hosts n).node event free))
+
+-- what all places held as the step began they hold there, or it is doomed in a machine that shows it there
+pub record IsPlacedThere (o : Opening) (world : World) (n stamp : ℕ) (source : Source) (work : Work) (tid : Tid) (w : machine.World) : Type 0 where
+  pub at : ShownAt world n source tid w (passed work tid)
+  pub placed : AreLawful n stamp (book_in o world) (passed work tid) → IsDoomed at.now ⊎ Here tid (OpenPlaced tid (field_of world)) (book_in o world)
+      → IsDoomed at.now ⊎ PlacedAmid tid (field_of (taken world n source)) ((taken_by world n source).peer n) n stamp (book_in o world) (passed work tid)
 
 abbrev pub PlacedAtTurn : Opening → World → ℕ → ℕ → Source → Work → Tid → Type 0
-PlacedAtTurn o world n stamp source work tid = IsReadyAt work tid → IsPlacedThere o world n stamp source work tid
+PlacedAtTurn o world n stamp source work tid = IsReadyAt work tid → has_begun world tid ≡ true → (w : machine.World) → ShowsAll tid world w → IsPlacedThere o world n stamp source work tid w
 
--- so what a home commits is unanimous
+-- then what a home commits is unanimous
 abbrev pub PlacedSettles : Type 0
 PlacedSettles = (o : Opening) (world : World) (n stamp free : ℕ) (source : Source) (event : Event) → Joined PlacesAt o world → MakesStep world n stamp source event
-    → HappensSo stamp (book_in o world) event (first_work (world.hosts n).node free)
     → AtEach HasCountRoom settle_tid (done_work (world.hosts n).node event free) (due_tids (done_work (world.hosts n).node event free))
     → AtEach (PlacedAtTurn o world n stamp source) settle_tid (done_work (world.hosts n).node event free) (due_tids (done_work (world.hosts n).node event free))
     → AtEach (CommitsSettled stamp (book_in o world)) settle_tid (done_work (world.hosts n).node event free) (due_tids (done_work (world.hosts n).node event free))
@@ -115,20 +125,17 @@ abbrev pub TurnsGo : Type 0
 TurnsGo = (world : World) (n stamp free : ℕ) (before : BookValue) (source : Source) (event : Event) → IsShownWorld world → MakesStep world n stamp source event → IsAmid (field_of world) n stamp before (work_on (world.hosts n).node free)
     → AtEach (GoesToTurn world n stamp free before source event) settle_tid (done_work (world.hosts n).node event free) (due_tids (done_work (world.hosts n).node event free))
 
--- that it began, that a later stamp is left, and that these found what they need
-pub record IsFoundThere (o : Opening) (world : World) (n stamp free : ℕ) (source : Source) (event : Event) (work : Work) (tid : Tid) : Type 0 where
-  pub began : has_begun world tid ≡ true
-  pub later : nat_lt (stamp + 1) (2 ^ 62) ≡ true
-  pub finds : (v : machine.World) → shown.Stands tid (taken_scene world n source) n (passed work tid) v
-      → ComesWell (IsDoomed v) tid world n stamp (book_in o world) source event (first_work (world.hosts n).node free)
-      × PassesWell (IsDoomed v) tid (field_of (taken world n source)) ((taken_by world n source).peer n) n stamp (book_in o world) work
+-- these found what they need, or it is doomed in a machine that shows it there
+pub record IsFoundThere (o : Opening) (world : World) (n stamp free : ℕ) (source : Source) (event : Event) (work : Work) (tid : Tid) (w : machine.World) : Type 0 where
+  pub at : ShownAt world n source tid w (passed work tid)
+  pub comes : ComesWell (IsDoomed at.now) tid world n stamp (book_in o world) source event (first_work (world.hosts n).node free)
+  pub passes : PassesWell (IsDoomed at.now) tid (field_of (taken world n source)) ((taken_by world n source).peer n) n stamp (book_in o world) work
 
 abbrev pub FindsAtTurn : Opening → World → ℕ → ℕ → ℕ → Source → Event → Work → Tid → Type 0
-FindsAtTurn o world n stamp free source event work tid = IsReadyAt work tid → IsFoundThere o world n stamp free source event work tid
+FindsAtTurn o world n stamp free source event work tid = IsReadyAt work tid → has_begun world tid ≡ true → (w : machine.World) → ShowsAll tid world w → IsFoundThere o world n stamp free source event work tid w
 
 abbrev pub FindsSettle : Type 0
 FindsSettle = (o : Opening) (world : World) (n stamp free : ℕ) (source : Source) (event : Event) → Joined PlacesAt o world → MakesStep world n stamp source event
-    → HappensSo stamp (book_in o world) event (first_work (world.hosts n).node free)
     → AtEach HasCountRoom settle_tid (done_work (world.hosts n).node event free) (due_tids (done_work (world.hosts n).node event free))
     → AtEach (FindsAtTurn o world n stamp free source event) settle_tid (done_work (world.hosts n).node event free) (due_tids (done_work (world.hosts n).node event free))
     → AtEach (CommitsSettled stamp (book_in o world)) settle_tid (done_work (world.hosts n).node event free) (due_tids (done_work (world.hosts n).node event free))

@@ -1,13 +1,17 @@
--- The laws of a step, of clients and of what is on its way: what begins has an owner, who is answered has nothing in hand at another node, and
--- scripts and ways go on, and what a node waits for stands.
+-- The laws of a step, of clients and of what is on its way: the count of changes has room, what begins has an owner, who is answered has nothing in
+-- hand at another node, scripts and ways go on, and what a node waits for stands.
 use Rattle.std.specs.Prelude.{◌≡◌, ◌<◌, ℕ, ◌==◌, ◌++◌, false}
 use Rattle.qs_machine.specs.Lawful.{IsLawful, book_after}
+use Rattle.qs_step.specs.Settling.{due_tids, settle_tid}
 use Rattle.qs_step.specs.Step.{after_step, effects_of}
 use Rattle.qs_step.specs.declared.event.Event.{Event}
 use Rattle.qs_world.specs.Moves.{Source, Step, moved}
 use Rattle.qs_world.specs.Posting.{entries_of}
 use Rattle.qs_world.specs.World.{Opening, World}
 use Rattle.qs_lawful.specs.Aside.{AnswersElsewhere}
+use Rattle.qs_lawful.specs.BesideStep.{HasCountRoom}
+use Rattle.qs_lawful.specs.Given.{AtEach}
+use Rattle.qs_lawful.specs.GivenStep.{done_work}
 use Rattle.qs_lawful.specs.Logs.{Every}
 use Rattle.qs_lawful.specs.Parcels.{HoldsWays}
 use Rattle.qs_lawful.specs.Scripts.{HoldsScripts}
@@ -19,6 +23,10 @@ use Rattle.qs_every_run.specs.Owing.{Owes}
 
 abbrev pub InStep : (Opening → World → Type 0) → (Opening → World → ℕ → ℕ → ℕ → Source → Event → Type 0) → Type 0
 InStep P X = (o : Opening) (world : World) (n stamp free : ℕ) (source : Source) (event : Event) → Joined P o world → MakesStep world n stamp source event → X o world n stamp free source event
+
+-- where a vote pass is due, the count of changes has room
+abbrev pub CountsHaveRoom : Opening → World → ℕ → ℕ → ℕ → Source → Event → Type 0
+CountsHaveRoom o world n stamp free source event = AtEach HasCountRoom settle_tid (done_work (world.hosts n).node event free) (due_tids (done_work (world.hosts n).node event free))
 
 abbrev pub BeginsOwned : Opening → World → ℕ → ℕ → ℕ → Source → Event → Type 0
 BeginsOwned o world n stamp free source event = Every (HasOwner (book_in o world)) (effects_of (world.hosts n).node event free).entries

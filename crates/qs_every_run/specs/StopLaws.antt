@@ -1,4 +1,4 @@
--- A node stops: a transaction that was so placed is so placed then, or doomed.
+-- A node stops: a transaction that was so placed is so placed then, or doomed; where it is not engaged, it leaves no request of its own that stands.
 use Rattle.std.specs.Prelude.{◌≡◌, ◌⊎◌, ℕ, ◌<◌, true, List, [], ◌∷◌, Some}
 use Rattle.qs_base.specs.declared.identifiers.Tid.{Tid}
 use Rattle.qs_journal.specs.declared.entry.Act.TheVariants as acts
@@ -19,11 +19,12 @@ use Rattle.qs_refine.specs.EachMove.{ShowsAll}
 use Rattle.qs_refine.specs.ShownWorlds.{IsShownWorld}
 use Rattle.qs_lawful.specs.Holds.{Holds}
 use Rattle.qs_every_run.specs.Placed.{field_of, Placed, HoldsPlaced}
+use Rattle.qs_every_run.specs.PlacesApart.{LeavesNone}
 
 -- with nothing of a step kept of it
 abbrev pub StopsPlaced : Type 0
 StopsPlaced = (tid : Tid) (book : BookValue) (tx : TransactionValue) (world : World) (n stamp : ℕ) (cause : CrashCause) (log : List Record) (w : machine.World) (goes : StopsAlone tid world (stopped world n stamp cause log) n w)
-    → IsShownWorld world → ShowsAll tid world w → n < world.size → world.channels.up n ≡ true → find_transaction book tid ≡ Some tx → is_open tx.cell ≡ true → (next : ℕ) → Holds next book (world.hosts n).node
+    → IsShownWorld world → ShowsAll tid world w → n < world.size → world.channels.up n ≡ true → find_transaction book tid ≡ Some tx → is_open tx.cell ≡ true → (next : ℕ) → Holds next book (world.hosts n).node → LeavesNone tid world n tx
     → IsDoomed w ⊎ Placed tid tx (field_of world) → IsDoomed goes.goes.next ⊎ Placed tid tx (field_of (stopped world n stamp cause log))
 
 -- ---- cut off with a record of it kept: the whole step would have left the node so
@@ -31,7 +32,7 @@ StopsPlaced = (tid : Tid) (book : BookValue) (tx : TransactionValue) (world : Wo
 -- where that step decided the commit it was unanimous before: the home decides in no step that asked, served, voted or took a loan back
 abbrev pub CutPlaced : Type 0
 CutPlaced = (tid : Tid) (book : BookValue) (tx : TransactionValue) (world : World) (n stamp : ℕ) (cause : CrashCause) (log : List Record) (w : machine.World) (leaves : NodeValue) (goes : CutsOff tid leaves (stopped world n stamp cause log) w)
-    → IsShownWorld world → ShowsAll tid world w → n < world.size → world.channels.up n ≡ true → find_transaction book tid ≡ Some tx → is_open tx.cell ≡ true → (next : ℕ) → Holds next book (world.hosts n).node
+    → IsShownWorld world → ShowsAll tid world w → n < world.size → world.channels.up n ≡ true → find_transaction book tid ≡ Some tx → is_open tx.cell ≡ true → (next : ℕ) → Holds next book (world.hosts n).node → LeavesNone tid world n tx
     → (w.cell ≡ Open → goes.goes.next.cell ≡ Committed → is_unanimous tx ≡ true)
     → IsDoomed w ⊎ Placed tid tx (field_of world) → IsDoomed goes.goes.next ⊎ Placed tid tx (field_of (stopped world n stamp cause log))
 
@@ -43,10 +44,12 @@ book_stopped book n stamp cause = book_after book (entry_of n stamp (acts.Crash 
 abbrev pub StopHolds : Type 0
 StopHolds = (tid : Tid) (book : BookValue) (world : World) (n stamp : ℕ) (cause : CrashCause) (log : List Record) (w : machine.World) (goes : StopsAlone tid world (stopped world n stamp cause log) n w)
     → IsShownWorld world → ShowsAll tid world w → n < world.size → world.channels.up n ≡ true → (next : ℕ) → Holds next book (world.hosts n).node
+    → ((tx : TransactionValue) → find_transaction book tid ≡ Some tx → is_open tx.cell ≡ true → LeavesNone tid world n tx)
     → HoldsPlaced tid book (field_of world) w → HoldsPlaced tid (book_stopped book n stamp cause) (field_of (stopped world n stamp cause log)) goes.goes.next
 
 abbrev pub CutHolds : Type 0
 CutHolds = (tid : Tid) (book : BookValue) (world : World) (n stamp : ℕ) (cause : CrashCause) (log : List Record) (w : machine.World) (leaves : NodeValue) (goes : CutsOff tid leaves (stopped world n stamp cause log) w)
     → IsShownWorld world → ShowsAll tid world w → n < world.size → world.channels.up n ≡ true → (next : ℕ) → Holds next book (world.hosts n).node
+    → ((tx : TransactionValue) → find_transaction book tid ≡ Some tx → is_open tx.cell ≡ true → LeavesNone tid world n tx)
     → (w.cell ≡ Open → goes.goes.next.cell ≡ Committed → (tx : TransactionValue) → find_transaction book tid ≡ Some tx → is_open tx.cell ≡ true → is_unanimous tx ≡ true)
     → HoldsPlaced tid book (field_of world) w → HoldsPlaced tid (book_stopped book n stamp cause) (field_of (stopped world n stamp cause log)) goes.goes.next

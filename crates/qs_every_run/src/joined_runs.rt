@@ -1,5 +1,6 @@
 //! Every run of the world of nodes is lawful, as far as it is owed.
-ghost use Rattle.qs_every_run.specs.StepLaws.{AnswersAside, BeginsOwned, InStep, KeepsClients, KeepsLabels, KeepsOwing, KeepsScripts, KeepsWays};
+ghost use Rattle.qs_every_run.specs.StepLaws.{AnswersAside, BeginsOwned, InStep, KeepsClients, KeepsLabels, KeepsOwing, KeepsScripts, KeepsWays, CountsHaveRoom};
+ghost use Rattle.qs_every_run.specs.Rooms.{AskedOfRun, OwnedOfRun, RoomsAt, RoomsStay};
 ghost use Rattle.qs_every_run.specs.JoinedPlaces.{PlacesAt};
 ghost use Rattle.qs_every_run.specs.PlacesLaws.{PlacesGoOn};
 ghost use Rattle.qs_every_run.specs.JoinedRuns.{EachMoveJoined, EachOpensJoined, EachRunJoined, EachRunLawful};
@@ -32,9 +33,9 @@ pub fn restart_leaves_what_stands_beside()
     ensures { EachRiseKeepsBeside }
 {}
 
-/// What all places hold of each transaction stands as a run begins, and after a crash, a restart and a first meeting, if a step that was cut off
-/// decided nothing that was not unanimous before it. And what the log of a home that is down has committed stays unanimous through a step of
-/// another node.
+/// What all places hold of each transaction stands as a run begins, and after each whole step, in which what a home commits is unanimous; and after a
+/// crash, a restart and a first meeting, if a step that was cut off decided nothing that was not unanimous before it. And what the log of a home that
+/// is down has committed stays unanimous through a step of another node.
 pub fn places_go_on()
     ensures { PlacesGoOn }
 {}
@@ -49,6 +50,18 @@ pub fn steps_keep_what_comes()
     ensures scripts { InStep PlacesAt KeepsScripts }
     ensures ways { InStep PlacesAt KeepsWays }
     ensures owing { InStep PlacesAt KeepsOwing }
+{}
+
+/// What has an owner, and what commit was asked for, began in the run, in an incarnation that no log of the opening can name. Of such transactions
+/// files of each node have few changes pending, since each counts as an operation, of which a server takes 1,024 at most, and so has each vote of
+/// files in a log: as a run begins, and after each move. So where a vote pass is due in a step, at its turn a note can tell how many changes files
+/// have pending.
+pub fn counts_have_room()
+    ensures owned { OwnedOfRun }
+    ensures asked { AskedOfRun }
+    ensures opens { Opens RoomsAt }
+    ensures moves { RoomsStay }
+    ensures turns { InStep PlacesAt CountsHaveRoom }
 {}
 
 /// A whole step of a node leaves what its home has not decided younger than the age limit: what becomes that old at a tick it aborts in that

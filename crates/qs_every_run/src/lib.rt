@@ -3,14 +3,19 @@
 #![tactic(auto)]
 
 mod coherent_again;
+mod comes;
+pub mod found;
 mod joined_agrees;
 mod joined_runs;
 pub mod placed;
+mod tried_apart;
 mod tried_owing;
 
 pub use coherent_again::{
     homes_log_commits, logs_stand_for_states, runs_leave_openings, votes_have_own_changes,
 };
+pub use comes::{what_begins_is_bare, what_comes_finds};
 pub use joined_agrees::{stages_are_sound, steps_agree};
 pub use joined_runs::runs_are_lawful;
+pub use tried_apart::issuers_are_engaged;
 pub use tried_owing::owed_stands_open;

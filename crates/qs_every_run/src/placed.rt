@@ -5,7 +5,11 @@ ghost use Rattle.qs_every_run.specs.PlacesCommits.{WorldShowsField, HomeCommitsU
 ghost use Rattle.qs_every_run.specs.PlacesComes.{MessageComes, NoticeComes, RequestComes};
 ghost use Rattle.qs_every_run.specs.PlacesWhole.{ServeAllGoes, StepPlaces};
 ghost use Rattle.qs_every_run.specs.PlacesJoined.{WholeStepPlaces};
-ghost use Rattle.qs_every_run.specs.PlacesTurns.{FindsSettle, OthersBeside, PlacedSettles, TurnsGo, TurnsSettle, TurnsShown};
+ghost use Rattle.qs_every_run.specs.PlacesSteps.{FreshFind, StepsKeepPlaces, WholeFind};
+ghost use Rattle.qs_every_run.specs.JoinedOwed.{EachCommitsSettled};
+ghost use Rattle.qs_every_run.specs.JoinedPlaces.{PlacesAt};
+ghost use Rattle.qs_every_run.specs.PlacesTurns.{FindsSettle, OthersBeside, PlacedSettles, TurnsBegan, TurnsFollow, TurnsGo, TurnsSettle, TurnsShown};
+ghost use Rattle.qs_every_run.specs.Awaited.{BusyEngaged, IssuesWait, StepsWaitOn, WaitsEngaged};
 ghost use Rattle.qs_every_run.specs.PlacesGo.{IssueGoes, SettleGoes, CommandGoes, WaitGoes};
 ghost use Rattle.qs_every_run.specs.PlacesEnds.{StepBegins, StepEnds};
 ghost use Rattle.qs_every_run.specs.PlacedLaws.{ReadyFree, FreeAgrees, QuietUnanimous, CommittedFree, CommittedWays, CommittedKeeps, CommittedUnanimous};
@@ -37,7 +41,7 @@ pub fn stops()
 {}
 
 /// In the middle of a step of a node, what all places hold goes on through rules that leave it, as most do; and as a request is issued that
-/// reaches a node and crosses none, as one is served with its loan, as a vote for commit is cast, and as a loan is given back.
+/// reaches a node, as one is served with its loan, as a vote for commit is cast, and as a loan is given back.
 pub fn rules()
     ensures left { LeftGoesOn }
     ensures begins { BeginLeaves }
@@ -84,14 +88,40 @@ pub fn whole_steps()
     ensures { WholeStepPlaces }
 {}
 
-/// At the turn of a transaction, as its node settles and once its own votes are cast, a machine shows it that what showed it before leads to; and all
-/// that was settled before is lawful, so that what stands there may show its commit. What the step entered by then leaves the other
-/// nodes. So where all places hold there what they should, or it is doomed, what its home commits is unanimous. They do so as through a whole step.
+/// At the turn of a transaction, as its node settles and once its own votes are cast, a machine shows it that what showed it before leads to, and what
+/// showed it once what came was done; and all that was settled before is lawful, so that what stands there may show its commit. What its home is
+/// ready to commit there began before the step. What the step entered by then leaves the other nodes, whether any stamp is left for them or not.
+/// So where all places hold there what they should, or it is doomed, what its home commits is unanimous. They do so as through a whole step.
 pub fn at_turns()
+    ensures follow { TurnsFollow }
     ensures shown { TurnsShown }
+    ensures began { TurnsBegan }
     ensures settle { TurnsSettle }
     ensures others { OthersBeside }
     ensures commits { PlacedSettles }
     ensures goes { TurnsGo }
     ensures finds { FindsSettle }
+{}
+
+/// A whole step finds what it needs of a transaction that had begun, or that is doomed in what shows it after the step; and so it does of what begins in
+/// it. So what all places hold goes on through each step of a run.
+pub fn each_step()
+    ensures begun { WholeFind }
+    ensures fresh { FreshFind }
+    ensures keeps { StepsKeepPlaces }
+{}
+
+/// What a home commits in a step is unanimous: what came found what it needed, and so did all that was issued and voted.
+pub fn home_commits_found()
+    ensures { EachCommitsSettled PlacesAt }
+{}
+
+/// A request to another node that waits for its reply waits on through a whole step, until that reply comes, the outcome comes, or its node
+/// decides: its client commands nothing else meanwhile, or files vote no more, so that its node is engaged. So it waits as it is issued, where
+/// its node is engaged, as it is where its own pass is due and while a loan stands.
+pub fn requests_wait()
+    ensures on { StepsWaitOn }
+    ensures issues { IssuesWait }
+    ensures busy { BusyEngaged }
+    ensures engaged { WaitsEngaged }
 {}

@@ -1,5 +1,5 @@
 -- Each lawful entry that another node makes in a step leaves what a log says of contents and changes, and what is kept for clients.
-use Rattle.std.proofs.Common.{◌≡◌, inl, inr, ℕ, ◌==◌, ◌&&◌, ◌||◌, ◌^◌, not, true, false, List, Option, Some, None, refl, sym, ap, ◌∙◌, arith, is_some, nat_lt}
+use Rattle.std.proofs.Common.{◌≡◌, inl, inr, ℕ, ◌==◌, true, false, List, Option, Some, None, refl, sym, ap, ◌∙◌, arith, is_some}
 use Rattle.std.proofs.lemmas.Bool.Decides.{nat_tests}
 use Rattle.std.specs.Prelude.{slice_get}
 use Rattle.qs_base.specs.declared.identifiers.ClientNo.{ClientNo}
@@ -8,9 +8,8 @@ use Rattle.qs_base.specs.declared.identifiers.NodeNo.{NodeNo}
 use Rattle.qs_base.specs.declared.identifiers.Tid.{Tid}
 use Rattle.qs_journal.specs.declared.entry.Entry.{Entry}
 use Rattle.qs_kept.specs.declared.kept.Kept.{Kept}
-use Rattle.qs_laws.proofs.Steps.{held}
 use Rattle.qs_machine.specs.Book.{BookValue, cell_of_transaction, crossed_in, find_transaction}
-use Rattle.qs_machine.specs.Lawful.{broken, is_in_order}
+use Rattle.qs_machine.specs.Lawful.{broken}
 use Rattle.qs_machine.specs.Nodes as machine
 use Rattle.qs_machine.specs.Restart.{member_at}
 use Rattle.qs_machine.specs.Transaction.{TransactionValue, is_crossed, is_open}
@@ -20,7 +19,6 @@ use Rattle.qs_ops.specs.Table.{TableValue}
 use Rattle.qs_ops.specs.declared.operation.Op.{Op}
 use Rattle.qs_restart.specs.Recovery.{Prepared, Recovery}
 use Rattle.qs_lawful.specs.Aside.{IsOfStep}
-use Rattle.qs_lawful.specs.Holds.{is_next}
 use Rattle.qs_lawful.specs.Said.{HoldsSaid, IsAsRecorded, IsMadeBy, IsRecorded, IsUndone, SameContents}
 use Rattle.qs_lawful.specs.Worlds.{HoldsKept, IsLeftOpen, IsLoanOf, IsOpenStill}
 use Rattle.qs_lawful.proofs.AsideActs.{owners_keep}
@@ -33,17 +31,9 @@ use Rattle.qs_lawful.proofs.TurnedRequests.{crossed_back}
 made_by : (table other : TableValue) (changes : List Op) → SameContents other table → IsMadeBy table changes → IsMadeBy other changes
 made_by table other changes same is = record { contents = same.contents ∙ is.contents; notes = same.notes ∙ is.notes }
 
--- an entry that stands in order leaves room for those that come behind it
-next_back : (a b m n k next : ℕ) → (nat_lt b (2 ^ 62) && (nat_lt a b || ((a == b) && not (nat_lt n m)))) ≡ true → (nat_lt next (2 ^ 62) && (nat_lt b next || ((b == next) && not (nat_lt k n)))) ≡ true
-    → (nat_lt next (2 ^ 62) && (nat_lt a next || ((a == next) && not (nat_lt k m)))) ≡ true
-next_back a b m n k next p q = grind (arith, nat_tests, p, q)
-
 module _ (book : BookValue) (entry : Entry) (w : LastsWell book) (h : broken book entry ≡ None) where
   abbrev after : BookValue
   after = new book entry w h
-
-  pub order_back : (next k : ℕ) → is_next next k after ≡ true → is_next next k book ≡ true
-  order_back next k is = next_back book.stamp entry.stamp book.node entry.node.0 k next (held (is_in_order book entry) 1 _ h).0 is
 
   module _ (k : ℕ) (far : (entry.node.0 == k) ≡ false) (of_step : IsOfStep entry.act) where
     pub home_far : (tid : Tid) → tid.home.0 ≡ k → (tid.home.0 == entry.node.0) ≡ false

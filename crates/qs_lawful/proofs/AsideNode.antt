@@ -23,7 +23,7 @@ use Rattle.qs_step.specs.declared.state.OpenCommand.{OpenCommand}
 use Rattle.qs_tm.specs.declared.participant.Participant.{Participant}
 use Rattle.qs_lawful.specs.Aside.{AnswersElsewhere, HoldsIssued, HoldsIssuedOf, IsAside}
 use Rattle.qs_lawful.specs.Face.{at_server, face_of}
-use Rattle.qs_lawful.specs.Holds.{Holds, HoldsAt, HoldsClients, HoldsNode, HoldsTid, IsBehind, is_next}
+use Rattle.qs_lawful.specs.Holds.{HoldsAt, HoldsClients, HoldsNode, HoldsStill, HoldsTid, IsBehind}
 use Rattle.qs_lawful.specs.Lasting.{StandsOnce}
 use Rattle.qs_lawful.specs.Waits.{HoldsWaits, HoldsWaitsAt, IsWithin, standing_ops, waiting_ops}
 use Rattle.qs_lawful.proofs.AsideActs.{IsAnsweredBy, owners_keep}
@@ -95,7 +95,7 @@ module _ (book : BookValue) (entry : Entry) (w : LastsWell book) (h : broken boo
             let p = owners_keep entry.stamp entry.node.0 entry.act aside.of_step book client.0 b.owner b.there in
             record { owner = p.0; there = p.1; less = ap (λ (k : ℕ). nat_lt k line) (p.2.1 none) ∙ b.less }
 
-    module _ (issued : HoldsIssued book node) (stamp next : ℕ) (held : Holds stamp book node) where
+    module _ (issued : HoldsIssued book node) (held : HoldsStill book node) where
       at_some : (tid : Tid) (tx : TransactionValue) → find_transaction book tid ≡ Some tx → HoldsTid here node.setting.inc tid tx (face_of node tid)
       at_some tid tx found = subst (λ (o : Option TransactionValue). HoldsAt here node.setting.inc tid o (face_of node tid)) found (held.at tid)
 
@@ -185,9 +185,8 @@ module _ (book : BookValue) (entry : Entry) (w : LastsWell book) (h : broken boo
         in_inc = held.same.in_inc;
       }
 
-      pub holds_on : is_next next here.0 after ≡ true → Holds next after node
-      holds_on order = record {
-        order = order;
+      pub holds_on : HoldsStill after node
+      holds_on = record {
         run = ran_run (entry ∷ []) book ∙ held.run;
         state = n.later;
         there = n.there;

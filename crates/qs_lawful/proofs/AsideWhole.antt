@@ -17,12 +17,11 @@ use Rattle.qs_lawful.specs.Logged.{IsMarked, StandsIn}
 use Rattle.qs_lawful.specs.Logs.{Every, IsCommitLogged, IsCutVote, IsRecordKept, IsVoteLogged}
 use Rattle.qs_lawful.specs.Said.{HoldsLeft}
 use Rattle.qs_lawful.specs.Worlds.{HoldsDown, HoldsKept, HoldsNodeOf, HoldsUp}
-use Rattle.qs_lawful.specs.Holds.{is_next}
 use Rattle.qs_lawful.proofs.AsideBook.{node_on}
 use Rattle.qs_lawful.proofs.AsideDown.{record_on, there_on, vote_on}
 use Rattle.qs_lawful.proofs.AsideGoes.{commits_on, goes_aside}
 use Rattle.qs_lawful.proofs.AsideIssue.{NodeOn}
-use Rattle.qs_lawful.proofs.AsideKept.{kept_on, order_back, said_on, stands_on}
+use Rattle.qs_lawful.proofs.AsideKept.{kept_on, said_on, stands_on}
 use Rattle.qs_lawful.proofs.AsideLeft.{left_on}
 use Rattle.qs_lawful.proofs.AsideNode.{holds_on, notes_on}
 use Rattle.qs_lawful.proofs.LastsEntry.{lasts_on}
@@ -120,7 +119,7 @@ module _ (book : BookValue) (entry : Entry) (w : LastsWell book) (h : broken boo
       accepted = c.accepted;
       kept = kept_on book entry w h k (far_of aside) aside.of_step host.node.setting.node c.node inc host.node.kept.saved c.kept;
       runs = λ is. record {
-        next = λ next order. holds_on book entry w h host.node own (a.issued refl) next next (u.next next (order_back book entry w h next k order)) (subst (λ (j : ℕ). is_next next j after ≡ true) (sym c.node) order);
+        still = holds_on book entry w h host.node own (a.issued refl) u.still;
         log = by_other book w.inv entry.stamp entry.node.0 k (far_of aside) host.node.manager host.log host.waiting entry.act h u.log;
         said = said_on book entry w h k (far_of aside) aside.of_step c.state n.later n.records (recovery (host.log ++ host.waiting)) u.said;
         on_disk = said_on book entry w h k (far_of aside) aside.of_step c.state n.later n.records (recovery host.log) u.on_disk;

@@ -26,6 +26,7 @@ pub mod AsideDown
 pub mod AsideGoes
 pub mod AsideLeft
 pub mod AsideWhole
+pub mod Still
 pub mod AsideBeside
 pub mod AsideBesides
 pub mod AsideIssued

@@ -19,7 +19,7 @@ stamp_on book size n inc up host stamp h = record {
   format = h.format;
   accepted = h.accepted;
   kept = h.kept;
-  runs = λ is. let u : HoldsUp n book h.state host = h.runs is in record { next = u.next; log = u.log; said = u.said; on_disk = u.on_disk };
+  runs = λ is. let u : HoldsUp n book h.state host = h.runs is in record { still = u.still; log = u.log; said = u.said; on_disk = u.on_disk };
   stopped = λ is. let d : HoldsDown n book h.state host = h.stopped is in record { log = d.log; stands = d.stands; marked = d.marked; left = d.left; nothing_waits = d.nothing_waits };
 }
 

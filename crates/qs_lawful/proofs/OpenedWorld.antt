@@ -25,7 +25,7 @@ use Rattle.qs_world.specs.Moves.{is_in_order}
 use Rattle.qs_world.specs.Openings.{IsOpening, is_setting}
 use Rattle.qs_world.specs.World.{Host, Opening, opened_host, start}
 use Rattle.qs_lawful.specs.Face.{part_or_new}
-use Rattle.qs_lawful.specs.Holds.{Holds, HoldsClients, HoldsNode, is_next}
+use Rattle.qs_lawful.specs.Holds.{HoldsClients, HoldsNode, HoldsStill, is_next}
 use Rattle.qs_lawful.specs.Logged.{HoldsHost, HoldsLogged, KnowsLog}
 use Rattle.qs_lawful.specs.Said.{HoldsSaid}
 use Rattle.qs_lawful.specs.Worlds.{HoldsKept, HoldsNodeOf, HoldsUp, HoldsWorld}
@@ -149,9 +149,8 @@ module _ (o : Opening) (opens : IsOpening o) where
       asking = λ tid client part home known undecided asked owner. absurd (unasked tid part known asked);
     }
 
-    held : (next : ℕ) → is_next next n now ≡ true → Holds next now node
-    held next order = record {
-      order = subst (λ (k : ℕ). is_next next k now ≡ true) (sym node_no) order;
+    held : HoldsStill now node
+    held = record {
       run = sized ∙ sym run_is;
       state = state o opens n low;
       there = ap (slice_get now.nodes) node_no ∙ state_there o opens n low;
@@ -190,7 +189,7 @@ module _ (o : Opening) (opens : IsOpening o) where
 
     up_held : HoldsUp n now (state o opens n low) host
     up_held = record {
-      next = λ next order. held next order;
+      still = held;
       log = host_held;
       said = subst (λ (l : Recovery). HoldsSaid n now (state o opens n low) l) (sym log_twice) (said_held o opens n low);
       on_disk = said_held o opens n low;

@@ -1,5 +1,5 @@
 -- What another node does that changes no transaction and no owner leaves all that is held of a node, its log too, whether it runs or not.
-use Rattle.std.proofs.Common.{◌≡◌, ◌⊎◌, inl, inr, ℕ, ◌&&◌, ◌++◌, not, Bool, true, List, [], ◌∷◌, length, flat_map, Option, Some, None, fold, refl, sym, ap, subst, ◌∙◌, if◌then◌else◌}
+use Rattle.std.proofs.Common.{◌≡◌, ◌⊎◌, inl, inr, ℕ, ◌&&◌, ◌++◌, not, Bool, List, [], ◌∷◌, length, flat_map, Option, Some, None, fold, refl, sym, ap, subst, ◌∙◌, if◌then◌else◌}
 use Rattle.std.specs.Prelude.{slice_get}
 use Rattle.qs_base.specs.declared.identifiers.ClientNo.{ClientNo}
 use Rattle.qs_base.specs.declared.identifiers.Tid.{Tid}
@@ -18,7 +18,7 @@ use Rattle.qs_restart.specs.Recovery.{Prepared, Recovery, recovery}
 use Rattle.qs_step.specs.State.{NodeValue}
 use Rattle.qs_tm.specs.declared.manager.Manager.{Manager}
 use Rattle.qs_world.specs.World.{Host}
-use Rattle.qs_lawful.specs.Holds.{HasEnded, Holds, HoldsClients, IsBehind, IsOwner, MayBeTold, is_next}
+use Rattle.qs_lawful.specs.Holds.{HasEnded, HoldsClients, HoldsStill, IsBehind, IsOwner, MayBeTold}
 use Rattle.qs_lawful.specs.Logged.{HoldsHost, HoldsLogged, Later}
 use Rattle.qs_lawful.specs.Logs.{HoldsStopped, IsCutVote, IsVoteLogged, found_votes}
 use Rattle.qs_lawful.specs.Said.{HoldsLeft, HoldsSaid, IsAsRecorded, IsMadeBy, IsRecorded, IsToBeRecorded, book_found}
@@ -58,9 +58,8 @@ module _ (old : BookValue) (s m p : ℕ) (ns : List machine.NodeValue) (n : ℕ)
     asking = λ tid client part home known undecided asked owner. h.asking tid client part home known undecided asked (owner_back tid client owner);
   }
 
-  pub holds_on : (stamp : ℕ) (node : NodeValue) → node.setting.node.0 ≡ n → is_next stamp n new ≡ true → Holds stamp old node → Holds stamp new node
-  holds_on stamp node here order h = record {
-    order = subst (λ (k : ℕ). is_next stamp k new ≡ true) (sym here) order;
+  pub holds_on : (node : NodeValue) → node.setting.node.0 ≡ n → HoldsStill old node → HoldsStill new node
+  holds_on node here h = record {
     run = sized ∙ h.run;
     state = h.state;
     there = subst (λ (k : ℕ). slice_get ns k ≡ Some h.state) (sym here) (same ∙ subst (λ (k : ℕ). slice_get old.nodes k ≡ Some h.state) here h.there);
@@ -163,8 +162,8 @@ module _ (old : BookValue) (s m p : ℕ) (ns : List machine.NodeValue) (n : ℕ)
 
   -- ---- all of it
 
-  pub node_on : (size inc : ℕ) (up : Bool) (host : Host) → ((stamp : ℕ) → is_next stamp n new ≡ true → is_next stamp n old ≡ true) → HoldsNodeOf old size n inc up host → HoldsNodeOf new size n inc up host
-  node_on size inc up host back h = record {
+  pub node_on : (size inc : ℕ) (up : Bool) (host : Host) → HoldsNodeOf old size n inc up host → HoldsNodeOf new size n inc up host
+  node_on size inc up host h = record {
     state = h.state;
     there = same ∙ h.there;
     up_is = h.up_is;
@@ -175,7 +174,7 @@ module _ (old : BookValue) (s m p : ℕ) (ns : List machine.NodeValue) (n : ℕ)
     accepted = h.accepted;
     kept = kept_same host.node.setting.node inc old new refl refl host.node.kept.saved h.kept;
     runs = λ is. let u : HoldsUp n old h.state host = h.runs is in record {
-      next = λ stamp order. holds_on stamp host.node h.node order (u.next stamp (back stamp order));
+      still = holds_on host.node h.node u.still;
       log = host_on host.node.manager host.log host.waiting u.log;
       said = said_on h.state (recovery (host.log ++ host.waiting)) u.said;
       on_disk = said_on h.state (recovery host.log) u.on_disk;

@@ -1,5 +1,5 @@
 -- A restart of another node leaves what a node that is down will find as it restarts itself; and so all that is held of any other node.
-use Rattle.std.proofs.Common.{◌≡◌, ℕ, ◌≤◌, ◌==◌, ◌&&◌, ◌++◌, not, Bool, true, false, List, [], ◌∷◌, flat_map, Option, Some, None, fold, refl, sym, ap, subst, ◌∙◌, if◌then◌else◌}
+use Rattle.std.proofs.Common.{◌≡◌, ℕ, ◌≤◌, ◌==◌, ◌&&◌, ◌++◌, not, Bool, false, List, [], ◌∷◌, flat_map, Option, Some, None, fold, refl, sym, ap, subst, ◌∙◌, if◌then◌else◌}
 use Rattle.std.specs.Prelude.{slice_get}
 use Rattle.qs_base.specs.declared.identifiers.NodeNo.{NodeNo}
 use Rattle.qs_base.specs.declared.identifiers.Tid.{Tid}
@@ -17,7 +17,6 @@ use Rattle.qs_ops.specs.Table.{applied}
 use Rattle.qs_ops.specs.declared.operation.Op.{Op}
 use Rattle.qs_restart.specs.Recovery.{Recovery, recovery}
 use Rattle.qs_world.specs.World.{Host}
-use Rattle.qs_lawful.specs.Holds.{is_next}
 use Rattle.qs_lawful.specs.Logged.{StandsIn}
 use Rattle.qs_lawful.specs.Logs.{found_votes}
 use Rattle.qs_lawful.specs.Said.{HoldsLeft, IsMadeBy, IsRecorded, IsToBeRecorded, IsUndone, book_found}
@@ -100,8 +99,8 @@ module _ (book : BookValue) (risen : NodeNo) (stamp inc : ℕ) (log : Recovery) 
 
   -- ---- all of it
 
-  pub node_on : (size i : ℕ) (up : Bool) (host : Host) → ((s : machine.NodeValue) → slice_get book.nodes n ≡ Some s → s.stopped ≤ book.place) → ((next : ℕ) → is_next next n now ≡ true → is_next next n book ≡ true) → HoldsNodeOf book size n i up host → HoldsNodeOf now size n i up host
-  node_on size i up host low back h = record {
+  pub node_on : (size i : ℕ) (up : Bool) (host : Host) → ((s : machine.NodeValue) → slice_get book.nodes n ≡ Some s → s.stopped ≤ book.place) → HoldsNodeOf book size n i up host → HoldsNodeOf now size n i up host
+  node_on size i up host low h = record {
     state = h.state;
     there = nodes_same book risen stamp inc log state r n far near ∙ h.there;
     up_is = h.up_is;
@@ -112,7 +111,7 @@ module _ (book : BookValue) (risen : NodeNo) (stamp inc : ℕ) (log : Recovery) 
     accepted = h.accepted;
     kept = kept_on book risen stamp inc log state r n far near host.node.setting.node h.node i host.node.kept.saved h.kept;
     runs = λ is. let u : HoldsUp n book h.state host = h.runs is in record {
-      next = λ next order. holds_on book risen stamp inc log state r n far near next host.node h.node order (u.next next (back next order));
+      still = holds_on book risen stamp inc log state r n far near host.node h.node u.still;
       log = host_on book risen stamp inc log state r n far near host.node.manager host.log host.waiting u.log;
       said = said_on book risen stamp inc log state r n far near h.state (recovery (host.log ++ host.waiting)) u.said;
       on_disk = said_on book risen stamp inc log state r n far near h.state (recovery host.log) u.on_disk;

@@ -26,7 +26,7 @@ use Rattle.qs_restart.specs.Recovery.{Recovery}
 use Rattle.qs_step.specs.State.{NodeValue}
 use Rattle.qs_world.specs.Posting.{entry_of}
 use Rattle.qs_lawful.specs.Face.{face_of}
-use Rattle.qs_lawful.specs.Holds.{Holds, HoldsAt, HoldsClients, IsBehind, IsOwner, is_next}
+use Rattle.qs_lawful.specs.Holds.{HoldsAt, HoldsClients, HoldsStill, IsBehind, IsOwner}
 use Rattle.qs_lawful.specs.Logs.{found_votes}
 use Rattle.qs_lawful.specs.Tables.{is_seen, seen_in}
 use Rattle.qs_lawful.specs.Waits.{HoldsWaitsAt}
@@ -165,9 +165,8 @@ module _ (book : BookValue) (risen : NodeNo) (stamp inc : ℕ) (log : Recovery) 
             let p = goes book risen stamp inc log state r tid tx is in
             ap (seen_in here s) p.1 ∙ (ap (λ crossed. not (is_some (lookup (is_at (member_cmp (record { node = here; server = record { 0 = s } }))) crossed))) p.2.crossed ∙ sym (ap (seen_in here s) is))
 
-    pub holds_on : (next : ℕ) (node : NodeValue) → node.setting.node.0 ≡ n → is_next next n now ≡ true → Holds next book node → Holds next now node
-    holds_on next node here order h = record {
-      order = subst (λ (k : ℕ). is_next next k now ≡ true) (sym here) order;
+    pub holds_on : (node : NodeValue) → node.setting.node.0 ≡ n → HoldsStill book node → HoldsStill now node
+    holds_on node here h = record {
       run = ran_run (entry_of risen.0 stamp (acts.Restart inc (found_votes log) log.committed) ∷ []) book ∙ h.run;
       state = h.state;
       there = subst (λ (k : ℕ). slice_get now.nodes k ≡ Some h.state) (sym here) (nodes_same ∙ subst (λ (k : ℕ). slice_get book.nodes k ≡ Some h.state) here h.there);

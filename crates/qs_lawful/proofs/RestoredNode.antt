@@ -20,7 +20,7 @@ use Rattle.qs_tm.specs.Manager as tm
 use Rattle.qs_tm.specs.declared.participant.Participant.{Participant}
 use Rattle.qs_world.specs.Posting.{entry_of}
 use Rattle.qs_lawful.specs.Face.{part_or_new}
-use Rattle.qs_lawful.specs.Holds.{Holds, HoldsClients, HoldsNode, is_next}
+use Rattle.qs_lawful.specs.Holds.{HoldsClients, HoldsNode, HoldsStill}
 use Rattle.qs_lawful.specs.Logged.{HoldsHost, HoldsLogged, IsNamed, KnowsLog}
 use Rattle.qs_lawful.specs.Logs.{Every, found_votes}
 use Rattle.qs_lawful.specs.Worlds.{HoldsKept}
@@ -84,9 +84,8 @@ module _ (alloc : Global) (setting : Setting) (saved : Kept) (book : BookValue) 
   some_found None e = absurd (cc e)
   some_found (Some tx) e = (tx, refl)
 
-  pub held : (next : ℕ) → is_next next setting.node.0 now ≡ true → length book.nodes ≡ setting.nodes → (machine.extra_of state.format ≡ setting.extra) × (machine.keep_of state.format ≡ setting.keep) → Holds next now begins
-  held next order run format = record {
-    order = order;
+  pub held : length book.nodes ≡ setting.nodes → (machine.extra_of state.format ≡ setting.extra) × (machine.keep_of state.format ≡ setting.keep) → HoldsStill now begins
+  held run format = record {
     run = ran_run (entry_of setting.node.0 stamp (acts.Restart setting.inc (found_votes log) log.committed) ∷ []) book ∙ run;
     state = state_now;
     there = there;

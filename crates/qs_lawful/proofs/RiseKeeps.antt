@@ -6,7 +6,7 @@ use Rattle.qs_machine.specs.Lawful.{effect}
 use Rattle.qs_step.specs.State.{NodeValue}
 use Rattle.qs_world.specs.Moves.{Rise, may_move}
 use Rattle.qs_world.specs.World.{World}
-use Rattle.qs_lawful.specs.Holds.{Holds, is_next}
+use Rattle.qs_lawful.specs.Holds.{HoldsStill}
 use Rattle.qs_lawful.specs.Lasting.{Lasts}
 use Rattle.qs_lawful.specs.WorldLaws.{rise_entry}
 use Rattle.qs_lawful.specs.Worlds.{HoldsWorld}
@@ -17,10 +17,10 @@ turned : (a b : ℕ) → (a == b) ≡ false → (b == a) ≡ false
 turned a b e = grind (arith, nat_tests, e)
 
 pub keeps : (book : BookValue) (world : World) (n stamp inc : ℕ) → Lasts book → HoldsWorld book world → may_move world (Rise n stamp inc) ≡ true
-    → (k next : ℕ) (node : NodeValue) → (k == n) ≡ false → node.setting.node.0 ≡ k → is_next next k (effect book (rise_entry world n stamp inc)) ≡ true → Holds next book node → Holds next (effect book (rise_entry world n stamp inc)) node
-keeps book world n stamp inc lasts h may k next node far here order held =
-    subst (λ (b : BookValue). Holds next b node) (sym same)
-    (holds_on book (setting book world n stamp inc lasts h may).node stamp inc (log book world n stamp inc lasts h may) (at book world n stamp inc lasts h may).state (r book world n stamp inc lasts h may) k apart (turned k (world.hosts n).node.setting.node.0 apart) next node here (subst (λ (b : BookValue). is_next next k b ≡ true) same order) held)
+    → (k : ℕ) (node : NodeValue) → (k == n) ≡ false → node.setting.node.0 ≡ k → HoldsStill book node → HoldsStill (effect book (rise_entry world n stamp inc)) node
+keeps book world n stamp inc lasts h may k node far here held =
+    subst (λ (b : BookValue). HoldsStill b node) (sym same)
+    (holds_on book (setting book world n stamp inc lasts h may).node stamp inc (log book world n stamp inc lasts h may) (at book world n stamp inc lasts h may).state (r book world n stamp inc lasts h may) k apart (turned k (world.hosts n).node.setting.node.0 apart) node here held)
   where
     apart : (k == (world.hosts n).node.setting.node.0) ≡ false
     apart = ap (λ (m : ℕ). k == m) (at book world n stamp inc lasts h may).node ∙ far

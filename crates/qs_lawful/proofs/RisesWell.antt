@@ -30,7 +30,6 @@ use Rattle.qs_step.specs.declared.setting.Setting.{Setting}
 use Rattle.qs_world.specs.Moves.{Rise, may_move, moved, risen_host}
 use Rattle.qs_world.specs.Moves as moves
 use Rattle.qs_world.specs.World.{Host, World, inc_of}
-use Rattle.qs_lawful.specs.Holds.{Holds, is_next}
 use Rattle.qs_lawful.specs.Lasting.{Lasts}
 use Rattle.qs_lawful.specs.Logged.{HoldsHost}
 use Rattle.qs_lawful.specs.Logs.{Every, HoldsStopped, found_votes}
@@ -205,14 +204,12 @@ module _ (book : BookValue) (world : World) (n stamp inc : ℕ) (lasts : Lasts b
   -- by the number that the node has itself
   record Held (k : ℕ) : Type 0 where
     there : slice_get book_now.nodes k ≡ Some new_state
-    next : (s : ℕ) → is_next s k book_now ≡ true → Holds s book_now risen.node
     log : HoldsHost k book_now risen.node.manager (world.hosts n).log []
     said : HoldsSaid k book_now new_state (recovery (world.hosts n).log)
 
   held_own : Held (world.hosts n).node.setting.node.0
   held_own = record {
     there = there_new book setting.node.0 stamp setting.inc log at.state r.there;
-    next = λ s order. held (world.hosts n).node.manager.alloc setting (world.hosts n).node.kept.saved book stamp log at.state r kept_before once s order (h.size ∙ sym at.run) at.format;
     log = host_held (world.hosts n).node.manager.alloc setting (world.hosts n).node.kept.saved book stamp log at.state r kept_before once (world.hosts n).log refl;
     said = said_held book setting.node stamp setting.inc log at.state r once;
   }
@@ -225,7 +222,7 @@ module _ (book : BookValue) (world : World) (n stamp inc : ℕ) (lasts : Lasts b
 
   up_to_date : HoldsUp n book_now new_state risen
   up_to_date = record {
-    next = held_now.next;
+    still = held (world.hosts n).node.manager.alloc setting (world.hosts n).node.kept.saved book stamp log at.state r kept_before once (h.size ∙ sym at.run) at.format;
     log = subst (λ (rs : List Record). HoldsHost n book_now risen.node.manager (world.hosts n).log rs) (sym d.nothing_waits) held_now.log;
     said = subst (λ (rs : List Record). HoldsSaid n book_now new_state (recovery ((world.hosts n).log ++ rs))) (sym d.nothing_waits) (subst (λ (rs : List Record). HoldsSaid n book_now new_state (recovery rs)) (sym (append-nil (world.hosts n).log)) held_now.said);
     on_disk = held_now.said;

@@ -12,8 +12,8 @@ use Rattle.qs_lawful.specs.Lasting.{Lasts}
 use Rattle.qs_lawful.specs.WorldLaws.{RisesWell, rise_entry}
 use Rattle.qs_lawful.specs.Worlds.{HoldsNodeAt, HoldsNodeOf, HoldsWorld}
 use Rattle.qs_lawful.proofs.OthersDown.{node_on}
-use Rattle.qs_lawful.proofs.RisesWell.{at, book_now, log, ordered, r, rises_own, same_book, setting}
-use Rattle.qs_lawful.proofs.StopsWhole.{back_by, next_by}
+use Rattle.qs_lawful.proofs.RisesWell.{at, book_now, log, r, rises_own, same_book, setting}
+use Rattle.qs_lawful.proofs.StopsWhole.{next_by}
 
 module _ (book : BookValue) (world : World) (n stamp inc : ℕ) (lasts : Lasts book) (h : HoldsWorld book world) (may : may_move world (Rise n stamp inc) ≡ true) where
   abbrev now : BookValue
@@ -34,13 +34,10 @@ module _ (book : BookValue) (world : World) (n stamp inc : ℕ) (lasts : Lasts b
   order_now : (k s : ℕ) → is_in_order next k s ≡ true → is_next s k now ≡ true
   order_now k s is = next_by stamp_limit world.size stamp n s k (next.hosts k).stamp is
 
-  back : (k s : ℕ) → is_next s k now ≡ true → is_next s k book ≡ true
-  back k s is = back_by stamp_limit book.stamp book.node stamp n s k (h.order n stamp (ordered book world n stamp inc lasts h may)) is
-
   other : (k : ℕ) → k < world.size → (k == n) ≡ false → HoldsNodeOf now world.size k (inc_of world k) (world.channels.up k) (world.hosts k)
   other k low far = subst (λ (b : BookValue). HoldsNodeOf b world.size k (inc_of world k) (world.channels.up k) (world.hosts k)) (sym same)
       (node_on book (setting book world n stamp inc lasts h may).node stamp inc (log book world n stamp inc lasts h may) (at book world n stamp inc lasts h may).state (r book world n stamp inc lasts h may) k apart (turned k (world.hosts n).node.setting.node.0 apart)
-      world.size (inc_of world k) (world.channels.up k) (world.hosts k) (λ s there. (lasts.nodes (record { 0 = k }) s there).stopped) (λ s is. back k s (subst (λ (b : BookValue). is_next s k b ≡ true) (sym same) is)) (h.nodes k low))
+      world.size (inc_of world k) (world.channels.up k) (world.hosts k) (λ s there. (lasts.nodes (record { 0 = k }) s there).stopped) (h.nodes k low))
     where
       turned : (a b : ℕ) → (a == b) ≡ false → (b == a) ≡ false
       turned a b e = grind (arith, nat_tests, e)

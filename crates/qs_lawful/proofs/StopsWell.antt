@@ -51,6 +51,7 @@ use Rattle.qs_lawful.proofs.LogFrames.{every_on, logged_on}
 use Rattle.qs_lawful.proofs.LearntOn.{learnt_self}
 use Rattle.qs_lawful.proofs.RestoredRecords.{found_of_all, new_votes_are}
 use Rattle.qs_lawful.proofs.FoundMembers.{every_among, every_two}
+use Rattle.qs_lawful.proofs.Still.{held_at}
 
 -- ---- what is kept for clients, where the transactions and the owners are the same
 
@@ -127,7 +128,7 @@ module _ (book : BookValue) (world : World) (n stamp : ℕ) (cause : CrashCause)
   state_now = crash_node book.place at.state
 
   lawful : broken book entry ≡ None
-  lawful = subst (λ (k : ℕ). broken book (entry_of k stamp (acts.Crash cause)) ≡ None) at.node (may_crash stamp book (world.hosts n).node (u.next stamp (h.order n stamp ordered)) cause crash)
+  lawful = subst (λ (k : ℕ). broken book (entry_of k stamp (acts.Crash cause)) ≡ None) at.node (may_crash stamp book (world.hosts n).node (held_at n stamp book (world.hosts n).node at.node u.still (h.order n stamp ordered)) cause crash)
 
   there_now : slice_get now.nodes n ≡ Some state_now
   there_now = changed_at_here (crash_node book.place) book.nodes n at.state at.there

@@ -55,9 +55,6 @@ module _ (book : BookValue) (world : World) (n stamp : ℕ) (cause : CrashCause)
   order_now : (k s : ℕ) → is_in_order next k s ≡ true → is_next s k now ≡ true
   order_now k s is = next_by stamp_limit world.size stamp n s k (next.hosts k).stamp is
 
-  back : (k s : ℕ) → is_next s k now ≡ true → is_next s k book ≡ true
-  back k s is = back_by stamp_limit book.stamp book.node stamp n s k (h.order n stamp ordered) is
-
   nodes_now : (k : ℕ) → k < world.size → HoldsNodeAt now next k
   nodes_now k low = by (k == n) refl
     where
@@ -70,7 +67,7 @@ module _ (book : BookValue) (world : World) (n stamp : ℕ) (cause : CrashCause)
       by : (b : Bool) → (k == n) ≡ b → HoldsNodeAt now next k
       by true near = subst (λ (j : ℕ). HoldsNodeAt now next j) (sym (no_is k n near)) own
       by false far = subst (λ (b : Bool). HoldsNodeOf now world.size k (inc_of world k) (if b then false else world.channels.up k) (if b then stopped_host stamp disk (world.hosts n) else world.hosts k)) (sym far)
-          (node_on book stamp n now.place now.nodes k (elsewhere (crash_node book.place) book.nodes n k (turned k n far)) size_now world.size (inc_of world k) (world.channels.up k) (world.hosts k) (back k) (h.nodes k low))
+          (node_on book stamp n now.place now.nodes k (elsewhere (crash_node book.place) book.nodes n k (turned k n far)) size_now world.size (inc_of world k) (world.channels.up k) (world.hosts k) (h.nodes k low))
 
   pub stops_well : StopsWell book next n stamp cause
   stops_well = record {

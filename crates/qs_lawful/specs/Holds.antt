@@ -170,3 +170,15 @@ pub record Holds (stamp : ℕ) (book : BookValue) (node : NodeValue) : Type 0 wh
   pub clients : HoldsClients book node
   pub servers : HoldsServers (is_seen book node.setting.node) state node.servers  -- clauses 31, 42
   pub waits : (tid : Tid) → HoldsWaitsAt node.setting.node node.setting.inc tid (find_transaction book tid) (face_of node tid).waiting node.servers
+
+-- all of it but the order, whether any stamp is left for its next entry or not
+pub record HoldsStill (book : BookValue) (node : NodeValue) : Type 0 where
+  pub run : length book.nodes ≡ node.setting.nodes
+  pub state : machine.NodeValue
+  pub there : slice_get book.nodes node.setting.node.0 ≡ Some state
+  pub same : HoldsNode node state
+  pub at : (tid : Tid) → HoldsAt node.setting.node node.setting.inc tid (find_transaction book tid) (face_of node tid)
+  pub begun : (tid : Tid) → tid.home ≡ node.setting.node → is_some (find_transaction book tid) ≡ true → HasBegun node.setting.inc node.manager.begun tid
+  pub clients : HoldsClients book node
+  pub servers : HoldsServers (is_seen book node.setting.node) state node.servers
+  pub waits : (tid : Tid) → HoldsWaitsAt node.setting.node node.setting.inc tid (find_transaction book tid) (face_of node tid).waiting node.servers

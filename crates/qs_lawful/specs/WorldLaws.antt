@@ -13,7 +13,7 @@ use Rattle.qs_world.specs.Histories.{book_of}
 use Rattle.qs_world.specs.Openings.{IsOpening}
 use Rattle.qs_world.specs.World.{Opening, World, start}
 use Rattle.qs_step.specs.State.{NodeValue}
-use Rattle.qs_lawful.specs.Holds.{Holds, is_next}
+use Rattle.qs_lawful.specs.Holds.{HoldsStill}
 use Rattle.qs_lawful.specs.Lasting.{Lasts}
 use Rattle.qs_lawful.specs.Logs.{found_votes}
 use Rattle.qs_lawful.specs.Worlds.{HoldsWorld}
@@ -33,8 +33,7 @@ EachRises = (book : BookValue) (world : World) (n stamp inc : ℕ) → Lasts boo
 -- and what the machine has of every other node that runs it has then too
 abbrev pub EachRiseKeepsOthers : Type 0
 EachRiseKeepsOthers = (book : BookValue) (world : World) (n stamp inc : ℕ) → Lasts book → HoldsWorld book world → may_move world (Rise n stamp inc) ≡ true
-    → (k next : ℕ) (node : NodeValue) → (k == n) ≡ false → node.setting.node.0 ≡ k → is_next next k (book_after book (rise_entry world n stamp inc ∷ [])) ≡ true → Holds next book node
-    → Holds next (book_after book (rise_entry world n stamp inc ∷ [])) node
+    → (k : ℕ) (node : NodeValue) → (k == n) ≡ false → node.setting.node.0 ≡ k → HoldsStill book node → HoldsStill (book_after book (rise_entry world n stamp inc ∷ [])) node
 
 -- a node gets to know a first incarnation of another: nothing is entered, and the machine has the world as before
 abbrev pub EachMeets : Type 0

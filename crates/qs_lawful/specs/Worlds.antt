@@ -16,7 +16,7 @@ use Rattle.qs_machine.specs.Transaction.{TransactionValue, is_open}
 use Rattle.qs_restart.specs.Recovery.{recovery}
 use Rattle.qs_world.specs.Moves.{is_in_order}
 use Rattle.qs_world.specs.World.{Host, World, inc_of}
-use Rattle.qs_lawful.specs.Holds.{Holds, HasEnded, IsOwner, is_next}
+use Rattle.qs_lawful.specs.Holds.{HasEnded, HoldsStill, IsOwner, is_next}
 use Rattle.qs_lawful.specs.Logged.{HoldsHost, IsMarked, StandsIn}
 use Rattle.qs_lawful.specs.Logs.{Every, HoldsStopped}
 use Rattle.qs_lawful.specs.Said.{HoldsLeft, HoldsSaid}
@@ -47,13 +47,9 @@ pub record HoldsKept (here : NodeNo) (inc : ℕ) (book : BookValue) (kept : Kept
 
 -- ---- a node
 
--- whatever stamp its next step has
-abbrev pub HoldsNext : ℕ → BookValue → Host → Type 0
-HoldsNext n book host = (stamp : ℕ) → is_next stamp n book ≡ true → Holds stamp book host.node
-
 -- it runs: what it keeps, and what its log says, with what waits for the next force and on the disk
 pub record HoldsUp (n : ℕ) (book : BookValue) (state : machine.NodeValue) (host : Host) : Type 0 where
-  pub next : HoldsNext n book host
+  pub still : HoldsStill book host.node
   pub log : HoldsHost n book host.node.manager host.log host.waiting
   pub said : HoldsSaid n book state (recovery (host.log ++ host.waiting))
   pub on_disk : HoldsSaid n book state (recovery host.log)

@@ -1,9 +1,8 @@
 -- A step is cut off with a record of a transaction on the disk: that is committed then, or never will be.
-use Rattle.std.proofs.Common.{◌≡◌, ◌⊎◌, inl, inr, ℕ, ◌<◌, ◌≤◌, ◌==◌, ◌&&◌, ◌||◌, Bool, true, false, List, [], ◌∷◌, Option, Some, None, refl, sym, ap, subst, ◌∙◌, arith, if◌then◌else◌}
+use Rattle.std.proofs.Common.{◌≡◌, ◌⊎◌, inl, inr, ℕ, ◌<◌, ◌≤◌, ◌==◌, ◌&&◌, ◌||◌, Bool, true, false, Option, Some, None, refl, sym, ap, subst, ◌∙◌, arith, if◌then◌else◌}
 use Rattle.std.proofs.lemmas.Bool.{eqb-true}
 use Rattle.std.proofs.lemmas.Bool.Decides.{nat_tests}
 use Rattle.std.specs.List.{list_any}
-use Rattle.qs_base.specs.Order.{same_tid}
 use Rattle.qs_base.specs.declared.identifiers.NodeNo.{NodeNo}
 use Rattle.qs_base.specs.declared.identifiers.Outcome.{Outcome}
 use Rattle.qs_base.specs.declared.identifiers.Outcome.TheVariants as outcomes
@@ -11,8 +10,6 @@ use Rattle.qs_base.specs.declared.identifiers.Tid.{Tid}
 use Rattle.qs_channels.specs.Network.{with_at}
 use Rattle.qs_journal.specs.declared.entry.CrashCause.{CrashCause}
 use Rattle.qs_machine.specs.Clauses.{is_crash}
-use Rattle.qs_record.specs.declared.record.Record.{Record}
-use Rattle.qs_record.specs.declared.record.Record.TheVariants as records
 use Rattle.qs_tm.specs.Manager as tm
 use Rattle.qs_engage.specs.Nodes.{same_node}
 use Rattle.qs_tm.specs.declared.participant.Participant.{Participant}
@@ -27,7 +24,7 @@ use Rattle.qs_agree.specs.Carry.{Leads, IsLawful}
 use Rattle.qs_agree.specs.Doomed.{IsDoomed}
 use Rattle.qs_agree.proofs.Carries.{leads_on}
 use Rattle.qs_agree.proofs.Doomed.{doom_stays, abort_dooms, engaged_past_dooms}
-use Rattle.qs_refine.specs.CutLaws.{is_prepare_of, is_commit_of, CutsOff, CutGoesKept}
+use Rattle.qs_refine.specs.CutLaws.{CutsOff, CutGoesKept}
 use Rattle.qs_refine.specs.EachMove.{ShowsAll, KeepsDecided, AllGoes}
 use Rattle.qs_refine.specs.Faces.{Face, ShowsFace}
 use Rattle.qs_refine.specs.EventLaws.{IsCut}
@@ -66,7 +63,7 @@ use Rattle.qs_refine.proofs.StepAll as step
 use Rattle.qs_refine.proofs.StepAll.{outcome_on, kept_same, node_stopped, stays_stopped}
 use Rattle.qs_refine.proofs.StepJoined as joined
 use Rattle.qs_refine.proofs.StepMoves.{closes_on}
-use Rattle.qs_refine.proofs.TurnOn.{Turned, is_aborted_of, is_end_of}
+use Rattle.qs_refine.proofs.TurnOn.{Turned, is_end_of}
 
 module _ (t : Tid) (world : World) (w : machine.World) (shown_world : IsShownWorld world) (has : Rattle.qs_refine.specs.Begun.has_begun world t ≡ true) (all : ShowsAll t world w)
     (n stamp free : ℕ) (source : Source) (event : Event) (cause : CrashCause) (n_in : n < world.size) (on : world.channels.up n ≡ true) (serves : Rattle.qs_world.specs.Moves.may_serve (world.hosts n).node source ≡ true) (is_event : event_of world n stamp source ≡ Some event) where

@@ -1,5 +1,5 @@
 -- Each record of a log is of a transaction of an incarnation that its home had, where that is a node of the run: where a world begins, and after each move.
-use Rattle.std.proofs.Common.{◌≡◌, ℕ, ◌<◌, ◌≤◌, ◌==◌, ◌&&◌, ◌||◌, ◌⊎◌, ◌+◌, ◌++◌, not, nat_lt, nat_le, inl, inr, Bool, true, false, List, [], ◌∷◌, Option, Some, None, refl, sym, ap, subst, ◌∙◌, if◌then◌else◌, arith}
+use Rattle.std.proofs.Common.{◌≡◌, ℕ, ◌<◌, ◌≤◌, ◌==◌, ◌&&◌, ◌||◌, ◌⊎◌, ◌+◌, ◌++◌, not, nat_lt, nat_le, inl, inr, Bool, true, false, List, Option, Some, None, refl, sym, ap, subst, ◌∙◌, if◌then◌else◌, arith}
 use Rattle.std.specs.List.{list_all}
 use Rattle.std.proofs.lemmas.Bool.{eqb-true}
 use Rattle.std.proofs.lemmas.Bool.Decides.{nat_tests}
@@ -15,10 +15,9 @@ use Rattle.qs_restart.specs.Recovery.{names_transaction}
 use Rattle.qs_step.specs.Bringing.{tid_of}
 use Rattle.qs_step.specs.Opening.{recovered_of}
 use Rattle.qs_step.specs.Step.{after_step, effects_of, step_work}
-use Rattle.qs_step.specs.declared.event.Effects.{Effects}
 use Rattle.qs_step.specs.declared.event.Event.{Event}
-use Rattle.qs_world.specs.Moves.{Move, Source, Step, Cut, Stop, Rise, Meet, event_of, taken_by, step_with, cut_with, cut_log, log_after, may_move, may_step, moved, is_in_order, stepped_host, stopped, stopped_host, risen_host}
-use Rattle.qs_world.specs.Openings.{IsOpening, is_committed_at_home, is_earlier, is_in_run, is_list, is_record}
+use Rattle.qs_world.specs.Moves.{Move, Source, Step, Cut, Stop, Rise, Meet, event_of, taken_by, step_with, cut_with, cut_log, may_move, may_step, moved, is_in_order, stepped_host, stopped, stopped_host, risen_host}
+use Rattle.qs_world.specs.Openings.{IsOpening, is_earlier, is_record}
 use Rattle.qs_world.specs.World.{Host, Opening, World, inc_of, start}
 use Rattle.qs_world.proofs.Below.{each_is}
 use Rattle.qs_refine.specs.Begun.{begun_among, count_in, fits_record, inc_in, past_among}

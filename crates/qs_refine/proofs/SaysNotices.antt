@@ -1,52 +1,24 @@
 -- Notices to the servers of a node leave it sound over its log, and what it keeps of a transaction known.
-use Rattle.std.proofs.Common.{◌≡◌, inl, inr, ◌==◌, ◌&&◌, ◌||◌, not, Bool, true, false, List, [], ◌∷◌, fold, Option, Some, None, is_some, refl, sym, ap, subst, ◌∙◌, arith, if◌then◌else◌, is_none, ℕ, ◌<◌}
-use Rattle.std.specs.List.{list_all, list_any}
+use Rattle.std.proofs.Common.{◌≡◌, List, [], ◌∷◌, fold, Some, refl, ◌∙◌}
 use Rattle.std.specs.BTreeMap.{is_at}
-use Rattle.qs_base.specs.Order.{same_tid, tid_cmp}
-use Rattle.qs_base.specs.declared.identifiers.NodeNo.{NodeNo}
+use Rattle.qs_base.specs.Order.{tid_cmp}
 use Rattle.qs_base.specs.declared.identifiers.Outcome.{Outcome}
 use Rattle.qs_base.specs.declared.identifiers.Outcome.TheVariants as outcomes
 use Rattle.qs_base.specs.declared.identifiers.ServerNo.{ServerNo}
 use Rattle.qs_base.specs.declared.identifiers.Tid.{Tid}
-use Rattle.qs_engage.specs.Nodes.{listed, same_node, has_node, no_nodes}
 use Rattle.qs_ops.specs.Server.{after_notice}
-use Rattle.qs_ops.specs.declared.answer.Cause.{Cause}
-use Rattle.qs_ops.specs.declared.answer.Cause.TheVariants as causes
 use Rattle.qs_ops.specs.declared.vote.Notice.{Notice}
-use Rattle.qs_packet.specs.declared.message.Message.TheVariants as messages
-use Rattle.qs_record.specs.declared.record.Record.{Record}
-use Rattle.qs_record.specs.declared.record.Record.TheVariants as records
 use Rattle.qs_tm.specs.Manager as tm
 use Rattle.qs_tm.specs.Outcomes as outcome_rules
 use Rattle.qs_tm.specs.Outcomes.{aborted_participant, record_of, writes_commit}
-use Rattle.qs_tm.specs.Participant as participant
-use Rattle.qs_tm.specs.Participant.{is_undecided}
-use Rattle.qs_tm.specs.declared.manager.Decision.{Decision}
 use Rattle.qs_tm.specs.declared.manager.Manager.{Manager}
 use Rattle.qs_tm.specs.declared.participant.InLog.{InLog}
 use Rattle.qs_tm.specs.declared.participant.Participant.{Participant}
-use Rattle.qs_step.specs.Answering.{was_committed, answer_unknown, answer_known, inquiry_came}
-use Rattle.qs_step.specs.Bringing.{log, log_if, tid_of}
-use Rattle.qs_step.specs.Deciding.{notice_of, notify, end_member, due_endings, end_members, learn_member, learners_at, learn_members, give_notices, keep_outcome, decide, decide_commit}
-use Rattle.qs_step.specs.State.{Work, here, part_of, with_manager, change_server}
-use Rattle.qs_step.specs.Telling.{names_at, end_record, record_learnt, learn, learn_unknown, take_outcome, tell_came, forget, end_told, take_told, take_names, keep_abort_told, is_other_node, told_unknown, told_known, told_at_home, told_came}
-use Rattle.qs_refine.specs.SaidLaws.{no_flags, flags_at, SaysOn}
-use Rattle.qs_refine.specs.Sound.{in_order}
-use Rattle.qs_refine.proofs.Forgetting.{forgotten, order_changed}
+use Rattle.qs_step.specs.Deciding.{notice_of, notify, end_member, due_endings, end_members, learn_member, learners_at, learn_members, give_notices}
+use Rattle.qs_step.specs.State.{Work, part_of, with_manager, change_server}
+use Rattle.qs_refine.specs.SaidLaws.{SaysOn}
 use Rattle.qs_refine.proofs.Maps.{lookup_changed}
-use Rattle.qs_refine.proofs.Others.{forget_apart}
-use Rattle.qs_refine.proofs.SaysLogs.{MayLog, ListsIt, lists_told, log_on, log_if_on, flags_logged}
-use Rattle.qs_refine.proofs.SaysOn.{on_itself, on_then, fold_on, if_on, rest_on, two_on, grown_on, KeepsTelling, enter_on, send_on, sends_on, queues_on, server_on, part_on, absent_on}
-use Rattle.qs_refine.proofs.SoundKnown.{same_is}
-use Rattle.qs_refine.specs.Sights.{list_of}
-use Rattle.qs_world.specs.Openings as openings
-use Rattle.qs_world.specs.Openings.{is_in_run}
-use Rattle.qs_refine.specs.Lists.{is_commit, tell_at, tell_of_part}
-use Rattle.qs_refine.specs.Links.{names_node, node_no}
-use Rattle.qs_refine.proofs.NodeLists.{listed_within, listed_names, unlisted}
-use Rattle.qs_engage.specs.declared.nodes.Nodes.{Nodes}
-use Rattle.qs_restart.specs.Recovery.{is_untold_of}
-use Rattle.qs_refine.proofs.SaysTells.{NotCommitted, open_of, nobody_told, names_grow, tell_grows}
+use Rattle.qs_refine.proofs.SaysOn.{on_then, fold_on, enter_on, server_on, part_on}
 
 -- ---- notices
 

@@ -179,8 +179,12 @@ module _ (t : Tid) (world : World) (w : machine.World) (steady : IsSteady world)
       by true ends = stood.lawful.agreed.knows_commit (place n (world.channels.inc n)) (joined.ended_then t world w steady home_in all n stamp free n_in on source event is came may ends).committed
       by false open_end = which (joined.kept_then t world w steady home_in all n stamp free n_in on source event is came may open_end is_kept)
 
-  pub step_goes_on : AllGoes t after w
-  step_goes_on = goes_all t world w home_in all after refl goes (home_kept (t.home.0 == n) refl) (λ k k_in up. at k (k == n) refl up)
+  -- the machine goes on to what shows it from that at the end of the step
+  pub step_goes_further : (goes : AllGoes t after w) × Leads then_f goes.next
+  step_goes_further = (
+    goes_all t world w home_in all after refl goes (home_kept (t.home.0 == n) refl) (λ k k_in up. at k (k == n) refl up),
+    subst (λ (v : machine.World). Leads then_f v) (sym (goes_all_next t world w home_in all after refl goes (home_kept (t.home.0 == n) refl) (λ k k_in up. at k (k == n) refl up))) then_leads,
+  )
     where
       goes : WorldGoes t after w
       goes = whole t world w steady.seated home_in all.seen n stamp free source event n_in on is shown_step.0
@@ -235,6 +239,9 @@ module _ (t : Tid) (world : World) (w : machine.World) (steady : IsSteady world)
             (ap (λ (f : ℕ → ℕ). f t.home.0) inc_is ∙ sym (ap (λ (f : ℕ → ℕ). f t.home.0) came.inc)) stood.shown.stage goes.shown.shown.stage then_leads m
             (turned.acked part.outcome part.acknowledged (fate_is part (ap (tm.part_of t) (sym (host_at k true same)) ∙ known)) m has);
       })
+
+  pub step_goes_on : AllGoes t after w
+  step_goes_on = step_goes_further.0
 
   pub cut_goes_on : (is_kept : Bool) (cause : CrashCause) → AllGoes t (cut_with world n stamp free is_kept cause (Some event)) w
   cut_goes_on is_kept cause = goes_all t world w home_in all (cut_with world n stamp free is_kept cause (Some event)) refl goes

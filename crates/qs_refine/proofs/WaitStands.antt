@@ -56,7 +56,7 @@ module _ (t : Tid) (scene : Scene) (n : ℕ) where
         by None = stands_itself t scene n work w is
         by (Some begun) = owned begun (is_owner client begun.owner)
 
-  wait_stands : (work : Work) (client : ClientNo) (w : World) → commands_in_run work.node ≡ true → Stands t scene n work w → GoesOn t scene n (wait_on work client) w
+  pub wait_stands : (work : Work) (client : ClientNo) (w : World) → commands_in_run work.node ≡ true → Stands t scene n work w → GoesOn t scene n (wait_on work client) w
   wait_stands work client w in_run is = by (lookup (is_at (client_cmp client)) work.node.commands) refl
     where
       by : (o : Option OpenCommand) → lookup (is_at (client_cmp client)) work.node.commands ≡ o → GoesOn t scene n (elim o [ None ↦ work | Some command ↦ wait_command client command work ]) w

@@ -21,8 +21,8 @@ use Rattle.qs_verdict.specs.Ends.{status_of}
 use Rattle.qs_disk.specs.Moments.{Keeps}
 use Rattle.qs_incarnation.specs.Incarnation.{IsTouched}
 use Rattle.qs_top.specs.Disks.{OfFirst, IsLogged, Leaves}
-use Rattle.qs_top.specs.Giving.{IsNoScript, IsGiven, IsGivenOf, WasGiven, WasCutOff, WasSilent}
-use Rattle.qs_top.specs.Over.{IsOver, IsOutput}
+use Rattle.qs_top.specs.Inner.Giving.{IsNoScript, IsGiven, IsGivenOf, WasGiven, WasCutOff, WasSilent}
+use Rattle.qs_top.specs.Inner.Over.{IsOver, IsOutput}
 use Rattle.qs_top.specs.Run.{HasLawful, IsNotBegun, IsWhole, IsShort, IsRefused, machine_over, output_of}
 use Rattle.qs_top.specs.Statuses.{IsEnd, IsOfRounds}
 use Rattle.qs_top.specs.Texts.{ReadWhole, OfScript}

@@ -26,8 +26,8 @@ use Rattle.qs_plans.specs.Waiting.{waiting_of}
 use Rattle.qs_verdict.specs.Ends.{status_of}
 use Rattle.qs_verdict.specs.Verdicts.{IsRefusal}
 use Rattle.qs_top.specs.Disks.{IsHeldIn, IsFaultOver, IsLogged, Leaves}
-use Rattle.qs_top.specs.Making.{IsFailed, IsJudgedEnd, IsJudgedShort, IsNothingMade, IsPassed, IsPassedEnd, IsPassedShort}
-use Rattle.qs_top.specs.Over.{HasLawfulOver, IsOver}
+use Rattle.qs_top.specs.Inner.Making.{IsFailed, IsJudgedEnd, IsJudgedShort, IsNothingMade, IsPassed, IsPassedEnd, IsPassedShort}
+use Rattle.qs_top.specs.Inner.Over.{HasLawfulOver, IsOver}
 use Rattle.qs_top.specs.Run.{HasRun, HasRunShort, IsLeftBy, IsTold, machine_over, output_of}
 use Rattle.qs_top.specs.Statuses.{IsEnd, IsOfRounds, Tells}
 use Rattle.qs_top.specs.declared.whole.Made.{Made}

@@ -19,8 +19,8 @@ use Rattle.qs_rounds.specs.declared.rounds.Ending.{Ending}
 use Rattle.qs_statements.specs.declared.script.Script.{Script}
 use Rattle.qs_step.specs.declared.trace.Step.{Step}
 use Rattle.qs_top.specs.Disks.{IsLogged}
-use Rattle.qs_top.specs.Making.{IsJudgedEnd, IsJudgedShort, IsMadeOf}
-use Rattle.qs_top.specs.Over.{IsOver}
+use Rattle.qs_top.specs.Inner.Making.{IsJudgedEnd, IsJudgedShort, IsMadeOf}
+use Rattle.qs_top.specs.Inner.Over.{IsOver}
 use Rattle.qs_top.specs.Run.{IsLeftBy}
 use Rattle.qs_top.specs.declared.whole.Made.{Made}
 use Rattle.qs_top.proofs.Overs.{over_end, over_short, over_kept}

@@ -16,8 +16,8 @@ use Rattle.qs_statements.specs.declared.status.Status.TheVariants as statuses
 use Rattle.qs_step.specs.Opening.{recovered_of}
 use Rattle.qs_world.specs.Histories.{opened_with}
 use Rattle.qs_top.specs.Disks.{IsFaultOver, IsDamageOver, IsLogged, IsOnlyTouched, Leaves}
-use Rattle.qs_top.specs.Making.{IsNothingMade, IsOutOfMemory, not_opened}
-use Rattle.qs_top.specs.Over.{IsOver}
+use Rattle.qs_top.specs.Inner.Making.{IsNothingMade, IsOutOfMemory, not_opened}
+use Rattle.qs_top.specs.Inner.Over.{IsOver}
 use Rattle.qs_top.specs.Statuses.{IsEnd, IsOfRounds}
 use Rattle.qs_top.specs.declared.whole.Made.{Made}
 use Rattle.qs_top.proofs.Overs.{IsFaultStatus, nothing_lawful, same_node}

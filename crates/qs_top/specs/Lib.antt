@@ -2,12 +2,8 @@
 pub mod Asking
 -- The disks of a run.
 pub mod Disks
--- What becomes of a run as its output is given.
-pub mod Giving
--- How what a run made is judged.
-pub mod Making
--- What a run over one disk comes to.
-pub mod Over
+-- What only proofs and private functions speak of.
+pub mod Inner
 -- What the top call promises of a run.
 pub mod Run
 -- Statuses by how far a run came.

@@ -12,8 +12,8 @@ ghost use Rattle.qs_script.specs.declared.reading.ScriptFailed.TheVariants.{Faul
 ghost use Rattle.qs_statements.specs.declared.status.ScriptFault.{ScriptFault};
 ghost use Rattle.qs_top.specs.Asking.{asked_by};
 ghost use Rattle.qs_top.specs.Disks.{OfFirst, IsFaultOver, IsDamageOver, Leaves, AreBesides};
-ghost use Rattle.qs_top.specs.Giving.{IsGiven, IsGivenOf, IsNoScript};
-ghost use Rattle.qs_top.specs.Over.{IsOver};
+ghost use Rattle.qs_top.specs.Inner.Giving.{IsGiven, IsGivenOf, IsNoScript};
+ghost use Rattle.qs_top.specs.Inner.Over.{IsOver};
 ghost use Rattle.qs_top.specs.Run.{HasLawful, IsNothing, IsNotBegun, IsWhole, IsShort, IsRefused};
 ghost use Rattle.qs_top.specs.Statuses.{IfNot, IsEnd, IsPastScript, IsOfRun, Gives, Tells};
 ghost use Rattle.qs_top.specs.Texts.{ReadWhole, OfScript};

@@ -1,7 +1,7 @@
 //! A script is run on one node over its disk, its journal is judged, and its output made.
 ghost use Rattle.std.specs.Prelude.{◌≡◌};
-ghost use Rattle.qs_top.specs.Making.{not_opened, IsJudgedEnd, IsJudgedShort, IsMadeOf, IsNothingMade};
-ghost use Rattle.qs_top.specs.Over.{IsOver};
+ghost use Rattle.qs_top.specs.Inner.Making.{not_opened, IsJudgedEnd, IsJudgedShort, IsMadeOf, IsNothingMade};
+ghost use Rattle.qs_top.specs.Inner.Over.{IsOver};
 
 use qs_base::{Bytes, List, NoMemory, NodeNo};
 use qs_book::Opened;

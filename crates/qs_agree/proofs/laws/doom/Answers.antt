@@ -1,4 +1,4 @@
-use Rattle.qs_agree.proofs.Doomed.{doom_stays, abort_dooms, engaged_past_dooms, past_home_dooms, abort_vote_dooms, gone_dooms, refusal_dooms, left_dooms, left_behind_dooms, kept_back_dooms}
+use Rattle.qs_agree.proofs.Doomed.{doom_stays, abort_dooms, engaged_past_dooms, past_home_dooms, abort_vote_dooms, gone_dooms, refusal_dooms, left_dooms, left_behind_dooms, kept_back_dooms, sent_stays, late_dooms}
 use Rattle.qs_agree.proofs.laws.doom.Goals as goal
 
 pub returns : goal.returns
@@ -13,4 +13,6 @@ returns c = record {
   left = left_dooms;
   left_behind = left_behind_dooms;
   kept_back = kept_back_dooms;
+  sent = sent_stays;
+  late = late_dooms;
 }

@@ -1,6 +1,6 @@
 use Rattle.std.proofs.Common.{subst, sym}
 use Rattle.qs_top.specs.Disks.{Leaves}
-use Rattle.qs_top.specs.Giving.{IsNoScript}
+use Rattle.qs_top.specs.Inner.Giving.{IsNoScript}
 use Rattle.qs_top.proofs.Given.{map_both, of_script, nothing_lawful, first_alone, unread_leaves, given_lawful, given_ended, given_cut_off, given_short, given_refused, given_leaves}
 use Rattle.qs_top.proofs.Unopened.{nothing_opened}
 use Rattle.qs_top.proofs.running.run_source.Goals as goal

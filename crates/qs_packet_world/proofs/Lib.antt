@@ -1,0 +1,9 @@
+pub mod StampsKept
+pub mod SendsShown
+pub mod Brought
+pub mod StepsGo
+pub mod MovesGo
+pub mod OpensWithin
+pub mod RunsGo
+pub mod RunsAgree
+pub mod PlaysRun

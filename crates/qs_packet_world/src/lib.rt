@@ -1,0 +1,8 @@
+//! The world of nodes over packets, which links may lose, repeat, hold and reorder.
+#![tactic(auto)]
+
+mod packet_runs;
+mod rows;
+
+pub use packet_runs::{every_run, nodes_agree};
+pub use rows::{plays, row_gone, row_remote, row_reordered};

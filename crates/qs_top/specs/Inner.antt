@@ -1,0 +1,8 @@
+-- What only proofs and private functions speak of.
+
+-- What becomes of a run as its output is given.
+pub mod Giving
+-- How what a run made is judged.
+pub mod Making
+-- What a run over one disk comes to.
+pub mod Over
