@@ -135,6 +135,7 @@ pub mod CutCould
 pub mod BatchVotes
 pub mod TriedOwingRuns
 pub mod TriedApartRuns
+pub mod TriedStaleRuns
 pub mod ServesGo
 pub mod StepsGo
 pub mod StepsWhole
@@ -199,3 +200,19 @@ pub mod OwnMoves
 pub mod NextOpening
 pub mod LogsStandFor
 pub mod NextRuns
+pub mod FoundRecords
+pub mod BatchContents
+pub mod BatchSays
+pub mod BatchFound
+pub mod BatchGoes
+pub mod CommitsApplied
+pub mod BatchHeld
+pub mod BatchWhole
+pub mod CutHeld
+pub mod VotesKeep
+pub mod DecidedOnce
+pub mod VotesShut
+pub mod BatchSources
+pub mod BatchCommits
+pub mod BatchBeyond
+pub mod BatchFits

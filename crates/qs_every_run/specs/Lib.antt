@@ -45,3 +45,5 @@ pub mod CutRecords
 pub mod OwnChanges
 pub mod CoherentAgain
 pub mod StandsFor
+pub mod TriedStale
+pub mod CutBatches
