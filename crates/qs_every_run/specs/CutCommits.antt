@@ -14,6 +14,7 @@ use Rattle.qs_lawful.specs.Said.{IsApart, IsUndone}
 use Rattle.qs_lawful.specs.WorldLaws.{StopsWell}
 use Rattle.qs_every_run.specs.Agrees.{MakesStep}
 use Rattle.qs_every_run.specs.Joined.{Joined, book_in}
+use Rattle.qs_every_run.specs.JoinedOwed.{Owed}
 
 -- the machine has what it has committed, or its home was to decide it and it is unanimous
 abbrev pub EachKeepsCommits : (Opening → World → Type 0) → Type 0
