@@ -1,0 +1,24 @@
+-- Stamps of a cell, and the order of steps in a world of one node.
+pub mod Stamps
+-- A whole step.
+pub mod Steps
+-- Stops, and steps that are cut off.
+pub mod Stops
+-- How a node begins, and begins again.
+pub mod Begins
+-- What is on its way in a lane.
+pub mod Ways
+-- A client as lanes are carried and as it has its turn.
+pub mod Clients
+-- A client as the node takes its command, answers, stops and starts again.
+pub mod Hands
+-- The clients of a cell as a command comes.
+pub mod Handing
+-- The clients of a cell as answers go out.
+pub mod AnswersOut
+-- An event that is due comes.
+pub mod Taking
+-- A cell and its clients through an event and a restart.
+pub mod Seated
+-- Runs are made longer.
+pub mod Reaching

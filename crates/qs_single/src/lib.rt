@@ -1,0 +1,12 @@
+//! A run of one node as a run of the world: what its cell tells is the history of a run of the world of one node.
+#![tactic(auto)]
+
+mod going;
+mod lines;
+mod outcomes;
+mod sources;
+
+pub use going::cells_go_on;
+pub use lines::{clients_go_on, clients_stay_shown};
+pub use outcomes::{events_are_moves, node_begins_in_the_world};
+pub use sources::events_are_moves_with_clients;
