@@ -22,3 +22,9 @@ pub mod Taking
 pub mod Seated
 -- Runs are made longer.
 pub mod Reaching
+-- Lanes are carried, and clients have their turns.
+pub mod Carried
+-- The cast as a run begins.
+pub mod Opening
+-- A source's turn in a visit.
+pub mod Visited

@@ -1,49 +1,40 @@
 -- A cell and its clients through an event, a stop and a restart: the node by its own laws, and each client by its place.
-use Rattle.std.proofs.Common.{◌≡◌, ◌⊎◌, ◌∙◌, ap, inl, inr, refl, subst, sym, ℕ, ◌==◌, Bool, true, false, List, [], ◌∷◌, Option, Some, None, arith, if◌then◌else◌}
+use Rattle.std.proofs.Common.{◌≡◌, ◌⊎◌, ◌∙◌, ap, inl, inr, refl, subst, sym, ℕ, ◌==◌, Bool, true, false, List, Option, Some, None, arith}
 use Rattle.std.proofs.lemmas.Bool.Decides.{nat_tests}
-use Rattle.std.proofs.lemmas.Cmp.{nat_cmp_total, on_total}
-use Rattle.std.specs.BTreeMap.{is_at}
-use Rattle.std.specs.Cmp.{IsTotalOrder}
 use Rattle.std.specs.Global.{Global}
-use Rattle.qs_base.specs.declared.identifiers.ClientNo.{ClientNo}
 use Rattle.qs_cell.specs.Cell.{IsAsPlanned, IsCutOff, IsFollowed, IsReplaced, IsWhole, out_of}
 use Rattle.qs_cell.specs.Restart.{inc_of}
 use Rattle.qs_cell.specs.State.{Up}
-use Rattle.qs_cell.specs.Visits.{all_delivered, due_of}
+use Rattle.qs_cell.specs.Visits.{all_delivered}
 use Rattle.qs_cell.specs.declared.stopped.Stopped.{Stopped}
-use Rattle.qs_chronicle.specs.Carried.{Commands, Seen, answered, is_due_again, without}
-use Rattle.qs_chronicle.specs.Occasions.{event_of, taken}
-use Rattle.qs_chronicle.specs.declared.carried.Held.{Held}
+use Rattle.qs_chronicle.specs.Carried.{Commands, Seen, answered}
+use Rattle.qs_chronicle.specs.Occasions.{taken}
 use Rattle.qs_chronicle.specs.declared.occasion.Occasion.{Occasion}
 use Rattle.qs_chronicle.specs.declared.occasion.Occasion.TheVariants as occasions
 use Rattle.qs_client.specs.declared.cell.ClientCell.{ClientCell}
 use Rattle.qs_host.specs.Host.{free_of, log_after}
 use Rattle.qs_journal.specs.declared.entry.CrashCause.{CrashCause}
 use Rattle.qs_journal.specs.declared.entry.CrashCause.TheVariants as causes
-use Rattle.qs_journal.specs.declared.script_line.ScriptLine.{ScriptLine}
-use Rattle.qs_lanes.specs.Lanes.{next_line}
 use Rattle.qs_lanes.specs.declared.ends.NodeEnds.{NodeEnds}
-use Rattle.qs_laws.proofs.Rising.{IsRising, put_rises, remove_rises}
+use Rattle.qs_laws.proofs.Rising.{IsRising}
 use Rattle.qs_machine.specs.Clauses.{is_crash}
 use Rattle.qs_rounds.specs.Rounds.{is_refused}
 use Rattle.qs_step.specs.State.{client_cmp}
 use Rattle.qs_step.specs.declared.event.ClientAnswer.{ClientAnswer}
 use Rattle.qs_step.specs.declared.event.Event.{Event}
 use Rattle.qs_step.specs.declared.setting.Setting.{Setting}
-use Rattle.qs_world.specs.Moves as moves
 use Rattle.qs_world.specs.Moves.{cut_log, cut_with, handed_by, may_serve, moved}
 use Rattle.qs_world.specs.Posting.{clients_after, handed, handed_back}
 use Rattle.qs_world.specs.World.{Client, Host, World}
 use Rattle.qs_single.specs.Beginnings.{rise_of}
 use Rattle.qs_single.specs.Clients.{ShowsClient}
 use Rattle.qs_single.specs.Events.{Comes, MovesTo, cut_of, source_of, stamp_at, step_of, stop_behind, stop_of}
-use Rattle.qs_single.specs.Seats.{From, HasCell, IsDueFrom, IsGiven, OfClient, OfNode, RisesInSeat, SeatDown, SeatUp, ShowsEach, left}
-use Rattle.qs_single.specs.Showing.{HandsOver, IsDue, ShowsIn, held_for}
+use Rattle.qs_single.specs.Seats.{From, IsDueFrom, IsGiven, RisesInSeat, SeatDown, SeatUp, ShowsEach, left}
+use Rattle.qs_single.specs.Showing.{ShowsIn, held_for}
 use Rattle.qs_single.specs.Shown.{ShowsDown, ShowsUp}
 use Rattle.qs_single.proofs.AnswersOut.{each_answers, each_handed_back, each_hands}
 use Rattle.qs_single.proofs.Begins.{each_rises}
-use Rattle.qs_single.proofs.Handing as handing
-use Rattle.qs_single.proofs.Handing.{each_comes, each_handed, itself}
+use Rattle.qs_single.proofs.Handing.{itself}
 use Rattle.qs_single.proofs.Steps as steps
 use Rattle.qs_single.proofs.Steps.{each_whole}
 use Rattle.qs_single.proofs.Stops.{each_cut, each_followed, each_replaced}

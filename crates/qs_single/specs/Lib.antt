@@ -14,3 +14,9 @@ pub mod Showing
 pub mod Seats
 -- What a run leads to.
 pub mod Reached
+-- As a round begins, and as a client has its turn.
+pub mod Carrying
+-- The cast as a run begins.
+pub mod Opened
+-- A source's turn in a visit.
+pub mod Visiting
