@@ -28,3 +28,11 @@ pub mod Carried
 pub mod Opening
 -- A source's turn in a visit.
 pub mod Visited
+-- A visit.
+pub mod Acted
+-- Numbers of lanes and clients stay.
+pub mod Numbers
+-- The rounds of a run.
+pub mod Rounded
+-- A whole run.
+pub mod Entire

@@ -20,3 +20,9 @@ pub mod Carrying
 pub mod Opened
 -- A source's turn in a visit.
 pub mod Visiting
+-- A visit.
+pub mod Acting
+-- The rounds of a run.
+pub mod Rounding
+-- A whole run.
+pub mod Whole

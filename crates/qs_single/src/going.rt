@@ -14,10 +14,14 @@ ghost use Rattle.qs_rounds.specs.Rounds.{Cast};
 ghost use Rattle.qs_statements.specs.declared.script.Script.{Script};
 ghost use Rattle.qs_step.specs.declared.event.ClientAnswer.{ClientAnswer};
 ghost use Rattle.qs_world.specs.World.{Opening, World};
+ghost use Rattle.rand_pcg.specs.Lcg.{Lcg};
+ghost use Rattle.qs_single.specs.Acting.{StartsGoOn, TellsHistory, VisitsGoOn};
 ghost use Rattle.qs_single.specs.Carrying.{CarriesGoOn, TurnsGoOn};
 ghost use Rattle.qs_single.specs.Opened.{CastBegins};
 ghost use Rattle.qs_single.specs.Reached.{EventsGoOn, RestartsGoOn};
+ghost use Rattle.qs_single.specs.Rounding.{RoundsGoOn};
 ghost use Rattle.qs_single.specs.Seats.{From};
+ghost use Rattle.qs_single.specs.Whole.{IsRunOfWorld, OpensAsTold};
 ghost use Rattle.qs_single.specs.Visiting.{RoomGoesOn, TurnGoesOn, VisitBegins};
 
 use qs_disk::Disk;
@@ -50,4 +54,25 @@ pub fn turns_go_on<D: Disk>()
         → TurnGoesOn D.told D.state D.fault_count D.byte_count start source ready ends new clients }
     ensures room { (start : World) (old ready : NodeState D) (ends : List NodeEnds) (clients : List ClientCell) → RoomGoesOn D.told D.state start old ready ends clients }
     ensures begins { (start : World) (old begun : NodeState D) (ends : List NodeEnds) (clients : List ClientCell) → VisitBegins D.told D.state start old begun ends clients }
+{}
+
+/// A visit of a node that is up goes on in the world turn by turn, and one of a node that is down by a restart. And what a cell that is shown tells
+/// is the history of a run.
+pub fn visits_go_on<D: Disk>()
+    ensures visits { (start : World) (old new : Seat D) (clients : List ClientCell) → VisitsGoOn D.told D.state D.fault_count D.byte_count start old new clients }
+    ensures starts { (start : World) (old new : CellValue D) (did : Bool) (clients : List ClientCell) → StartsGoOn D.told D.state D.fault_count start old new did clients }
+    ensures history { (start : World) (node : NodeState D) (ends : List NodeEnds) (clients : List ClientCell) → TellsHistory D.told D.state start node ends clients }
+{}
+
+/// The rounds of a run: where the disk tells what is on it, the cast goes on in the world, as far as the events and restarts are sure.
+pub fn rounds_go_on<D: Disk>()
+    ensures { (start : World) (rng : Lcg) (n : ℕ) (old new : Cast D) (later : Lcg) → RoundsGoOn D.told D.state D.fault_count D.byte_count start rng n old new later }
+{}
+
+/// A run of one node is a run of the world of one node, as far as its events and restarts are sure: what the cell tells after so many rounds is the
+/// history of a run that begins with what the log of the disk held. And the reference machine opens with what the cell tells that its log held.
+pub fn run_is_of_the_world<D: Disk>()
+    ensures run { (alloc : Global) (script : Script) (disk : D) (cast : Cast D) (o : Opening) (rng : Lcg) (n : ℕ) (new : Cast D) (later : Lcg)
+        → IsRunOfWorld D.told D.state D.fault_count D.byte_count alloc script disk cast o rng n new later }
+    ensures machine { (alloc : Global) (script : Script) (disk : D) (cast : Cast D) (o : Opening) → OpensAsTold D.told D.state D.fault_count alloc script disk cast o }
 {}
