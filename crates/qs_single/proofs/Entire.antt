@@ -1,11 +1,13 @@
 -- A run of one node is a run of the world: it begins so, and goes on so round by round.
-use Rattle.std.proofs.Common.{◌≡◌, List, [], ◌∷◌, ◌++◌, append-nil, inl, inr, ap, ◌∙◌, refl, sym, ℕ}
+use Rattle.std.proofs.Common.{◌≡◌, List, [], ◌∷◌, ◌++◌, append-nil, inl, inr, ap, ◌∙◌, refl, subst, sym, ℕ}
 use Rattle.std.specs.Global.{Global}
-use Rattle.qs_cell.specs.Starts.{setting_in}
+use Rattle.qs_cell.specs.Starts.{journal_of, setting_in}
 use Rattle.qs_client.specs.declared.cell.ClientCell.{ClientCell}
 use Rattle.qs_disk.specs.Disk.{DiskState}
 use Rattle.qs_lanes.specs.declared.ends.NodeEnds.{NodeEnds}
+use Rattle.qs_journal.specs.declared.entry.Entry.{Entry}
 use Rattle.qs_machine.specs.Book.{BookValue}
+use Rattle.qs_machine.specs.Lawful.{IsLawful}
 use Rattle.qs_machine.specs.Opening.{opening}
 use Rattle.qs_machine.specs.declared.opened.Opened.{Opened}
 use Rattle.qs_record.specs.declared.record.Record.{Record}
@@ -14,14 +16,15 @@ use Rattle.qs_rounds.specs.Seats.{AreSeated}
 use Rattle.qs_statements.specs.declared.script.Script.{Script}
 use Rattle.qs_step.specs.Opening.{recovered_of}
 use Rattle.qs_step.specs.declared.setting.Setting.{Setting}
-use Rattle.qs_world.specs.Histories.{opened_from, opened_with}
+use Rattle.qs_world.specs.Histories.{book_of, opened_from, opened_with}
 use Rattle.qs_world.specs.World.{Opening, start}
 use Rattle.rand_pcg.specs.Lcg.{Lcg}
 use Rattle.qs_single.specs.Acting.{AreOfClients}
 use Rattle.qs_single.specs.Opened.{setting_by}
+use Rattle.qs_single.specs.Reached.{Reached}
 use Rattle.qs_single.specs.Rounding.{IsCastIn}
 use Rattle.qs_single.specs.Seats.{HasCell}
-use Rattle.qs_single.specs.Whole.{IsRunOfWorld, OpensAsTold}
+use Rattle.qs_single.specs.Whole.{IsLawfulAsRuns, IsRunOfWorld, OpensAsTold}
 use Rattle.qs_single.proofs.Acted.{each_history}
 use Rattle.qs_single.proofs.Opening.{each_cast}
 use Rattle.qs_single.proofs.Rounded.{each_rounds}
@@ -61,3 +64,10 @@ each_book told state own alloc script disk cast o t begun opens =
 
     all_forced : begun.started.running.host.log.forced ≡ begun.started.running.host.log.forced ++ begun.started.running.host.log.waiting
     all_forced = sym (ap (λ (l : List Record). begun.started.running.host.log.forced ++ l) (begun.started.raised t).waiting ∙ append-nil begun.started.running.host.log.forced)
+
+pub each_lawful : {D : Type 0} (told : Type 0) (state : D → DiskState) (own size : D → ℕ) (alloc : Global) (script : Script) (disk : D) (cast : Cast D) (o : Opening) (rng : Lcg) (n : ℕ) (new : Cast D) (later : Lcg)
+    → IsLawfulAsRuns told state own size alloc script disk cast o rng n new later
+each_lawful told state own size alloc script disk cast o rng n new later t begun stands opens rounds sure is_opening lawful =
+    let run : Reached (start o) (λ world. world.journal ≡ journal_of new.node) = each_run told state own size alloc script disk cast o rng n new later t begun stands opens rounds sure in
+    subst (λ (b : BookValue). IsLawful b (journal_of new.node)) (each_book told state own alloc script disk cast o t begun opens)
+    (subst (λ (l : List Entry). IsLawful (book_of o) l) run.shows (lawful run.moves run.world is_opening run.run))

@@ -21,7 +21,7 @@ ghost use Rattle.qs_single.specs.Opened.{CastBegins};
 ghost use Rattle.qs_single.specs.Reached.{EventsGoOn, RestartsGoOn};
 ghost use Rattle.qs_single.specs.Rounding.{RoundsGoOn};
 ghost use Rattle.qs_single.specs.Seats.{From};
-ghost use Rattle.qs_single.specs.Whole.{IsRunOfWorld, OpensAsTold};
+ghost use Rattle.qs_single.specs.Whole.{IsLawfulAsRuns, IsRunOfWorld, OpensAsTold};
 ghost use Rattle.qs_single.specs.Visiting.{RoomGoesOn, TurnGoesOn, VisitBegins};
 
 use qs_disk::Disk;
@@ -70,9 +70,12 @@ pub fn rounds_go_on<D: Disk>()
 {}
 
 /// A run of one node is a run of the world of one node, as far as its events and restarts are sure: what the cell tells after so many rounds is the
-/// history of a run that begins with what the log of the disk held. And the reference machine opens with what the cell tells that its log held.
+/// history of a run that begins with what the log of the disk held. And the reference machine opens with what the cell
+/// tells that its log held; so where each run of that opening is lawful, so is what the cell tells.
 pub fn run_is_of_the_world<D: Disk>()
     ensures run { (alloc : Global) (script : Script) (disk : D) (cast : Cast D) (o : Opening) (rng : Lcg) (n : ℕ) (new : Cast D) (later : Lcg)
         → IsRunOfWorld D.told D.state D.fault_count D.byte_count alloc script disk cast o rng n new later }
     ensures machine { (alloc : Global) (script : Script) (disk : D) (cast : Cast D) (o : Opening) → OpensAsTold D.told D.state D.fault_count alloc script disk cast o }
+    ensures lawful { (alloc : Global) (script : Script) (disk : D) (cast : Cast D) (o : Opening) (rng : Lcg) (n : ℕ) (new : Cast D) (later : Lcg)
+        → IsLawfulAsRuns D.told D.state D.fault_count D.byte_count alloc script disk cast o rng n new later }
 {}
