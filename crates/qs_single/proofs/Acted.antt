@@ -1,0 +1,94 @@
+-- A visit goes on in the world turn by turn: the clients by number, then the queues and the clock.
+use Rattle.std.proofs.Common.{inl, inr, refl, subst, sym, ℕ, Bool, true, false, List, [], ◌∷◌, ◌++◌, Option, Some, None, Ok, map, if◌then◌else◌}
+use Rattle.std.specs.Prelude.{⊤}
+use Rattle.qs_cell.specs.Starts.{CellValue}
+use Rattle.qs_cell.specs.State.{StartsAgain, Up, is_queued}
+use Rattle.qs_cell.specs.Visits.{Seat, TurnsAll, client_source, due, left_by, sources_of}
+use Rattle.qs_cell.specs.declared.state.NodeState.{NodeState}
+use Rattle.qs_cell.specs.declared.state.NodeState.TheVariants as states
+use Rattle.qs_cell.specs.declared.stopped.Stopped.{Stopped}
+use Rattle.qs_chronicle.specs.declared.occasion.Occasion.{Occasion}
+use Rattle.qs_chronicle.specs.declared.occasion.Occasion.TheVariants as occasions
+use Rattle.qs_client.specs.declared.cell.ClientCell.{ClientCell}
+use Rattle.qs_disk.specs.Disk.{DiskState}
+use Rattle.qs_lanes.specs.declared.ends.NodeEnds.{NodeEnds}
+use Rattle.qs_world.specs.World.{World}
+use Rattle.qs_single.specs.Acting.{AreOfClients, AreSureTurns, IsLaterIf, StartsGoOn, TellsHistory, VisitsGoOn}
+use Rattle.qs_single.specs.Reached.{IsInWorld}
+use Rattle.qs_single.specs.Seats.{HasCell, OfClient, OfNode}
+use Rattle.qs_single.specs.Visiting.{IsOwn, IsTurnOf}
+use Rattle.qs_single.proofs.Reaching.{each_restart}
+use Rattle.qs_single.proofs.Visited.{each_room, each_turn_goes, each_visit_begins}
+
+own_if : (b : Bool) → IsOwn (if b then Some occasions.Queues else None)
+own_if true = refl
+own_if false = tt
+
+module _ {D : Type 0} (told : Type 0) (state : D → DiskState) (own size : D → ℕ) (start : World) (clients : List ClientCell) where
+  -- what is due of a client
+  client_turn : (end : NodeEnds) → HasCell end.client clients → (ready : NodeState D) (ends : List NodeEnds) → IsTurnOf (OfClient end.client) ready ends clients (due (client_source end) ready ends) (left_by (client_source end) ready ends)
+  client_turn end has (states.Up running) ends = record { cell = has; is = (refl, refl) }
+  client_turn end has (states.Down stopped) ends = record { cell = has; is = (refl, refl) }
+
+  -- the node's own sources
+  abbrev AreOwn : {S : Type 0} → (S → NodeState D → List NodeEnds → Option Occasion) → (S → NodeState D → List NodeEnds → List NodeEnds) → List S → Type 0
+  AreOwn is_due left [] = ⊤
+  AreOwn is_due left (source ∷ sources) = ((ready : NodeState D) (ends : List NodeEnds) → IsTurnOf OfNode ready ends clients (is_due source ready ends) (left source ready ends)) × AreOwn is_due left sources
+
+  own_source : {S : Type 0} (is_due : S → NodeState D → List NodeEnds → Option Occasion) (left : S → NodeState D → List NodeEnds → List NodeEnds) (source : S)
+      → ((running : Up D) (ends : List NodeEnds) → IsTurnOf OfNode (states.Up running) ends clients (is_due source (states.Up running) ends) (left source (states.Up running) ends))
+      → ((stopped : Stopped D) (ends : List NodeEnds) → IsTurnOf OfNode (states.Down stopped) ends clients (is_due source (states.Down stopped) ends) (left source (states.Down stopped) ends))
+      → (ready : NodeState D) (ends : List NodeEnds) → IsTurnOf OfNode ready ends clients (is_due source ready ends) (left source ready ends)
+  own_source is_due left source up down (states.Up running) ends = up running ends
+  own_source is_due left source up down (states.Down stopped) ends = down stopped ends
+
+  -- by whether the node is up
+  abbrev AreSplit : {S : Type 0} → (S → NodeState D → List NodeEnds → Option Occasion) → (S → NodeState D → List NodeEnds → List NodeEnds) → List S → Type 0
+  AreSplit is_due left [] = ⊤
+  AreSplit is_due left (source ∷ sources) =
+      (((running : Up D) (ends : List NodeEnds) → IsTurnOf OfNode (states.Up running) ends clients (is_due source (states.Up running) ends) (left source (states.Up running) ends))
+      × ((stopped : Stopped D) (ends : List NodeEnds) → IsTurnOf OfNode (states.Down stopped) ends clients (is_due source (states.Down stopped) ends) (left source (states.Down stopped) ends)))
+      × AreSplit is_due left sources
+
+  join : {S : Type 0} (is_due : S → NodeState D → List NodeEnds → Option Occasion) (left : S → NodeState D → List NodeEnds → List NodeEnds) (sources : List S) → AreSplit is_due left sources → AreOwn is_due left sources
+  join is_due left [] split = tt
+  join is_due left (source ∷ sources) split = (own_source is_due left source split.0.0 split.0.1, join is_due left sources split.1)
+
+  its_split : AreSplit due left_by (sources_of [])
+  its_split = (((λ running ends. (own_if (is_queued (states.Up running)), refl)), (λ stopped ends. (tt, refl))), (((λ running ends. (refl, refl)), (λ stopped ends. (tt, refl))), tt))
+
+  its_own : AreOwn due left_by (sources_of [])
+  its_own = join due left_by (sources_of []) its_split
+
+  own_turns : (sources : List _) (old new : Seat D) (turns : TurnsAll told state own size sources old new) → AreOwn due left_by sources → AreSureTurns told state own size sources old new turns
+      → IsInWorld told state start old.node old.ends clients → IsInWorld told state start new.node new.ends clients
+  own_turns [] old new turns all sure was = subst (λ (s : Seat D). IsInWorld told state start s.node s.ends clients) (sym turns) was
+  own_turns (source ∷ sources) old new (mid, (turn, rest)) all sure was = own_turns sources mid new rest all.1 sure.1
+      (each_turn_goes told state own size start OfNode turn.ready old.ends mid clients (due source turn.ready old.ends) (left_by source turn.ready old.ends) (all.0 turn.ready old.ends) turn.turn sure.0
+      (each_room told state start old.node turn.ready old.ends clients turn.same was))
+
+  all_turns : (ends : List NodeEnds) (old new : Seat D) (turns : TurnsAll told state own size (map client_source ends ++ sources_of []) old new) → AreOfClients ends clients
+      → AreSureTurns told state own size (map client_source ends ++ sources_of []) old new turns → IsInWorld told state start old.node old.ends clients → IsInWorld told state start new.node new.ends clients
+  all_turns [] old new turns all sure was = own_turns (sources_of []) old new turns its_own sure was
+  all_turns (end ∷ ends) old new (mid, (turn, rest)) all sure was = all_turns ends mid new rest (λ e there. all e (inr there)) sure.1
+      (each_turn_goes told state own size start (OfClient end.client) turn.ready old.ends mid clients (due (client_source end) turn.ready old.ends) (left_by (client_source end) turn.ready old.ends)
+      (client_turn end (all end (inl refl)) turn.ready old.ends) turn.turn sure.0
+      (each_room told state start old.node turn.ready old.ends clients turn.same was))
+
+pub each_visit : {D : Type 0} (told : Type 0) (state : D → DiskState) (own size : D → ℕ) (start : World) (old new : Seat D) (clients : List ClientCell) → VisitsGoOn told state own size start old new clients
+each_visit told state own size start old new clients visits sure all was =
+    all_turns told state own size start clients old.ends (record { node = visits.begun; ends = old.ends }) new visits.turns all sure
+    (each_visit_begins told state start old.node visits.begun old.ends clients visits.round was)
+
+pub each_start : {D : Type 0} (told : Type 0) (state : D → DiskState) (own : D → ℕ) (start : World) (old new : CellValue D) (did : Bool) (clients : List ClientCell) → StartsGoOn told state own start old new did clients
+each_start told state own start old new did clients t starts later was =
+    subst (λ (ends : List NodeEnds). IsInWorld told state start new.seat.node ends clients) (sym starts.ends) (by old.seat.node starts.starts later was)
+  where
+    by : (node : NodeState _) → StartsAgain told state own old.alloc node new.seat.node (Ok did) → IsLaterIf told state node new.seat.node → IsInWorld told state start node old.seat.ends clients
+        → IsInWorld told state start new.seat.node old.seat.ends clients
+    by (states.Up running) again after shown = subst (λ (n : NodeState _). IsInWorld told state start n old.seat.ends clients) (sym again.0) shown
+    by (states.Down stopped) again after shown = each_restart told state own old.alloc start stopped new.seat.node old.seat.ends clients (Ok did) t again after shown
+
+pub each_history : {D : Type 0} (told : Type 0) (state : D → DiskState) (start : World) (node : NodeState D) (ends : List NodeEnds) (clients : List ClientCell) → TellsHistory told state start node ends clients
+each_history told state start (states.Up running) ends clients was = record { moves = was.reached.moves; world = was.reached.world; run = was.reached.run; shows = was.reached.shows.node.told.journal }
+each_history told state start (states.Down stopped) ends clients was = record { moves = was.to_first.moves; world = was.to_first.world; run = was.to_first.run; shows = was.to_first.shows.node.told.journal }

@@ -1,0 +1,38 @@
+-- Stamps of a cell, and the order of steps in a world of one node.
+pub mod Stamps
+-- A whole step.
+pub mod Steps
+-- Stops, and steps that are cut off.
+pub mod Stops
+-- How a node begins, and begins again.
+pub mod Begins
+-- What is on its way in a lane.
+pub mod Ways
+-- A client as lanes are carried and as it has its turn.
+pub mod Clients
+-- A client as the node takes its command, answers, stops and starts again.
+pub mod Hands
+-- The clients of a cell as a command comes.
+pub mod Handing
+-- The clients of a cell as answers go out.
+pub mod AnswersOut
+-- An event that is due comes.
+pub mod Taking
+-- A cell and its clients through an event and a restart.
+pub mod Seated
+-- Runs are made longer.
+pub mod Reaching
+-- Lanes are carried, and clients have their turns.
+pub mod Carried
+-- The cast as a run begins.
+pub mod Opening
+-- A source's turn in a visit.
+pub mod Visited
+-- A visit.
+pub mod Acted
+-- Numbers of lanes and clients stay.
+pub mod Numbers
+-- The rounds of a run.
+pub mod Rounded
+-- A whole run.
+pub mod Entire

@@ -1,0 +1,214 @@
+-- Each event and each restart of a cell goes on in the world: a run is made longer, and where a step is cut off two runs are kept.
+use Rattle.std.proofs.Common.{◌≡◌, ◌⊎◌, ◌∙◌, ap, inl, inr, subst, sym, ℕ, ◌<◌, Bool, true, false, List, [], ◌∷◌, ◌++◌, None, Result, append-nil}
+use Rattle.std.specs.Global.{Global}
+use Rattle.qs_cell.specs.Cell.{IsOutcome, out_of}
+use Rattle.qs_cell.specs.Restart.{IsRestarted, IsStillDown, IsUp, IfUp, inc_of}
+use Rattle.qs_cell.specs.State.{Restarts, Up, answers_of, cause_of, disk_of, state_after, state_of}
+use Rattle.qs_cell.specs.Visits.{all_delivered}
+use Rattle.qs_cell.specs.declared.running.Outcome.{Outcome}
+use Rattle.qs_cell.specs.declared.running.Outcome.TheVariants as outcomes
+use Rattle.qs_cell.specs.declared.state.NodeState.{NodeState}
+use Rattle.qs_cell.specs.declared.state.RestartFault.{RestartFault}
+use Rattle.qs_cell.specs.declared.stopped.Restarted.{Restarted}
+use Rattle.qs_cell.specs.declared.stopped.Restarted.TheVariants as restarts
+use Rattle.qs_cell.specs.declared.stopped.Stopped.{Stopped}
+use Rattle.qs_chronicle.specs.Carried.{Commands, Seen}
+use Rattle.qs_chronicle.specs.Chronicle.{Told, in_round}
+use Rattle.qs_chronicle.specs.declared.occasion.Occasion.{Occasion}
+use Rattle.qs_client.specs.declared.cell.ClientCell.{ClientCell}
+use Rattle.qs_disk.specs.Disk.{DiskState, EachImage}
+use Rattle.qs_disk.specs.Fuse.{FusedValue}
+use Rattle.qs_files.specs.declared.files.Files.{Files}
+use Rattle.qs_host.specs.Host.{HostValue, IsOldOrAfter, log_after}
+use Rattle.qs_incarnation.specs.Incarnation.{HasOneOf, IsReopened}
+use Rattle.qs_lanes.specs.declared.ends.NodeEnds.{NodeEnds}
+use Rattle.qs_laws.proofs.Rising.{IsRising}
+use Rattle.qs_local.proofs.AsHost.{stepped as stepped_as_host}
+use Rattle.qs_local.specs.InWorld.{host_of}
+use Rattle.qs_log.specs.Image.{IsLog}
+use Rattle.qs_log.specs.Log.{LogValue, Stands, records_of}
+use Rattle.qs_ops.specs.declared.no_server.NoServer.{NoServer}
+use Rattle.qs_record.specs.declared.record.Record.{Record}
+use Rattle.qs_rounds.specs.Rounds.{is_refused}
+use Rattle.qs_step.specs.State.{client_cmp}
+use Rattle.qs_step.specs.declared.event.ClientAnswer.{ClientAnswer}
+use Rattle.qs_step.specs.declared.event.Effects.{Effects}
+use Rattle.qs_step.specs.declared.setting.Setting.{Setting}
+use Rattle.qs_world.specs.Moves as world_moves
+use Rattle.qs_world.specs.Moves.{Move, cut_log, may_move, moved}
+use Rattle.qs_world.specs.Runs.{Run}
+use Rattle.qs_world.specs.World.{Host, World}
+use Rattle.qs_single.specs.Events.{MovesTo, cut_of, step_of, stop_behind, stop_of}
+use Rattle.qs_single.specs.Beginnings.{rise_of}
+use Rattle.qs_single.specs.Reached.{EventsGoOn, IsHalted, IsInWorld, IsLater, IsRunning, IsSureOf, Reached, RestartsGoOn}
+use Rattle.qs_single.specs.Seats.{From, IsDueFrom, SeatDown, SeatUp, left}
+use Rattle.qs_single.specs.Showing.{ShowsIn}
+use Rattle.qs_single.specs.Shown.{ShowsTold}
+use Rattle.qs_single.proofs.Seated as seated
+
+-- ---- runs
+
+run_more : (moves : List Move) (start mid : World) (move : Move) → Run start moves mid → may_move mid move ≡ true → Run start (moves ++ move ∷ []) (moved move mid)
+run_more [] start mid move same may = (subst (λ (w : World). may_move w move ≡ true) same may, ap (moved move) same)
+run_more (m ∷ moves) start mid move run may = (run.0, run_more moves (moved m start) mid move run.1 may)
+
+reach : {P Q : World → Type 0} (start : World) (move : Move) → Reached start P → ((world : World) → P world → MovesTo Q move world) → Reached start Q
+reach start move r go =
+    let next : MovesTo _ move r.world = go r.world r.shows in
+    record { moves = r.moves ++ move ∷ []; world = moved move r.world; run = run_more r.moves start r.world move r.run next.may; shows = next.leads }
+
+-- a move that goes on in a second one
+reach_then : {Q : World → Type 0} (start : World) (move then_move : Move) → Reached start (MovesTo Q then_move) → Reached start Q
+reach_then start move then_move r = reach start then_move r (λ world next. next)
+
+-- ---- what a cut leaves
+
+cut_lost : {D : Type 0} (stamp : ℕ) (host : HostValue D) (out : Effects) (h : Host) → h ≡ host_of stamp host → cut_log h false out ≡ host.log.forced
+cut_lost stamp host out h e = ap (λ (x : Host). x.log) e
+
+cut_kept : {D : Type 0} (stamp : ℕ) (host : HostValue D) (out : Effects) (h : Host) → h ≡ host_of stamp host → cut_log h true out ≡ (log_after out host.log).forced
+cut_kept stamp host out h e = ap (λ (x : Host). world_moves.log_after x out) e ∙ sym (ap (λ (x : Host). x.log) (stepped_as_host stamp stamp host host.node out))
+
+module _ {D : Type 0} (told : Type 0) (state : D → DiskState) (own : D → ℕ) (start : World) where
+  -- ---- each event
+
+  module _ (size : ℕ) (source : From) (occasion : Occasion) (old : Up D) (ends : List NodeEnds) (clients : List ClientCell) (due_is : IsDueFrom source occasion old ends clients) (was : IsRunning told state start old ends clients) where
+    abbrev out : Effects
+    out = out_of size occasion old
+
+    abbrev kept_log : List Record
+    kept_log = (log_after out old.host.log).forced
+
+    abbrev lost_log : List Record
+    lost_log = old.host.log.forced
+
+    -- the log stands on the disk, which has but one image
+    one_log : (log : LogValue (FusedValue D)) (disk : DiskState) → Stands log disk → EachImage (HasOneOf log.forced log.forced) disk.now
+    one_log log disk stands image is = inl (record { present = log.slots.present; used = log.used; log = subst (λ (c : List ℕ). IsLog log.slots.present log.forced log.used c) (sym (stands.still image is)) stands.forced })
+
+    either : (image : List ℕ) → IsOldOrAfter out old.host.log image → HasOneOf lost_log kept_log image
+    either image (inl is) = inl (record { present = old.host.log.slots.present; used = old.host.log.used; log = is })
+    either image (inr is) = inr (record { present = (log_after out old.host.log).slots.present; used = (log_after out old.host.log).used; log = is })
+
+    pub goes_on : (o : Outcome D Files NoServer) → IsOutcome own size occasion old o → IsSureOf told state size occasion old o (state_of o)
+        → (told → EachImage (IsOldOrAfter out old.host.log) (state (disk_of (state_of o)).disk).now)
+        → IsInWorld told state start (state_of o) (all_delivered (answers_of o) (left source old ends)) clients
+    goes_on (outcomes.Whole running said) is sure images = record {
+      reached = reach start (step_of size occasion old) was.reached (λ world seat. seated.whole size source occasion old ends clients world due_is seat sure.given running said is);
+      stands = λ t. subst (λ (l : LogValue (FusedValue D)). Stands l (state running.host.log.disk.disk)) (sym is.log) (sure.stands t);
+    }
+    goes_on (outcomes.Followed stopped said) is sure images = record {
+      first = kept_log;
+      other = kept_log;
+      to_first = reached;
+      to_other = reached;
+      images = λ t. one_log (record (log_after out old.host.log) { disk = stopped.disk }) (state stopped.disk.disk) (sure.stands t);
+    }
+      where
+        reached : Reached start (SeatDown stopped (all_delivered said (left source old ends)) clients kept_log)
+        reached = reach_then start (step_of size occasion old) (stop_behind old stopped.cause)
+            (reach start (step_of size occasion old) was.reached (λ world seat. seated.followed size source occasion old ends clients world due_is seat sure.given stopped said is))
+    goes_on (outcomes.Replaced stopped) is sure images = record {
+      first = lost_log;
+      other = lost_log;
+      to_first = reached;
+      to_other = reached;
+      images = λ t. subst (λ (d : FusedValue D). EachImage (HasOneOf lost_log lost_log) (state d.disk).now) (sym is.disk) (one_log old.host.log (state old.host.log.disk.disk) (was.stands t));
+    }
+      where
+        reached : Reached start (SeatDown stopped (left source old ends) clients lost_log)
+        reached = reach start (stop_of old stopped.cause) was.reached (λ world seat. seated.replaced size source occasion old ends clients world due_is seat stopped is sure.granted)
+    goes_on (outcomes.CutOff stopped) is sure images = record {
+      first = lost_log;
+      other = kept_log;
+      to_first = reach start (cut_of size occasion old false stopped.cause) was.reached (λ world seat. cut_with world seat false lost_log (cut_lost old.carried.chronicle.told.stamp old.host out (world.hosts 0) seat.node.host));
+      to_other = reach start (cut_of size occasion old true stopped.cause) was.reached (λ world seat. cut_with world seat true kept_log (cut_kept old.carried.chronicle.told.stamp old.host out (world.hosts 0) seat.node.host));
+      images = λ t image at. either image (images t image at);
+    }
+      where
+        cut_with : (world : World) → SeatUp old ends clients world → (is_kept : Bool) (log : List Record) → cut_log (world.hosts 0) is_kept out ≡ log
+            → MovesTo (SeatDown stopped (left source old ends) clients log) (cut_of size occasion old is_kept stopped.cause) world
+        cut_with world seat is_kept log same =
+            subst (λ (l : List Record). MovesTo (SeatDown stopped (left source old ends) clients l) (cut_of size occasion old is_kept stopped.cause) world) same
+            (seated.cut size source occasion old ends clients world due_is seat own stopped sure.given.counted is sure.cause is_kept)
+
+pub each_event : {D : Type 0} (told : Type 0) (state : D → DiskState) (own size : D → ℕ) (start : World) (source : From) (occasion : Occasion) (old : Up D) (new : NodeState D) (ends : List NodeEnds) (clients : List ClientCell) (answers : List ClientAnswer)
+    → EventsGoOn told state own size start source occasion old new ends clients answers
+each_event told state own size start source occasion old new ends clients answers makes sure due_is was =
+    subst (λ (n : NodeState _). IsInWorld told state start n (all_delivered answers (left source old ends)) clients) (sym makes.node)
+    (subst (λ (a : List ClientAnswer). IsInWorld told state start (state_of makes.outcome) (all_delivered a (left source old ends)) clients) (sym makes.said)
+    (goes_on told state own start (size old.host.log.disk.disk) source occasion old ends clients due_is was makes.outcome makes.is
+    (record { stands = sure.stands; cause = sure.cause; granted = subst (λ (n : NodeState _). is_refused (cause_of n) ≡ false) makes.node sure.granted; given = sure.given })
+    (λ t. subst (λ (n : NodeState _). EachImage (IsOldOrAfter (out_of (size old.host.log.disk.disk) occasion old) old.host.log) (state (disk_of n).disk).now) makes.node (makes.moments t).here)))
+
+-- ---- a restart
+
+-- a node that is still down shows as before
+seat_still : {D : Type 0} (old new : Stopped D) (ends : List NodeEnds) (clients : List ClientCell) (log : List Record) (world : World) → IsStillDown old new → SeatDown old ends clients log world → SeatDown new ends clients log world
+seat_still old new ends clients log world is seat = record {
+  node = record {
+    told = subst (λ (t : Told). ShowsTold t world) (sym told_is) (record {
+      size = seat.node.told.size;
+      node = seat.node.told.node;
+      within = seat.node.told.within;
+      last = seat.node.told.last;
+      journal = seat.node.told.journal;
+    });
+    down = seat.node.down;
+    inc = seat.node.inc ∙ sym (ap (λ (s : Setting). s.inc) is.setting);
+    setting = seat.node.setting ∙ sym is.setting;
+    kept = seat.node.kept ∙ sym is.kept;
+    log_is = seat.node.log_is;
+    none = seat.node.none;
+    stamp = seat.node.stamp ∙ ap (λ (t : Told). t.stamp) (sym told_is);
+  };
+  rising = subst (λ (c : Commands). IsRising client_cmp c) (sym commands_are) seat.rising;
+  each = λ client there.
+      subst (λ (s : Setting). ShowsIn s.inc None new.carried.commands ends world.clients client) (sym is.setting)
+      (subst (λ (c : Commands). ShowsIn old.carried.setting.inc None c ends world.clients client) (sym commands_are) (seat.each client there));
+}
+  where
+    told_is : new.carried.chronicle.told ≡ in_round old.carried.chronicle.told
+    told_is = ap (λ (s : Seen). s.told) is.seen
+
+    commands_are : new.carried.commands ≡ old.carried.commands
+    commands_are = ap (λ (s : Seen). s.commands) is.seen
+
+module _ {D : Type 0} (told : Type 0) (state : D → DiskState) (own : D → ℕ) (alloc : Global) (start : World) (old : Stopped D) (ends : List NodeEnds) (clients : List ClientCell) (was : IsHalted told state start old ends clients) where
+  -- the log that was found is one of the two
+  rises_with : (running : Up D) → IsUp alloc old running → running.host.log.waiting ≡ [] → old.carried.setting.inc < inc_of running.host.log
+      → (records_of running.host.log ≡ was.first) ⊎ (records_of running.host.log ≡ was.other) → Reached start (SeatUp running ends clients)
+  rises_with running is none later found = reach start (rise_of old running) (down found) (λ world seat. seated.each_rises_seated alloc old running ends clients world is none later seat)
+    where
+      all_forced : running.host.log.forced ≡ records_of running.host.log
+      all_forced = sym (ap (λ (l : List Record). running.host.log.forced ++ l) none ∙ append-nil running.host.log.forced)
+
+      down : (records_of running.host.log ≡ was.first) ⊎ (records_of running.host.log ≡ was.other) → Reached start (SeatDown old ends clients running.host.log.forced)
+      down (inl first) = subst (λ (l : List Record). Reached start (SeatDown old ends clients l)) (sym (all_forced ∙ first)) was.to_first
+      down (inr other) = subst (λ (l : List Record). Reached start (SeatDown old ends clients l)) (sym (all_forced ∙ other)) was.to_other
+
+  still : (stopped : Stopped D) → IsStillDown old stopped → (log : List Record) → Reached start (SeatDown old ends clients log) → Reached start (SeatDown stopped ends clients log)
+  still stopped is log r = record { moves = r.moves; world = r.world; run = r.run; shows = seat_still old stopped ends clients log r.world is r.shows }
+
+  restarted : (t : told) (new : NodeState D) (answer : Result Bool RestartFault) (r : Restarts told state own alloc old new answer) (o : Restarted D Files NoServer) → new ≡ state_after o → IsRestarted own alloc old o
+      → IfUp o (IsReopened (state old.disk.disk))
+      → IfUp o (λ log. (a b : List Record) → EachImage (HasOneOf a b) (state old.disk.disk).now → (records_of log ≡ a) ⊎ (records_of log ≡ b))
+      → IsLater told state old (state_after o) → IsInWorld told state start (state_after o) ends clients
+  restarted t new answer r (restarts.Up running) same is reopened found later = record {
+    reached = rises_with running is reopened.raised.waiting later.0 (found was.first was.other (was.images t));
+    stands = later.1;
+  }
+  restarted t new answer r (restarts.Down stopped why) same is reopened found later = record {
+    first = was.first;
+    other = was.other;
+    to_first = still stopped is.0 was.first was.to_first;
+    to_other = still stopped is.0 was.other was.to_other;
+    images = λ again. subst (λ (n : NodeState D). EachImage (HasOneOf was.first was.other) (state (disk_of n).disk).now) same (r.moments t was.first was.other (was.images t)).here;
+  }
+
+pub each_restart : {D : Type 0} (told : Type 0) (state : D → DiskState) (own : D → ℕ) (alloc : Global) (start : World) (old : Stopped D) (new : NodeState D) (ends : List NodeEnds) (clients : List ClientCell) (answer : Result Bool RestartFault)
+    → RestartsGoOn told state own alloc start old new ends clients answer
+each_restart told state own alloc start old new ends clients answer t r later was =
+    subst (λ (n : NodeState _). IsInWorld told state start n ends clients) (sym r.node)
+    (restarted told state own alloc start old ends clients was t new answer r r.restarted r.node r.is (r.reopened t) (r.found t)
+    (subst (λ (n : NodeState _). IsLater told state old n) r.node later))

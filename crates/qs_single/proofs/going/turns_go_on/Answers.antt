@@ -1,0 +1,9 @@
+use Rattle.qs_single.proofs.Visited.{each_room, each_turn_goes, each_visit_begins}
+use Rattle.qs_single.proofs.going.turns_go_on.Goals as goal
+
+pub returns : goal.returns
+returns g c = record {
+  turns = λ source start ready ends new clients. each_turn_goes g.D.Disk.told g.D.Disk.state g.D.Disk.fault_count g.D.Disk.byte_count start source ready ends new clients;
+  room = λ start old ready ends clients. each_room g.D.Disk.told g.D.Disk.state start old ready ends clients;
+  begins = λ start old begun ends clients. each_visit_begins g.D.Disk.told g.D.Disk.state start old begun ends clients;
+}

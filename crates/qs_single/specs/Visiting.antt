@@ -1,0 +1,57 @@
+-- A source's turn in a visit, and the beginning of a visit: the cell with its clients goes on in the world.
+use Rattle.std.specs.Prelude.{◌≡◌, ⊤, ℕ, true, List, Option, Some, None}
+use Rattle.qs_base.specs.declared.identifiers.ClientNo.{ClientNo}
+use Rattle.qs_cell.specs.Restart.{in_round_as}
+use Rattle.qs_cell.specs.State.{IsSeenAs}
+use Rattle.qs_cell.specs.Visits.{IsSameNode, Seat, TakesTurn, due_command, held_by, left_of}
+use Rattle.qs_cell.specs.declared.state.NodeState.{NodeState}
+use Rattle.qs_cell.specs.declared.state.NodeState.TheVariants as states
+use Rattle.qs_chronicle.specs.declared.occasion.Occasion.{Occasion}
+use Rattle.qs_client.specs.declared.cell.ClientCell.{ClientCell}
+use Rattle.qs_disk.specs.Disk.{DiskState}
+use Rattle.qs_lanes.specs.declared.ends.NodeEnds.{NodeEnds}
+use Rattle.qs_world.specs.World.{World}
+use Rattle.qs_single.specs.Reached.{IsInWorld, IsSureOf}
+use Rattle.qs_single.specs.Seats.{From, HasCell, OfClient, OfNode, is_of_node}
+
+-- ---- what is due of a source, and the lanes that it leaves
+
+abbrev pub IsOwn : Option Occasion → Type 0
+IsOwn None = ⊤
+IsOwn (Some occasion) = is_of_node occasion ≡ true
+
+-- of a client; nothing is due of a node that is down
+abbrev pub IsDueNow : {D : Type 0} → ClientNo → NodeState D → List NodeEnds → Option Occasion → List NodeEnds → Type 0
+IsDueNow number (states.Up running) ends due left = (due ≡ due_command number running.carried ends) × (left ≡ left_of number (held_by number running.carried) ends)
+IsDueNow number (states.Down stopped) ends due left = (due ≡ None) × (left ≡ ends)
+
+pub record IsDueOf {D : Type 0} (number : ClientNo) (node : NodeState D) (ends : List NodeEnds) (clients : List ClientCell) (due : Option Occasion) (left : List NodeEnds) : Type 0 where
+  pub cell : HasCell number clients
+  pub is : IsDueNow number node ends due left
+
+abbrev pub IsTurnOf : {D : Type 0} → From → NodeState D → List NodeEnds → List ClientCell → Option Occasion → List NodeEnds → Type 0
+IsTurnOf (OfClient number) node ends clients due left = IsDueOf number node ends clients due left
+IsTurnOf OfNode node ends clients due left = IsOwn due × (left ≡ ends)
+
+-- ---- a turn
+
+-- what else is given of the event, where one is made
+abbrev pub IsSureTurn : {D : Type 0} → (told : Type 0) → (state : D → DiskState) → (own size : D → ℕ) → (due : Option Occasion) → (left : List NodeEnds) → (ready : NodeState D) → (ends : List NodeEnds) → (new : Seat D)
+    → TakesTurn told state own size due left (record { node = ready; ends = ends }) new → Type 0
+IsSureTurn told state own size None left ready ends new turn = ⊤
+IsSureTurn told state own size (Some occasion) left (states.Up running) ends new (answers, (makes, is)) = IsSureOf told state (size running.host.log.disk.disk) occasion running makes.outcome new.node
+IsSureTurn told state own size (Some occasion) left (states.Down stopped) ends new turn = ⊤
+
+abbrev pub TurnGoesOn : {D : Type 0} → Type 0 → (D → DiskState) → (D → ℕ) → (D → ℕ) → World → From → NodeState D → List NodeEnds → Seat D → List ClientCell → Type 0
+TurnGoesOn told state own size start source ready ends new clients =
+    (due : Option Occasion) (left : List NodeEnds) → IsTurnOf source ready ends clients due left
+    → (turn : TakesTurn told state own size due left (record { node = ready; ends = ends }) new) → IsSureTurn told state own size due left ready ends new turn
+    → IsInWorld told state start ready ends clients → IsInWorld told state start new.node new.ends clients
+
+-- ---- nothing happens as room is made, and as a visit begins
+
+abbrev pub RoomGoesOn : {D : Type 0} → Type 0 → (D → DiskState) → World → NodeState D → NodeState D → List NodeEnds → List ClientCell → Type 0
+RoomGoesOn told state start old ready ends clients = IsSameNode old ready → IsInWorld told state start old ends clients → IsInWorld told state start ready ends clients
+
+abbrev pub VisitBegins : {D : Type 0} → Type 0 → (D → DiskState) → World → NodeState D → NodeState D → List NodeEnds → List ClientCell → Type 0
+VisitBegins told state start old begun ends clients = IsSeenAs in_round_as old begun → IsInWorld told state start old ends clients → IsInWorld told state start begun ends clients
