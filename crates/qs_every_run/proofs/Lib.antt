@@ -94,6 +94,9 @@ pub mod AwaitedComes
 pub mod AwaitedCommands
 pub mod AwaitedSteps
 pub mod PlacesStop
+pub mod JoinedAs
+pub mod StoodElsewhere
+pub mod StepsAwaited
 pub mod RestartPlaced
 pub mod RisenFields
 pub mod PlacesRise

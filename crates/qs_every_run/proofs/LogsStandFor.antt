@@ -15,7 +15,7 @@ use Rattle.qs_lawful.specs.Tables.{HoldsServers, is_seen}
 use Rattle.qs_lawful.specs.Worlds.{HoldsNodeAt, HoldsUp}
 use Rattle.qs_lawful.proofs.Truths.{of_some}
 use Rattle.qs_every_run.specs.Joined.{Joined, book_in}
-use Rattle.qs_every_run.specs.JoinedPlaces.{PlacesAt}
+use Rattle.qs_every_run.specs.Awaiting.{AwaitedAt}
 use Rattle.qs_every_run.specs.StandsFor.{EachLogStandsFor, IsRestored}
 use Rattle.qs_every_run.proofs.JoinedMoves.{each_move_joined}
 use Rattle.qs_every_run.proofs.PlacesGoOn.{places_go}
@@ -37,7 +37,7 @@ any_ordered : (a e b c d : Bool) → a ≡ true → b ≡ true → c ≡ true �
 any_ordered a true b c d p q r s = rw (p, s) refl
 any_ordered a false b c d p q r s = ordered a b c d p q r s
 
-module _ (o : Opening) (world : World) (n stamp inc : ℕ) (may : may_move world (Rise n stamp inc) ≡ true) (j : Joined PlacesAt o (moved (Rise n stamp inc) world)) where
+module _ (o : Opening) (world : World) (n stamp inc : ℕ) (may : may_move world (Rise n stamp inc) ≡ true) (j : Joined AwaitedAt o (moved (Rise n stamp inc) world)) where
   abbrev after : World
   after = moved (Rise n stamp inc) world
 
@@ -95,8 +95,8 @@ module _ (o : Opening) (world : World) (n stamp inc : ℕ) (may : may_move world
     kept = at.kept;
   }
 
-pub each_log_stands_for : EachLogStandsFor PlacesAt
-each_log_stands_for owed o world crash n stamp inc j is may rises = record { stopped = stopped.lawful; restored = rises_restored o (moved crash world) n stamp inc rises (each_move_joined PlacesAt places_go owed o (moved crash world) (Rise n stamp inc) stopped rises) }
+pub each_log_stands_for : EachLogStandsFor AwaitedAt
+each_log_stands_for owed o world crash n stamp inc j is may rises = record { stopped = stopped.lawful; restored = rises_restored o (moved crash world) n stamp inc rises (each_move_joined AwaitedAt places_go owed o (moved crash world) (Rise n stamp inc) stopped rises) }
   where
-    stopped : Joined PlacesAt o (moved crash world)
-    stopped = each_move_joined PlacesAt places_go owed o world crash j may
+    stopped : Joined AwaitedAt o (moved crash world)
+    stopped = each_move_joined AwaitedAt places_go owed o world crash j may

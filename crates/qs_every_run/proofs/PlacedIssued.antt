@@ -131,7 +131,7 @@ module _ (tx : TransactionValue) (at : RequestNo) (request : Request) (peer_inc 
 
 module _ (member : Member) where
   -- what stands then stood
-  stood_before : (m : Member) (rs : List Request) → is_some (find (is_standing m) (mark_served member rs)) ≡ true → is_some (find (is_standing m) rs) ≡ true
+  pub stood_before : (m : Member) (rs : List Request) → is_some (find (is_standing m) (mark_served member rs)) ≡ true → is_some (find (is_standing m) rs) ≡ true
   stood_before m [] stands = stands
   stood_before m (r ∷ rs) stands = by (is_standing member r) refl (is_standing m r) refl stands (stood_before m rs)
     where

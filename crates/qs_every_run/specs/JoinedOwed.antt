@@ -33,7 +33,7 @@ use Rattle.qs_lawful.specs.GivenStep.{done_work}
 use Rattle.qs_lawful.specs.WorldLaws.{StopsWell}
 use Rattle.qs_every_run.specs.Agrees.{MakesStep}
 use Rattle.qs_every_run.specs.Joined.{Joined, book_in}
-use Rattle.qs_every_run.specs.PlacesApart.{EachLeavesNoneAway}
+use Rattle.qs_every_run.specs.Awaiting.{EachOwnAwaited}
 
 -- ---- as a run begins
 
@@ -110,4 +110,5 @@ pub record WholeSteps (P : Opening → World → Type 0) : Type 0 where
 pub record Owed (P : Opening → World → Type 0) : Type 0 where
   -- as a node crashes
   pub keeps_its_batch : EachKeepsItsBatch P
-  pub leaves_none : EachLeavesNoneAway P  -- where it is not engaged, no request of its own stands at another node
+  -- a step
+  pub own_awaited : EachOwnAwaited P  -- what its node issued to others waits there for its reply
