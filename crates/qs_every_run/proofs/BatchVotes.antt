@@ -29,14 +29,14 @@ module _ (P : Prepared → Type 0) (unmarked : (tid : Tid) (vote : Prepared) →
 or_right : (a b : Bool) → a ≡ true → (a || b) ≡ true
 or_right a b is = rw is refl
 
-among_one : (tid : Tid) (said : Recovery) (rec : Record) → is_among said.committed tid ≡ true → is_among (found_record said rec).committed tid ≡ true
+pub among_one : (tid : Tid) (said : Recovery) (rec : Record) → is_among said.committed tid ≡ true → is_among (found_record said rec).committed tid ≡ true
 among_one tid said (made.Prepare t server covers changes) is = is
 among_one tid said (made.Commit t []) is = list_any-append (same_tid tid) said.committed (if names_transaction t then t ∷ [] else []) ∙ or_right _ _ is
 among_one tid said (made.Commit t (node ∷ told)) is = list_any-append (same_tid tid) said.committed (if names_transaction t then t ∷ [] else []) ∙ or_right _ _ is
 among_one tid said (made.Aborted t) is = is
 among_one tid said (made.End t) is = is
 
-among_all : (tid : Tid) (records : List Record) (said : Recovery) → is_among said.committed tid ≡ true → is_among (fold found_record said records).committed tid ≡ true
+pub among_all : (tid : Tid) (records : List Record) (said : Recovery) → is_among said.committed tid ≡ true → is_among (fold found_record said records).committed tid ≡ true
 among_all tid [] said is = is
 among_all tid (rec ∷ records) said is = among_all tid records (found_record said rec) (among_one tid said rec is)
 

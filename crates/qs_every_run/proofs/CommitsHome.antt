@@ -132,7 +132,7 @@ module _ (node : NodeValue) (event : Event) (done : List Act) (tid : Tid) where
     enters : EntersVote tid (record { node = node.setting.node; server = server }) votes.Recoverable covers done
 
   entered_one : (rec : Record) → IsSource node event done rec → is_prepare_of tid rec ≡ true → EntersSome
-  entered_one (records.Prepare u server covers changes) (inl e) is = record { server = server; covers = covers; enters = subst (λ (t : Tid). EntersVote t (record { node = node.setting.node; server = server }) votes.Recoverable covers done) (sym (same_tid-true tid u is)) e }
+  entered_one (records.Prepare u server covers changes) (inl e) is = record { server = server; covers = covers; enters = subst (λ (t : Tid). EntersVote t (record { node = node.setting.node; server = server }) votes.Recoverable covers done) (sym (same_tid-true tid u is)) e.0 }
   entered_one (records.Prepare u server covers changes) (inr (inl told)) is = absurd (let none : is_prepare_of tid (records.Prepare u server covers changes) ≡ is_prepare_of tid (end_record told.tid told.outcome) = ap (is_prepare_of tid) told.is in never told.outcome (sym none ∙ is))
     where
       never : (outcome : Outcome) → is_prepare_of tid (end_record told.tid outcome) ≡ true → ⊥

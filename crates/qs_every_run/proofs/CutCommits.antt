@@ -124,7 +124,7 @@ module _ (P : Opening → World → Type 0) (steps : WholeSteps P) (unanimous : 
           shut : (c : Cell) → c ≡ cells.Commit → is_open c ≡ false
           shut c is = rw is refl
 
-  keeps_votes_so : KeptVotes n book (recovery log)
+  pub keeps_votes_so : KeptVotes n book (recovery log)
   keeps_votes_so = record {
     kinds = subst (λ (rs : List Record). Every (λ (vote : Prepared). machine.is_recoverable vote.server.0 ≡ true) (recovery rs).prepared) logs up.log.on_disk.kinds;
     marked = subst (λ (rs : List Record). Every (IsMarked (recovery rs)) (recovery rs).prepared) logs up.log.on_disk.marked;
@@ -156,7 +156,7 @@ module _ (P : Opening → World → Type 0) (steps : WholeSteps P) (unanimous : 
     of_found None none = absurd (stood_earlier tid n stamp (world.hosts n).node event free book well.inv lawful done none)
     of_found (Some tx) found = of_cell tx found tx.cell refl
 
-  keeps : (state : machine.NodeValue) → Every (IsCommitLogged n book state) (recovery log).committed
+  pub keeps : (state : machine.NodeValue) → Every (IsCommitLogged n book state) (recovery log).committed
   keeps state = each (recovery log).committed (λ tid is. is)
     where
       first : (t : Tid) (ts : List Tid) → list_any (same_tid t) (t ∷ ts) ≡ true

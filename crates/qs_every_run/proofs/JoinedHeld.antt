@@ -130,7 +130,7 @@ module _ (P : Opening → World → Type 0) (steps : WholeSteps P) (unanimous : 
 
   -- ---- a Tell that comes says the outcome that the machine has
 
-  true_event : IsTrueEvent old event
+  pub true_event : IsTrueEvent old event
   true_event = by source makes.comes
     where
       one : (a b : Event) → Some a ≡ Some b → a ≡ b

@@ -97,6 +97,7 @@ pub mod PlacesStop
 pub mod JoinedAs
 pub mod StoodElsewhere
 pub mod StepsAwaited
+pub mod OwnAwaited
 pub mod RestartPlaced
 pub mod RisenFields
 pub mod PlacesRise
@@ -138,6 +139,7 @@ pub mod CutCould
 pub mod BatchVotes
 pub mod TriedOwingRuns
 pub mod TriedApartRuns
+pub mod TriedStaleRuns
 pub mod ServesGo
 pub mod StepsGo
 pub mod StepsWhole
@@ -202,3 +204,19 @@ pub mod OwnMoves
 pub mod NextOpening
 pub mod LogsStandFor
 pub mod NextRuns
+pub mod FoundRecords
+pub mod BatchContents
+pub mod BatchSays
+pub mod BatchFound
+pub mod BatchGoes
+pub mod CommitsApplied
+pub mod BatchHeld
+pub mod BatchWhole
+pub mod CutHeld
+pub mod VotesKeep
+pub mod DecidedOnce
+pub mod VotesShut
+pub mod BatchSources
+pub mod BatchCommits
+pub mod BatchBeyond
+pub mod BatchFits

@@ -1,15 +1,14 @@
 -- After a crash and a restart all stands together again, so what the node took up from its log is what the machine has.
-use Rattle.std.proofs.Common.{◌≡◌, ℕ, ◌<◌, ◌==◌, ◌||◌, ◌&&◌, not, nat_le, nat_lt, Bool, true, false, Some, refl, sym, subst, ◌∙◌, arith, if◌then◌else◌}
+use Rattle.std.proofs.Common.{◌≡◌, ℕ, ◌<◌, ◌==◌, ◌&&◌, not, nat_lt, Bool, true, Some, refl, sym, subst, ◌∙◌, arith, if◌then◌else◌}
 use Rattle.std.proofs.lemmas.Bool.Decides.{nat_tests}
 use Rattle.std.specs.Prelude.{slice_get}
 use Rattle.qs_machine.specs.Book.{BookValue}
 use Rattle.qs_machine.specs.Nodes as machine
 use Rattle.qs_restart.specs.Recovery.{recovery}
-use Rattle.qs_step.specs.Opening.{recovered_of}
-use Rattle.qs_world.specs.Moves.{Rise, is_in_order, may_move, moved, risen_host, stamp_limit}
+use Rattle.qs_world.specs.Moves.{Rise, is_in_order, may_move, moved, stamp_limit}
 use Rattle.qs_world.specs.World.{Opening, World}
 use Rattle.qs_refine.proofs.SoundParts.{and_both}
-use Rattle.qs_lawful.specs.Holds.{Holds}
+use Rattle.qs_lawful.specs.Holds.{HoldsStill}
 use Rattle.qs_lawful.specs.Logged.{HoldsLogged}
 use Rattle.qs_lawful.specs.Tables.{HoldsServers, is_seen}
 use Rattle.qs_lawful.specs.Worlds.{HoldsNodeAt, HoldsUp}
@@ -23,19 +22,8 @@ use Rattle.qs_every_run.proofs.PlacesGoOn.{places_go}
 equal : (a : ℕ) → (a == a) ≡ true
 equal a = grind (arith, nat_tests)
 
-least : (a : ℕ) → nat_le a a ≡ true
-least a = grind (arith, nat_tests)
-
 less_of : (a b : ℕ) → nat_lt a b ≡ true → a < b
 less_of a b is = grind (arith, nat_tests, is)
-
--- a node's own step may be followed by one with the same stamp
-ordered : (a b c d : Bool) → a ≡ true → b ≡ true → c ≡ true → d ≡ true → (a && ((false || (b && c)) && d)) ≡ true
-ordered a b c d p q r s = rw (p, q, r, s) refl
-
-any_ordered : (a e b c d : Bool) → a ≡ true → b ≡ true → c ≡ true → d ≡ true → (a && ((e || (b && c)) && d)) ≡ true
-any_ordered a true b c d p q r s = rw (p, s) refl
-any_ordered a false b c d p q r s = ordered a b c d p q r s
 
 module _ (o : Opening) (world : World) (n stamp inc : ℕ) (may : may_move world (Rise n stamp inc) ≡ true) (j : Joined AwaitedAt o (moved (Rise n stamp inc) world)) where
   abbrev after : World
@@ -59,23 +47,14 @@ module _ (o : Opening) (world : World) (n stamp inc : ℕ) (may : may_move world
       picked : (b : Bool) → b ≡ true → (if b then true else world.channels.up n) ≡ true
       picked b is = rw is refl
 
-  stamp_is : (after.hosts n).stamp ≡ stamp
-  stamp_is = picked (n == n) (equal n)
-    where
-      picked : (b : Bool) → b ≡ true → (if b then risen_host stamp inc (recovered_of (world.hosts n).log) (world.hosts n) else world.hosts n).stamp ≡ stamp
-      picked b is = rw is refl
-
-  order_then : is_in_order after n stamp ≡ true
-  order_then = any_ordered (nat_lt n world.size && nat_lt stamp stamp_limit) (nat_lt stamp stamp) (stamp == stamp) (nat_le n n) (nat_le (after.hosts n).stamp stamp) bounds (equal stamp) (least n) (subst (λ (k : ℕ). nat_le k stamp ≡ true) (sym stamp_is) (least stamp))
-
   at : HoldsNodeAt book after n
   at = j.held.nodes n low
 
   up : HoldsUp n book at.state (after.hosts n)
   up = at.runs runs
 
-  holds : Holds stamp book (after.hosts n).node
-  holds = up.next stamp (j.held.order n stamp order_then)
+  holds : HoldsStill book (after.hosts n).node
+  holds = up.still
 
   same : holds.state ≡ at.state
   same = of_some (sym (subst (λ (k : ℕ). slice_get book.nodes k ≡ Some holds.state) at.node holds.there) ∙ at.there)

@@ -18,13 +18,13 @@ use Rattle.qs_every_run.specs.CutRecords.{IsEntered, commits_of, decides_commit,
 -- ---- among more entries
 
 behind : (me : NodeNo) (front done : List Act) (rec : Record) → IsEntered me done rec → IsEntered me (front ++ done) rec
-behind me front done (made.Prepare tid server covers changes) e = record { before = front ++ e.before; after = e.after; is = ap (λ (acts : List Act). front ++ acts) e.is ∙ sym (append_assoc front e.before _) }
+behind me front done (made.Prepare tid server covers changes) e = (record { before = front ++ e.0.before; after = e.0.after; is = ap (λ (acts : List Act). front ++ acts) e.0.is ∙ sym (append_assoc front e.0.before _) }, e.1)
 behind me front done (made.Commit tid told) e = record { before = front ++ e.before; cause = e.cause; after = e.after; is = ap (λ (acts : List Act). front ++ acts) e.is ∙ sym (append_assoc front e.before _) }
 behind me front done (made.Aborted tid) e = record { before = front ++ e.before; cause = e.cause; after = e.after; is = ap (λ (acts : List Act). front ++ acts) e.is ∙ sym (append_assoc front e.before _) }
 behind me front done (made.End tid) e = absurd e
 
 ahead : (me : NodeNo) (done back : List Act) (rec : Record) → IsEntered me done rec → IsEntered me (done ++ back) rec
-ahead me done back (made.Prepare tid server covers changes) e = record { before = e.before; after = e.after ++ back; is = ap (λ (acts : List Act). acts ++ back) e.is ∙ append_assoc e.before _ back }
+ahead me done back (made.Prepare tid server covers changes) e = (record { before = e.0.before; after = e.0.after ++ back; is = ap (λ (acts : List Act). acts ++ back) e.0.is ∙ append_assoc e.0.before _ back }, e.1)
 ahead me done back (made.Commit tid told) e = record { before = e.before; cause = e.cause; after = e.after ++ back; is = ap (λ (acts : List Act). acts ++ back) e.is ∙ append_assoc e.before _ back }
 ahead me done back (made.Aborted tid) e = record { before = e.before; cause = e.cause; after = e.after ++ back; is = ap (λ (acts : List Act). acts ++ back) e.is ∙ append_assoc e.before _ back }
 ahead me done back (made.End tid) e = absurd e

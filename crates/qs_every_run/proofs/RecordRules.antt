@@ -12,6 +12,7 @@ use Rattle.qs_engage.specs.Engage.{release_of}
 use Rattle.qs_engage.specs.Nodes.{listed}
 use Rattle.qs_journal.specs.declared.entry.Act.TheVariants as acts
 use Rattle.qs_laws.proofs.Maps.{changed_none, lookup_changed}
+use Rattle.qs_machine.specs.Transaction.{is_empty}
 use Rattle.qs_ops.specs.Server.{changes_in, vote_of}
 use Rattle.qs_ops.specs.declared.answer.Cause.{Cause}
 use Rattle.qs_ops.specs.declared.answer.Cause.TheVariants as causes
@@ -41,6 +42,7 @@ use Rattle.qs_lawful.proofs.LogEndings.{quiet_ends, quiet_notices}
 use Rattle.qs_lawful.proofs.LogLearning.{Learns, learn_acts, learns}
 use Rattle.qs_lawful.proofs.QuietRequests.{quiet_issue}
 use Rattle.qs_lawful.proofs.Recordless.{quiet_send, quiet_sends}
+use Rattle.qs_every_run.proofs.VotesKeep.{vote_has_changes, vote_keeps_changes}
 use Rattle.qs_every_run.proofs.RecordMakes.{Makes, makes_fold, makes_if, makes_none, makes_quiet, makes_self, makes_then, makes_where, none_told}
 
 -- ---- a vote leaves how much its server served
@@ -84,23 +86,26 @@ module _ (me : NodeNo) (Else : Record → Type 0) where
 
   -- ---- votes
 
-  vote_makes : (tid : Tid) (server : ServerNo) (work : Work) (ballot : Vote) → M work (vote_with tid server ballot work)
-  vote_makes tid server work (votes.Abort reason) = makes_none me Else work (enter_vote tid server (votes.Abort reason) work) (acts.Vote tid (member_here work server) (votes.Abort reason) (served_count tid server work) ∷ []) refl refl refl
-  vote_makes tid server work votes.ReadOnly = makes_none me Else work (enter_vote tid server votes.ReadOnly work) (acts.Vote tid (member_here work server) votes.ReadOnly (served_count tid server work) ∷ []) refl refl refl
-  vote_makes tid server work votes.Volatile = makes_none me Else work (enter_vote tid server votes.Volatile work) (acts.Vote tid (member_here work server) votes.Volatile (served_count tid server work) ∷ []) refl refl refl
-  vote_makes tid server work votes.Recoverable = record {
+  vote_makes : (tid : Tid) (server : ServerNo) (work : Work) (ballot : Vote) → (ballot ≡ votes.Recoverable → is_empty (changes_in (server_at work.node.servers server) tid) ≡ false) → M work (vote_with tid server ballot work)
+  vote_makes tid server work (votes.Abort reason) has = makes_none me Else work (enter_vote tid server (votes.Abort reason) work) (acts.Vote tid (member_here work server) (votes.Abort reason) (served_count tid server work) ∷ []) refl refl refl
+  vote_makes tid server work votes.ReadOnly has = makes_none me Else work (enter_vote tid server votes.ReadOnly work) (acts.Vote tid (member_here work server) votes.ReadOnly (served_count tid server work) ∷ []) refl refl refl
+  vote_makes tid server work votes.Volatile has = makes_none me Else work (enter_vote tid server votes.Volatile work) (acts.Vote tid (member_here work server) votes.Volatile (served_count tid server work) ∷ []) refl refl refl
+  vote_makes tid server work votes.Recoverable has = record {
     more = acts.Vote tid (member_here work server) votes.Recoverable (served_count tid server work) ∷ [];
     made = made.Prepare tid server (served_count tid server voted) (changes_in (server_at voted.node.servers server) tid) ∷ [];
     entries = refl;
     records = refl;
     setting = refl;
     from = λ is. (
-      inl (record {
-        before = [];
-        after = [];
-        is = ap (λ (n : NodeNo). acts.Vote tid (record { node = n; server = server }) votes.Recoverable (served_count tid server work) ∷ []) is
-            ∙ ap (λ (k : ℕ). acts.Vote tid (record { node = me; server = server }) votes.Recoverable k ∷ []) (sym (covers_same tid server votes.Recoverable work));
-      }),
+      inl (
+        record {
+          before = [];
+          after = [];
+          is = ap (λ (n : NodeNo). acts.Vote tid (record { node = n; server = server }) votes.Recoverable (served_count tid server work) ∷ []) is
+              ∙ ap (λ (k : ℕ). acts.Vote tid (record { node = me; server = server }) votes.Recoverable k ∷ []) (sym (covers_same tid server votes.Recoverable work));
+        },
+        ap is_empty (vote_keeps_changes server tid work.node.servers) ∙ has refl,
+      ),
       tt,
     );
     once = λ t. least _;
@@ -118,7 +123,7 @@ module _ (me : NodeNo) (Else : Record → Type 0) where
 
       next : (w : Work) (server : ServerNo) → M w (vote_next tid w server)
       next w server = makes_if me Else (owes_note tid server w) w (issue_note tid w.node.setting.audit w) (vote_with tid server (vote_of (server_at w.node.servers server) tid w.room (vote_frame w)) w)
-          (note w w.node.setting.audit) (vote_makes tid server w (vote_of (server_at w.node.servers server) tid w.room (vote_frame w)))
+          (note w w.node.setting.audit) (vote_makes tid server w (vote_of (server_at w.node.servers server) tid w.room (vote_frame w)) (vote_has_changes (server_at w.node.servers server) tid w.room (vote_frame w)))
 
   -- ---- decisions
 

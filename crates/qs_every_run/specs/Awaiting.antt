@@ -1,15 +1,19 @@
 -- Each request that stands at another node than the one that issued it waits there for its reply, or its transaction is doomed. So a node that is not engaged has none
 -- that stands at another.
-use Rattle.std.specs.Prelude.{◌≡◌, ◌⊎◌, ℕ, ◌==◌, true, false, Some, is_some}
+use Rattle.std.specs.Prelude.{◌≡◌, ◌⊎◌, ℕ, ◌==◌, true, false, None, Some, is_some}
 use Rattle.qs_base.specs.declared.identifiers.Member.{Member}
+use Rattle.qs_base.specs.declared.identifiers.NodeNo.{NodeNo}
 use Rattle.qs_base.specs.declared.identifiers.Tid.{Tid}
 use Rattle.qs_machine.specs.Book.{BookValue, find_transaction}
 use Rattle.qs_machine.specs.Lawful.{IsLawful}
 use Rattle.qs_machine.specs.Transaction.{TransactionValue, is_open, standing_request}
 use Rattle.qs_machine.specs.declared.transaction.RequestNo.{RequestNo}
+use Rattle.qs_ops.specs.declared.reply.Reply.{Reply}
+use Rattle.qs_packet.specs.declared.message.Message.TheVariants as messages
 use Rattle.qs_step.specs.State.{NodeValue}
 use Rattle.qs_step.specs.Step.{after_step, effects_of}
 use Rattle.qs_step.specs.declared.event.Event.{Event}
+use Rattle.qs_step.specs.declared.event.Event.TheVariants as events
 use Rattle.qs_world.specs.Moves.{Source, Step, moved}
 use Rattle.qs_world.specs.Posting.{entries_of}
 use Rattle.qs_world.specs.World.{Opening, World}
@@ -17,6 +21,7 @@ use Rattle.qs_agree.specs.World as machine
 use Rattle.qs_agree.specs.Doomed.{IsDoomed}
 use Rattle.qs_refine.specs.Begun.{has_begun}
 use Rattle.qs_refine.specs.EachMove.{ShowsAll}
+use Rattle.qs_lawful.specs.Parcels.{way_between}
 use Rattle.qs_every_run.specs.Agrees.{MakesStep, nodes_in}
 use Rattle.qs_every_run.specs.Awaited.{WaitsAt}
 use Rattle.qs_every_run.specs.Joined.{Joined, book_in}
@@ -51,3 +56,22 @@ EachOwnAwaited P = (o : Opening) (world : World) (n stamp free : ℕ) (source : 
     → (tid : Tid) (w : machine.World) → ShowsAll tid (moved (Step n stamp free source) world) w → HoldsPlaced tid (book_in o world) (field_of world) w → HoldsAwaited tid (book_in o world) (nodes_in world) w
     → (tx : TransactionValue) → find_transaction (book_in o (moved (Step n stamp free source) world)) tid ≡ Some tx → is_open tx.cell ≡ true → Placed tid tx (field_of (moved (Step n stamp free source) world))
     → IsDoomed w ⊎ AwaitsOwn n tid tx (after_step (world.hosts n).node event free)
+
+-- ---- of what its node had issued before the step, it is enough that each reply is true: a reply that comes is of a request that stands no more
+
+abbrev pub EachReplyTrue : (Opening → World → Type 0) → Type 0
+EachReplyTrue P = (o : Opening) (world : World) (n stamp : ℕ) (source : Source) (peer : NodeNo) (tid : Tid) (member : Member) (number : ℕ) (reply : Reply) (tx : TransactionValue) → Joined P o world → MakesStep world n stamp source (events.Received peer (messages.Answered tid member number reply))
+    → find_transaction (book_in o world) tid ≡ Some tx → is_open tx.cell ≡ true → Placed tid tx (field_of world) → standing_request tx (way_between n member.node.0 number) member ≡ None
+
+-- those of one node that did not stand in that machine
+abbrev pub AwaitsFresh : ℕ → Tid → BookValue → TransactionValue → NodeValue → Type 0
+AwaitsFresh n tid book tx node = (at : RequestNo) (member : Member) → at.link.from.0 ≡ n → (at.link.to.0 == n) ≡ false → is_some (standing_request tx at member) ≡ true
+    → ((was : TransactionValue) → find_transaction book tid ≡ Some was → standing_request was at member ≡ None) → WaitsAt tid member at.number node
+
+-- what it issues in the step
+abbrev pub EachFreshAwaited : (Opening → World → Type 0) → Type 0
+EachFreshAwaited P = (o : Opening) (world : World) (n stamp free : ℕ) (source : Source) (event : Event) → Joined P o world → MakesStep world n stamp source event
+    → IsLawful (book_in o world) (entries_of n stamp (effects_of (world.hosts n).node event free).entries)
+    → (tid : Tid) (w : machine.World) → ShowsAll tid (moved (Step n stamp free source) world) w → HoldsPlaced tid (book_in o world) (field_of world) w → HoldsAwaited tid (book_in o world) (nodes_in world) w
+    → (tx : TransactionValue) → find_transaction (book_in o (moved (Step n stamp free source) world)) tid ≡ Some tx → is_open tx.cell ≡ true → Placed tid tx (field_of (moved (Step n stamp free source) world))
+    → IsDoomed w ⊎ AwaitsFresh n tid (book_in o world) tx (after_step (world.hosts n).node event free)

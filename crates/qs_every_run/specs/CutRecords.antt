@@ -8,6 +8,7 @@ use Rattle.qs_base.specs.declared.identifiers.Tid.{Tid}
 use Rattle.qs_engage.specs.Nodes.{same_node}
 use Rattle.qs_journal.specs.declared.entry.Act.{Act}
 use Rattle.qs_journal.specs.declared.entry.Act.TheVariants as acts
+use Rattle.qs_machine.specs.Transaction.{is_empty}
 use Rattle.qs_ops.specs.declared.answer.Cause.{Cause}
 use Rattle.qs_ops.specs.declared.vote.Vote.TheVariants as votes
 use Rattle.qs_packet.specs.declared.message.Message.TheVariants as messages
@@ -31,9 +32,9 @@ pub record EntersDecide (tid : Tid) (outcome : Outcome) (done : List Act) : Type
   pub after : List Act
   pub is : done ≡ before ++ acts.Decide tid outcome cause ∷ after
 
--- a record of what the step itself entered
+-- a record of what the step itself entered; a vote is of some changes
 abbrev pub IsEntered : NodeNo → List Act → Record → Type 0
-IsEntered me done (made.Prepare tid server covers changes) = EntersVote tid (record { node = me; server = server }) votes.Recoverable covers done
+IsEntered me done (made.Prepare tid server covers changes) = EntersVote tid (record { node = me; server = server }) votes.Recoverable covers done × (is_empty changes ≡ false)
 IsEntered me done (made.Commit tid told) = EntersDecide tid outcomes.Commit done
 IsEntered me done (made.Aborted tid) = EntersDecide tid outcomes.Abort done
 IsEntered me done (made.End tid) = ⊥

@@ -30,10 +30,10 @@ use Rattle.qs_lawful.specs.Aside.{StaysUnanimous}
 use Rattle.qs_lawful.specs.Entering.{book_at}
 use Rattle.qs_lawful.specs.Given.{AtEach}
 use Rattle.qs_lawful.specs.GivenStep.{done_work}
-use Rattle.qs_lawful.specs.WorldLaws.{StopsWell}
 use Rattle.qs_every_run.specs.Agrees.{MakesStep}
+use Rattle.qs_every_run.specs.CutBatches.{EachVoteOfStart}
 use Rattle.qs_every_run.specs.Joined.{Joined, book_in}
-use Rattle.qs_every_run.specs.Awaiting.{EachOwnAwaited}
+use Rattle.qs_every_run.specs.Awaiting.{EachFreshAwaited, EachReplyTrue}
 
 -- ---- as a run begins
 
@@ -50,11 +50,6 @@ CommitsSettled stamp before work tid = (part : Participant) → tm.part_of tid (
 abbrev pub EachCommitsSettled : (Opening → World → Type 0) → Type 0
 EachCommitsSettled P = (o : Opening) (world : World) (n stamp free : ℕ) (source : Source) (event : Event) → Joined P o world → MakesStep world n stamp source event
     → AtEach (CommitsSettled stamp (book_in o world)) settle_tid (done_work (world.hosts n).node event free) (due_tids (done_work (world.hosts n).node event free))
-
--- a step that is cut off and whose batch is kept, as where it is lost
-abbrev pub EachKeepsItsBatch : (Opening → World → Type 0) → Type 0
-EachKeepsItsBatch P = (o : Opening) (world : World) (n stamp free : ℕ) (source : Source) (cause : CrashCause) → Joined P o world → may_move world (Cut n stamp free source true cause) ≡ true
-    → StopsWell (book_in o world) (moved (Cut n stamp free source true cause) world) n stamp cause
 
 -- what a home decided in a step that is cut off, with a record of it on the disk, was unanimous before
 abbrev pub CutsUnanimous : Opening → World → ℕ → ℕ → ℕ → Bool → CrashCause → Event → Type 0
@@ -108,7 +103,8 @@ pub record WholeSteps (P : Opening → World → Type 0) : Type 0 where
 -- ---- all that is owed
 
 pub record Owed (P : Opening → World → Type 0) : Type 0 where
-  -- as a node crashes
-  pub keeps_its_batch : EachKeepsItsBatch P
+  -- the votes of a step, where it is cut off with its batch kept
+  pub votes : EachVoteOfStart P
   -- a step
-  pub own_awaited : EachOwnAwaited P  -- what its node issued to others waits there for its reply
+  pub replies_true : EachReplyTrue P  -- a reply that comes is of a request that stands no more
+  pub fresh_awaited : EachFreshAwaited P  -- what its node issues to others in it waits there for its reply

@@ -46,3 +46,5 @@ pub mod CutRecords
 pub mod OwnChanges
 pub mod CoherentAgain
 pub mod StandsFor
+pub mod TriedStale
+pub mod CutBatches

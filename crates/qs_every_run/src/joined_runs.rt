@@ -6,7 +6,8 @@ ghost use Rattle.qs_every_run.specs.JoinedPlaces.{PlacesAt};
 ghost use Rattle.qs_every_run.specs.PlacesLaws.{PlacesGoOn};
 ghost use Rattle.qs_every_run.specs.JoinedRuns.{EachMoveJoined, EachOpensJoined, EachRunJoined, EachRunLawful};
 ghost use Rattle.qs_every_run.specs.Joined.{RunningAt};
-ghost use Rattle.qs_every_run.specs.CutCommits.{EachKeepsCommits, EachKeepsVotes};
+ghost use Rattle.qs_every_run.specs.CutCommits.{EachKeepsCommits, EachKeepsItsBatch, EachKeepsVotes};
+ghost use Rattle.qs_every_run.specs.CutRecords.{StepsMakeRecords};
 ghost use Rattle.qs_every_run.specs.CutVotes.{BatchLeavesVotes, DueVotesCut, EachMarkedBefore, StepsVoteDue};
 ghost use Rattle.qs_every_run.specs.Firsts.{CommitsStood, CommitsUnanimous, StepsCommitFirst, StepsVoteFirst};
 ghost use Rattle.qs_every_run.specs.Labels.{RequestsOwned};
@@ -89,6 +90,13 @@ pub fn kept_batches_are_settled()
     ensures votes { EachKeepsVotes PlacesAt }
 {}
 
+/// So the crash of a step that is cut off with its batch kept is lawful, and the machine after it has the world after it: what the log says with the batch
+/// a restart may find, where each vote of the batch is of what was pending as the step began. Each vote stood on record or could be made then, and no
+/// vote that was told is lost; what the log has committed is what the restart applies, and what it has in doubt is on record then.
+pub fn kept_batches_are_held()
+    ensures { EachKeepsItsBatch PlacesAt }
+{}
+
 /// What commit was asked for, or has a request, began in the run, so it has an owner. And each label of a transaction of its own that a node keeps after
 /// a step is kept as its owner's: no request that comes home tells of another.
 pub fn labels_stay_owned()
@@ -105,4 +113,11 @@ pub fn votes_were_due()
     ensures marked { EachMarkedBefore }
     ensures cut { DueVotesCut }
     ensures batch { BatchLeavesVotes }
+{}
+
+/// Where the records of a step come from: a Prepare from a vote, and a Commit or an Aborted from a decision, that the step enters, or from an outcome that
+/// its node is told of what it has in doubt; an End from the last acknowledgement of a Commit that stands in the log; and an Aborted from what a home opens
+/// with in doubt. Of one transaction it makes no more Commits than it enters or is told.
+pub fn steps_make_records()
+    ensures { StepsMakeRecords }
 {}

@@ -7,3 +7,4 @@ pub mod OpensWithin
 pub mod RunsGo
 pub mod RunsAgree
 pub mod PlaysRun
+pub mod SessionsPlain

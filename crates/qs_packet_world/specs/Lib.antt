@@ -6,3 +6,5 @@ pub mod PacketLaws
 pub mod PacketAgrees
 pub mod PacketPlays
 pub mod PacketRows
+pub mod PacketLawful
+pub mod PacketSessions

@@ -23,7 +23,7 @@ pub record IsRunOf (o : Opening) (moves : List Move) (new : PacketWorld) : Type 
   pub run : runs.Run (worlds.start (within o)) (run_moves (start o) moves) (over new channels)
   pub shown : ShowsWorld new channels
 
--- it begins as runs of packets do, as it may where these may, and for the reference machine as they do
+-- the opening of that run: it may begin one where that of the packets may, and the reference machine begins alike
 pub record BeginsAlike (o : Opening) : Type 0 where
   pub opens : IsOpening (within o)
   pub book : book_of (within o) ≡ book_of o
