@@ -279,4 +279,4 @@ module _ (P : Opening → World → Type 0) (between : Keeps P IsBetweenSteps P)
   move_joined (Meet n stamp m inc) may = meet_joined n stamp m inc may
 
 pub each_move_joined : (P : Opening → World → Type 0) → GoesOn P → EachMoveJoined P
-each_move_joined P goes owed o world move j may = move_joined P (goes.between (cuts_unanimous P (goes.steps owed.replies_true owed.fresh_awaited))) (goes.steps owed.replies_true owed.fresh_awaited) owed goes.unanimous o world j move may
+each_move_joined P goes owed o world move j may = move_joined P (goes.between (cuts_unanimous P (goes.steps owed.replies_true owed.issues_wait))) (goes.steps owed.replies_true owed.issues_wait) owed goes.unanimous o world j move may

@@ -98,6 +98,8 @@ pub mod JoinedAs
 pub mod StoodElsewhere
 pub mod StepsAwaited
 pub mod OwnAwaited
+pub mod FreshIssued
+pub mod FreshAwaited
 pub mod RestartPlaced
 pub mod RisenFields
 pub mod PlacesRise

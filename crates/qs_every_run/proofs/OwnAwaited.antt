@@ -159,6 +159,24 @@ module _ (o : Opening) (world : World) (ja : Joined AwaitedAt o world) (n stamp 
     comes_so (events.PeerRestarted peer old new) free_now = tt
     comes_so events.Tick free_now = tt
 
+  -- its node has decided nothing of what is undecided as the step ends
+
+  pub never_decided : (tid : Tid) (tx : TransactionValue) → find_transaction (book_after book (entries_in world n stamp free event)) tid ≡ Some tx → is_open tx.cell ≡ true → is_some (kept_outcome tid (after_step node event free)) ≡ true → ⊥
+  never_decided tid tx found undecided kept = by (kept_outcome tid (after_step node event free)) refl kept
+    where
+      ended : (d : Decided) → kept_outcome tid (after_step node event free) ≡ Some d → HasEnded (book_after book (entries_in world n stamp free event)) tid d
+      ended d is = (step_holds PlacesAt whole_steps o world j n stamp free source event makes).clients.outcomes tid d is
+
+      clash : (out : Outcome) (k : Cell) → is_open k ≡ true → is_outcome out k ≡ true → ⊥
+      clash outcomes.Commit cells.Open so it = cc it
+      clash outcomes.Abort cells.Open so it = cc it
+      clash out cells.Commit so it = cc so
+      clash out cells.Abort so it = cc so
+
+      by : (x : Option Decided) → kept_outcome tid (after_step node event free) ≡ x → is_some x ≡ true → ⊥
+      by None is some = cc some
+      by (Some d) is some = let e = ended d is in clash d.outcome tx.cell undecided (subst (λ (x : TransactionValue). is_outcome d.outcome x.cell ≡ true) (some_is (sym e.found ∙ found)) e.as_kept)
+
   -- ---- one that stood, and stands
 
   module _ (replies : EachReplyTrue AwaitedAt) (tid : Tid) (was : TransactionValue) (had : find_transaction book tid ≡ Some was) (was_undecided : is_open was.cell ≡ true) (placed : Placed tid was (field_of world))
@@ -231,28 +249,12 @@ module _ (o : Opening) (world : World) (ja : Joined AwaitedAt o world) (n stamp 
     never_taken (events.PeerRestarted peer old new) is takes = takes
     never_taken events.Tick is takes = takes
 
-    never_kept : is_some (kept_outcome tid (after_step node event free)) ≡ true → ⊥
-    never_kept kept = by (kept_outcome tid (after_step node event free)) refl kept
-      where
-        ended : (d : Decided) → kept_outcome tid (after_step node event free) ≡ Some d → HasEnded (book_after book (entries_in world n stamp free event)) tid d
-        ended d is = (step_holds PlacesAt whole_steps o world j n stamp free source event makes).clients.outcomes tid d is
-
-        clash : (out : Outcome) (k : Cell) → is_open k ≡ true → is_outcome out k ≡ true → ⊥
-        clash outcomes.Commit cells.Open so it = cc it
-        clash outcomes.Abort cells.Open so it = cc it
-        clash out cells.Commit so it = cc so
-        clash out cells.Abort so it = cc so
-
-        by : (x : Option Decided) → kept_outcome tid (after_step node event free) ≡ x → is_some x ≡ true → ⊥
-        by None is some = cc some
-        by (Some d) is some = let e = ended d is in clash d.outcome tx.cell undecided (subst (λ (x : TransactionValue). is_outcome d.outcome x.cell ≡ true) (some_is (sym e.found ∙ found)) e.as_kept)
-
     waits_then : WaitsAt tid member at.number node → WaitsAt tid member at.number (after_step node event free)
     waits_then waits = of (steps_wait_on tid member at.number node event free far (comes_so tid (ap is_some had) event (comes_free PlacesAt o world j n stamp free source event makes)) (inl waits))
       where
         of : IsWaiting tid member at.number (after_step node event free) ⊎ TakesIt tid member at.number event → WaitsAt tid member at.number (after_step node event free)
         of (inl (inl w)) = w
-        of (inl (inr kept)) = absurd (never_kept kept)
+        of (inl (inr kept)) = absurd (never_decided tid tx found undecided kept)
         of (inr takes) = absurd (never_taken event refl takes)
 
 -- ---- all that it issued to others

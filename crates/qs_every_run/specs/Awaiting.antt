@@ -4,10 +4,12 @@ use Rattle.std.specs.Prelude.{◌≡◌, ◌⊎◌, ℕ, ◌==◌, true, false, 
 use Rattle.qs_base.specs.declared.identifiers.Member.{Member}
 use Rattle.qs_base.specs.declared.identifiers.NodeNo.{NodeNo}
 use Rattle.qs_base.specs.declared.identifiers.Tid.{Tid}
+use Rattle.qs_journal.specs.declared.entry.Act.TheVariants as acts
 use Rattle.qs_machine.specs.Book.{BookValue, find_transaction}
 use Rattle.qs_machine.specs.Lawful.{IsLawful}
 use Rattle.qs_machine.specs.Transaction.{TransactionValue, is_open, standing_request}
 use Rattle.qs_machine.specs.declared.transaction.RequestNo.{RequestNo}
+use Rattle.qs_ops.specs.declared.operation.Op.{Op}
 use Rattle.qs_ops.specs.declared.reply.Reply.{Reply}
 use Rattle.qs_packet.specs.declared.message.Message.TheVariants as messages
 use Rattle.qs_step.specs.State.{NodeValue}
@@ -23,7 +25,7 @@ use Rattle.qs_refine.specs.Begun.{has_begun}
 use Rattle.qs_refine.specs.EachMove.{ShowsAll}
 use Rattle.qs_lawful.specs.Parcels.{way_between}
 use Rattle.qs_every_run.specs.Agrees.{MakesStep, nodes_in}
-use Rattle.qs_every_run.specs.Awaited.{WaitsAt}
+use Rattle.qs_every_run.specs.Awaited.{Among, IsWaiting, WaitsAt}
 use Rattle.qs_every_run.specs.Joined.{Joined, book_in}
 use Rattle.qs_every_run.specs.JoinedPlaces.{PlacedOf}
 use Rattle.qs_every_run.specs.Placed.{HoldsPlaced, Placed, field_of}
@@ -75,3 +77,9 @@ EachFreshAwaited P = (o : Opening) (world : World) (n stamp free : ℕ) (source 
     → (tid : Tid) (w : machine.World) → ShowsAll tid (moved (Step n stamp free source) world) w → HoldsPlaced tid (book_in o world) (field_of world) w → HoldsAwaited tid (book_in o world) (nodes_in world) w
     → (tx : TransactionValue) → find_transaction (book_in o (moved (Step n stamp free source) world)) tid ≡ Some tx → is_open tx.cell ≡ true → Placed tid tx (field_of (moved (Step n stamp free source) world))
     → IsDoomed w ⊎ AwaitsFresh n tid (book_in o world) tx (after_step (world.hosts n).node event free)
+
+-- of what stood at no other node before, it is enough that each request that an entry of the step issues to another node waits, or its node has decided
+abbrev pub EachIssueWaits : (Opening → World → Type 0) → Type 0
+EachIssueWaits P = (o : Opening) (world : World) (n stamp free : ℕ) (source : Source) (event : Event) → Joined P o world → MakesStep world n stamp source event
+    → (tid : Tid) (issuer member : Member) (number : ℕ) (op : Op) → Among (acts.Issue tid issuer member number op) (effects_of (world.hosts n).node event free).entries → (member.node.0 == n) ≡ false
+    → IsWaiting tid member number (after_step (world.hosts n).node event free)

@@ -33,7 +33,7 @@ use Rattle.qs_lawful.specs.GivenStep.{done_work}
 use Rattle.qs_every_run.specs.Agrees.{MakesStep}
 use Rattle.qs_every_run.specs.CutBatches.{EachVoteOfStart}
 use Rattle.qs_every_run.specs.Joined.{Joined, book_in}
-use Rattle.qs_every_run.specs.Awaiting.{EachFreshAwaited, EachReplyTrue}
+use Rattle.qs_every_run.specs.Awaiting.{EachIssueWaits, EachReplyTrue}
 
 -- ---- as a run begins
 
@@ -107,4 +107,4 @@ pub record Owed (P : Opening → World → Type 0) : Type 0 where
   pub votes : EachVoteOfStart P
   -- a step
   pub replies_true : EachReplyTrue P  -- a reply that comes is of a request that stands no more
-  pub fresh_awaited : EachFreshAwaited P  -- what its node issues to others in it waits there for its reply
+  pub issues_wait : EachIssueWaits P  -- what its node issues to others in it waits there for its reply as it ends, or is decided there
