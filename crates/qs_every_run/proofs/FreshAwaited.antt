@@ -1,12 +1,11 @@
 -- What a node issues to others in a step waits as the step ends where each of its entries that issues one does, since its node has decided nothing of what is undecided then.
-use Rattle.std.proofs.Common.{◌≡◌, ◌⊎◌, inl, inr, ℕ, ◌==◌, Bool, true, false, Option, Some, None, is_some, refl, sym, ap, subst, ◌∙◌}
-use Rattle.qs_base.specs.declared.identifiers.Member.{Member}
+use Rattle.std.proofs.Common.{◌≡◌, ◌⊎◌, inl, inr, ℕ, ◌==◌, true, Option, Some, None, is_some, refl, sym, ap, subst, ◌∙◌}
 use Rattle.qs_base.specs.declared.identifiers.NodeNo.{NodeNo}
 use Rattle.qs_base.specs.declared.identifiers.Tid.{Tid}
 use Rattle.qs_machine.specs.Book.{BookValue, find_transaction}
 use Rattle.qs_machine.specs.Lawful.{IsLawful, book_after}
 use Rattle.qs_machine.specs.Transaction.{TransactionValue, is_open, standing_request}
-use Rattle.qs_machine.specs.declared.transaction.RequestNo.{RequestNo}
+use Rattle.qs_machine.specs.declared.transaction.Request.{Request}
 use Rattle.qs_step.specs.Step.{after_step, effects_of}
 use Rattle.qs_step.specs.declared.event.Event.{Event}
 use Rattle.qs_world.specs.Moves.{Source, Step, moved, step_with}
@@ -42,7 +41,7 @@ module _ (issues : EachIssueWaits AwaitedAt) (o : Opening) (world : World) (n st
       waits (inl w) = w
       waits (inr kept) = absurd (never_decided o world j n stamp free source event makes lawful tid tx found_now undecided kept)
 
-      never : (x : Option Rattle.qs_machine.specs.declared.transaction.Request.Request) → x ≡ None → is_some x ≡ true → ⊥
+      never : (x : Option Request) → x ≡ None → is_some x ≡ true → ⊥
       never None e some = cc some
       never (Some r) e some = cc e
 

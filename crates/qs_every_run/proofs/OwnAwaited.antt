@@ -20,15 +20,16 @@ use Rattle.qs_laws.proofs.Outcomes.{Inv}
 use Rattle.qs_laws.proofs.Steps.{ran}
 use Rattle.qs_machine.proofs.Present.{request_total}
 use Rattle.qs_machine.specs.Book.{BookValue, cell_of_transaction, find_transaction}
-use Rattle.qs_machine.specs.Lawful.{IsLawful, book_after, broken, effect}
+use Rattle.qs_machine.specs.Lawful.{IsLawful, book_after, effect}
 use Rattle.qs_machine.specs.Transaction.{TransactionValue, cell_of, is_open, is_outcome, is_standing, request_cmp, standing_request}
 use Rattle.qs_machine.specs.declared.transaction.Cell.{Cell}
 use Rattle.qs_machine.specs.declared.transaction.Cell.TheVariants as cells
 use Rattle.qs_machine.specs.declared.transaction.Request.{Request}
 use Rattle.qs_machine.specs.declared.transaction.RequestNo.{RequestNo}
+use Rattle.qs_ops.specs.declared.reply.Reply.{Reply}
 use Rattle.qs_packet.specs.declared.message.Message.TheVariants as messages
 use Rattle.qs_step.specs.Answering.{kept_outcome}
-use Rattle.qs_step.specs.State.{NodeValue, client_cmp, work_on}
+use Rattle.qs_step.specs.State.{NodeValue, work_on}
 use Rattle.qs_step.specs.Step.{after_step, effects_of}
 use Rattle.qs_step.specs.declared.event.Event.{Event}
 use Rattle.qs_step.specs.declared.event.Event.TheVariants as events
@@ -42,7 +43,7 @@ use Rattle.qs_refine.specs.Tidy.{IsTidyNode}
 use Rattle.qs_refine.proofs.MoveGoes.{StepMay, step_may}
 use Rattle.qs_refine.proofs.SteadyBegins.{begun_tidy, c}
 use Rattle.qs_lawful.specs.GivenStep.{first_work}
-use Rattle.qs_lawful.specs.Holds.{HasBegun, HasEnded, Holds, HoldsStill}
+use Rattle.qs_lawful.specs.Holds.{HasBegun, HasEnded, HoldsStill}
 use Rattle.qs_lawful.specs.Logged.{IsTrueEvent}
 use Rattle.qs_lawful.specs.Parcels.{way_between}
 use Rattle.qs_lawful.proofs.Apart.{Apart, same_or_apart}
@@ -201,7 +202,7 @@ module _ (o : Opening) (world : World) (ja : Joined AwaitedAt o world) (n stamp 
         no_as : ℕ → ℕ → RequestNo
         no_as a b = record { link = record { from = record { 0 = a }; to = record { 0 = b } }; number = at.number }
 
-    never_answered : (peer : NodeNo) (m : Member) (number : ℕ) (reply : Rattle.qs_ops.specs.declared.reply.Reply.Reply) → event ≡ events.Received peer (messages.Answered tid m number reply) → (same_member member m && (at.number == number)) ≡ true → ⊥
+    never_answered : (peer : NodeNo) (m : Member) (number : ℕ) (reply : Reply) → event ≡ events.Received peer (messages.Answered tid m number reply) → (same_member member m && (at.number == number)) ≡ true → ⊥
     never_answered peer m number reply is same = never (standing_request was at member) none stood
       where
         never : (x : Option Request) → x ≡ None → is_some x ≡ true → ⊥

@@ -1,10 +1,10 @@
 -- Through a whole step each request that stands at another node waits at its issuer's: those of other nodes stood before, and those nodes stay as they were.
-use Rattle.std.proofs.Common.{◌≡◌, ◌⊎◌, inl, inr, ℕ, ◌==◌, Bool, true, false, Option, Some, None, refl, sym, ap, subst, ◌∙◌, if◌then◌else◌}
+use Rattle.std.proofs.Common.{◌≡◌, ◌⊎◌, inl, inr, ℕ, ◌==◌, Bool, true, false, Option, Some, None, refl, sym, ap, subst, ◌∙◌, arith, if◌then◌else◌}
 use Rattle.std.proofs.lemmas.Bool.{eqb-true}
+use Rattle.std.proofs.lemmas.Bool.Decides.{nat_tests}
 use Rattle.qs_base.specs.declared.identifiers.Member.{Member}
 use Rattle.qs_base.specs.declared.identifiers.Tid.{Tid}
 use Rattle.std.specs.Prelude.{is_some}
-use Rattle.qs_laws.proofs.Steps.{ran}
 use Rattle.qs_machine.specs.Book.{BookValue, find_transaction}
 use Rattle.qs_machine.specs.Lawful.{IsLawful, book_after}
 use Rattle.qs_machine.specs.Transaction.{TransactionValue, is_open, standing_request}
@@ -67,7 +67,7 @@ module _ (own : EachOwnAwaited AwaitedAt) (o : Opening) (world : World) (n stamp
   node_own = picked (n == n) itself
     where
       itself : (n == n) ≡ true
-      itself = grind (Rattle.std.proofs.Common.arith, Rattle.std.proofs.lemmas.Bool.Decides.nat_tests)
+      itself = grind (arith, nat_tests)
 
       picked : (b : Bool) → b ≡ true → (if b then stepped_host stamp (after_step (world.hosts n).node event free) (effects_of (world.hosts n).node event free) (world.hosts n) else world.hosts n).node ≡ after_step (world.hosts n).node event free
       picked b is = rw is refl

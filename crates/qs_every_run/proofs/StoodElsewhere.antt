@@ -1,7 +1,8 @@
 -- What stands of other nodes' requests after a node's entries stood before: each entry of a node issues requests of that node alone.
-use Rattle.std.proofs.Common.{◌≡◌, ◌⊎◌, inl, inr, ℕ, ◌==◌, Bool, true, false, List, [], ◌∷◌, Option, Some, None, is_some, refl, sym, ap, subst, ◌∙◌, arith}
+use Rattle.std.proofs.Common.{◌≡◌, ◌⊎◌, inl, inr, ℕ, ◌==◌, Bool, true, false, List, [], ◌∷◌, Some, None, is_some, refl, sym, ap, subst, ◌∙◌, arith}
 use Rattle.std.proofs.lemmas.Bool.Decides.{nat_tests}
 use Rattle.std.specs.List.{find}
+use Rattle.std.specs.Prelude.{slice_get}
 use Rattle.qs_base.specs.declared.identifiers.Member.{Member}
 use Rattle.qs_base.specs.declared.identifiers.Tid.{Tid}
 use Rattle.qs_journal.specs.declared.entry.Act.{Act}
@@ -17,7 +18,7 @@ use Rattle.qs_world.specs.Posting.{entries_of, entry_of}
 use Rattle.qs_lawful.proofs.Apart.{Apart, same_or_apart}
 use Rattle.qs_lawful.proofs.EntryTurns.{Begins, Turning, by_entry}
 use Rattle.qs_lawful.proofs.Turning.{Turns, stood}
-use Rattle.qs_lawful.proofs.TurnedRequests.{AtNumber, OneMore, OneServed, at_number}
+use Rattle.qs_lawful.proofs.TurnedRequests.{AtNumber, at_number}
 use Rattle.qs_every_run.proofs.PlacedIssued.{stood_before}
 
 -- it stands in the machine, undecided
@@ -40,7 +41,7 @@ module _ (n stamp : ℕ) (tid : Tid) (at : RequestNo) (member : Member) (far : (
     of_begun b s = by (same_or_apart b.tid tid)
       where
         by : (b.tid ≡ tid) ⊎ Apart b.tid tid → Stands book tid at member
-        by (inl same) = absurd (let none : is_some (standing_request (begun b.label b.client (ticks_at (Rattle.std.specs.Prelude.slice_get book.nodes n))) at member) ≡ true = subst (λ (tx : TransactionValue). is_some (standing_request tx at member) ≡ true)
+        by (inl same) = absurd (let none : is_some (standing_request (begun b.label b.client (ticks_at (slice_get book.nodes n))) at member) ≡ true = subst (λ (tx : TransactionValue). is_some (standing_request tx at member) ≡ true)
             (one (sym s.found ∙ (ap (find_transaction (effect book (entry_of n stamp act))) (sym same) ∙ b.stands))) s.stands in cc none)
           where
             one : {x y : TransactionValue} → Some x ≡ Some y → x ≡ y

@@ -78,7 +78,7 @@ EachFreshAwaited P = (o : Opening) (world : World) (n stamp free : ℕ) (source 
     → (tx : TransactionValue) → find_transaction (book_in o (moved (Step n stamp free source) world)) tid ≡ Some tx → is_open tx.cell ≡ true → Placed tid tx (field_of (moved (Step n stamp free source) world))
     → IsDoomed w ⊎ AwaitsFresh n tid (book_in o world) tx (after_step (world.hosts n).node event free)
 
--- of what stood at no other node before, it is enough that each request that an entry of the step issues to another node waits, or its node has decided
+-- of what did not stand before, it is enough that each request that an entry of the step issues to another node waits then, or its node has decided
 abbrev pub EachIssueWaits : (Opening → World → Type 0) → Type 0
 EachIssueWaits P = (o : Opening) (world : World) (n stamp free : ℕ) (source : Source) (event : Event) → Joined P o world → MakesStep world n stamp source event
     → (tid : Tid) (issuer member : Member) (number : ℕ) (op : Op) → Among (acts.Issue tid issuer member number op) (effects_of (world.hosts n).node event free).entries → (member.node.0 == n) ≡ false
