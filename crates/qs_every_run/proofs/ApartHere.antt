@@ -1,4 +1,4 @@
--- At a node that is not engaged no request to a server of its own stands: it would wait there, and nothing does.
+-- At a node that is not engaged no request of its own stands: to a server of its own it would wait there, and nothing does; to another node, at its issuer, which would be engaged.
 use Rattle.std.proofs.Common.{◌≡◌, ℕ, ◌+◌, ◌-◌, ◌<◌, ◌≤◌, ◌==◌, ◌&&◌, not, Bool, true, false, List, [], ◌∷◌, length, map, Option, Some, None, zero, suc, refl, sym, ap, subst, ◌∙◌, arith, if◌then◌else◌}
 use Rattle.std.proofs.lemmas.Bool.{eqb-true}
 use Rattle.std.proofs.lemmas.Bool.Decides.{nat_tests}
@@ -20,11 +20,20 @@ use Rattle.qs_machine.specs.Book.{BookValue, find_transaction}
 use Rattle.qs_machine.specs.Transaction.{TransactionValue, is_open, is_standing, request_cmp, standing_request}
 use Rattle.qs_machine.specs.declared.transaction.Request.{Request}
 use Rattle.qs_machine.specs.declared.transaction.RequestNo.{RequestNo}
+use Rattle.qs_step.specs.State.{NodeValue}
+use Rattle.qs_tm.specs.Manager as tm
+use Rattle.qs_tm.specs.Participant.{is_undecided}
+use Rattle.qs_tm.specs.declared.participant.Participant.{Participant}
+use Rattle.qs_engage.specs.Nodes.{same_node}
 use Rattle.qs_world.specs.World.{Opening, Parcel, World}
-use Rattle.qs_refine.specs.NodeFaces.{face_at}
+use Rattle.qs_refine.specs.NodeFaces.{began_here, face_at, unknown}
+use Rattle.qs_refine.specs.Sound.{is_engaged, is_sound, same_flag, where_so}
 use Rattle.qs_refine.proofs.CommitIdles.{off_idle}
 use Rattle.qs_refine.proofs.NodeReady.{none_waits}
 use Rattle.qs_refine.proofs.ShownMoves.{steady}
+use Rattle.qs_refine.proofs.SoundHolds.{known_sound}
+use Rattle.qs_refine.proofs.SoundParts.{and_both}
+use Rattle.qs_refine.proofs.SoundViews.{PartSound}
 use Rattle.qs_lawful.specs.Face.{at_server, is_numbered}
 use Rattle.qs_lawful.specs.Holds.{Holds}
 use Rattle.qs_lawful.specs.Logs.{Every}
@@ -32,7 +41,9 @@ use Rattle.qs_lawful.specs.Parcels.{HoldsChannels, IsParcel, pending, pending_fr
 use Rattle.qs_lawful.proofs.Still.{still_held}
 use Rattle.qs_every_run.specs.Joined.{Joined, book_in}
 use Rattle.qs_every_run.specs.Placed.{Field, IsPlaced, Placed, asked, field_of, goes_there, kept_between, message_of, sent_between, standing, waiting}
-use Rattle.qs_every_run.specs.PlacesApart.{EachLeavesNone, EachLeavesNoneAway}
+use Rattle.qs_every_run.specs.Awaited.{WaitsAt}
+use Rattle.qs_every_run.specs.Awaiting.{AwaitsOwn}
+use Rattle.qs_every_run.specs.PlacesApart.{LeavesNone}
 use Rattle.qs_every_run.proofs.CommitsPlaced.{idle_free, none_decided}
 use Rattle.qs_every_run.proofs.Entries.{each_at}
 use Rattle.qs_every_run.proofs.PlacedTx.{placed_each, request_equal, request_self}
@@ -149,9 +160,49 @@ module _ (P : Opening → World → Type 0) (o : Opening) (world : World) (n : �
       no_as : ℕ → ℕ → RequestNo
       no_as a b = record { link = record { from = record { 0 = a }; to = record { 0 = b } }; number = at.number }
 
-pub leaves_none : (P : Opening → World → Type 0) → EachLeavesNoneAway P → EachLeavesNone P
-leaves_none P away o world n tid tx j n_in on next h found undecided placed off at member from_n = by (at.link.to.0 == n) refl
+-- ---- a node where one waits is engaged
+
+engaged_on : (tid : Tid) (node : NodeValue) → is_sound node ≡ true → (part : Participant) → tm.part_of tid node.manager ≡ Some part → part.outcome ≡ None → is_engaged part ≡ true → (face_at node tid).on ≡ false → ⊥
+engaged_on tid node sound part known undecided engaged off = by part.engage.home refl
   where
+    s : PartSound node tid part
+    s = known_sound tid node part known sound
+
+    at : (if began_here node tid then not (is_some part.outcome) else is_some part.engage.superior) ≡ false
+    at = subst (λ (p : Participant). (if began_here node tid then not (is_some p.outcome) else is_some p.engage.superior) ≡ false) (ap (λ (o : Option Participant). unwrap_or o (unknown node tid)) known) off
+
+    so_then : (a b : Bool) → where_so a b ≡ true → a ≡ true → b ≡ true
+    so_then true b is so = is
+    so_then false b is so = absurd (cc so)
+
+    same : (h b : Bool) → same_flag h b ≡ true → b ≡ h
+    same true b is = is
+    same false true is = absurd (cc is)
+    same false false is = refl
+
+    at_home : same_node tid.home node.setting.node ≡ part.engage.home
+    at_home = same part.engage.home (same_node tid.home node.setting.node) s.homed
+
+    by : (b : Bool) → part.engage.home ≡ b → ⊥
+    by true is =
+        let began : began_here node tid ≡ true = rw (at_home, is) ((and_both (tid.inc == node.setting.inc) _ (so_then (part.engage.home && is_undecided part) _ s.began (rw (is, undecided) refl))).0) in
+        let on : (if began_here node tid then not (is_some part.outcome) else is_some part.engage.superior) ≡ true = rw (began, undecided) refl in
+        cc (on, at)
+    by false is =
+        let away : began_here node tid ≡ false = rw (at_home, is) refl in
+        let superior : is_some part.engage.superior ≡ true = rw is at engaged in
+        let on : (if began_here node tid then not (is_some part.outcome) else is_some part.engage.superior) ≡ true = rw (away, superior) refl in
+        cc (on, at)
+
+pub leaves_none : (P : Opening → World → Type 0) (o : Opening) (world : World) (n : ℕ) (tid : Tid) (tx : TransactionValue) → Joined P o world → n < world.size → world.channels.up n ≡ true → (next : ℕ) → Holds next (book_in o world) (world.hosts n).node
+    → find_transaction (book_in o world) tid ≡ Some tx → is_open tx.cell ≡ true → AwaitsOwn n tid tx (world.hosts n).node → LeavesNone tid world n tx
+leaves_none P o world n tid tx j n_in on next h found undecided await placed off at member from_n = by (at.link.to.0 == n) refl
+  where
+    of : (r : Option Request) → standing_request tx at member ≡ r → (at.link.to.0 == n) ≡ false → standing_request tx at member ≡ None
+    of None none apart = none
+    of (Some r) stands apart = absurd (let w : WaitsAt tid member at.number (world.hosts n).node = await at member from_n apart (rw stands refl) in
+        engaged_on tid (world.hosts n).node ((steady world j.shown).sound n n_in).node w.part w.known w.undecided w.engaged off)
+
     by : (b : Bool) → (at.link.to.0 == n) ≡ b → standing_request tx at member ≡ None
     by true to_n = none_here P o world n tid tx j n_in on next h found undecided placed off at member from_n (eqb-true at.link.to.0 n to_n)
-    by false apart = away o world n tid tx j n_in on next h found undecided placed off at member from_n apart
+    by false apart = of (standing_request tx at member) refl apart

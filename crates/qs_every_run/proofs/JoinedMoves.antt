@@ -44,7 +44,6 @@ use Rattle.qs_every_run.specs.Owing.{Owes, OwesAt}
 use Rattle.qs_every_run.specs.JoinedOwed.{Owed, AfterStep, IsBetweenSteps, Keeps, StaysUnanimousThen, WholeSteps}
 use Rattle.qs_every_run.specs.JoinedRuns.{EachMoveJoined}
 use Rattle.qs_every_run.specs.PlacesLaws.{GoesOn}
-use Rattle.qs_every_run.proofs.ApartHere.{leaves_none}
 use Rattle.qs_every_run.proofs.JoinedFacts.{rises_facts}
 use Rattle.qs_every_run.proofs.JoinedHomes.{homes_after}
 use Rattle.qs_every_run.proofs.JoinedParts.{book_on, channels_later, lawful_on, seated_sound}
@@ -280,4 +279,4 @@ module _ (P : Opening → World → Type 0) (between : Keeps P IsBetweenSteps P)
   move_joined (Meet n stamp m inc) may = meet_joined n stamp m inc may
 
 pub each_move_joined : (P : Opening → World → Type 0) → GoesOn P → EachMoveJoined P
-each_move_joined P goes owed o world move j may = move_joined P (goes.between (leaves_none P owed.leaves_none) (cuts_unanimous P goes.steps)) goes.steps owed goes.unanimous o world j move may
+each_move_joined P goes owed o world move j may = move_joined P (goes.between (cuts_unanimous P (goes.steps owed.replies_true owed.issues_wait))) (goes.steps owed.replies_true owed.issues_wait) owed goes.unanimous o world j move may

@@ -94,6 +94,12 @@ pub mod AwaitedComes
 pub mod AwaitedCommands
 pub mod AwaitedSteps
 pub mod PlacesStop
+pub mod JoinedAs
+pub mod StoodElsewhere
+pub mod StepsAwaited
+pub mod OwnAwaited
+pub mod FreshIssued
+pub mod FreshAwaited
 pub mod RestartPlaced
 pub mod RisenFields
 pub mod PlacesRise

@@ -84,7 +84,7 @@ module _ (tx : TransactionValue) (at : RequestNo) (request : Request) (peer_inc 
       by false apart = same _ _ (ap (sent_in (field.inc l.from.0)) (given_other l apart))
 
   -- what stands then stood, or has the request's number
-  stood_or_new : (r : RequestNo) (member : Member) → is_some (standing_request new r member) ≡ true → (r ≡ at) ⊎ (is_some (standing_request tx r member) ≡ true)
+  pub stood_or_new : (r : RequestNo) (member : Member) → is_some (standing_request new r member) ≡ true → (r ≡ at) ⊎ (is_some (standing_request tx r member) ≡ true)
   stood_or_new r member stands = by (is_at (request_cmp r) at) refl
     where
       by : (b : Bool) → is_at (request_cmp r) at ≡ b → (r ≡ at) ⊎ (is_some (standing_request tx r member) ≡ true)
@@ -131,7 +131,7 @@ module _ (tx : TransactionValue) (at : RequestNo) (request : Request) (peer_inc 
 
 module _ (member : Member) where
   -- what stands then stood
-  stood_before : (m : Member) (rs : List Request) → is_some (find (is_standing m) (mark_served member rs)) ≡ true → is_some (find (is_standing m) rs) ≡ true
+  pub stood_before : (m : Member) (rs : List Request) → is_some (find (is_standing m) (mark_served member rs)) ≡ true → is_some (find (is_standing m) rs) ≡ true
   stood_before m [] stands = stands
   stood_before m (r ∷ rs) stands = by (is_standing member r) refl (is_standing m r) refl stands (stood_before m rs)
     where
@@ -149,7 +149,7 @@ module _ (tx : TransactionValue) (at : RequestNo) (member : Member) (inc stamp :
   abbrev later : TransactionValue
   later = served_in at member inc stamp done tx
 
-  stood_served : (r : RequestNo) (m : Member) → is_some (standing_request later r m) ≡ true → is_some (standing_request tx r m) ≡ true
+  pub stood_served : (r : RequestNo) (m : Member) → is_some (standing_request later r m) ≡ true → is_some (standing_request tx r m) ≡ true
   stood_served r m stands = by (is_at (request_cmp at) r) refl
     where
       Stands : Option (List Request) → Type 0

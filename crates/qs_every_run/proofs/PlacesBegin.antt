@@ -30,7 +30,10 @@ none_open o opens tid tx found undecided low = none tid.seq ((lasts o opens).nam
     none k some least = grind (arith, nat_tests, some, least)
 
 pub opens_places : OpensPlaces
-opens_places o opens tid begun = record { machine = its.machine; shows = its.shows; placed = λ tx found undecided. absurd (none_open o opens tid tx found undecided (home_in_run (start o) shown tid begun)) }
+opens_places o opens tid begun = record {
+  places = record { machine = its.machine; shows = its.shows; placed = λ tx found undecided. absurd (none_open o opens tid tx found undecided (home_in_run (start o) shown tid begun)) };
+  awaited = λ tx found undecided. absurd (none_open o opens tid tx found undecided (home_in_run (start o) shown tid begun));
+}
   where
     shown : IsShownWorld (start o)
     shown = every_run_shown (start o) (record { opening = o; opens = opens; moves = []; run = refl })

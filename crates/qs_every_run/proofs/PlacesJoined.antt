@@ -14,7 +14,6 @@ use Rattle.qs_world.specs.World.{Opening, Parcel, World}
 use Rattle.qs_agree.specs.World as machine
 use Rattle.qs_agree.specs.Doomed.{IsDoomed}
 use Rattle.qs_agree.proofs.Doomed.{doom_stays}
-use Rattle.qs_refine.specs.EachMove.{ShowsAll}
 use Rattle.qs_refine.proofs.Channelled.{IsWell}
 use Rattle.qs_refine.proofs.MoveGoes.{StepMay, step_may}
 use Rattle.qs_refine.proofs.Moving.{up_taken}
@@ -27,12 +26,12 @@ use Rattle.qs_lawful.proofs.NumberedLogs.{opened_numbered, opening_named}
 use Rattle.qs_every_run.specs.Agrees.{MakesStep}
 use Rattle.qs_every_run.specs.Joined.{Joined, book_in}
 use Rattle.qs_every_run.specs.JoinedOwed.{entries_in}
-use Rattle.qs_every_run.specs.JoinedPlaces.{PlacedOf, PlacesAt}
+use Rattle.qs_every_run.specs.JoinedPlaces.{PlacesAt}
 use Rattle.qs_every_run.specs.Placed.{Field, HoldsPlaced, Placed, field_of}
 use Rattle.qs_every_run.specs.PlacedActs.{OpenPlaced}
 use Rattle.qs_every_run.specs.PlacesAmid.{Here}
 use Rattle.qs_every_run.specs.PlacesEnds.{AreInOrder}
-use Rattle.qs_every_run.specs.PlacesJoined.{WasPlaced, WholeStepPlaces}
+use Rattle.qs_every_run.specs.PlacesJoined.{WasPlaced, WholeStepHolds, WholeStepPlaces}
 use Rattle.qs_every_run.specs.PlacesRules.{IsAmid}
 use Rattle.qs_every_run.specs.PlacesWhole.{StepsWell}
 use Rattle.qs_every_run.proofs.StepsWhole.{step_places}
@@ -113,14 +112,13 @@ module _ (o : Opening) (world : World) (j : Joined PlacesAt o world) (n stamp fr
     later : WasPlaced tid o world w → IsDoomed w ⊎ Here tid (OpenPlaced tid (field_of new)) (book_after book (entries_in world n stamp free event))
     later was = step_places w tid world n stamp free book source event makes.comes in_order amid finds lawful (first was)
 
-    placed_new : WasPlaced tid o world w → ShowsAll tid new w → PlacedOf tid o new
-    placed_new was shows = record {
-      machine = w;
-      shows = shows;
-      placed = here_held tid (book_in o new) (field_of new) (IsDoomed w) w (λ doomed. doomed)
-          (subst (λ (b : BookValue). IsDoomed w ⊎ Here tid (OpenPlaced tid (field_of new)) b) (sym (after_both world.journal (entries_in world n stamp free event) (book_of o))) (later was));
-    }
+    holds_new : WasPlaced tid o world w → HoldsPlaced tid (book_in o new) (field_of new) w
+    holds_new was = here_held tid (book_in o new) (field_of new) (IsDoomed w) w (λ doomed. doomed)
+        (subst (λ (b : BookValue). IsDoomed w ⊎ Here tid (OpenPlaced tid (field_of new)) b) (sym (after_both world.journal (entries_in world n stamp free event) (book_of o))) (later was))
+
+pub whole_step_holds : WholeStepHolds
+whole_step_holds tid o world n stamp free source event w j makes lawful finds was = subst (λ (e : Option Event). HoldsPlaced tid (book_in o (step_with world n stamp free source e)) (field_of (step_with world n stamp free source e)) w) (sym makes.comes)
+    (holds_new o world j n stamp free source event makes tid w lawful finds was)
 
 pub whole_step_places : WholeStepPlaces
-whole_step_places tid o world n stamp free source event w j makes lawful finds was = subst (λ (e : Option Event). ShowsAll tid (step_with world n stamp free source e) w → PlacedOf tid o (step_with world n stamp free source e)) (sym makes.comes)
-    (placed_new o world j n stamp free source event makes tid w lawful finds was)
+whole_step_places tid o world n stamp free source event w j makes lawful finds was shows = record { machine = w; shows = shows; placed = whole_step_holds tid o world n stamp free source event w j makes lawful finds was }

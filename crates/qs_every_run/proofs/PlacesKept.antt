@@ -6,8 +6,8 @@ use Rattle.qs_every_run.proofs.PlacesRise.{rise_places}
 use Rattle.qs_every_run.proofs.PlacesStop.{cut_places, stop_places}
 
 pub keeps_places : KeepsPlaces
-keeps_places apart cuts o world (Step n stamp free source) between j may lawful = absurd between
-keeps_places apart cuts o world (Cut n stamp free source is_kept cause) between j may lawful = cut_places o world j apart n stamp free source is_kept cause may (λ event comes. cuts o world n stamp free source is_kept cause event j may comes)
-keeps_places apart cuts o world (Stop n stamp cause) between j may lawful = stop_places o world j apart n stamp cause may
-keeps_places apart cuts o world (Rise n stamp inc) between j may lawful = λ tid begun. rise_places o world j n stamp inc may tid begun
-keeps_places apart cuts o world (Meet n stamp m inc) between j may lawful = meet_places o world j n stamp m inc may
+keeps_places cuts o world (Step n stamp free source) between j may lawful = absurd between
+keeps_places cuts o world (Cut n stamp free source is_kept cause) between j may lawful = cut_places o world j n stamp free source is_kept cause may (λ event comes. cuts o world n stamp free source is_kept cause event j may comes)
+keeps_places cuts o world (Stop n stamp cause) between j may lawful = stop_places o world j n stamp cause may
+keeps_places cuts o world (Rise n stamp inc) between j may lawful = λ tid begun. rise_places o world j n stamp inc may tid begun
+keeps_places cuts o world (Meet n stamp m inc) between j may lawful = meet_places o world j n stamp m inc may

@@ -6,6 +6,7 @@ use Rattle.qs_base.specs.declared.identifiers.Tid.{Tid}
 use Rattle.qs_machine.specs.Transaction.{TransactionValue, is_open}
 use Rattle.qs_machine.specs.declared.transaction.Request.{Request}
 use Rattle.qs_machine.specs.declared.transaction.RequestNo.{RequestNo}
+use Rattle.qs_step.specs.State.{NodeValue}
 use Rattle.qs_world.specs.Moves.{Meet, may_move, moved}
 use Rattle.qs_world.specs.World.{Opening, World}
 use Rattle.qs_agree.specs.World as machine
@@ -26,7 +27,10 @@ use Rattle.qs_refine.proofs.MeetsAlone.{Meets, meet_goes_alone, meets_may}
 use Rattle.qs_lawful.specs.Parcels.{pending}
 use Rattle.qs_lawful.specs.WayLaws.{AreSound}
 use Rattle.qs_every_run.specs.Joined.{Joined}
-use Rattle.qs_every_run.specs.JoinedPlaces.{PlacedOf, PlacesAt}
+use Rattle.qs_every_run.specs.Agrees.{nodes_in}
+use Rattle.qs_every_run.specs.Awaited.{WaitsAt}
+use Rattle.qs_every_run.specs.Awaiting.{AreAwaited, AwaitedAt, AwaitedOf}
+use Rattle.qs_every_run.specs.JoinedPlaces.{PlacedOf}
 use Rattle.qs_every_run.specs.Placed.{EachPlaced, Placed, field_of, message_of}
 use Rattle.qs_every_run.proofs.JoinedParts.{seated_sound}
 use Rattle.qs_every_run.proofs.MetFields.{room_then, same_nodes}
@@ -47,7 +51,7 @@ turned : (b : Bool) (x y : ℕ) → (b && (y == x)) ≡ false → (b && (x == y)
 turned true x y off = grind (arith, nat_tests, off)
 turned false x y off = refl
 
-module _ (o : Opening) (world : World) (j : Joined PlacesAt o world) (n stamp m inc : ℕ) (may : may_move world (Meet n stamp m inc) ≡ true) where
+module _ (o : Opening) (world : World) (j : Joined AwaitedAt o world) (n stamp m inc : ℕ) (may : may_move world (Meet n stamp m inc) ≡ true) where
   abbrev after : World
   after = moved (Meet n stamp m inc) world
 
@@ -56,7 +60,7 @@ module _ (o : Opening) (world : World) (j : Joined PlacesAt o world) (n stamp m 
 
   module _ (tid : Tid) (was : has_begun world tid ≡ true) where
     p : PlacedOf tid o world
-    p = j.places tid was
+    p = (j.places tid was).places
 
     abbrev w : machine.World
     w = p.machine
@@ -191,6 +195,21 @@ module _ (o : Opening) (world : World) (j : Joined PlacesAt o world) (n stamp m 
         by tx (inl doomed) = inl (doom_stays w v doomed goes.leads)
         by tx (inr placed) = placed_then tx placed
 
+    awaited_of : AwaitedOf tid o after
+    unfolding p placed_of goes
+    awaited_of = record { places = placed_of; awaited = λ tx found undecided. by tx ((j.places tid was).awaited tx found undecided) }
+      where
+        node_is : (k : ℕ) → nodes_in after k ≡ nodes_in world k
+        node_is k = picked (k == n) refl
+          where
+            picked : (b : Bool) → (k == n) ≡ b → (if b then record (world.hosts n) { stamp = stamp } else world.hosts k).node ≡ (world.hosts k).node
+            picked true near = ap (λ (i : ℕ). (world.hosts i).node) (sym (eqb-true k n near))
+            picked false far = refl
+
+        by : (tx : TransactionValue) → IsDoomed w ⊎ AreAwaited tid tx (nodes_in world) → IsDoomed v ⊎ AreAwaited tid tx (nodes_in after)
+        by tx (inl doomed) = inl (doom_stays w v doomed goes.leads)
+        by tx (inr await) = inr (λ k at member from_k away stands. subst (λ (node : NodeValue). WaitsAt tid member at.number node) (sym (node_is k)) (await k at member from_k away stands))
+
   -- what has begun had begun before
   begun_before : (tid : Tid) → has_begun after tid ≡ true → has_begun world tid ≡ true
   begun_before tid has = picked (tid.home.0 == n) refl has
@@ -206,5 +225,5 @@ module _ (o : Opening) (world : World) (j : Joined PlacesAt o world) (n stamp m 
       picked true near so = subst (λ (i : ℕ). (Rattle.qs_restart.specs.Recovery.names_transaction tid && (nat_lt k world.size && (nat_lt tid.inc (if world.channels.up k then world.channels.inc k else world.channels.inc k + 1)
           || ((tid.inc == (if world.channels.up k then world.channels.inc k else world.channels.inc k + 1)) && nat_le tid.seq (if world.channels.up k then (world.hosts i).node.manager.begun else 0))))) ≡ true) (sym (eqb-true k n near)) so
 
-  pub meet_places : PlacesAt o after
-  meet_places tid begun = placed_of tid (begun_before tid begun)
+  pub meet_places : AwaitedAt o after
+  meet_places tid begun = awaited_of tid (begun_before tid begun)

@@ -12,7 +12,7 @@ use Rattle.qs_journal.specs.declared.entry.Found.{Found}
 use Rattle.qs_machine.specs.Book.{BookValue, find_transaction}
 use Rattle.qs_machine.specs.Nodes.{is_recoverable}
 use Rattle.qs_machine.specs.Restart.{restart}
-use Rattle.qs_machine.specs.Transaction.{TransactionValue, is_empty, is_open, is_standing, life_cmp, link_cmp, request_cmp, requests_in, sent_in, sent_on}
+use Rattle.qs_machine.specs.Transaction.{TransactionValue, is_empty, is_open, is_standing, life_cmp, link_cmp, request_cmp, requests_in, sent_in, sent_on, standing_request}
 use Rattle.qs_machine.specs.declared.transaction.Link.{Link}
 use Rattle.qs_machine.specs.declared.transaction.Request.{Request}
 use Rattle.qs_machine.specs.declared.transaction.RequestNo.{RequestNo}
@@ -20,6 +20,7 @@ use Rattle.qs_machine.specs.declared.transaction.Sent.{Sent}
 use Rattle.qs_restart.specs.Recovery.{names_transaction, recovery}
 use Rattle.qs_restart.specs.declared.recovered.Recovered.{Recovered}
 use Rattle.qs_step.specs.Opening.{recovered_of}
+use Rattle.qs_step.specs.State.{NodeValue}
 use Rattle.qs_world.specs.Moves.{Rise, is_in_order, may_move, moved, risen_host}
 use Rattle.qs_world.specs.World.{Opening, World}
 use Rattle.qs_agree.specs.Doomed.{IsDoomed}
@@ -36,8 +37,11 @@ use Rattle.qs_lawful.specs.Logs.{Every, found_votes}
 use Rattle.qs_lawful.specs.WorldLaws.{rise_entry}
 use Rattle.qs_lawful.proofs.LastsAlways.{in_runs}
 use Rattle.qs_lawful.proofs.Turning.{stood}
+use Rattle.qs_every_run.specs.Agrees.{nodes_in}
+use Rattle.qs_every_run.specs.Awaited.{WaitsAt}
 use Rattle.qs_every_run.specs.Joined.{Joined, book_in}
-use Rattle.qs_every_run.specs.JoinedPlaces.{PlacedOf, PlacesAt}
+use Rattle.qs_every_run.specs.Awaiting.{AreAwaited, AwaitedAt, AwaitedOf}
+use Rattle.qs_every_run.specs.JoinedPlaces.{PlacedOf}
 use Rattle.qs_every_run.specs.Placed.{AreIssued, IsIssued, IsPlaced, Placed, field_of}
 use Rattle.qs_every_run.proofs.Entries.{each_on}
 use Rattle.qs_every_run.proofs.JoinedParts.{book_on}
@@ -46,7 +50,7 @@ use Rattle.qs_every_run.proofs.PlacesBegin.{begun_down}
 use Rattle.qs_every_run.proofs.RestartPlaced.{Goes, Keeps, KeepsTx, restart_keeps, votes_kinds}
 use Rattle.qs_every_run.proofs.RisenFields.{inc_now, life_on, request_on, up_now}
 
-module _ (o : Opening) (world : World) (j : Joined PlacesAt o world) (n stamp inc : ℕ) (may : may_move world (Rise n stamp inc) ≡ true) where
+module _ (o : Opening) (world : World) (j : Joined AwaitedAt o world) (n stamp inc : ℕ) (may : may_move world (Rise n stamp inc) ≡ true) where
   abbrev book : BookValue
   book = book_in o world
 
@@ -165,15 +169,35 @@ module _ (o : Opening) (world : World) (j : Joined PlacesAt o world) (n stamp in
         parts : Rattle.qs_laws.proofs.Rising.IsRising life_cmp later_tx.parts × EachBare (field_of after) later_tx.parts
         parts = keeps.parts in_old.members bare
 
-    pub rise_places : PlacedOf tid o after
+    awaited_then : (tx later_tx : TransactionValue) → KeepsTx (field_of after) tx later_tx → Placed tid tx (field_of world) → AreAwaited tid tx (nodes_in world) → AreAwaited tid later_tx (nodes_in after)
+    awaited_then tx later_tx keeps placed await i at member from_i away stands = by (i == n) refl
+      where
+        stood_then : is_some (standing_request tx at member) ≡ true
+        stood_then = subst (λ (rs : List (RequestNo × List Request)). is_some (find (is_standing member) (requests_in rs at)) ≡ true) keeps.requests stands
+
+        other : (b : Bool) → b ≡ false → (if b then risen_host stamp inc found (world.hosts n) else world.hosts i).node ≡ (world.hosts i).node
+        other b far = rw far refl
+
+        -- who issued what stands ran, so it is another node
+        by : (b : Bool) → (i == n) ≡ b → WaitsAt tid member at.number (nodes_in after i)
+        by true same = absurd (let down : world.channels.up at.link.from.0 ≡ false = subst (λ (k : ℕ). world.channels.up k ≡ false) (sym (from_i ∙ eqb-true i n same)) off in let up = (placed.issued at member stood_then).up in cc (up, down))
+        by false far = subst (λ (node : NodeValue). WaitsAt tid member at.number node) (sym (other (i == n) far)) (await i at member from_i away stood_then)
+
+    pub rise_places : AwaitedOf tid o after
     rise_places = by (has_begun world tid) refl
       where
-        by : (b : Bool) → has_begun world tid ≡ b → PlacedOf tid o after
-        by false none = record { machine = its.machine; shows = its.shows; placed = λ later_tx is undecided. absurd (unbegun none (k == n) refl later_tx is undecided) }
-        by true was = record { machine = on.next; shows = on.shown; placed = λ later_tx is undecided. of later_tx is undecided (was_so later_tx is) }
+        by : (b : Bool) → has_begun world tid ≡ b → AwaitedOf tid o after
+        by false none = record {
+          places = record { machine = its.machine; shows = its.shows; placed = λ later_tx is undecided. absurd (unbegun none (k == n) refl later_tx is undecided) };
+          awaited = λ later_tx is undecided. absurd (unbegun none (k == n) refl later_tx is undecided);
+        }
+        by true was = record {
+          places = record { machine = on.next; shows = on.shown; placed = λ later_tx is undecided. of later_tx is undecided (was_so later_tx is) };
+          awaited = λ later_tx is undecided. awaits later_tx is undecided (was_so later_tx is);
+        }
           where
             p : PlacedOf tid o world
-            p = j.places tid was
+            p = (j.places tid was).places
 
             on : AllGoes tid after p.machine
             on = shown_goes tid world (Rise n stamp inc) p.machine may j.shown was p.shows
@@ -185,3 +209,12 @@ module _ (o : Opening) (world : World) (j : Joined PlacesAt o world) (n stamp in
                 at : IsDoomed p.machine ⊎ Placed tid tx (field_of world) → IsDoomed on.next ⊎ Placed tid later_tx (field_of after)
                 at (inl doomed) = inl (doom_stays p.machine on.next doomed on.leads)
                 at (inr placed) = inr (placed_then tx later_tx keeps placed)
+
+            awaits : (later_tx : TransactionValue) → find_transaction (book_in o after) tid ≡ Some later_tx → is_open later_tx.cell ≡ true → (tx : TransactionValue) × (find_transaction book tid ≡ Some tx) × KeepsTx (field_of after) tx later_tx
+                → IsDoomed on.next ⊎ AreAwaited tid later_tx (nodes_in after)
+            awaits later_tx is undecided (tx, had, keeps) = at (p.placed tx had (keeps.undecided undecided)) ((j.places tid was).awaited tx had (keeps.undecided undecided))
+              where
+                at : IsDoomed p.machine ⊎ Placed tid tx (field_of world) → IsDoomed p.machine ⊎ AreAwaited tid tx (nodes_in world) → IsDoomed on.next ⊎ AreAwaited tid later_tx (nodes_in after)
+                at (inl doomed) await = inl (doom_stays p.machine on.next doomed on.leads)
+                at (inr placed) (inl doomed) = inl (doom_stays p.machine on.next doomed on.leads)
+                at (inr placed) (inr await) = inr (awaited_then tx later_tx keeps placed await)

@@ -42,10 +42,10 @@ module _ (o : Opening) (world : World) (n stamp free : ℕ) (source : Source) (j
   its : StepMay world n source
   its = step_may world n stamp source may
 
-  moved_is : moved (Step n stamp free source) world ≡ new
+  pub moved_is : moved (Step n stamp free source) world ≡ new
   moved_is = ap (step_with world n stamp free source) comes
 
-  shown : IsShownWorld new
+  pub shown : IsShownWorld new
   shown = subst IsShownWorld moved_is (move_shown world (Step n stamp free source) may j.shown (each_begun_shown world (Step n stamp free source) may j.shown))
 
   -- ---- what begins in it is of its node
@@ -70,14 +70,14 @@ module _ (o : Opening) (world : World) (n stamp free : ℕ) (source : Source) (j
       picked true is so = absurd (cc is)
 
   module _ (tid : Tid) (begun : has_begun new tid ≡ true) (unbegun : has_begun world tid ≡ false) where
-    home_is : tid.home.0 ≡ n
+    pub home_is : tid.home.0 ≡ n
     home_is = by (tid.home.0 == n) refl
       where
         by : (b : Bool) → (tid.home.0 == n) ≡ b → tid.home.0 ≡ n
         by true near = eqb-true tid.home.0 n near
         by false far = absurd (let was : has_begun world tid ≡ true = begun_away tid far begun in cc (was, unbegun))
 
-    none_before : find_transaction (book_in o world) tid ≡ None
+    pub none_before : find_transaction (book_in o world) tid ≡ None
     none_before = by (find_transaction (book_in o world) tid) refl
       where
         by : (x : Option TransactionValue) → find_transaction (book_in o world) tid ≡ x → find_transaction (book_in o world) tid ≡ None

@@ -159,7 +159,15 @@ cut_placed tid book tx world n stamp cause log w leaves goes is all n_in on foun
 -- ---- the reference machine keeps of each transaction what it had
 
 pub stop_holds : StopHolds
-stop_holds tid book world n stamp cause log w goes is all n_in on next h apart places tx found undecided = stops_placed tid book tx world n stamp cause log w goes is all n_in on found undecided next h (apart tx found undecided) (places tx found undecided)
+stop_holds tid book world n stamp cause log w goes is all n_in on next h apart places tx found undecided = by (apart tx found undecided)
+  where
+    by : IsDoomed w ⊎ LeavesNone tid world n tx → IsDoomed goes.goes.next ⊎ Placed tid tx (field_of (stopped world n stamp cause log))
+    by (inl doomed) = inl (doom_stays w goes.goes.next doomed goes.goes.leads)
+    by (inr none) = stops_placed tid book tx world n stamp cause log w goes is all n_in on found undecided next h none (places tx found undecided)
 
 pub cut_holds : CutHolds
-cut_holds tid book world n stamp cause log w leaves goes is all n_in on next h apart decides places tx found undecided = cut_placed tid book tx world n stamp cause log w leaves goes is all n_in on found undecided next h (apart tx found undecided) (λ open_now committed. decides open_now committed tx found undecided) (places tx found undecided)
+cut_holds tid book world n stamp cause log w leaves goes is all n_in on next h apart decides places tx found undecided = by (apart tx found undecided)
+  where
+    by : IsDoomed w ⊎ LeavesNone tid world n tx → IsDoomed goes.goes.next ⊎ Placed tid tx (field_of (stopped world n stamp cause log))
+    by (inl doomed) = inl (doom_stays w goes.goes.next doomed goes.goes.leads)
+    by (inr none) = cut_placed tid book tx world n stamp cause log w leaves goes is all n_in on found undecided next h none (λ open_now committed. decides open_now committed tx found undecided) (places tx found undecided)

@@ -33,7 +33,7 @@ use Rattle.qs_lawful.specs.GivenStep.{done_work}
 use Rattle.qs_every_run.specs.Agrees.{MakesStep}
 use Rattle.qs_every_run.specs.CutBatches.{EachVoteOfStart}
 use Rattle.qs_every_run.specs.Joined.{Joined, book_in}
-use Rattle.qs_every_run.specs.PlacesApart.{EachLeavesNoneAway}
+use Rattle.qs_every_run.specs.Awaiting.{EachIssueWaits, EachReplyTrue}
 
 -- ---- as a run begins
 
@@ -105,5 +105,6 @@ pub record WholeSteps (P : Opening → World → Type 0) : Type 0 where
 pub record Owed (P : Opening → World → Type 0) : Type 0 where
   -- the votes of a step, where it is cut off with its batch kept
   pub votes : EachVoteOfStart P
-  -- as a node crashes
-  pub leaves_none : EachLeavesNoneAway P  -- where it is not engaged, no request of its own stands at another node
+  -- a step
+  pub replies_true : EachReplyTrue P  -- a reply that comes is of a request that stands no more
+  pub issues_wait : EachIssueWaits P  -- what its node issues to others in it waits there for its reply as it ends, or is decided there

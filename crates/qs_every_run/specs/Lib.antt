@@ -21,6 +21,7 @@ pub mod Deeds
 pub mod Firsts
 pub mod Answering
 pub mod PlacesApart
+pub mod Awaiting
 pub mod Awaited
 pub mod JoinedOwed
 pub mod JoinedPlaces

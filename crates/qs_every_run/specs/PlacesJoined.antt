@@ -14,11 +14,17 @@ use Rattle.qs_every_run.specs.Agrees.{MakesStep}
 use Rattle.qs_every_run.specs.Joined.{Joined, book_in}
 use Rattle.qs_every_run.specs.JoinedOwed.{entries_in}
 use Rattle.qs_every_run.specs.JoinedPlaces.{PlacedOf, PlacesAt}
+use Rattle.qs_every_run.specs.Placed.{HoldsPlaced, field_of}
 use Rattle.qs_every_run.specs.PlacesWhole.{StepsWell}
 
 -- it was so placed, and the world of the agreement machine that showed it leads to w; or it begins
 abbrev pub WasPlaced : Tid → Opening → World → machine.World → Type 0
 WasPlaced tid o world w = ((p : PlacedOf tid o world) × Leads p.machine w) ⊎ (find_transaction (book_in o world) tid ≡ None)
+
+abbrev pub WholeStepHolds : Type 0
+WholeStepHolds = (tid : Tid) (o : Opening) (world : World) (n stamp free : ℕ) (source : Source) (event : Event) (w : machine.World) → Joined PlacesAt o world → MakesStep world n stamp source event
+    → IsLawful (book_in o world) (entries_in world n stamp free event) → StepsWell (IsDoomed w) tid world n stamp free (book_in o world) source event
+    → WasPlaced tid o world w → HoldsPlaced tid (book_in o (moved (Step n stamp free source) world)) (field_of (moved (Step n stamp free source) world)) w
 
 abbrev pub WholeStepPlaces : Type 0
 WholeStepPlaces = (tid : Tid) (o : Opening) (world : World) (n stamp free : ℕ) (source : Source) (event : Event) (w : machine.World) → Joined PlacesAt o world → MakesStep world n stamp source event

@@ -44,12 +44,12 @@ book_stopped book n stamp cause = book_after book (entry_of n stamp (acts.Crash 
 abbrev pub StopHolds : Type 0
 StopHolds = (tid : Tid) (book : BookValue) (world : World) (n stamp : ℕ) (cause : CrashCause) (log : List Record) (w : machine.World) (goes : StopsAlone tid world (stopped world n stamp cause log) n w)
     → IsShownWorld world → ShowsAll tid world w → n < world.size → world.channels.up n ≡ true → (next : ℕ) → Holds next book (world.hosts n).node
-    → ((tx : TransactionValue) → find_transaction book tid ≡ Some tx → is_open tx.cell ≡ true → LeavesNone tid world n tx)
+    → ((tx : TransactionValue) → find_transaction book tid ≡ Some tx → is_open tx.cell ≡ true → IsDoomed w ⊎ LeavesNone tid world n tx)
     → HoldsPlaced tid book (field_of world) w → HoldsPlaced tid (book_stopped book n stamp cause) (field_of (stopped world n stamp cause log)) goes.goes.next
 
 abbrev pub CutHolds : Type 0
 CutHolds = (tid : Tid) (book : BookValue) (world : World) (n stamp : ℕ) (cause : CrashCause) (log : List Record) (w : machine.World) (leaves : NodeValue) (goes : CutsOff tid leaves (stopped world n stamp cause log) w)
     → IsShownWorld world → ShowsAll tid world w → n < world.size → world.channels.up n ≡ true → (next : ℕ) → Holds next book (world.hosts n).node
-    → ((tx : TransactionValue) → find_transaction book tid ≡ Some tx → is_open tx.cell ≡ true → LeavesNone tid world n tx)
+    → ((tx : TransactionValue) → find_transaction book tid ≡ Some tx → is_open tx.cell ≡ true → IsDoomed w ⊎ LeavesNone tid world n tx)
     → (w.cell ≡ Open → goes.goes.next.cell ≡ Committed → (tx : TransactionValue) → find_transaction book tid ≡ Some tx → is_open tx.cell ≡ true → is_unanimous tx ≡ true)
     → HoldsPlaced tid book (field_of world) w → HoldsPlaced tid (book_stopped book n stamp cause) (field_of (stopped world n stamp cause log)) goes.goes.next

@@ -1,6 +1,7 @@
 //! Every run of the world of nodes is lawful, as far as it is owed.
 ghost use Rattle.qs_every_run.specs.StepLaws.{AnswersAside, BeginsOwned, InStep, KeepsClients, KeepsLabels, KeepsOwing, KeepsScripts, KeepsWays, CountsHaveRoom};
 ghost use Rattle.qs_every_run.specs.Rooms.{AskedOfRun, OwnedOfRun, RoomsAt, RoomsStay};
+ghost use Rattle.qs_every_run.specs.Awaiting.{AwaitedAt};
 ghost use Rattle.qs_every_run.specs.JoinedPlaces.{PlacesAt};
 ghost use Rattle.qs_every_run.specs.PlacesLaws.{PlacesGoOn};
 ghost use Rattle.qs_every_run.specs.JoinedRuns.{EachMoveJoined, EachOpensJoined, EachRunJoined, EachRunLawful};
@@ -17,10 +18,10 @@ ghost use Rattle.qs_every_run.specs.StaysLaws.{StepsKeepLogged, StepsTickOnce, S
 /// From what is still to be shown, which stands in one record: all that the machines and the nodes have together stands as a run begins, over
 /// old logs too that a restart can take up, and after each move; so each run's history is lawful.
 pub fn runs_are_lawful()
-    ensures opens { EachOpensJoined PlacesAt }
-    ensures moves { EachMoveJoined PlacesAt }
-    ensures runs { EachRunJoined PlacesAt }
-    ensures lawful { EachRunLawful PlacesAt }
+    ensures opens { EachOpensJoined AwaitedAt }
+    ensures moves { EachMoveJoined AwaitedAt }
+    ensures runs { EachRunJoined AwaitedAt }
+    ensures lawful { EachRunLawful AwaitedAt }
 {}
 
 /// As a run begins, over old logs too, and as a node restarts, the machine has beside each node that begins all that it is to have beside it.
