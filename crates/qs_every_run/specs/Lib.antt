@@ -35,6 +35,7 @@ pub mod CutCommits
 pub mod CutVotes
 pub mod TriedOwing
 pub mod TriedApart
+pub mod RepliesTrue
 pub mod PlacesJoined
 pub mod PlacesTurns
 pub mod PlacesSteps

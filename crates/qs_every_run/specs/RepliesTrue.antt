@@ -1,0 +1,102 @@
+-- A reply that comes is true: where a node takes in a reply, no request of its own stands under that number at the member, or the transaction is crossed there. Each
+-- request that is on its way or waits has a number that its node gave, and a later request of that incarnation has a greater one.
+use Rattle.std.specs.Prelude.{◌≡◌, ◌⊎◌, ℕ, ◌==◌, ◌≤◌, ◌<◌, ⊤, true, false, Some, None}
+use Rattle.qs_base.specs.declared.identifiers.Member.{Member}
+use Rattle.qs_base.specs.declared.identifiers.NodeNo.{NodeNo}
+use Rattle.qs_base.specs.declared.identifiers.ServerNo.{ServerNo}
+use Rattle.qs_base.specs.declared.identifiers.Tid.{Tid}
+use Rattle.qs_channels.specs.Channels.{Channels}
+use Rattle.qs_ipc.specs.declared.delivery.Delivery.{Delivery}
+use Rattle.qs_laws.proofs.Turns.{Stands}
+use Rattle.qs_machine.specs.Book.{BookValue, find_transaction, inc_at}
+use Rattle.qs_machine.specs.Lawful.{broken, effect}
+use Rattle.qs_machine.specs.Transaction.{TransactionValue, is_crossed, sent_in, sent_on, standing_request}
+use Rattle.qs_ops.specs.declared.reply.Reply.{Reply}
+use Rattle.qs_packet.specs.declared.message.Message.{Message}
+use Rattle.qs_packet.specs.declared.message.Message.TheVariants as messages
+use Rattle.qs_step.specs.State.{NodeValue}
+use Rattle.qs_step.specs.declared.event.Event.TheVariants as events
+use Rattle.qs_world.specs.Moves.{Source}
+use Rattle.qs_world.specs.Posting.{entry_of}
+use Rattle.qs_world.specs.World.{Opening, Parcel, World}
+use Rattle.qs_journal.specs.declared.entry.Act.TheVariants as acts
+use Rattle.qs_journal.specs.declared.entry.Entry.{Entry}
+use Rattle.qs_laws.proofs.Outcomes.{Inv}
+use Rattle.qs_lawful.specs.Face.{waiting_at}
+use Rattle.qs_lawful.specs.Logs.{Every}
+use Rattle.qs_lawful.specs.Parcels.{way_between}
+use Rattle.qs_lawful.proofs.LastsWell.{LastsWell}
+use Rattle.qs_every_run.specs.Agrees.{MakesStep}
+use Rattle.qs_every_run.specs.Joined.{Joined, book_in}
+use Rattle.qs_every_run.specs.JoinedPlaces.{PlacesAt}
+use Rattle.qs_every_run.specs.Placed.{Placed, field_of}
+
+-- ---- of a transaction
+
+-- node n gave that number to a request to node m in its incarnation i
+abbrev pub HasGiven : ℕ → ℕ → ℕ → ℕ → TransactionValue → Type 0
+HasGiven n i m number tx = number ≤ sent_in i (sent_on tx (way_between n m number).link)
+
+-- and that request stands at the member no more
+pub record IsServed (n i : ℕ) (member : Member) (number : ℕ) (tx : TransactionValue) : Type 0 where
+  pub none : (is_crossed tx member ≡ true) ⊎ (standing_request tx (way_between n member.node.0 number) member ≡ None)
+  pub given : HasGiven n i member.node.0 number tx
+
+-- so it is while node n begins no later incarnation
+pub record IsOfLast (book : BookValue) (n i : ℕ) (tid : Tid) (P : TransactionValue → Type 0) : Type 0 where
+  pub begun : i ≤ inc_at book (record { 0 = n })
+  pub holds : inc_at book (record { 0 = n }) ≡ i → Stands tid P book
+
+-- ---- what incarnation i of node n posted to incarnation j of node m, and what it keeps back
+
+abbrev pub IsTold : BookValue → ℕ → ℕ → ℕ → ℕ → Message → Type 0
+IsTold book n m i j (messages.Request tid label member number issuer op) = IsOfLast book n i tid (HasGiven n i m number)
+IsTold book n m i j (messages.Answered tid member number reply) = IsOfLast book m j tid (IsServed m j member number)
+IsTold book n m i j message = ⊤
+
+-- no reply is kept back: it goes to a node from which a request came
+abbrev pub IsKeptBack : BookValue → ℕ → ℕ → ℕ → Message → Type 0
+IsKeptBack book n m i (messages.Request tid label member number issuer op) = IsOfLast book n i tid (HasGiven n i m number)
+IsKeptBack book n m i (messages.Answered tid member number reply) = ⊥
+IsKeptBack book n m i message = ⊤
+
+-- ---- what waits at node m is of the incarnations that it knows, or stale
+
+pub record IsOfKnown (book : BookValue) (knows : ℕ → ℕ) (m : ℕ) (delivery : Delivery) : Type 0 where
+  pub known : 1 ≤ knows delivery.from.0
+  pub given : IsOfLast book delivery.from.0 (knows delivery.from.0) delivery.tid (HasGiven delivery.from.0 (knows delivery.from.0) m delivery.number)
+
+abbrev pub IsFresh : BookValue → (ℕ → ℕ) → ℕ → Delivery → Type 0
+IsFresh book knows m delivery = delivery.stale ≡ false → (delivery.from.0 == m) ≡ false → IsOfKnown book knows m delivery
+
+abbrev pub AreFresh : BookValue → (ℕ → ℕ) → ℕ → NodeValue → Type 0
+AreFresh book knows m node = (tid : Tid) (server : ServerNo) → Every (IsFresh book knows m) (waiting_at node tid server)
+
+-- ---- all of it
+
+pub record HoldsReplies (book : BookValue) (world : World) : Type 0 where
+  pub posted : (n m i j : ℕ) → Every (λ (parcel : Parcel). IsTold book n m i j parcel.message) (world.channels.posted n m i j)
+  pub keeps : (n m : ℕ) → Every (λ (parcel : Parcel). IsKeptBack book n m (world.channels.inc n) parcel.message) (world.channels.waits n m)
+  pub queued : (m : ℕ) → m < world.size → AreFresh book (world.channels.peer m) m (world.hosts m).node
+
+abbrev pub RepliesAt : Opening → World → Type 0
+RepliesAt o world = HoldsReplies (book_in o world) world
+
+-- ---- what it takes: it goes on through each entry, an issue has the next number, and what is served stands no more
+
+abbrev pub ServedStays : Type 0
+ServedStays = (book : BookValue) (entry : Entry) (n i : ℕ) (tid : Tid) (member : Member) (number : ℕ) → Inv book → broken book entry ≡ None → IsOfLast book n i tid (IsServed n i member number) → IsOfLast (effect book entry) n i tid (IsServed n i member number)
+
+abbrev pub GivenStays : Type 0
+GivenStays = (book : BookValue) (entry : Entry) (n i m : ℕ) (tid : Tid) (number : ℕ) → Inv book → broken book entry ≡ None → IsOfLast book n i tid (HasGiven n i m number) → IsOfLast (effect book entry) n i tid (HasGiven n i m number)
+
+-- a request that is served was of a number that its node gave: it stands no more
+abbrev pub ServesOnce : Type 0
+ServesOnce = (book : BookValue) (n stamp i : ℕ) (tid : Tid) (member : Member) (from : NodeNo) (number : ℕ) (reply : Reply) → LastsWell book → broken book (entry_of n stamp (acts.Serve tid member from number reply)) ≡ None → IsOfLast book from.0 i tid (HasGiven from.0 i member.node.0 number)
+    → IsOfLast (effect book (entry_of n stamp (acts.Serve tid member from number reply))) from.0 i tid (IsServed from.0 i member number)
+
+-- ---- so a reply that comes is true
+
+abbrev pub RepliesTrue : Type 0
+RepliesTrue = (o : Opening) (world : World) (n stamp : ℕ) (source : Source) (peer : NodeNo) (tid : Tid) (member : Member) (number : ℕ) (reply : Reply) (tx : TransactionValue) → Joined PlacesAt o world → RepliesAt o world → n < world.size
+    → MakesStep world n stamp source (events.Received peer (messages.Answered tid member number reply)) → find_transaction (book_in o world) tid ≡ Some tx → Placed tid tx (field_of world) → standing_request tx (way_between n member.node.0 number) member ≡ None
