@@ -63,7 +63,7 @@ module _ (tx : TransactionValue) (at : RequestNo) (request : Request) (peer_inc 
   pub given_own : sent_in request.inc (sent_on new at.link) ≡ sent_in request.inc (sent_on tx at.link) + 1
   given_own = ap (sent_in request.inc) (lookup_put link_cmp at.link sent (link_self at.link) tx.sent) ∙ more_in request (sent_on tx at.link)
 
-  given_other : (l : Link) → is_at (link_cmp l) at.link ≡ false → sent_on new l ≡ sent_on tx l
+  pub given_other : (l : Link) → is_at (link_cmp l) at.link ≡ false → sent_on new l ≡ sent_on tx l
   given_other l apart = lookup_put_apart link_cmp at.link sent (link_equal at.link) (is_at (link_cmp l)) apart tx.sent
 
   -- no fewer on any link, in the incarnations of a field that has the request's
@@ -84,7 +84,7 @@ module _ (tx : TransactionValue) (at : RequestNo) (request : Request) (peer_inc 
       by false apart = same _ _ (ap (sent_in (field.inc l.from.0)) (given_other l apart))
 
   -- what stands then stood, or has the request's number
-  stood_or_new : (r : RequestNo) (member : Member) → is_some (standing_request new r member) ≡ true → (r ≡ at) ⊎ (is_some (standing_request tx r member) ≡ true)
+  pub stood_or_new : (r : RequestNo) (member : Member) → is_some (standing_request new r member) ≡ true → (r ≡ at) ⊎ (is_some (standing_request tx r member) ≡ true)
   stood_or_new r member stands = by (is_at (request_cmp r) at) refl
     where
       by : (b : Bool) → is_at (request_cmp r) at ≡ b → (r ≡ at) ⊎ (is_some (standing_request tx r member) ≡ true)
@@ -149,7 +149,7 @@ module _ (tx : TransactionValue) (at : RequestNo) (member : Member) (inc stamp :
   abbrev later : TransactionValue
   later = served_in at member inc stamp done tx
 
-  stood_served : (r : RequestNo) (m : Member) → is_some (standing_request later r m) ≡ true → is_some (standing_request tx r m) ≡ true
+  pub stood_served : (r : RequestNo) (m : Member) → is_some (standing_request later r m) ≡ true → is_some (standing_request tx r m) ≡ true
   stood_served r m stands = by (is_at (request_cmp at) r) refl
     where
       Stands : Option (List Request) → Type 0

@@ -1,0 +1,16 @@
+//! Replies that come are true.
+ghost use Rattle.qs_every_run.specs.RepliesTrue.{GivenStays, RepliesTrue, ServedStays, ServesOnce};
+
+/// That a node gave a number in an incarnation stays so through each entry of a history, while it begins no later one; and so does that
+/// the request under it stands at its member no more, or crossed the transaction there. It does so once it is served.
+pub fn numbers_stay()
+    ensures given { GivenStays }
+    ensures served { ServedStays }
+    ensures once { ServesOnce }
+{}
+
+/// Where each reply that was posted is of a request that stands no more, so is one that comes in a step: all places hold what they should, so
+/// the transaction is not crossed.
+pub fn replies_are_true()
+    ensures { RepliesTrue }
+{}
