@@ -181,6 +181,7 @@ pub mod NoticeFinds
 pub mod ComesFind
 pub mod ComesUnknown
 pub mod RepliesTrue
+pub mod RepliesMoves
 pub mod FoundWell
 pub mod CommitsFind
 pub mod BegunBare

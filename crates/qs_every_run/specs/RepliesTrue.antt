@@ -9,14 +9,15 @@ use Rattle.qs_channels.specs.Channels.{Channels}
 use Rattle.qs_ipc.specs.declared.delivery.Delivery.{Delivery}
 use Rattle.qs_laws.proofs.Turns.{Stands}
 use Rattle.qs_machine.specs.Book.{BookValue, find_transaction, inc_at}
-use Rattle.qs_machine.specs.Lawful.{broken, effect}
+use Rattle.qs_machine.specs.Lawful.{IsLawful, broken, effect}
 use Rattle.qs_machine.specs.Transaction.{TransactionValue, is_crossed, sent_in, sent_on, standing_request}
 use Rattle.qs_ops.specs.declared.reply.Reply.{Reply}
 use Rattle.qs_packet.specs.declared.message.Message.{Message}
 use Rattle.qs_packet.specs.declared.message.Message.TheVariants as messages
 use Rattle.qs_step.specs.State.{NodeValue}
 use Rattle.qs_step.specs.declared.event.Event.TheVariants as events
-use Rattle.qs_world.specs.Moves.{Source}
+use Rattle.qs_world.specs.Histories.{book_of}
+use Rattle.qs_world.specs.Moves.{Move, Source, may_move, moved}
 use Rattle.qs_world.specs.Posting.{entry_of}
 use Rattle.qs_world.specs.World.{Opening, Parcel, World}
 use Rattle.qs_journal.specs.declared.entry.Act.TheVariants as acts
@@ -28,6 +29,7 @@ use Rattle.qs_lawful.specs.Parcels.{way_between}
 use Rattle.qs_lawful.proofs.LastsWell.{LastsWell}
 use Rattle.qs_every_run.specs.Agrees.{MakesStep}
 use Rattle.qs_every_run.specs.Joined.{Joined, book_in}
+use Rattle.qs_every_run.specs.JoinedOwed.{IsBetweenSteps, Opens}
 use Rattle.qs_every_run.specs.JoinedPlaces.{PlacesAt}
 use Rattle.qs_every_run.specs.Placed.{Placed, field_of}
 
@@ -100,3 +102,12 @@ ServesOnce = (book : BookValue) (n stamp i : ℕ) (tid : Tid) (member : Member) 
 abbrev pub RepliesTrue : Type 0
 RepliesTrue = (o : Opening) (world : World) (n stamp : ℕ) (source : Source) (peer : NodeNo) (tid : Tid) (member : Member) (number : ℕ) (reply : Reply) (tx : TransactionValue) → Joined PlacesAt o world → RepliesAt o world → n < world.size
     → MakesStep world n stamp source (events.Received peer (messages.Answered tid member number reply)) → find_transaction (book_in o world) tid ≡ Some tx → Placed tid tx (field_of world) → standing_request tx (way_between n member.node.0 number) member ≡ None
+
+-- ---- moves
+
+-- it is so as a run begins, and a crash, a restart and a first meeting keep it
+abbrev pub OpensReplies : Type 0
+OpensReplies = Opens RepliesAt
+
+abbrev pub BetweenKeepReplies : Type 0
+BetweenKeepReplies = (o : Opening) (world : World) (move : Move) → IsBetweenSteps move → Joined PlacesAt o world → RepliesAt o world → may_move world move ≡ true → IsLawful (book_of o) (moved move world).journal → RepliesAt o (moved move world)

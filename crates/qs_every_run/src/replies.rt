@@ -1,5 +1,5 @@
 //! Replies that come are true.
-ghost use Rattle.qs_every_run.specs.RepliesTrue.{GivenStays, RepliesTrue, ServedStays, ServesOnce};
+ghost use Rattle.qs_every_run.specs.RepliesTrue.{BetweenKeepReplies, GivenStays, OpensReplies, RepliesTrue, ServedStays, ServesOnce};
 
 /// That a node gave a number in an incarnation stays so through each entry of a history, while it begins no later one; and so does that
 /// the request under it stands at its member no more, or crossed the transaction there. It does so once it is served.
@@ -13,4 +13,10 @@ pub fn numbers_stay()
 /// the transaction is not crossed.
 pub fn replies_are_true()
     ensures { RepliesTrue }
+{}
+
+/// Each reply that was posted is of such a request as a run begins, since none was; and it is so after a crash, a restart and a first meeting.
+pub fn replies_stay_true()
+    ensures opens { OpensReplies }
+    ensures between { BetweenKeepReplies }
 {}
