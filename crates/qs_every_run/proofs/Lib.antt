@@ -182,6 +182,9 @@ pub mod ComesFind
 pub mod ComesUnknown
 pub mod RepliesTrue
 pub mod RepliesMoves
+pub mod RepliesSteps
+pub mod RepliesIssued
+pub mod FreshQueues
 pub mod FoundWell
 pub mod CommitsFind
 pub mod BegunBare

@@ -1,23 +1,32 @@
 -- A reply that comes is true: where a node takes in a reply, no request of its own stands under that number at the member, or the transaction is crossed there. Each
 -- request that is on its way or waits has a number that its node gave, and a later request of that incarnation has a greater one.
 use Rattle.std.specs.Prelude.{◌≡◌, ◌⊎◌, ℕ, ◌==◌, ◌≤◌, ◌<◌, ⊤, true, false, Some, None}
+use Rattle.std.specs.List.{filter}
 use Rattle.qs_base.specs.declared.identifiers.Member.{Member}
 use Rattle.qs_base.specs.declared.identifiers.NodeNo.{NodeNo}
 use Rattle.qs_base.specs.declared.identifiers.ServerNo.{ServerNo}
 use Rattle.qs_base.specs.declared.identifiers.Tid.{Tid}
 use Rattle.qs_channels.specs.Channels.{Channels}
+use Rattle.qs_ipc.specs.Ipc as ipc
+use Rattle.qs_ipc.specs.Ipc.{IpcValue, queue_at}
+use Rattle.qs_ipc.specs.Queue.{is_of}
 use Rattle.qs_ipc.specs.declared.delivery.Delivery.{Delivery}
 use Rattle.qs_laws.proofs.Turns.{Stands}
 use Rattle.qs_machine.specs.Book.{BookValue, find_transaction, inc_at}
 use Rattle.qs_machine.specs.Lawful.{IsLawful, broken, effect}
 use Rattle.qs_machine.specs.Transaction.{TransactionValue, is_crossed, sent_in, sent_on, standing_request}
+use Rattle.qs_ops.specs.declared.operation.Op.{Op}
 use Rattle.qs_ops.specs.declared.reply.Reply.{Reply}
 use Rattle.qs_packet.specs.declared.message.Message.{Message}
 use Rattle.qs_packet.specs.declared.message.Message.TheVariants as messages
 use Rattle.qs_step.specs.State.{NodeValue}
+use Rattle.qs_step.specs.Step.{after_step, effects_of}
+use Rattle.qs_step.specs.Telling.{drop_counts}
+use Rattle.qs_step.specs.declared.event.Event.{Event}
 use Rattle.qs_step.specs.declared.event.Event.TheVariants as events
+use Rattle.qs_step.specs.declared.event.Sending.{Sending}
 use Rattle.qs_world.specs.Histories.{book_of}
-use Rattle.qs_world.specs.Moves.{Move, Source, may_move, moved}
+use Rattle.qs_world.specs.Moves.{Move, Source, may_move, moved, step_with, taken_by}
 use Rattle.qs_world.specs.Posting.{entry_of}
 use Rattle.qs_world.specs.World.{Opening, Parcel, World}
 use Rattle.qs_journal.specs.declared.entry.Act.TheVariants as acts
@@ -29,7 +38,7 @@ use Rattle.qs_lawful.specs.Parcels.{way_between}
 use Rattle.qs_lawful.proofs.LastsWell.{LastsWell}
 use Rattle.qs_every_run.specs.Agrees.{MakesStep}
 use Rattle.qs_every_run.specs.Joined.{Joined, book_in}
-use Rattle.qs_every_run.specs.JoinedOwed.{IsBetweenSteps, Opens}
+use Rattle.qs_every_run.specs.JoinedOwed.{IsBetweenSteps, Opens, book_then, entries_in}
 use Rattle.qs_every_run.specs.JoinedPlaces.{PlacesAt}
 use Rattle.qs_every_run.specs.Placed.{Placed, field_of}
 
@@ -111,3 +120,47 @@ OpensReplies = Opens RepliesAt
 
 abbrev pub BetweenKeepReplies : Type 0
 BetweenKeepReplies = (o : Opening) (world : World) (move : Move) → IsBetweenSteps move → Joined PlacesAt o world → RepliesAt o world → may_move world move ≡ true → IsLawful (book_of o) (moved move world).journal → RepliesAt o (moved move world)
+
+-- ---- a whole step
+
+-- what node n sends in its incarnation i to another, of which it knows these incarnations
+abbrev pub IsSentSo : BookValue → ℕ → ℕ → (ℕ → ℕ) → ℕ → Message → Type 0
+IsSentSo book n i knows to (messages.Request tid label member number issuer op) = IsOfLast book n i tid (HasGiven n i to number)
+IsSentSo book n i knows to (messages.Answered tid member number reply) = (1 ≤ knows to) × IsOfLast book to (knows to) tid (IsServed to (knows to) member number)
+IsSentSo book n i knows to message = ⊤
+
+-- all that a step of it sends, and what waits there after it
+pub record TellsSo (o : Opening) (world : World) (n stamp free : ℕ) (source : Source) (event : Event) : Type 0 where
+  pub sent : Every (λ (s : Sending). IsSentSo (book_then o world n stamp free event) n (world.channels.inc n) ((taken_by world n source).peer n) s.to.0 s.message) (effects_of (world.hosts n).node event free).messages
+  pub queued : AreFresh (book_then o world n stamp free event) ((taken_by world n source).peer n) n (after_step (world.hosts n).node event free)
+
+abbrev pub EachStepTells : Type 0
+EachStepTells = (o : Opening) (world : World) (n stamp free : ℕ) (source : Source) (event : Event) → Joined PlacesAt o world → RepliesAt o world → MakesStep world n stamp source event → IsLawful (book_in o world) (entries_in world n stamp free event) → TellsSo o world n stamp free source event
+
+abbrev pub StepKeepsReplies : Type 0
+StepKeepsReplies = (o : Opening) (world : World) (n stamp free : ℕ) (source : Source) (event : Event) → Joined PlacesAt o world → RepliesAt o world → IsLawful (book_in o world) (entries_in world n stamp free event) → TellsSo o world n stamp free source event
+    → RepliesAt o (step_with world n stamp free source (Some event))
+
+-- ---- what the rules of a step do
+
+-- a request that is issued has a number that its node gave
+abbrev pub IssuesGive : Type 0
+IssuesGive = (book : BookValue) (n stamp : ℕ) (tid : Tid) (issuer member : Member) (number : ℕ) (op : Op) (tx : TransactionValue) → Inv book → find_transaction book tid ≡ Some tx → broken book (entry_of n stamp (acts.Issue tid issuer member number op)) ≡ None
+    → IsOfLast (effect book (entry_of n stamp (acts.Issue tid issuer member number op))) n (inc_at book (record { 0 = n })) tid (HasGiven n (inc_at book (record { 0 = n })) member.node.0 number)
+
+abbrev pub IsFreshIn : BookValue → (ℕ → ℕ) → ℕ → IpcValue → Type 0
+IsFreshIn book knows m queues = (tid : Tid) (server : ServerNo) → Every (IsFresh book knows m) (filter (is_of tid) (queue_at queues server).waiting)
+
+-- queues leave it so
+pub record KeepFresh (book : BookValue) (knows : ℕ → ℕ) (m : ℕ) (queues : IpcValue) : Type 0 where
+  pub queued : (at : ServerNo) (delivery : Delivery) → IsFresh book knows m delivery → IsFreshIn book knows m (ipc.enqueue at delivery queues)
+  pub left : (at : ServerNo) → IsFreshIn book knows m (ipc.after_next at queues)
+  pub forgotten : (tid : Tid) → IsFreshIn book knows m (drop_counts tid queues)
+  pub next_is : (at : ServerNo) (delivery : Delivery) → ipc.next at queues ≡ Some delivery → IsFresh book knows m delivery
+
+abbrev pub FreshQueues : Type 0
+FreshQueues = (book : BookValue) (knows : ℕ → ℕ) (m : ℕ) (queues : IpcValue) → IsFreshIn book knows m queues → KeepFresh book knows m queues
+
+-- and so do marks, as a later incarnation of a node becomes known
+abbrev pub FreshMarked : Type 0
+FreshMarked = (book : BookValue) (knows later : ℕ → ℕ) (m : ℕ) (peer : NodeNo) (queues : IpcValue) → ((k : ℕ) → (k == peer.0) ≡ false → later k ≡ knows k) → IsFreshIn book knows m queues → IsFreshIn book later m (ipc.mark_queues peer queues)
