@@ -1,5 +1,5 @@
 -- That a node gave a number, and that the request under it stands no more, stays so through each entry of a history, while the node begins no later incarnation.
-use Rattle.std.proofs.Common.{◌≡◌, ◌⊎◌, inl, inr, ℕ, ◌+◌, ◌≤◌, ◌<◌, ◌==◌, Bool, true, false, List, Option, Some, None, refl, sym, ap, subst, ◌∙◌, arith}
+use Rattle.std.proofs.Common.{◌≡◌, ◌⊎◌, inl, inr, ℕ, ◌+◌, ◌≤◌, ◌<◌, Bool, true, false, List, Option, Some, None, refl, sym, ap, subst, ◌∙◌, arith}
 use Rattle.std.specs.BTreeMap.{insert_entry, is_at}
 use Rattle.std.specs.List.{find}
 use Rattle.std.specs.Map.{lookup}
@@ -7,7 +7,6 @@ use Rattle.std.specs.Prelude.{is_some}
 use Rattle.qs_base.proofs.Same.{same_tid-true}
 use Rattle.qs_base.specs.Order.{member_cmp, same_tid}
 use Rattle.qs_base.specs.declared.identifiers.Member.{Member}
-use Rattle.qs_base.specs.declared.identifiers.NodeNo.{NodeNo}
 use Rattle.qs_base.specs.declared.identifiers.Outcome.TheVariants as outcomes
 use Rattle.qs_base.specs.declared.identifiers.Tid.{Tid}
 use Rattle.qs_journal.specs.declared.entry.Act.{Act}
@@ -18,7 +17,7 @@ use Rattle.qs_laws.proofs.LinkSteps.{paced}
 use Rattle.qs_laws.proofs.Maps.{put_known}
 use Rattle.qs_laws.proofs.Outcomes.{Inv}
 use Rattle.qs_laws.proofs.Reaching.{link_exact}
-use Rattle.qs_laws.proofs.Turns.{Gives, GivesFor, Obliged, Stands, step_turns}
+use Rattle.qs_laws.proofs.Turns.{Gives, GivesFor, Obliged, step_turns}
 use Rattle.qs_laws.specs.Lives.{restarts}
 use Rattle.qs_machine.specs.Book.{BookValue, find_transaction, inc_at}
 use Rattle.qs_machine.specs.Clauses.{borrower_at, link_to}

@@ -1,8 +1,6 @@
 -- What was posted and what waits says of numbers that were given, and of requests that were served, stays so through a whole step, where what it sends and what waits then is so.
 use Rattle.std.proofs.Common.{◌≡◌, ℕ, ◌≤◌, ◌<◌, ◌==◌, Bool, true, false, List, [], ◌∷◌, ◌++◌, Option, Some, None, refl, sym, ap, subst, ◌∙◌, arith, if◌then◌else◌}
 use Rattle.std.proofs.lemmas.Bool.{eqb-true}
-use Rattle.qs_base.specs.declared.identifiers.ServerNo.{ServerNo}
-use Rattle.qs_base.specs.declared.identifiers.Tid.{Tid}
 use Rattle.qs_channels.specs.Channels as channel
 use Rattle.qs_channels.specs.Channels.{Channels}
 use Rattle.qs_channels.specs.Network.{with_at2}
@@ -11,13 +9,12 @@ use Rattle.qs_machine.specs.Book.{BookValue}
 use Rattle.qs_machine.specs.Lawful.{IsLawful, book_after}
 use Rattle.qs_packet.specs.declared.message.Message.{Message}
 use Rattle.qs_packet.specs.declared.message.Message.TheVariants as messages
-use Rattle.qs_step.specs.State.{NodeValue}
 use Rattle.qs_step.specs.Step.{after_step, effects_of}
 use Rattle.qs_step.specs.declared.event.Event.{Event}
 use Rattle.qs_step.specs.declared.event.Sending.{Sending}
 use Rattle.qs_world.specs.Moves.{Clock, Commanded, Handed, Noticed, Queues, Source, hand_next, step_with, stepped_host, taken_by}
 use Rattle.qs_world.specs.Posting.{next_parcel, post_all, post_next}
-use Rattle.qs_world.specs.World.{Host, Opening, Parcel, World}
+use Rattle.qs_world.specs.World.{Opening, Parcel, World}
 use Rattle.qs_lawful.specs.Face.{waiting_at}
 use Rattle.qs_lawful.specs.Logs.{Every}
 use Rattle.qs_lawful.proofs.LogFrames.{every_on}
