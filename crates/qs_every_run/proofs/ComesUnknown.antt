@@ -47,7 +47,7 @@ use Rattle.qs_every_run.proofs.NoticeComes.{notice_comes}
 one : {A : Type 0} {a b : A} → Some a ≡ Some b → a ≡ b
 one e = cc e
 
-every_get : {A : Type 0} (P : A → Type 0) (k : ℕ) (xs : List A) (x : A) → Every P xs → slice_get xs k ≡ Some x → P x
+pub every_get : {A : Type 0} (P : A → Type 0) (k : ℕ) (xs : List A) (x : A) → Every P xs → slice_get xs k ≡ Some x → P x
 every_get P zero [] x all is = absurd (cc is)
 every_get P zero (y ∷ xs) x all is = subst P (one is) all.0
 every_get P (suc k) [] x all is = absurd (cc is)

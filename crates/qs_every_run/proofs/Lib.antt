@@ -79,6 +79,8 @@ pub mod JoinedMoves
 pub mod JoinedOver
 pub mod Entries
 pub mod PlacedIssued
+pub mod RepliesEntries
+pub mod RepliesServed
 pub mod PlacedTx
 pub mod PlacesBegin
 pub mod ApartHere
@@ -185,6 +187,11 @@ pub mod ServesFind
 pub mod NoticeFinds
 pub mod ComesFind
 pub mod ComesUnknown
+pub mod RepliesTrue
+pub mod RepliesMoves
+pub mod RepliesSteps
+pub mod RepliesIssued
+pub mod FreshQueues
 pub mod FoundWell
 pub mod CommitsFind
 pub mod BegunBare

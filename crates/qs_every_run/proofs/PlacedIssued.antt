@@ -63,7 +63,7 @@ module _ (tx : TransactionValue) (at : RequestNo) (request : Request) (peer_inc 
   pub given_own : sent_in request.inc (sent_on new at.link) ≡ sent_in request.inc (sent_on tx at.link) + 1
   given_own = ap (sent_in request.inc) (lookup_put link_cmp at.link sent (link_self at.link) tx.sent) ∙ more_in request (sent_on tx at.link)
 
-  given_other : (l : Link) → is_at (link_cmp l) at.link ≡ false → sent_on new l ≡ sent_on tx l
+  pub given_other : (l : Link) → is_at (link_cmp l) at.link ≡ false → sent_on new l ≡ sent_on tx l
   given_other l apart = lookup_put_apart link_cmp at.link sent (link_equal at.link) (is_at (link_cmp l)) apart tx.sent
 
   -- no fewer on any link, in the incarnations of a field that has the request's

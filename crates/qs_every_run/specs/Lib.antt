@@ -36,6 +36,7 @@ pub mod CutCommits
 pub mod CutVotes
 pub mod TriedOwing
 pub mod TriedApart
+pub mod RepliesTrue
 pub mod PlacesJoined
 pub mod PlacesTurns
 pub mod PlacesSteps

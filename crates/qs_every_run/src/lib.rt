@@ -8,6 +8,7 @@ pub mod found;
 mod joined_agrees;
 mod joined_runs;
 pub mod placed;
+pub mod replies;
 mod tried_apart;
 mod tried_owing;
 
