@@ -6,7 +6,7 @@ ghost use Rattle.std.specs.BTreeMap.{is_at};
 ghost use Rattle.qs_base.specs.Order.{tid_cmp};
 ghost use Rattle.qs_base.specs.declared.identifiers.Tid.{Tid};
 ghost use Rattle.qs_machine.specs.Nodes.{voter_cmp};
-ghost use Rattle.qs_machine.specs.Restart.{is_among, is_found_as, voter_of};
+ghost use Rattle.qs_machine.specs.Restart.{is_among, is_found, is_found_as, voter_of};
 ghost use Rattle.qs_machine.specs.declared.state.Voter.{Voter};
 ghost use Rattle.qs_book.specs.Found.{is_within, greater_covers};
 
@@ -76,6 +76,9 @@ pub fn add_tid(set: &mut BTreeSet<Tid>, tid: Tid) -> Result<(), NoMemory>
     Ok(())
 }
 
+/// Every vote covers at least so many requests.
+const LEAST_COVERS: u32 = 0;
+
 /// The votes that a restart finds, in order. To find the vote of a member takes one look-up.
 #[derive(Debug, Drop)]
 pub struct FoundVotes {
@@ -114,6 +117,13 @@ impl FoundVotes {
             add_covers(&mut covers, *found)?;
         }
         Ok(FoundVotes { items, covers })
+    }
+
+    /// Whether the member's vote for that transaction was found, with whatever covers.
+    pub fn finds(&self, at: Voter) -> bool
+        ensures { result ≡ is_found self.now at }
+    {
+        self.has(at, LEAST_COVERS)
     }
 
     /// Whether the member's vote for that transaction was found with at least these covers.

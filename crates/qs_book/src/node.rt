@@ -1,13 +1,16 @@
 //! A node of the run: its servers, what is on record, and how it starts and stops.
 
 ghost use Rattle.std.specs.Prelude.{◌≡◌, ◌&&◌, ◌++◌, not, OnOk, OnErr, IfOk};
-ghost use Rattle.std.specs.List.{list_any};
+ghost use Rattle.std.specs.List.{list_any, filter};
 ghost use Rattle.qs_base.specs.Order.{same_tid, same_bytes};
 ghost use Rattle.std.specs.List.{fold};
 ghost use Rattle.qs_machine.specs.Opening.{opened_node};
-ghost use Rattle.qs_machine.specs.Restart.{with_vote, without_records, reopened_node, restarted_node};
+ghost use Rattle.qs_machine.specs.Restart.{with_vote, without_records, is_found, found_only, reopened_node, restarted_node};
 ghost use Rattle.qs_machine.specs.Nodes.{bound_name, bound_names, is_doubt};
+ghost use Rattle.qs_machine.specs.declared.state.OnRecord.{OnRecord};
+ghost use Rattle.qs_machine.specs.declared.state.Voter.{Voter};
 
+use crate::found::FoundVotes;
 use crate::opening::{opened_audit, opened_commits, opened_files, opened_records};
 use qs_base::{Bytes, Copied, List, NoMemory, Outcome, ServerNo, Stamp, Tid};
 use qs_book_tables::{Table, TimerTable};
@@ -506,12 +509,25 @@ impl NodeState {
         Ok(())
     }
 
+    /// What is on record and was not found is so no more.
+    fn keep_found(&mut self, votes: &FoundVotes)
+        ensures { self.new ≡ found_only votes.now self.old }
+    {
+        keep_found(&mut self.records, votes);
+    }
+
     /// It is up in a new incarnation: found commits are applied, found votes are pending again, and
-    /// what is volatile is gone.
-    pub fn restart(&mut self, left: Reopened, done: &[Tid]) -> Result<(), NoMemory>
-        ensures { OnOk result (self.new ≡ restarted_node left done.now self.old) }
+    /// what is volatile, or was lost with its log's end, is gone.
+    pub fn restart(
+        &mut self,
+        left: Reopened,
+        votes: &FoundVotes,
+        done: &[Tid],
+    ) -> Result<(), NoMemory>
+        ensures { OnOk result (self.new ≡ restarted_node left votes.now done.now self.old) }
     {
         forget_all(self, done);
+        self.keep_found(votes);
         self.reopen(left)
     }
 }
@@ -522,6 +538,13 @@ fn forget_all(node: &mut NodeState, done: &[Tid])
     for tid in done {
         node.forget(tid);
     }
+}
+
+/// The records of those votes that were found.
+fn keep_found(records: &mut BTreeMap<Voter, OnRecord>, votes: &FoundVotes)
+    ensures { records.new.entries ≡ filter (λ (entry : Voter × OnRecord). is_found votes.now entry.0) records.old.entries }
+{
+    records.retain(|voter, _| votes.finds(*voter));
 }
 
 fn is_doubt(tid: Tid, name: &Bytes, by: Tid, names: &List<Bytes>) -> bool

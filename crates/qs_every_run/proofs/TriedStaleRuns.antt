@@ -1,5 +1,5 @@
--- A run that the machine refuses, by evaluation.
-use Rattle.std.proofs.Common.{◌≡◌, Some, None, [], ◌∷◌, refl}
+-- A run with a stale record, by evaluation.
+use Rattle.std.proofs.Common.{◌≡◌, None, [], ◌∷◌, refl}
 use Rattle.std.specs.Prelude.{codes}
 use Rattle.std.specs.Fmt.{digits}
 use Rattle.std.specs.Global.{Global}
@@ -12,7 +12,7 @@ pub before : (alloc : Global) → first_fault (opens alloc) (rise 2 (again alloc
 unfolding all_nodes all_servers digits
 before alloc = refl
 
-pub machine_has : (alloc : Global) → in_machine alloc ≡ (codes "g" ∷ []) ∷ []
+pub machine_has : (alloc : Global) → in_machine alloc ≡ (codes "h" ∷ []) ∷ []
 unfolding all_nodes all_servers digits
 machine_has alloc = refl
 
@@ -20,6 +20,6 @@ pub node_has : (alloc : Global) → in_node alloc ≡ (codes "h" ∷ []) ∷ []
 unfolding all_nodes all_servers digits
 node_has alloc = refl
 
-pub refused : (alloc : Global) → first_fault (opens alloc) (after alloc) ≡ Some (38, 31)
+pub lawful : (alloc : Global) → first_fault (opens alloc) (after alloc) ≡ None
 unfolding all_nodes all_servers digits
-refused alloc = refl
+lawful alloc = refl

@@ -1,6 +1,6 @@
--- A run that the machine refuses. A server voted on a transaction, its node learnt that it is aborted, ended its records and restarted; it got to know the transaction anew, from a node
--- that does not know the abort, and voted again, with as many covers, in a step that was cut off with its batch kept. As it restarts, the vote that is found is taken for the one that is on
--- record since, so that the machine has the changes of that one pending; and the next reply that goes by what is pending is none of its own.
+-- A run in which a stale record must not be taken for a vote. A server voted on a transaction, its node learnt that it is aborted, ended its records and restarted; it got to know the
+-- transaction anew, from a node that does not know the abort, and voted again, with as many covers, in a step that was cut off with its batch kept. As it restarts, the vote that is found
+-- is of the changes pending since, as the machine forgot the first one at the restart that did not find it; so the next reply that goes by what is pending is lawful.
 use Rattle.std.specs.Prelude.{◌≡◌, ℕ, ◌==◌, true, List, [], ◌∷◌, codes, fold, Option, Some, None, if◌then◌else◌, map, slice_get}
 use Rattle.std.specs.Global.{Global}
 use Rattle.qs_base.specs.declared.identifiers.Tid.{Tid}
@@ -82,6 +82,6 @@ in_node alloc = pending_files ((rise 2 (again alloc)).hosts 2).node.servers.file
 
 pub record TriedStale (alloc : Global) : Type 0 where
   pub before : first_fault (opens alloc) (rise 2 (again alloc)) ≡ None
-  pub machine_has : in_machine alloc ≡ (codes "g" ∷ []) ∷ []
+  pub machine_has : in_machine alloc ≡ (codes "h" ∷ []) ∷ []
   pub node_has : in_node alloc ≡ (codes "h" ∷ []) ∷ []
-  pub refused : first_fault (opens alloc) (after alloc) ≡ Some (38, 31)
+  pub lawful : first_fault (opens alloc) (after alloc) ≡ None

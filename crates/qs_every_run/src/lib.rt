@@ -19,4 +19,4 @@ pub use comes::{what_begins_is_bare, what_comes_finds};
 pub use joined_agrees::{stages_are_sound, steps_agree};
 pub use joined_runs::runs_are_lawful;
 pub use tried_apart::issuers_are_engaged;
-pub use tried_owing::{a_stale_record_is_taken_for_a_vote, owed_stands_open};
+pub use tried_owing::{a_stale_record_is_forgotten, owed_stands_open};

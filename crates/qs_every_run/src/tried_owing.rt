@@ -1,4 +1,4 @@
-//! What is still to be shown of every run, tried on the states of runs: of what nodes owe, and of votes in a step that is cut off.
+//! What runs are to keep, tried on their states: of what nodes owe, and of votes in a step that is cut off.
 ghost use Rattle.std.specs.Global.{Global};
 ghost use Rattle.qs_every_run.specs.TriedOwing.{TriedOwing};
 ghost use Rattle.qs_every_run.specs.TriedStale.{TriedStale};
@@ -9,9 +9,8 @@ pub fn owed_stands_open()
     ensures shown { (alloc : Global) → TriedOwing alloc }
 {}
 
-/// A run that the machine refuses, as it is: what a node has on record of a transaction stays there once that is aborted and its records are ended, through
-/// restarts too. Where the node gets to know the transaction anew and votes again, with as many covers, in a step that is cut off with its batch kept, a
-/// restart takes the vote that it finds for the one on record, and has its changes pending.
-pub fn a_stale_record_is_taken_for_a_vote()
+/// What a restart does not find is on record no more: a node that got to know a transaction anew, after it had learnt its abort and ended its records, and
+/// voted again with as many covers in a step that is cut off with its batch kept, has the changes of this vote pending, and so has the machine.
+pub fn a_stale_record_is_forgotten()
     ensures shown { (alloc : Global) → TriedStale alloc }
 {}

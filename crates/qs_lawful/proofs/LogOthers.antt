@@ -121,7 +121,7 @@ module _ (book : BookValue) (i : Inv book) (stamp m n : ℕ) (far : (m == n) ≡
   facets (acts.Learn tid member outcomes.Abort) = plain_facets stamp m (acts.Learn tid member outcomes.Abort) book refl n
   facets (acts.Restart inc pend done) =
       ap (λ (nodes : List machine.NodeValue). option_map facet (slice_get nodes n)) (restart_nodes m inc pend done book)
-      ∙ (ap (option_map facet) (elsewhere (restarted_node (reopened m inc pend done (put_new_votes m pend book)) done) (changed_at m (with_votes (new_votes m book pend)) book.nodes) m n far)
+      ∙ (ap (option_map facet) (elsewhere (restarted_node (reopened m inc pend done (put_new_votes m pend book)) pend done) (changed_at m (with_votes (new_votes m book pend)) book.nodes) m n far)
       ∙ ap (option_map facet) (elsewhere (with_votes (new_votes m book pend)) book.nodes m n far))
   facets (acts.Begin tid label client) = plain_facets stamp m (acts.Begin tid label client) book refl n
   facets (acts.Issue tid issuer member number op) = plain_facets stamp m (acts.Issue tid issuer member number op) book refl n

@@ -130,7 +130,7 @@ module _ (book : BookValue) (risen : NodeNo) (stamp inc : ℕ) (log : Recovery) 
   module _ (n : ℕ) (far : (n == risen.0) ≡ false) (near : (risen.0 == n) ≡ false) where
     pub nodes_same : slice_get now.nodes n ≡ slice_get book.nodes n
     nodes_same = ap (λ (ns : List machine.NodeValue). slice_get ns n) (restart_nodes risen.0 inc (found_votes log) log.committed book)
-        ∙ (elsewhere (restarted_node (reopened risen.0 inc (found_votes log) log.committed (put_new_votes risen.0 (found_votes log) book)) log.committed) _ risen.0 n near ∙ elsewhere (with_votes (new_votes risen.0 book (found_votes log))) book.nodes risen.0 n near)
+        ∙ (elsewhere (restarted_node (reopened risen.0 inc (found_votes log) log.committed (put_new_votes risen.0 (found_votes log) book)) (found_votes log) log.committed) _ risen.0 n near ∙ elsewhere (with_votes (new_votes risen.0 book (found_votes log))) book.nodes risen.0 n near)
 
     clients_on : (node : NodeValue) → HoldsClients book node → HoldsClients now node
     clients_on node h = record {

@@ -165,4 +165,4 @@ act_stopped book stamp here (acts.Restart inc pend done) all =
     (changed book.place here (with_votes (new_votes here book pend)) (same book.place (with_votes (new_votes here book pend)) (voted_at (new_votes here book pend))) book.nodes all))
   where
     g : machine.NodeValue → machine.NodeValue
-    g = restarted_node (reopened here inc pend done (put_new_votes here pend book)) done
+    g = restarted_node (reopened here inc pend done (put_new_votes here pend book)) pend done

@@ -85,7 +85,7 @@ module _ (book : BookValue) (n stamp inc : ℕ) (log : Recovery) (state : machin
   state_found = with_votes (new_votes n book (found_votes log)) state
 
   abbrev pub new_state : machine.NodeValue
-  new_state = restarted_node (reopened n inc (found_votes log) done with_found) done state_found
+  new_state = restarted_node (reopened n inc (found_votes log) done with_found) (found_votes log) done state_found
 
   abbrev pub new_book : BookValue
   new_book = effect book (entry_of n stamp (acts.Restart inc (found_votes log) done))

@@ -12,13 +12,14 @@ use Rattle.qs_base.specs.declared.identifiers.Tid.{Tid}
 use Rattle.qs_journal.specs.declared.entry.Found.{Found}
 use Rattle.qs_laws.proofs.Alikes.{voter_exact}
 use Rattle.qs_laws.proofs.Found.{forgot_others}
+use Rattle.qs_laws.proofs.FoundOnly.{found_stays, least, none_stays_none, recorded_was}
 use Rattle.qs_laws.proofs.Reopens.{restarted_is}
 use Rattle.qs_laws.proofs.Maps.{changed_at_here}
 use Rattle.qs_laws.proofs.Rising.{IsRising, put_rises, voter_total}
 use Rattle.qs_machine.specs.Book.{BookValue, cell_of_transaction, crossed_in, find_transaction}
 use Rattle.qs_machine.specs.Nodes as machine
 use Rattle.qs_machine.specs.Nodes.{changes_of, is_recoverable, record_of, voter, voter_cmp}
-use Rattle.qs_machine.specs.Restart.{is_among, is_found_as, is_new_vote, is_on_record, may_be_lost, member_at, new_votes, record_at, reopened, votes_once, with_votes, without_records}
+use Rattle.qs_machine.specs.Restart.{is_among, is_found, is_found_as, is_new_vote, is_on_record, may_be_lost, member_at, new_votes, record_at, reopened, votes_once, with_votes, without_records}
 use Rattle.qs_machine.specs.Transaction.{TransactionValue, has_learnt, is_abort, is_open}
 use Rattle.qs_machine.specs.declared.state.OnRecord.{OnRecord}
 use Rattle.qs_machine.specs.declared.state.Voter.{Voter}
@@ -45,6 +46,19 @@ every_lookup P (e ∷ es) all at rec is = by (is_at (voter_cmp at) e.0) refl is 
     by : (b : Bool) → is_at (voter_cmp at) e.0 ≡ b → (if b then Some e.1 else lookup (is_at (voter_cmp at)) es) ≡ Some rec → (lookup (is_at (voter_cmp at)) es ≡ Some rec → P (at, rec)) → P (at, rec)
     by true same has more = subst (λ (v : Voter). P (v, rec)) (sym (voter_exact at e.0 same)) (subst (λ (x : OnRecord). P (e.0, x)) (ap (λ (o : Option OnRecord). elim o [ None ↦ e.1 | Some x ↦ x ]) has) all.0)
     by false far has more = more has
+
+each_found : (fs : List Found) → Every (λ (f : Found). is_found fs (voter f.tid f.server.0) ≡ true) fs
+each_found [] = tt
+each_found (f ∷ fs) =
+    (rw (same_tid-self f.tid, same_number f.server.0, least f.covers) refl, every_on (λ (g : Found). is_found fs (voter g.tid g.server.0) ≡ true) (λ (g : Found). is_found (f ∷ fs) (voter g.tid g.server.0) ≡ true)
+    (λ g is. or_more (is_found_as (voter g.tid g.server.0) 0 f) (is_found fs (voter g.tid g.server.0)) is) fs (each_found fs))
+  where
+    same_number : (n : ℕ) → (n == n) ≡ true
+    same_number n = grind (arith, nat_tests)
+
+    or_more : (a b : Bool) → b ≡ true → (a || b) ≡ true
+    or_more true b e = refl
+    or_more false b e = e
 
 module _ (book : BookValue) (here : NodeNo) (stamp inc : ℕ) (log : Recovery) (state : machine.NodeValue) (r : Restarts book here inc log state) (once : votes_once (found_votes log) ≡ true) where
   abbrev now : BookValue
@@ -85,6 +99,13 @@ module _ (book : BookValue) (here : NodeNo) (stamp inc : ℕ) (log : Recovery) (
       (found_of_all (λ (f : Found). ((is_on_record state f ≡ true) ⊎ (is_new_vote here.0 state (find_transaction book f.tid) f ≡ true)) ⊎ Applied f) log
       (every_on (λ (v : Prepared). IsVoteLogged here.0 book state log v ⊎ IsCutVote here.0 book state v) (λ (v : Prepared). ((is_on_record state (found_of v) ≡ true) ⊎ (is_new_vote here.0 state (find_transaction book v.tid) (found_of v) ≡ true)) ⊎ Applied (found_of v)) ok log.prepared r.stopped.votes))))
 
+  -- each vote of the log is found, so that the restart leaves it on record
+  all_found : Every (λ (v : Prepared). names_transaction v.tid ≡ true → is_found (found_votes log) (voter v.tid v.server.0) ≡ true) log.prepared
+  all_found = all_of_found (λ (f : Found). is_found (found_votes log) (voter f.tid f.server.0) ≡ true) log.prepared (each_found (found_votes log))
+
+  abbrev kept_then : machine.NodeValue
+  kept_then = fold without_records found log.committed
+
   there_found : slice_get mid.nodes here.0 ≡ Some found
   there_found = changed_at_here (with_votes (new_votes here.0 book (found_votes log))) book.nodes here.0 state r.there
 
@@ -98,14 +119,14 @@ module _ (book : BookValue) (here : NodeNo) (stamp inc : ℕ) (log : Recovery) (
   same_committed : reborn.committed ≡ state.committed
   same_committed = (same_then state found (fold without_records found log.committed) (same_votes (new_votes here.0 book (found_votes log)) state) (same_forgot log.committed found)).committed
 
-  vote_logged : (v : Prepared) → is_recoverable v.server.0 ≡ true → StandsIn book v → (names_transaction v.tid ≡ true → OnFound (found_of v)) → IsVoteLogged here.0 now reborn log v
-  vote_logged v kept stands on = by (is_among log.committed v.tid) refl (on (named v stands))
+  vote_logged : (v : Prepared) → is_recoverable v.server.0 ≡ true → StandsIn book v → (names_transaction v.tid ≡ true → OnFound (found_of v)) → (names_transaction v.tid ≡ true → is_found (found_votes log) (voter v.tid v.server.0) ≡ true) → IsVoteLogged here.0 now reborn log v
+  vote_logged v kept stands on is_there = by (is_among log.committed v.tid) refl (on (named v stands))
     where
       applied : is_among log.committed v.tid ≡ true → (later : TransactionValue) → find_transaction now v.tid ≡ Some later → (has_learnt later (member_at here.0 v.server.0) ≡ true) ⊎ (is_among reborn.committed v.tid ≡ true) → IsVoteLogged here.0 now reborn log v
       applied among later at learnt = inr (record { tx = later; found = at; has_commit = among; learnt = learnt })
 
       by : (b : Bool) → is_among log.committed v.tid ≡ b → OnFound (found_of v) → IsVoteLogged here.0 now reborn log v
-      by false far (inl is) = inl (ap (λ (o : Option OnRecord). elim o [ None ↦ false | Some rec ↦ rec.covers == v.covers ]) (forgot_others log.committed v.tid v.server.0 found far) ∙ is)
+      by false far (inl is) = inl (ap (λ (o : Option OnRecord). elim o [ None ↦ false | Some rec ↦ rec.covers == v.covers ]) (found_stays (found_votes log) kept_then v.tid v.server.0 (is_there (named v stands)) ∙ forgot_others log.committed v.tid v.server.0 found far) ∙ is)
       by false far (inr a) = absurd (cc (sym far ∙ a.2.0))
       by true among (inr a) =
           let p = goes book here stamp inc log state r v.tid a.0 a.1 in
@@ -135,7 +156,7 @@ module _ (book : BookValue) (here : NodeNo) (stamp inc : ℕ) (log : Recovery) (
   rising_found = votes_rise (new_votes here.0 book (found_votes log)) state rising_state
 
   safe : (tid : Tid) (server : ℕ) (rec : OnRecord) → record_of reborn tid server ≡ Some rec → IsRecordSafe now log (voter tid server) rec.covers
-  safe tid server rec is = by (record_was here.0 book state (found_votes log) state (voter tid server) rec (subst (λ (votes : List (Voter × OnRecord)). record_of (with_votes votes state) tid server ≡ Some rec) (new_votes_are here.0 book state (found_votes log) r.there) (forgot_was log.committed found (voter tid server) rec rising_found is)))
+  safe tid server rec is = by (record_was here.0 book state (found_votes log) state (voter tid server) rec (subst (λ (votes : List (Voter × OnRecord)). record_of (with_votes votes state) tid server ≡ Some rec) (new_votes_are here.0 book state (found_votes log) r.there) (forgot_was log.committed found (voter tid server) rec rising_found (recorded_was (found_votes log) kept_then tid server rec is).0)))
     where
       abort_is : (c : Cell) → is_abort c ≡ true → c ≡ cells.Abort
       abort_is cells.Abort e = refl
@@ -204,7 +225,9 @@ module _ (book : BookValue) (here : NodeNo) (stamp inc : ℕ) (log : Recovery) (
   log_held = record {
     kinds = r.stopped.kinds;
     stands = stands_now;
-    votes = every_two (λ (v : Prepared). (is_recoverable v.server.0 ≡ true) × StandsIn book v) (λ (v : Prepared). names_transaction v.tid ≡ true → OnFound (found_of v)) (IsVoteLogged here.0 now reborn log) (λ v both on. vote_logged v both.0 both.1 on) log.prepared both_of on_found;
+    votes = every_two (λ (v : Prepared). (is_recoverable v.server.0 ≡ true) × StandsIn book v) (λ (v : Prepared). (names_transaction v.tid ≡ true → OnFound (found_of v)) × (names_transaction v.tid ≡ true → is_found (found_votes log) (voter v.tid v.server.0) ≡ true)) (IsVoteLogged here.0 now reborn log) (λ v both on. vote_logged v both.0 both.1 on.0 on.1) log.prepared both_of
+        (every_two (λ (v : Prepared). names_transaction v.tid ≡ true → OnFound (found_of v)) (λ (v : Prepared). names_transaction v.tid ≡ true → is_found (found_votes log) (voter v.tid v.server.0) ≡ true)
+        (λ (v : Prepared). (names_transaction v.tid ≡ true → OnFound (found_of v)) × (names_transaction v.tid ≡ true → is_found (found_votes log) (voter v.tid v.server.0) ≡ true)) (λ v on is. (on, is)) log.prepared on_found all_found);
     marked = r.marked;
     kept = safe;
     commits = all_done log.committed (λ tid is. is);
@@ -228,10 +251,10 @@ module _ (book : BookValue) (here : NodeNo) (stamp inc : ℕ) (log : Recovery) (
               ap (λ (o : Option TransactionValue). crossed_in o (member_at here.0 v.server.0)) had ∙ (ap (λ crossed. is_some (lookup (is_at (member_cmp (member_at here.0 v.server.0))) crossed)) (sym p.2.crossed) ∙ (sym (ap (λ (o : Option TransactionValue). crossed_in o (member_at here.0 v.server.0)) p.1) ∙ clean))
 
       same_record : is_among log.committed v.tid ≡ false → record_at here.0 mid v.tid v.server.0 ≡ Some rec
-      same_record far = record_is v.tid v.server.0 ∙ (sym (forgot_others log.committed v.tid v.server.0 found far) ∙ is)
+      same_record far = record_is v.tid v.server.0 ∙ (sym (forgot_others log.committed v.tid v.server.0 found far) ∙ (recorded_was (found_votes log) kept_then v.tid v.server.0 rec is).0)
 
       by : (b : Bool) → is_among log.committed v.tid ≡ b → IsRecorded here.0 now (Some rec) v
-      by true among = absurd (cc (sym (forgot_done log.committed v.tid v.server.0 found kept rising_found among) ∙ is))
+      by true among = absurd (cc (sym (forgot_done log.committed v.tid v.server.0 found kept rising_found among) ∙ (recorded_was (found_votes log) kept_then v.tid v.server.0 rec is).0))
       by false far =
           let h : IsRecorded here.0 book (Some rec) v = subst (λ (o : Option OnRecord). IsRecorded here.0 book o v) (same_record far) (to_be (named v stands) clear) in
           record { changes = λ clean. h.changes (crossed_still clean); count = h.count }
@@ -257,6 +280,6 @@ module _ (book : BookValue) (here : NodeNo) (stamp inc : ℕ) (log : Recovery) (
     };
     recorded = every_two (λ (v : Prepared). (is_recoverable v.server.0 ≡ true) × StandsIn book v) (IsToBeRecorded here.0 book log) (IsAsRecorded here.0 now reborn) (λ v all to_be. recorded_now v all.0 all.1 to_be) log.prepared both_of r.left.recorded;
     apart = r.left.apart;
-    gone = λ tid server kept among. ap changes_of (forgot_done log.committed tid server found (recoverable (server == files_no) (server == audit_no) (server == extra_no) kept) rising_found among);
+    gone = λ tid server kept among. ap changes_of (none_stays_none (found_votes log) kept_then tid server (forgot_done log.committed tid server found (recoverable (server == files_no) (server == audit_no) (server == extra_no) kept) rising_found among));
     undone = every_on (λ (v : Prepared). is_in_doubt v ≡ true → InDoubt book here stamp inc log state r v.tid) (IsUndone here.0 now) undone log.prepared (in_doubt book here stamp inc log state r);
   }

@@ -16,13 +16,14 @@ use Rattle.qs_ops.specs.Table.{TableValue, applied, restarted, apply_change, app
 use Rattle.qs_machine.specs.Book.{BookValue, find_transaction, changed_at, crossed_in}
 use Rattle.qs_machine.specs.Lawful.{is_in_order, broken_at, broken, effect_act, effect}
 use Rattle.qs_machine.specs.Nodes.{NodeValue, pending_at, record_of, changes_of, voter, voter_cmp}
-use Rattle.qs_machine.specs.Restart.{restart, reopened, restarted_node, put_new_votes, new_votes, new_votes_at, with_votes, with_vote, record_at, changes_at, is_kept, is_found_vote, votes_once, broken_restart, is_among, add_commit, commits_found, has_record, member_at, without_records}
+use Rattle.qs_machine.specs.Restart.{restart, reopened, restarted_node, put_new_votes, new_votes, new_votes_at, with_votes, with_vote, record_at, changes_at, is_kept, is_found_vote, votes_once, broken_restart, is_among, add_commit, commits_found, has_record, member_at, is_found, without_records}
 use Rattle.qs_machine.specs.declared.state.OnRecord.{OnRecord}
 use Rattle.qs_machine.specs.declared.state.Voter.{Voter}
 use Rattle.qs_laws.specs.Laws.{IsCommitted}
 use Rattle.qs_laws.specs.Served.{crossed_at, keeps_contents, logged_at, IsLogged, PendsAgain, CommitsOnce}
 use Rattle.qs_laws.proofs.Alikes.{voter_exact, voter_equal, voter_itself}
 use Rattle.qs_laws.proofs.Ends.{held_there}
+use Rattle.qs_laws.proofs.FoundOnly.{found_stays, found_with}
 use Rattle.qs_laws.proofs.Found.{found_in, not_lost, forgot_others, pending_again}
 use Rattle.qs_laws.proofs.Holding.{which, restart_nodes}
 use Rattle.qs_laws.proofs.Maps.{changed_at_here, lookup_put, lookup_put_apart}
@@ -107,7 +108,7 @@ module _ (here inc : ℕ) (pend : List Found) (done : List Tid) (book : BookValu
   v = with_votes (new_votes here book pend) node
 
   abbrev reopens : NodeValue → NodeValue
-  reopens = restarted_node (reopened here inc pend done mid) done
+  reopens = restarted_node (reopened here inc pend done mid) pend done
 
   pub reopened_there : slice_get (restart here inc pend done book).nodes here ≡ Some (reopens v)
   reopened_there =
@@ -138,21 +139,26 @@ pends_again book entry inc pend done tid member keeps h is e committed plain rec
     let there : (node : NodeValue) × (slice_get book.nodes member.node.0 ≡ Some node) × (broken_restart member.node.0 book node inc pend done ≡ None) = restart_node book entry member.node.0 inc pend done h is e in
     let w : (b : Bool) × (member.server.0 ≡ number b) = which member.server.0 keeps in
     let r : (rec : OnRecord) × (record_at member.node.0 book tid member.server.0 ≡ Some rec) = some_of (record_at member.node.0 book tid member.server.0) recorded in
-    let last : NodeValue = restarted_node (reopened member.node.0 inc pend done (put_new_votes member.node.0 pend book)) done (with_votes (new_votes member.node.0 book pend) there.0) in
+    let last : NodeValue = restarted_node (reopened member.node.0 inc pend done (put_new_votes member.node.0 pend book)) pend done (with_votes (new_votes member.node.0 book pend) there.0) in
     let last_there : slice_get (effect book entry).nodes member.node.0 ≡ Some last =
     ap (λ (nodes : List NodeValue). slice_get nodes member.node.0) (effect_nodes book entry member.node.0 inc pend done is e) ∙ reopened_there member.node.0 inc pend done book there.0 there.1 in
     let same_record : record_of there.0 tid (number w.0) ≡ Some r.0 =
     subst (λ (s : ℕ). record_of there.0 tid s ≡ Some r.0) w.1 (sym (record_there book tid member.node.0 member.server.0 there.0 there.1) ∙ r.1) in
     let pending : pending_at last tid (number w.0) ≡ changes_at member.node.0 (put_new_votes member.node.0 pend book) (number w.0) tid =
     pends member.node.0 inc pend done book there.0 there.1 w.0 tid r.0 there.2 committed (subst (λ (s : ℕ). crossed_in (find_transaction book tid) (member_at member.node.0 s) ≡ false) w.1 plain) same_record apart in
+    let was_on_record : record_of there.0 tid member.server.0 ≡ Some r.0 = sym (record_there book tid member.node.0 member.server.0 there.0 there.1) ∙ r.1 in
+    let found : is_found pend (voter tid member.server.0) ≡ true =
+    found_with pend (voter tid member.server.0) r.0.covers
+    (found_in member.node.0 book there.0 pend done tid member.server.0 r.0 (not_lost member.node.0 tid (find_transaction book tid) committed) was_on_record apart (kept_rule member.node.0 inc pend done book there.0 there.2)) in
     record {
       pending =
           held_there (effect book entry) tid member last last_there
           ∙ subst (λ (s : ℕ). pending_at last tid s ≡ changes_at member.node.0 (put_new_votes member.node.0 pend book) s tid) (sym w.1) pending;
       on_record =
           record_there (effect book entry) tid member.node.0 member.server.0 last last_there
+          ∙ (found_stays pend (fold without_records (with_votes (new_votes member.node.0 book pend) there.0) done) tid member.server.0 found
           ∙ (forgot_others done tid member.server.0 (with_votes (new_votes member.node.0 book pend) there.0) apart
-          ∙ sym (logged_there book pend tid member there.0 there.1));
+          ∙ sym (logged_there book pend tid member there.0 there.1)));
     }
 
 -- ---- committed once
@@ -209,7 +215,7 @@ module _ (book : BookValue) (pend : List Found) (tid : Tid) (member : Member) (i
   votes = new_votes member.node.0 book pend
 
   abbrev reopened_as : NodeValue
-  reopened_as = restarted_node (reopened member.node.0 inc pend done read) done (with_votes votes node)
+  reopened_as = restarted_node (reopened member.node.0 inc pend done read) pend done (with_votes votes node)
 
   commits_files : (tids : List Tid) → commits_found member.node.0 read done ≡ tids → member.server.0 ≡ 0
       → reopened_as.files.contents ≡ fold apply_change node.files.contents (flat_map (λ (t : Tid). changes_of (logged_at book pend t member)) tids)
@@ -257,7 +263,7 @@ commits_once book entry inc pend done tid member was at_last keeps h is e record
     ∙ votes_add (new_votes member.node.0 book pend) was tid member.server.0 (ap (λ (o : Option OnRecord). is_some o) (sym (record_there book tid member.node.0 member.server.0 was was_is)) ∙ recorded) in
     let has : has_record member.node.0 (put_new_votes member.node.0 pend book) tid ≡ true = some_either w.0 (put_new_votes member.node.0 pend book) member.node.0 tid member.server.0 w.1 logged in
     let once : Once tid (commits_found member.node.0 (put_new_votes member.node.0 pend book) done) = once_found member.node.0 (put_new_votes member.node.0 pend book) tid has done [] (inl (refl, among)) in
-    let last : NodeValue = restarted_node (reopened member.node.0 inc pend done (put_new_votes member.node.0 pend book)) done (with_votes (new_votes member.node.0 book pend) was) in
+    let last : NodeValue = restarted_node (reopened member.node.0 inc pend done (put_new_votes member.node.0 pend book)) pend done (with_votes (new_votes member.node.0 book pend) was) in
     let last_there : slice_get (effect book entry).nodes member.node.0 ≡ Some last =
     ap (λ (nodes : List NodeValue). slice_get nodes member.node.0) (effect_nodes book entry member.node.0 inc pend done is e) ∙ reopened_there member.node.0 inc pend done book was was_is in
     let same : last ≡ at_last = some_same last at_last (sym last_there ∙ last_is) in

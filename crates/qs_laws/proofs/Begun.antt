@@ -76,7 +76,7 @@ node_incs : (n : ℕ) (book : BookValue) (stamp here : ℕ) (node : NodeValue) (
 node_incs n book stamp here node (Restart inc pend done) far h =
     ap (λ (nodes : List NodeValue). option_map (λ (a : Age). a.inc) (option_map age (slice_get nodes n))) (restart_nodes here inc pend done book)
     ∙ ap (λ (o : Option NodeValue). option_map (λ (a : Age). a.inc) (option_map age o))
-    (elsewhere (restarted_node (reopened here inc pend done (put_new_votes here pend book)) done) (changed_at here (with_votes (new_votes here book pend)) book.nodes) here n far
+    (elsewhere (restarted_node (reopened here inc pend done (put_new_votes here pend book)) pend done) (changed_at here (with_votes (new_votes here book pend)) book.nodes) here n far
     ∙ elsewhere (with_votes (new_votes here book pend)) book.nodes here n far)
 node_incs n book stamp here node act far h = acted_incs n book stamp here node act far (held node.up 2 (broken_act book stamp here node act) h).1
 

@@ -129,9 +129,9 @@ settled_nodes here inc pend done book =
     ∙ fold_nodes (commit_found here) (commit_found_nodes here) done book)
 
 pub restart_nodes : (here inc : ℕ) (pend : List Found) (done : List Tid) (book : BookValue)
-    → (restart here inc pend done book).nodes ≡ changed_at here (restarted_node (reopened here inc pend done (put_new_votes here pend book)) done) (changed_at here (with_votes (new_votes here book pend)) book.nodes)
+    → (restart here inc pend done book).nodes ≡ changed_at here (restarted_node (reopened here inc pend done (put_new_votes here pend book)) pend done) (changed_at here (with_votes (new_votes here book pend)) book.nodes)
 restart_nodes here inc pend done book =
-    ap (λ (nodes : List NodeValue). changed_at here (restarted_node (reopened here inc pend done (put_new_votes here pend book)) done) nodes) (settled_nodes here inc pend done (put_new_votes here pend book))
+    ap (λ (nodes : List NodeValue). changed_at here (restarted_node (reopened here inc pend done (put_new_votes here pend book)) pend done) nodes) (settled_nodes here inc pend done (put_new_votes here pend book))
 
 -- ---- crossing
 
@@ -319,7 +319,7 @@ module _ (b : Bool) (tid : Tid) (member : Member) (is : member.server.0 ≡ numb
   restart_holds : (here inc : ℕ) (pend : List Found) (done : List Tid) (book : BookValue) → (here == member.node.0) ≡ false → Holds book (restart here inc pend done book) []
   restart_holds here inc pend done book far =
       ap (held_in b tid member.node.0) (restart_nodes here inc pend done book)
-      ∙ (holds_far b tid member.node.0 here (restarted_node (reopened here inc pend done (put_new_votes here pend book)) done) far (changed_at here (with_votes (new_votes here book pend)) book.nodes)
+      ∙ (holds_far b tid member.node.0 here (restarted_node (reopened here inc pend done (put_new_votes here pend book)) pend done) far (changed_at here (with_votes (new_votes here book pend)) book.nodes)
       ∙ (holds_far b tid member.node.0 here (with_votes (new_votes here book pend)) far book.nodes ∙ sym (append-nil (held_in b tid member.node.0 book.nodes))))
 
   node_holds : (book : BookValue) (stamp here : ℕ) (node : NodeValue) (act : Act) → slice_get book.nodes here ≡ Some node → broken_node book stamp here node act ≡ None → lets_go tid member here act ≡ false

@@ -69,7 +69,7 @@ act_run stamp here Tick book = changed_length (tick_node stamp) book.nodes here
 act_run stamp here (Crash cause) book = changed_length (crash_node book.place) book.nodes here
 act_run stamp here (Restart inc pend done) book =
     ap length (restart_nodes here inc pend done book)
-    ∙ (changed_length (restarted_node (reopened here inc pend done (put_new_votes here pend book)) done) (changed_at here (with_votes (new_votes here book pend)) book.nodes) here
+    ∙ (changed_length (restarted_node (reopened here inc pend done (put_new_votes here pend book)) pend done) (changed_at here (with_votes (new_votes here book pend)) book.nodes) here
     ∙ changed_length (with_votes (new_votes here book pend)) book.nodes here)
 
 pub ran_run : (entries : List Entry) (book : BookValue) → length (book_after book entries).nodes ≡ length book.nodes

@@ -199,7 +199,7 @@ module _ (tid : Tid) (member : Member) where
     mark =
         ap (λ (nodes : List NodeValue). option_map (mark_in tid member.server.0) (slice_get nodes member.node.0)) (restart_nodes here inc pend done book)
         ∙ (ap (λ (o : Option NodeValue). option_map (mark_in tid member.server.0) o)
-        (elsewhere (restarted_node (reopened here inc pend done (put_new_votes here pend book)) done) (changed_at here (with_votes (new_votes here book pend)) book.nodes) here member.node.0 far
+        (elsewhere (restarted_node (reopened here inc pend done (put_new_votes here pend book)) pend done) (changed_at here (with_votes (new_votes here book pend)) book.nodes) here member.node.0 far
         ∙ elsewhere (with_votes (new_votes here book pend)) book.nodes here member.node.0 far));
     count = of_settled tid member here inc pend done far (put_new_votes here pend book);
   }

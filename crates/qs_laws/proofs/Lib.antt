@@ -29,6 +29,7 @@ pub mod Holds
 pub mod Holding
 pub mod Ends
 pub mod Found
+pub mod FoundOnly
 pub mod Again
 pub mod Unanimous
 pub mod Ready

@@ -73,7 +73,7 @@ less a b h = grind (arith, nat_tests)
 pub reborn : (book : BookValue) (entry : Entry) (here inc : ℕ) (pend : List Found) (done : List Tid) → broken book entry ≡ None → entry.act ≡ acts.Restart inc pend done → entry.node.0 ≡ here → Reborn book (effect book entry) here inc
 reborn book entry here inc pend done h is e =
     let at : (node : NodeValue) × (slice_get book.nodes here ≡ Some node) × (broken_restart here book node inc pend done ≡ None) = restart_node book entry here inc pend done h is e in
-    let last : slice_get (effect book entry).nodes here ≡ Some (restarted_node (reopened here inc pend done (put_new_votes here pend book)) done (with_votes (new_votes here book pend) at.0)) =
+    let last : slice_get (effect book entry).nodes here ≡ Some (restarted_node (reopened here inc pend done (put_new_votes here pend book)) pend done (with_votes (new_votes here book pend) at.0)) =
     ap (λ (nodes : List NodeValue). slice_get nodes here) (effect_nodes book entry here inc pend done is e) ∙ reopened_there here inc pend done book at.0 at.1 in
     record {
       old = at.0.inc;

@@ -42,11 +42,11 @@ none_again mid tid member done (found ∷ pend) t none =
     one true is none = ap (λ (x : Share). x.changes) (share_put_other t found.tid tid _ (far (is_kept_at member.node.0 mid member.server.0 done found) (same_tid found.tid tid) is none))
 
 pub none_held : (b : Bool) (member : Member) → member.server.0 ≡ number b → (inc : ℕ) (pend : List Found) (done : List Tid) (mid : BookValue) (node : NodeValue) (tid : Tid) → list_any (is_pending_again mid tid member done) pend ≡ false
-    → pending_at (restarted_node (reopened member.node.0 inc pend done mid) done node) tid member.server.0 ≡ []
-none_held true member is inc pend done mid node tid none = subst (λ (k : ℕ). pending_at (restarted_node (reopened member.node.0 inc pend done mid) done node) tid k ≡ []) (sym is)
+    → pending_at (restarted_node (reopened member.node.0 inc pend done mid) pend done node) tid member.server.0 ≡ []
+none_held true member is inc pend done mid node tid none = subst (λ (k : ℕ). pending_at (restarted_node (reopened member.node.0 inc pend done mid) pend done node) tid k ≡ []) (sym is)
     (none_again mid tid (record { node = member.node; server = record { 0 = 0 } }) done pend (record (applied (fold without_records node done).files (reopened member.node.0 inc pend done mid).files) { shares = [] })
     (subst (λ (k : ℕ). list_any (is_pending_again mid tid (record { node = member.node; server = record { 0 = k } }) done) pend ≡ false) is none))
-none_held false member is inc pend done mid node tid none = subst (λ (k : ℕ). pending_at (restarted_node (reopened member.node.0 inc pend done mid) done node) tid k ≡ []) (sym is)
+none_held false member is inc pend done mid node tid none = subst (λ (k : ℕ). pending_at (restarted_node (reopened member.node.0 inc pend done mid) pend done node) tid k ≡ []) (sym is)
     (none_again mid tid (record { node = member.node; server = record { 0 = 1 } }) done pend (record (applied (fold without_records node done).audit (reopened member.node.0 inc pend done mid).audit) { shares = [] })
     (subst (λ (k : ℕ). list_any (is_pending_again mid tid (record { node = member.node; server = record { 0 = k } }) done) pend ≡ false) is none))
 

@@ -145,7 +145,7 @@ module _ (n : ℕ) where
   stepped_run book stamp here (Some node) (Restart inc pend done) far h =
       ap runs (restart_nodes here inc pend done book)
       ∙ ap (option_map run_of)
-      (elsewhere (restarted_node (reopened here inc pend done (put_new_votes here pend book)) done) (changed_at here (with_votes (new_votes here book pend)) book.nodes) here n (off (here == n) far)
+      (elsewhere (restarted_node (reopened here inc pend done (put_new_votes here pend book)) pend done) (changed_at here (with_votes (new_votes here book pend)) book.nodes) here n (off (here == n) far)
       ∙ elsewhere (with_votes (new_votes here book pend)) book.nodes here n (off (here == n) far))
     where
       off : (b : Bool) → (b && true) ≡ false → b ≡ false
@@ -218,7 +218,7 @@ module _ (node : NodeNo) (gone : ℕ) where
       by true near =
           let r : Restarting node entry = restarting node entry near in
           let at : (v : NodeValue) × (slice_get book.nodes node.0 ≡ Some v) × (broken_restart node.0 book v r.inc r.pend r.done ≡ None) = restart_node book entry node.0 r.inc r.pend r.done h r.act r.here in
-          let last : slice_get (effect book entry).nodes node.0 ≡ Some (restarted_node (reopened node.0 r.inc r.pend r.done (put_new_votes node.0 r.pend book)) r.done (with_votes (new_votes node.0 book r.pend) at.0)) =
+          let last : slice_get (effect book entry).nodes node.0 ≡ Some (restarted_node (reopened node.0 r.inc r.pend r.done (put_new_votes node.0 r.pend book)) r.pend r.done (with_votes (new_votes node.0 book r.pend) at.0)) =
           ap (λ (nodes : List NodeValue). slice_get nodes node.0) (effect_nodes book entry node.0 r.inc r.pend r.done r.act r.here) ∙ reopened_there node.0 r.inc r.pend r.done book at.0 at.1 in
           let now : ran_at (effect book entry) ≡ ((r.inc == gone) || list_any (λ p. p == gone) (insert_key nat_cmp at.0.past at.0.inc)) =
           ap (λ (o : Option NodeValue). has_run (option_map run_of o)) last

@@ -27,6 +27,7 @@ use Rattle.qs_machine.specs.declared.state.Voter.{Voter}
 use Rattle.qs_laws.specs.Durable.{IsKept, IsGone, Applies}
 use Rattle.qs_laws.specs.Laws.{IsCommitted}
 use Rattle.qs_laws.specs.Served.{crossed_at, keeps_contents, logged_at, IsLogged, PendsAgain}
+use Rattle.qs_laws.proofs.FoundOnly.{none_stays_none}
 use Rattle.qs_laws.proofs.Again.{restart_node, effect_nodes, logged_there, record_there, reopened_there, is_logged, pends_again, commits_once}
 use Rattle.qs_laws.proofs.Alikes.{voter_exact, voter_equal}
 use Rattle.qs_laws.proofs.Ends.{held_there}
@@ -156,7 +157,7 @@ module _ (here : ℕ) (mid : BookValue) (s : ℕ) (done : List Tid) (tid : Tid)
 
 pub reopened_none : (b : Bool) (here inc : ℕ) (pend : List Found) (done : List Tid) (mid : BookValue) (v : NodeValue) (tid : Tid)
     → ((found : Found) → is_kept_at here mid (number b) done found ≡ true → same_tid found.tid tid ≡ true → changes_at here mid (number b) found.tid ≡ [])
-    → pending_at (restarted_node (reopened here inc pend done mid) done v) tid (number b) ≡ []
+    → pending_at (restarted_node (reopened here inc pend done mid) pend done v) tid (number b) ≡ []
 reopened_none true here inc pend done mid v tid none =
     none_pending here mid 0 done tid none pend (record (applied (fold without v done).files (reopened here inc pend done mid).files) { shares = [] }) refl
   where
@@ -187,7 +188,7 @@ module _ (book : BookValue) (entry : Entry) (inc : ℕ) (pend : List Found) (don
   v_of node = with_votes (new_votes member.node.0 book pend) node
 
   abbrev last_of : NodeValue → NodeValue
-  last_of node = restarted_node (reopened member.node.0 inc pend done mid) done (v_of node)
+  last_of node = restarted_node (reopened member.node.0 inc pend done mid) pend done (v_of node)
 
   there : (node : NodeValue) × (slice_get book.nodes member.node.0 ≡ Some node) × (broken_restart member.node.0 book node inc pend done ≡ None)
   there = restart_node book entry member.node.0 inc pend done h is e
@@ -208,7 +209,7 @@ module _ (book : BookValue) (entry : Entry) (inc : ℕ) (pend : List Found) (don
         ∙ subst (λ (n : ℕ). pending_at (last_of node) tid n ≡ []) (sym b_is.1)
         (reopened_none b_is.0 member.node.0 inc pend done mid (v_of node) tid
         (subst (λ (n : ℕ). (found : Found) → is_kept_at member.node.0 mid n done found ≡ true → same_tid found.tid tid ≡ true → changes_at member.node.0 mid n found.tid ≡ []) b_is.1 none));
-    on_record = record_there (effect book entry) tid member.node.0 member.server.0 (last_of node) (last_there node at) ∙ unrecorded;
+    on_record = record_there (effect book entry) tid member.node.0 member.server.0 (last_of node) (last_there node at) ∙ none_stays_none pend (fold without_records (v_of node) done) tid member.server.0 unrecorded;
   }
 
   -- where its Commit is found

@@ -31,17 +31,17 @@ same_audit : (done : List Tid) (node : NodeValue) → (fold without_records node
 same_audit [] node = refl
 same_audit (tid ∷ done) node = same_audit done (without_records node tid)
 
-cleared_as : (kind : Kind) (left : Reopened) (done : List Tid) (node : NodeValue) (server : ServerValue) → is_logged kind ≡ false → StandsAs kind (restarted_node left done node) (cleared server)
-cleared_as (Files quota) left done node server h = absurd (cc h)
-cleared_as Audit left done node server h = absurd (cc h)
-cleared_as Names left done node server h = refl
-cleared_as Timers left done node server h = refl
-cleared_as Windows left done node server h = refl
-cleared_as Scratch left done node server h = refl
-cleared_as Nothing left done node server h = tt
+cleared_as : (kind : Kind) (left : Reopened) (pend : List Found) (done : List Tid) (node : NodeValue) (server : ServerValue) → is_logged kind ≡ false → StandsAs kind (restarted_node left pend done node) (cleared server)
+cleared_as (Files quota) left pend done node server h = absurd (cc h)
+cleared_as Audit left pend done node server h = absurd (cc h)
+cleared_as Names left pend done node server h = refl
+cleared_as Timers left pend done node server h = refl
+cleared_as Windows left pend done node server h = refl
+cleared_as Scratch left pend done node server h = refl
+cleared_as Nothing left pend done node server h = tt
 
-pub clearing_stands : (left : Reopened) (done : List Tid) (node : NodeValue) (server : ServerValue) → is_logged server.kind ≡ false → StandsAs server.kind (restarted_node left done node) (cleared server)
-clearing_stands left done node server h = cleared_as server.kind left done node server h
+pub clearing_stands : (left : Reopened) (pend : List Found) (done : List Tid) (node : NodeValue) (server : ServerValue) → is_logged server.kind ≡ false → StandsAs server.kind (restarted_node left pend done node) (cleared server)
+clearing_stands left pend done node server h = cleared_as server.kind left pend done node server h
 
 -- ---- what it keeps
 
@@ -55,25 +55,25 @@ keeps_each (k ∷ keeps) server h = ap (λ (s : ServerValue). (keep_each s keeps
     one : (if is_logged server.kind then next else server) ≡ next
     one = ap (λ (b : Bool). if b then next else server) h
 
-kept_as : (kind : Kind) (left : Reopened) (done : List Tid) (node : NodeValue) (server : ServerValue) → server.kind ≡ kind → is_logged kind ≡ true → StandsAs kind node server
-    → StandsAs kind (restarted_node left done node) (keep_each (with_commits server (commits_of kind left)) (kept_of kind left))
-kept_as (Files quota) left done node server is h stands =
+kept_as : (kind : Kind) (left : Reopened) (pend : List Found) (done : List Tid) (node : NodeValue) (server : ServerValue) → server.kind ≡ kind → is_logged kind ≡ true → StandsAs kind node server
+    → StandsAs kind (restarted_node left pend done node) (keep_each (with_commits server (commits_of kind left)) (kept_of kind left))
+kept_as (Files quota) left pend done node server is h stands =
     let same : node.files ≡ server.table = some_same node.files server.table stands in
     ap Some (ap (λ (t : TableValue). restarted t left.files left.files_kept) (same_files done node ∙ same)
     ∙ sym (keeps_each left.files_kept (with_commits server left.files) (ap is_logged is)))
-kept_as Audit left done node server is h stands =
+kept_as Audit left pend done node server is h stands =
     let same : node.audit ≡ server.table = some_same node.audit server.table stands in
     ap Some (ap (λ (t : TableValue). restarted t left.audit left.audit_kept) (same_audit done node ∙ same)
     ∙ sym (keeps_each left.audit_kept (with_commits server left.audit) (ap is_logged is)))
-kept_as Names left done node server is h stands = absurd (cc h)
-kept_as Timers left done node server is h stands = absurd (cc h)
-kept_as Windows left done node server is h stands = absurd (cc h)
-kept_as Scratch left done node server is h stands = absurd (cc h)
-kept_as Nothing left done node server is h stands = absurd (cc h)
+kept_as Names left pend done node server is h stands = absurd (cc h)
+kept_as Timers left pend done node server is h stands = absurd (cc h)
+kept_as Windows left pend done node server is h stands = absurd (cc h)
+kept_as Scratch left pend done node server is h stands = absurd (cc h)
+kept_as Nothing left pend done node server is h stands = absurd (cc h)
 
-pub keeping_stands : (left : Reopened) (done : List Tid) (node : NodeValue) (server : ServerValue) → is_logged server.kind ≡ true → StandsFor node server
-    → StandsAs server.kind (restarted_node left done node) (keep_each (with_commits server (commits_of server.kind left)) (kept_of server.kind left))
-keeping_stands left done node server h stands = kept_as server.kind left done node server refl h stands
+pub keeping_stands : (left : Reopened) (pend : List Found) (done : List Tid) (node : NodeValue) (server : ServerValue) → is_logged server.kind ≡ true → StandsFor node server
+    → StandsAs server.kind (restarted_node left pend done node) (keep_each (with_commits server (commits_of server.kind left)) (kept_of server.kind left))
+keeping_stands left pend done node server h stands = kept_as server.kind left pend done node server refl h stands
 
 -- ---- a tick
 
@@ -88,7 +88,7 @@ pub begins_empty : (book : BookValue) (entry : Entry) (inc : ℕ) (pend : List F
     → slice_get (effect book entry).nodes entry.node.0 ≡ Some node → BeginsEmpty node
 begins_empty book entry inc pend done node h is there =
     let at : (was : NodeValue) × (slice_get book.nodes entry.node.0 ≡ Some was) × (broken_restart entry.node.0 book was inc pend done ≡ None) = restart_node book entry entry.node.0 inc pend done h is refl in
-    let new : NodeValue = restarted_node (reopened entry.node.0 inc pend done (put_new_votes entry.node.0 pend book)) done (with_votes (new_votes entry.node.0 book pend) at.0) in
+    let new : NodeValue = restarted_node (reopened entry.node.0 inc pend done (put_new_votes entry.node.0 pend book)) pend done (with_votes (new_votes entry.node.0 book pend) at.0) in
     let last : slice_get (effect book entry).nodes entry.node.0 ≡ Some new =
     ap (λ (nodes : List NodeValue). slice_get nodes entry.node.0) (effect_nodes book entry entry.node.0 inc pend done is refl) ∙ reopened_there entry.node.0 inc pend done book at.0 at.1 in
     subst BeginsEmpty (some_same new node (sym last ∙ there)) (record { names = refl; windows = refl; scratch = refl; timers = refl })

@@ -27,6 +27,7 @@ use Rattle.qs_laws.proofs.Fates.{AllDid, all_may, did_all, did_over}
 use Rattle.qs_laws.proofs.Maps.{changed_at_here, changed_at_either}
 use Rattle.qs_laws.proofs.Outcomes.{Inv, by_alike}
 use Rattle.qs_laws.proofs.Restarts.{Settles, settles_all, settles_then, commit_settles, vote_settles, abort_settles, votes_age}
+use Rattle.qs_laws.proofs.FoundOnly.{none_stays_none}
 use Rattle.qs_laws.proofs.Shut.{Shut, IsShut, Changes, changes_none, remove_changes, shut_step, node_before, by_still}
 use Rattle.qs_laws.proofs.Steps.{past, passed}
 use Rattle.qs_laws.proofs.Stills.{Facet, facet, Still, still_self, still_then, transaction_still, either_still}
@@ -82,10 +83,13 @@ records_gone book was (tid ∷ done) v changes = records_gone book was done (wit
     removed : (w : NodeValue) (server : ℕ) → Changes book was (facet w) → Changes book was (facet (without_record tid server w))
     removed w server c = remove_changes book was (facet w) (is_at (voter_cmp (voter tid server))) c
 
-restarted_changes : (book : BookValue) (was : Facet) (left : Reopened) (done : List Tid) (v : NodeValue) → Changes book was (facet v) → Changes book was (facet (restarted_node left done v))
-restarted_changes book was left done v changes =
+restarted_changes : (book : BookValue) (was : Facet) (left : Reopened) (pend : List Found) (done : List Tid) (v : NodeValue) → Changes book was (facet v) → Changes book was (facet (restarted_node left pend done v))
+restarted_changes book was left pend done v changes =
     let gone : Changes book was (facet (fold without_records v done)) = records_gone book was done v changes in
-    record { committed = gone.committed; records = gone.records }
+    record {
+      committed = gone.committed;
+      records = λ tid shut s. none_stays_none pend (fold without_records v done) tid s (gone.records tid shut s);
+    }
 
 -- ---- what is found leaves nodes and what was asked for
 
@@ -173,7 +177,7 @@ module _ (here inc : ℕ) (pend : List Found) (done : List Tid) (book : BookValu
   last = restart here inc pend done book
 
   abbrev reopens : NodeValue → NodeValue
-  reopens = restarted_node (reopened here inc pend done mid) done
+  reopens = restarted_node (reopened here inc pend done mid) pend done
 
   all_new : AllByRecursion (IsNew book node) votes
   all_new = subst (AllByRecursion (IsNew book node)) (ap (λ (o : Option NodeValue). new_votes_at here book o pend) (sym at_here)) (votes_made book here node pend)
@@ -217,7 +221,7 @@ module _ (here inc : ℕ) (pend : List Found) (done : List Tid) (book : BookValu
   pub restart_shut : Shut last
   restart_shut =
       shut_step aborted_book last aborted_shut (λ tid seen is closed. is) (λ tid at s. s.asks)
-      (node_before here reopens aborted_book v aborted_here (restarted_changes aborted_book (facet v) (reopened here inc pend done mid) done v (changes_none aborted_book (facet v))))
+      (node_before here reopens aborted_book v aborted_here (restarted_changes aborted_book (facet v) (reopened here inc pend done mid) pend done v (changes_none aborted_book (facet v))))
 
   abbrev InLog : Tid → Type 0
   InLog tid = is_among node.committed tid ≡ true

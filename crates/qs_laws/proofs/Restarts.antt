@@ -145,7 +145,7 @@ module _ (here inc : ℕ) (pend : List Found) (done : List Tid) (book : BookValu
           let e : Some (age v) ≡ Some (age node) = ap (option_map age) (sym is) ∙ (ap (λ (ns : List NodeValue). option_map age (slice_get ns here)) settled.nodes ∙ at_here) in
           let up : v.inc < inc = subst (λ (n : ℕ). n < inc) (sym (same_inc v node e)) rises in
           moves_then book aborted_book (restart_found here inc pend done book) settled.moves
-          (node_rises here (restarted_node (reopened here inc pend done book) done) aborted_book v settled.moves.inv is up)
+          (node_rises here (restarted_node (reopened here inc pend done book) pend done) aborted_book v settled.moves.inv is up)
 
 pub by_restart : (here inc : ℕ) (pend : List Found) (done : List Tid) (book : BookValue) (node : NodeValue)
     → Inv book → slice_get book.nodes here ≡ Some node → node.inc < inc → Moves book (restart here inc pend done book)

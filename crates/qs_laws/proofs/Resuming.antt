@@ -19,7 +19,7 @@ use Rattle.qs_machine.specs.declared.transaction.Cell.{Cell}
 use Rattle.qs_machine.specs.declared.transaction.Cell.TheVariants as cells
 use Rattle.qs_machine.specs.Book.{BookValue, find_transaction, crossed_in, with_transaction, inc_at, cell_of_transaction}
 use Rattle.qs_machine.specs.Nodes.{NodeValue, pending_at, record_of, changes_of, voter, voter_cmp}
-use Rattle.qs_machine.specs.Restart.{restart, reopened, restarted_node, put_new_votes, new_votes, new_votes_at, new_vote, is_new_vote, with_votes, with_vote, changes_at, keep_found, is_found_as, may_be_lost, broken_restart, is_among, member_at, without_records, vote_found, commit_found, abort_begun, up_to, begun_at, record_at, count_of as pending_of, vote_as_stopped}
+use Rattle.qs_machine.specs.Restart.{restart, reopened, restarted_node, put_new_votes, new_votes, new_votes_at, new_vote, is_new_vote, with_votes, with_vote, changes_at, keep_found, is_found_as, may_be_lost, broken_restart, is_among, member_at, found_only, without_records, vote_found, commit_found, abort_begun, up_to, begun_at, record_at, count_of as pending_of, vote_as_stopped}
 use Rattle.qs_machine.specs.declared.state.OnRecord.{OnRecord}
 use Rattle.qs_machine.specs.declared.state.Voter.{Voter}
 use Rattle.qs_laws.specs.Served.{held_at}
@@ -31,6 +31,7 @@ use Rattle.qs_laws.proofs.Counts.{Count, count_of, count_in, no_count, Counted, 
 use Rattle.qs_laws.proofs.Covers.{Mark, mark_in}
 use Rattle.qs_laws.proofs.Ends.{held_there}
 use Rattle.qs_laws.proofs.Faces.{face, face_at}
+use Rattle.qs_laws.proofs.FoundOnly.{found_stays, found_with, none_stays_none}
 use Rattle.qs_laws.proofs.Found.{found_in, forgot_others, pending_again}
 use Rattle.qs_laws.proofs.Grows.{Alters}
 use Rattle.qs_laws.proofs.Holding.{clash, settled, same_number}
@@ -197,7 +198,7 @@ module _ (tid : Tid) (member : Member) (b : Bool) (is : member.server.0 ≡ numb
   v = with_votes (new_votes member.node.0 book pend) node
 
   abbrev after : NodeValue
-  after = restarted_node (reopened member.node.0 inc pend done mid) done v
+  after = restarted_node (reopened member.node.0 inc pend done mid) pend done v
 
   abbrev recorded : Option OnRecord
   recorded = record_of v tid member.server.0
@@ -347,12 +348,25 @@ module _ (tid : Tid) (member : Member) (b : Bool) (is : member.server.0 ≡ numb
       by None found = refl
       by (Some rec) found = absurd (wrong (was_or_found (ap (λ (o : Option OnRecord). is_some o) found)))
 
+  -- the restart leaves it on record
+  still_recorded : record_of (found_only pend (fold without_records v done)) tid member.server.0 ≡ recorded
+  still_recorded = by recorded refl
+    where
+      forgot : record_of (fold without_records v done) tid member.server.0 ≡ recorded
+      forgot = forgot_others done tid member.server.0 v apart
+
+      by : (o : Option OnRecord) → recorded ≡ o → record_of (found_only pend (fold without_records v done)) tid member.server.0 ≡ recorded
+      by None none = none_stays_none pend (fold without_records v done) tid member.server.0 (forgot ∙ none) ∙ sym none
+      by (Some rec) was =
+          let f : (covers : ℕ) × (list_any (is_found_as (voter tid member.server.0) covers) pend ≡ true) = found_again (ap (λ (o : Option OnRecord). is_some o) was) in
+          found_stays pend (fold without_records v done) tid member.server.0 (found_with pend (voter tid member.server.0) f.0 f.1) ∙ forgot
+
   pub resumes : Keeping tid member last changes
   resumes = record {
     mark = record { inc = inc; rec = recorded };
     at =
         ap (λ (o : Option NodeValue). option_map (mark_in tid member.server.0) o) after_there
-        ∙ ap (λ (o : Option OnRecord). Some (made o)) (forgot_others done tid member.server.0 v apart);
+        ∙ ap (λ (o : Option OnRecord). Some (made o)) still_recorded;
     pending = λ even. held_after ∙ logged_all even;
     on_record = λ even. sym held_after;
     above = λ n above. count_same n ∙ k.above n (less_then k.mark.inc inc n below_new above);

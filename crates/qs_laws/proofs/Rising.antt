@@ -1,8 +1,8 @@
--- Entries whose keys rise, as those of each map do: they stay so, and a key that was removed is not found.
+-- Entries whose keys rise, as those of each map do: they stay so, some alone too, and a key that was removed is not found.
 use Rattle.std.proofs.Common.{◌≡◌, Bool, true, false, List, [], ◌∷◌, None, refl, sym, ap, subst, ◌∙◌}
 use Rattle.std.specs.Prelude.{cond, ⊤}
 use Rattle.std.specs.Cmp.{IsTotalOrder}
-use Rattle.std.specs.List.{AllByRecursion}
+use Rattle.std.specs.List.{AllByRecursion, filter}
 use Rattle.std.specs.Map.{lookup, remove_entry}
 use Rattle.std.specs.Ordering.{match_ordering, ordering_reverse}
 use Rattle.std.specs.BTreeMap.{insert_entry, is_at}
@@ -65,6 +65,22 @@ module _ {K X : Type 0} (cmp : K → K → Ordering) where
       by : (b : Bool) → IsRising (remove_entry p es) → IsRising (cond b es (e ∷ remove_entry p es))
       by true more = rising.1
       by false more = (remove_below e.0 p es rising.0, more)
+
+  filter_below : (x : K) (p : K → Bool) (es : List (K × X)) → IsBelow x es → IsBelow x (filter (λ (e : K × X). p e.0) es)
+  filter_below x p [] below = tt
+  filter_below x p (e ∷ es) below = by (p e.0) (filter_below x p es below.1)
+    where
+      by : (b : Bool) → IsBelow x (filter (λ (e : K × X). p e.0) es) → IsBelow x (cond b (e ∷ filter (λ (e : K × X). p e.0) es) (filter (λ (e : K × X). p e.0) es))
+      by true more = (below.0, more)
+      by false more = more
+
+  pub filter_rises : (p : K → Bool) (es : List (K × X)) → IsRising es → IsRising (filter (λ (e : K × X). p e.0) es)
+  filter_rises p [] rising = tt
+  filter_rises p (e ∷ es) rising = by (p e.0) (filter_rises p es rising.1)
+    where
+      by : (b : Bool) → IsRising (filter (λ (e : K × X). p e.0) es) → IsRising (cond b (e ∷ filter (λ (e : K × X). p e.0) es) (filter (λ (e : K × X). p e.0) es))
+      by true more = (filter_below e.0 p es rising.0, more)
+      by false more = more
 
   none_below : (k : K) (es : List (K × X)) → IsBelow k es → lookup (is_at (cmp k)) es ≡ None
   none_below k [] below = refl

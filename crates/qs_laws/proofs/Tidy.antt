@@ -18,6 +18,7 @@ use Rattle.qs_journal.specs.declared.entry.Act.{Act}
 use Rattle.qs_journal.specs.declared.entry.Act.TheVariants.{Begin, Issue, Serve, Ask, Counted, Decide, Ending, Learn, Answer, Loan, Yield, Tick, Crash, Restart}
 use Rattle.qs_journal.specs.declared.entry.Act.TheVariants as acts
 use Rattle.qs_journal.specs.declared.entry.Entry.{Entry}
+use Rattle.qs_journal.specs.declared.entry.Found.{Found}
 use Rattle.qs_ops.specs.Table.{TableValue, served, released, committed, with_vote, restarted, applied, kept, share_of, after_serve, no_table}
 use Rattle.qs_ops.specs.Timers.{timer_served, timers_ended}
 use Rattle.qs_ops.specs.declared.share.Kept.{Kept}
@@ -29,7 +30,7 @@ use Rattle.qs_machine.specs.Clauses.{link_to, borrower_at}
 use Rattle.qs_machine.specs.Lawful.{effect_act, effect}
 use Rattle.qs_machine.specs.Nodes.{NodeValue, with_table, crossed_node, crossed_server, crossed_names, with_doubts, without_doubts, without_record, bound_names, pending_at, voter, voter_cmp}
 use Rattle.qs_machine.specs.Opening.{opened_node, put_record, put_of, note_of, keep_pending, opening}
-use Rattle.qs_machine.specs.Restart.{restarted_node, reopened, without_records, with_votes, with_vote as put_vote, new_votes, put_new_votes}
+use Rattle.qs_machine.specs.Restart.{is_found, restarted_node, reopened, without_records, with_votes, with_vote as put_vote, new_votes, put_new_votes}
 use Rattle.qs_machine.specs.declared.opened.Opened.{Opened}
 use Rattle.qs_machine.specs.declared.opened.Pending.{Pending}
 use Rattle.qs_machine.specs.declared.state.OnRecord.{OnRecord}
@@ -40,7 +41,7 @@ use Rattle.qs_laws.specs.Laws.{IsCoherent}
 use Rattle.qs_laws.proofs.Holding.{waiting_nodes, fold_nodes, loan_nodes, yield_nodes, restart_nodes}
 use Rattle.qs_laws.proofs.Maps.{changed_at_either}
 use Rattle.qs_laws.proofs.Openings.{first_book, opening_names}
-use Rattle.qs_laws.proofs.Rising.{IsRising, put_rises, remove_rises, voter_total}
+use Rattle.qs_laws.proofs.Rising.{IsRising, filter_rises, put_rises, remove_rises, voter_total}
 use Rattle.qs_laws.proofs.Takes.{some_same}
 use Rattle.qs_laws.proofs.Faces.{vote_by}
 
@@ -153,11 +154,11 @@ forgot_tidy [] v t = t
 forgot_tidy (tid ∷ done) v t =
     forgot_tidy done (without_records v tid) (without_tidy tid 6 (without_record tid 1 (without_record tid 0 v)) (without_tidy tid 1 (without_record tid 0 v) (without_tidy tid 0 v t)))
 
-restart_tidy : (left : Reopened) (done : List Tid) (v : NodeValue) → IsTidy v → IsTidy (restarted_node left done v)
-restart_tidy left done v t = record {
+restart_tidy : (left : Reopened) (pend : List Found) (done : List Tid) (v : NodeValue) → IsTidy v → IsTidy (restarted_node left pend done v)
+restart_tidy left pend done v t = record {
   files = restarted_tidy (fold without_records v done).files left.files left.files_kept;
   audit = restarted_tidy (fold without_records v done).audit left.audit left.audit_kept;
-  records = (forgot_tidy done v t).records;
+  records = filter_rises voter_cmp (is_found pend) (fold without_records v done).records (forgot_tidy done v t).records;
 }
 
 opened_tidy : (one : Opened) → IsTidy (opened_node one)
@@ -228,7 +229,7 @@ acted_tidy book stamp here Tick all = changed_tidy here (tick_node stamp) (λ v 
 acted_tidy book stamp here (Crash cause) all = changed_tidy here (crash_node book.place) (λ v u. same_tables v (crash_node book.place v) refl refl refl u) book.nodes all
 acted_tidy book stamp here (Restart inc pend done) all =
     subst AllTidy (sym (restart_nodes here inc pend done book))
-    (changed_tidy here (restarted_node left done) (restart_tidy left done) (changed_at here (with_votes (new_votes here book pend)) book.nodes)
+    (changed_tidy here (restarted_node left pend done) (restart_tidy left pend done) (changed_at here (with_votes (new_votes here book pend)) book.nodes)
     (changed_tidy here (with_votes (new_votes here book pend)) (votes_tidy (new_votes here book pend)) book.nodes all))
   where
     left : Reopened

@@ -7,6 +7,7 @@ ghost use Rattle.qs_ops.specs.declared.operation.Op.{Op};
 ghost use Rattle.qs_ops.specs.declared.reply.Reply.{Reply};
 ghost use Rattle.qs_ops.specs.declared.vote.Notice.TheVariants as notices;
 ghost use Rattle.qs_ops.specs.declared.vote.Vote.{Vote};
+ghost use Rattle.qs_journal.specs.declared.entry.Found.{Found};
 ghost use Rattle.qs_machine.specs.Book.{server_serve, vote_node, learn_node, end_node, tick_node};
 ghost use Rattle.qs_machine.specs.Clauses.{is_server_reply, is_server_vote};
 ghost use Rattle.qs_machine.specs.Nodes.{NodeValue, extra_of, keep_of};
@@ -30,6 +31,6 @@ pub fn servers_go_by_the_rules()
     ensures learnt { (node : NodeValue) (server : ServerValue) (tid : Tid) (outcome : Outcome) → StandsFor node server → StandsAs server.kind (learn_node outcome tid (number_of server.kind) node) (after_notice server tid (notice_of outcome)) }
     ensures ended { (node : NodeValue) (server : ServerValue) (tid : Tid) → server.kind ≡ kinds.Timers → StandsFor node server → StandsAs kinds.Timers (end_node tid node) (after_notice server tid notices.Ending) }
     ensures ticked { (node : NodeValue) (server : ServerValue) (stamp : ℕ) → server.kind ≡ kinds.Timers → StandsFor node server → StandsAs kinds.Timers (tick_node stamp node) (record server { timers = ticked server.timers }) }
-    ensures cleared { (left : Reopened) (done : List Tid) (node : NodeValue) (server : ServerValue) → is_logged server.kind ≡ false → StandsAs server.kind (restarted_node left done node) (cleared server) }
-    ensures kept { (left : Reopened) (done : List Tid) (node : NodeValue) (server : ServerValue) → is_logged server.kind ≡ true → StandsFor node server → StandsAs server.kind (restarted_node left done node) (keep_each (with_commits server (commits_of server.kind left)) (kept_of server.kind left)) }
+    ensures cleared { (left : Reopened) (pend : List Found) (done : List Tid) (node : NodeValue) (server : ServerValue) → is_logged server.kind ≡ false → StandsAs server.kind (restarted_node left pend done node) (cleared server) }
+    ensures kept { (left : Reopened) (pend : List Found) (done : List Tid) (node : NodeValue) (server : ServerValue) → is_logged server.kind ≡ true → StandsFor node server → StandsAs server.kind (restarted_node left pend done node) (keep_each (with_commits server (commits_of server.kind left)) (kept_of server.kind left)) }
 {}

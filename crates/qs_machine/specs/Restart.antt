@@ -1,6 +1,6 @@
 -- A restart: what its found lists have to be, and what it does.
 use Rattle.std.specs.Prelude.{ℕ, ◌==◌, Bool, true, false, not, ◌&&◌, ◌||◌, List, [], ◌∷◌, ◌++◌, fold, Option, Some, None, is_some, nat_lt, nat_le, suc, zero, slice_get, if◌then◌else◌}
-use Rattle.std.specs.List.{list_any, list_all, flat_map}
+use Rattle.std.specs.List.{list_any, list_all, flat_map, filter}
 use Rattle.std.specs.BTreeMap.{insert_entry, is_at}
 use Rattle.std.specs.BTreeSet.{insert_key}
 use Rattle.std.specs.Ordering.{nat_cmp}
@@ -208,8 +208,17 @@ reopened_node left node = record node {
   doubts = [];
 }
 
-abbrev pub restarted_node : Reopened → List Tid → NodeValue → NodeValue
-restarted_node left done node = reopened_node left (fold without_records node done)
+-- the member's vote for that transaction is found, with whatever covers
+abbrev pub is_found : List Found → Voter → Bool
+is_found pend at = list_any (is_found_as at 0) pend
+
+-- what is on record and not found is so no more: it was or is aborted, and a later vote of that member for the same
+-- transaction, which may have as many covers, is not to be taken for it
+abbrev pub found_only : List Found → NodeValue → NodeValue
+found_only pend node = record node { records = filter (λ (entry : Voter × OnRecord). is_found pend entry.0) node.records }
+
+abbrev pub restarted_node : Reopened → List Found → List Tid → NodeValue → NodeValue
+restarted_node left pend done node = reopened_node left (found_only pend (fold without_records node done))
 
 -- a member with a vote on record learns commit as its transaction's Commit is found
 abbrev pub learn_found : ℕ → Tid → ℕ → BookValue → BookValue
@@ -263,7 +272,7 @@ begun_at here book = elim (slice_get book.nodes here) [ None ↦ 0 | Some node �
 
 abbrev pub restart_found : ℕ → ℕ → List Found → List Tid → BookValue → BookValue
 restart_found here inc pend done book =
-    with_node here (restarted_node (reopened here inc pend done book) done)
+    with_node here (restarted_node (reopened here inc pend done book) pend done)
     (fold (abort_begun here (inc_at book (record { 0 = here })))
     (fold (vote_found here inc done) (fold (commit_found here) book done) pend)
     (up_to (begun_at here book)))

@@ -6,6 +6,7 @@ ghost use Rattle.qs_machine.specs.Restart.{with_votes, restarted_node};
 ghost use Rattle.qs_machine.specs.Nodes.{bound_names, crossed_node};
 ghost use Rattle.qs_machine.specs.declared.transaction.Request.{Request};
 
+use crate::found::FoundVotes;
 use crate::node::{NodeState, bound_names};
 use qs_base::{Bytes, Copied, List, Member, NoMemory, NodeNo, Outcome, ServerNo, Stamp, Tid};
 use qs_book_transactions::Transaction;
@@ -220,13 +221,14 @@ pub fn restart(
     nodes: &mut Vec<NodeState>,
     here: NodeNo,
     left: Reopened,
+    votes: &FoundVotes,
     done: &[Tid],
 ) -> Result<(), NoMemory>
-    ensures { OnOk result (nodes.new.items ≡ changed_at here.0 (restarted_node left done.now) nodes.old.items) }
+    ensures { OnOk result (nodes.new.items ≡ changed_at here.0 (restarted_node left votes.now done.now) nodes.old.items) }
 {
     let place = usize::from(here.0);
     if place < nodes.len() {
-        nodes[place].restart(left, done)?;
+        nodes[place].restart(left, votes, done)?;
     }
     Ok(())
 }

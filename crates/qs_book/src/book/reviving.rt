@@ -12,7 +12,7 @@ ghost use Rattle.qs_machine.specs.Restart.{new_vote, vote_as_stopped, count_of, 
 
 use super::restarting::{is_new_vote, is_open_here, member_at};
 use super::{Book, find, nodes, transactions};
-use crate::found::{FoundCommits, add_tid};
+use crate::found::{FoundCommits, FoundVotes, add_tid};
 use crate::node::NodeState;
 use qs_base::{Copied, List, NoMemory, NodeNo, Outcome, ServerNo, Tid};
 use qs_journal::Found;
@@ -277,10 +277,17 @@ impl Book {
         }
     }
 
-    fn restart_node(&mut self, here: NodeNo, left: Reopened, done: &[Tid]) -> Result<(), NoMemory>
-        ensures { OnOk result (self.new ≡ with_node here.0 (restarted_node left done.now) self.old) }
+    fn restart_node(
+        &mut self,
+        here: NodeNo,
+        left: Reopened,
+        pend: &[Found],
+        done: &[Tid],
+    ) -> Result<(), NoMemory>
+        ensures { OnOk result (self.new ≡ with_node here.0 (restarted_node left pend.now done.now) self.old) }
     {
-        nodes::restart(&mut self.nodes, here, left, done)
+        let votes = FoundVotes::new(self.alloc, pend)?;
+        nodes::restart(&mut self.nodes, here, left, &votes, done)
     }
 
     fn restart_found(
@@ -298,7 +305,7 @@ impl Book {
         commit_all(self, here, done)?;
         vote_all(self, here, inc, pend, &commits)?;
         abort_all(self, here, old, begun)?;
-        self.restart_node(here, left, done)
+        self.restart_node(here, left, pend, done)
     }
 
     /// The node restarts in that incarnation, with these found lists.
