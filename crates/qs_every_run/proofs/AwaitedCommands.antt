@@ -1,9 +1,10 @@
 -- What waits for its reply waits on as clients command: the client that issued it does not, since its command is in hand.
 use Rattle.std.proofs.Common.{◌≡◌, inl, ℕ, ◌+◌, Bool, true, false, List, [], ◌∷◌, ◌++◌, Option, Some, None, refl, sym, subst, ◌∙◌, if◌then◌else◌}
-use Rattle.std.specs.BTreeMap.{insert_entry, is_at}
-use Rattle.std.specs.List.{find, list_any}
+use Rattle.std.proofs.lemmas.Cmp.{nat_cmp_total, tied_itself}
+use Rattle.std.specs.BTreeMap.{is_at}
 use Rattle.std.specs.Map.{lookup}
 use Rattle.std.specs.Prelude.{is_some}
+use Rattle.std.specs.declared.cmp.Ordering.TheVariants.{Equal}
 use Rattle.qs_base.specs.declared.identifiers.ClientNo.{ClientNo}
 use Rattle.qs_base.specs.declared.identifiers.Member.{Member}
 use Rattle.qs_base.specs.declared.identifiers.Outcome.TheVariants as outcomes
@@ -14,7 +15,7 @@ use Rattle.qs_step.specs.Deciding.{decide}
 use Rattle.qs_step.specs.Requests.{next_number}
 use Rattle.qs_step.specs.Serving.{label_at, put_label}
 use Rattle.qs_laws.proofs.Maps.{changed_apart, lookup_put, lookup_put_apart}
-use Rattle.qs_step.specs.State.{Work, change_server, client_cmp, doings_of, here, part_of, with_doings, with_manager, with_queues}
+use Rattle.qs_step.specs.State.{Work, client_cmp, with_doings, with_manager}
 use Rattle.qs_step.specs.declared.state.Issued.{Issued}
 use Rattle.qs_step.specs.declared.state.OpenCommand.{OpenCommand}
 use Rattle.qs_tm.specs.Manager as tm
@@ -38,13 +39,16 @@ use Rattle.qs_step.specs.Borrowing.{borrower_command, is_void, lent_command, tak
 use Rattle.qs_step.specs.Bringing.{answer, enter}
 use Rattle.qs_step.specs.Commands.{ask, begin_as, begin_command, begin_or_refuse, decided_answer, enter_ask, open_command, owner_command, refuse_begin, request_as, request_command, with_issued}
 use Rattle.qs_step.specs.Step.{command_came, is_owner, labelled, obey, with_command}
-use Rattle.qs_step.specs.State.{NodeValue, with_kept, with_node, work_on}
+use Rattle.qs_step.specs.State.{with_kept}
 use Rattle.qs_tm.specs.declared.manager.BeginFault.{BeginFault}
 use Rattle.qs_tm.specs.declared.manager.BeginFault.TheVariants as faults
 use Rattle.qs_lawful.proofs.Answers.{client_exact}
 use Rattle.qs_every_run.proofs.AwaitedKept.{back_lent, borrowed_on, elsewhere, loans_on, put_on, take_lent, labelled_on, with_borrowed}
 use Rattle.qs_every_run.proofs.AwaitedTurns.{issue_as_on}
 use Rattle.qs_every_run.proofs.AwaitedRules.{become_on, On, Free, answer_on, decide_on, free_so, if_on, itself_on, then_on, undecided_on, waits_on}
+
+pub client_self : (c : ClientNo) → client_cmp c c ≡ Equal
+client_self c = rw (tied_itself nat_cmp_total c.0) refl
 
 module _ (D : Type 0) (tid : Tid) (member : Member) (number : ℕ) where
   abbrev L : Work → Work → Type 0
@@ -203,9 +207,6 @@ module _ (D : Type 0) (tid : Tid) (member : Member) (number : ℕ) where
   -- the client has no command in hand
   abbrev pub HasNone : ClientNo → Work → Type 0
   HasNone client work = lookup (is_at (client_cmp client)) work.node.commands ≡ None
-
-  client_self : (c : ClientNo) → Rattle.qs_step.specs.State.client_cmp c c ≡ Rattle.std.specs.declared.cmp.Ordering.TheVariants.Equal
-  client_self c = rw (Rattle.std.proofs.lemmas.Cmp.tied_itself Rattle.std.proofs.lemmas.Cmp.nat_cmp_total c.0) refl
 
   pub command_on : (line : ScriptLine) (work : Work) → BeginsOther work → HasNone line.client work → L work (command_came line work)
   command_on line work other none = then_on D tid member number work coming (command_came line work)

@@ -140,20 +140,20 @@ module _ (D : Type 0) (tid : Tid) (member : Member) (number : ℕ) where
           of false None away none on = cc on
           of false (Some s) away none on = cc none
 
-  settle_on : (work : Work) (t : Tid) → L work (settle_tid work t)
-  settle_on work t = then_on D tid member number work passed (settle_tid work t) (undecided_on D tid member number t (pass_rule t) work (λ part known open_now. pass_on D tid member number t part work))
-      (then_on D tid member number passed readied (settle_tid work t) (undecided_on D tid member number t (ready_rule t) passed (λ part known open_now. ready_on t part passed known))
-      (then_on D tid member number readied refused (settle_tid work t) (undecided_on D tid member number t (refuse_rule t) readied (λ part known open_now. refuse_on t part readied))
-      (undecided_on D tid member number t (forget_rule t) refused (λ part known open_now. forget_rule_on t part refused known))))
+  -- all but a vote pass
+  pub rest_on : (t : Tid) (passed : Work) → L passed (try t forget_rule (try t refuse_rule (try t ready_rule passed)))
+  rest_on t passed = then_on D tid member number passed readied (try t forget_rule refused) (undecided_on D tid member number t (ready_rule t) passed (λ part known open_now. ready_on t part passed known))
+      (then_on D tid member number readied refused (try t forget_rule refused) (undecided_on D tid member number t (refuse_rule t) readied (λ part known open_now. refuse_on t part readied))
+      (undecided_on D tid member number t (forget_rule t) refused (λ part known open_now. forget_rule_on t part refused known)))
     where
-      passed : Work
-      passed = try t pass_rule work
-
       readied : Work
       readied = try t ready_rule passed
 
       refused : Work
       refused = try t refuse_rule readied
+
+  pub settle_on : (work : Work) (t : Tid) → L work (settle_tid work t)
+  settle_on work t = then_on D tid member number work (try t pass_rule work) (settle_tid work t) (undecided_on D tid member number t (pass_rule t) work (λ part known open_now. pass_on D tid member number t part work)) (rest_on t (try t pass_rule work))
 
   pub settles_on : (tids : List Tid) (work : Work) → L work (fold settle_tid work tids)
   settles_on tids work = fold_on D tid member number settle_tid settle_on tids work

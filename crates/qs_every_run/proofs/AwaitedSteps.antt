@@ -103,7 +103,7 @@ module _ (D : Type 0) (tid : Tid) (member : Member) (number : ℕ) where
         by (Some begun) label = if_on D tid member number (is_owner client begun.owner) (owner_waits client begun.tid command.line.command work) (borrower_waits client command.issued begun.tid command.line.command work) work
             (λ owns. owner_wait_on begun label owns) (λ so. borrower_wait_on command.issued refl begun.tid)
 
-  wait_one : (work : Work) (client : ClientNo) → L work (wait_on work client)
+  pub wait_one : (work : Work) (client : ClientNo) → L work (wait_on work client)
   wait_one work client = by (lookup (is_at (client_cmp client)) work.node.commands) refl
     where
       by : (o : Option OpenCommand) → lookup (is_at (client_cmp client)) work.node.commands ≡ o → L work (elim o [ None ↦ work | Some command ↦ wait_command client command work ])

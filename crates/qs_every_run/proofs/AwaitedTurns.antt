@@ -210,8 +210,10 @@ module _ (D : Type 0) (tid : Tid) (member : Member) (number : ℕ) where
   note_on t None work = itself_on D tid member number work
   note_on t (Some node) work = issue_on t files_no (record { node = node; server = audit_no }) (Note (note_text t (here work) (change_count t work.node))) (change_count t work.node) work
 
+  pub next_vote_on : (t : Tid) (work : Work) (server : ServerNo) → L work (vote_next t work server)
+  next_vote_on t work server = if_on D tid member number (owes_note t server work) (issue_note t work.node.setting.audit work) _ work (λ s. note_on t work.node.setting.audit work) (λ s. vote_on t server _ work)
+
   pub pass_on : (t : Tid) (part : Participant) (work : Work) → L work (pass_rule t part work)
   pass_on t part work = if_on D tid member number (is_pass_due t part work) (vote_pass t work) work work
-      (λ so. then_on D tid member number work (end_members t work) (vote_pass t work) (ended_on D tid member number t work)
-      (fold_on D tid member number (vote_next t) (λ w server. if_on D tid member number (owes_note t server w) (issue_note t w.node.setting.audit w) _ w (λ s. note_on t w.node.setting.audit w) (λ s. vote_on t server _ w)) (due_votes t work) (end_members t work)))
+      (λ so. then_on D tid member number work (end_members t work) (vote_pass t work) (ended_on D tid member number t work) (fold_on D tid member number (vote_next t) (next_vote_on t) (due_votes t work) (end_members t work)))
       (λ so. itself_on D tid member number work)

@@ -59,7 +59,7 @@ use Rattle.qs_every_run.specs.CutRecords.{IsSource, IsTold, commits_of, is_commi
 use Rattle.qs_every_run.specs.CutVotes.{EntersVote, IsVoteDue}
 use Rattle.qs_every_run.specs.Firsts.{is_vote_of}
 use Rattle.qs_every_run.specs.Joined.{Joined, book_in}
-use Rattle.qs_every_run.specs.JoinedOwed.{AfterStep, StaysUnanimousThen, WholeSteps}
+use Rattle.qs_every_run.specs.JoinedLaws.{AfterStep, StaysUnanimousThen, WholeSteps}
 use Rattle.qs_every_run.proofs.BatchBeyond.{beyond_now}
 use Rattle.qs_every_run.proofs.BatchCommits.{Commits, commit_is}
 use Rattle.qs_every_run.proofs.BatchSources.{aborted_fits, end_fits}

@@ -19,7 +19,7 @@ use Rattle.qs_lawful.specs.GivenStep.{done_work, first_work}
 use Rattle.qs_every_run.specs.Agrees.{MakesStep}
 use Rattle.qs_every_run.specs.ComesFind.{CommandFinds, ComesFound}
 use Rattle.qs_every_run.specs.Joined.{Joined, book_in}
-use Rattle.qs_every_run.specs.JoinedOwed.{EachCommitsSettled}
+use Rattle.qs_every_run.specs.JoinedLaws.{EachCommitsSettled}
 use Rattle.qs_every_run.specs.JoinedPlaces.{PlacesAt}
 use Rattle.qs_every_run.specs.Placed.{field_of}
 use Rattle.qs_every_run.specs.PlacesEnds.{taken}

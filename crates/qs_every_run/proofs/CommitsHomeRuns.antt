@@ -26,14 +26,13 @@ use Rattle.qs_lawful.proofs.CoherentOpenings.{each_is}
 use Rattle.qs_every_run.specs.Agrees.{MakesStep}
 use Rattle.qs_every_run.specs.CoherentAgain.{CommitsHome, EachCommitsHome}
 use Rattle.qs_every_run.specs.Joined.{Joined}
-use Rattle.qs_every_run.specs.JoinedOwed.{Owed}
-use Rattle.qs_every_run.specs.Awaiting.{AwaitedAt}
+use Rattle.qs_every_run.specs.AlongRun.{AlongRun}
 use Rattle.qs_every_run.specs.JoinedPlaces.{PlacesAt}
 use Rattle.qs_every_run.proofs.CommitsHome.{one_of, steps_commit_home}
 use Rattle.qs_every_run.proofs.JoinedMoves.{each_move_joined}
 use Rattle.qs_every_run.proofs.JoinedOver.{each_opens_joined, each_run_joined}
-use Rattle.qs_every_run.proofs.JoinedAs.{placed_joined}
-use Rattle.qs_every_run.proofs.PlacesGoOn.{places_go}
+use Rattle.qs_every_run.proofs.JoinedAs.{along_placed}
+use Rattle.qs_every_run.proofs.RunsGoOn.{runs_go}
 
 -- ---- a Commit in a list of records
 
@@ -179,9 +178,9 @@ move_home o world (Rise n stamp inc) j may old = home_with world (moved (Rise n 
 move_home o world (Meet n stamp m inc) j may old = home_with world (moved (Meet n stamp m inc) world) n (record (world.hosts n) { stamp = stamp }) refl (λ k. refl)
     (keeps_log world n (record (world.hosts n) { stamp = stamp }) refl (λ tid has. has)) old
 
-run_home : Owed AwaitedAt → (o : Opening) (moves : List Move) (old new : World) → Joined AwaitedAt o old → Run old moves new → CommitsHome old → CommitsHome new
-run_home owed o [] old new j run home = subst CommitsHome (sym run) home
-run_home owed o (move ∷ moves) old new j run home = run_home owed o moves (moved move old) new (each_move_joined AwaitedAt places_go owed o old move j run.0) run.1 (move_home o old move (placed_joined o old j) run.0 home)
+run_home : (o : Opening) (moves : List Move) (old new : World) → Joined AlongRun o old → Run old moves new → CommitsHome old → CommitsHome new
+run_home o [] old new j run home = subst CommitsHome (sym run) home
+run_home o (move ∷ moves) old new j run home = run_home o moves (moved move old) new (each_move_joined AlongRun runs_go o old move j run.0) run.1 (move_home o old move (along_placed o old j) run.0 home)
 
 -- ---- as a run begins
 
@@ -212,11 +211,11 @@ unnamed_old tid off more all has = one_of is_named_record (is_commit_of tid) ⊥
     of (records.Aborted u) on is = cc is
     of (records.End u) on is = cc is
 
-pub each_commits_home : EachCommitsHome AwaitedAt
-each_commits_home owed o moves world opens run n low tid home_in has = by (tid.home.0 == n) (names_transaction tid) refl refl
+pub each_commits_home : EachCommitsHome
+each_commits_home o moves world opens run n low tid home_in has = by (tid.home.0 == n) (names_transaction tid) refl refl
   where
     size : world.size ≡ o.size
-    size = (each_run_joined AwaitedAt places_go owed o moves world opens run).size
+    size = (each_run_joined AlongRun runs_go o moves world opens run).size
 
     opened_low : (k : ℕ) → k < world.size → k < o.size
     opened_low k is = subst (λ (s : ℕ). k < s) size is
@@ -239,5 +238,5 @@ each_commits_home owed o moves world opens run n low tid home_in has = by (tid.h
 
     by : (a b : Bool) → (tid.home.0 == n) ≡ a → names_transaction tid ≡ b → Has tid (world.hosts tid.home.0).log
     by true b here named = subst (λ (k : ℕ). Has tid (world.hosts k).log) (sym (eqb-true tid.home.0 n here)) has
-    by false true far named = run_home owed o moves (start o) world (each_opens_joined AwaitedAt places_go o opens) run begun n low tid named home_in far (has_first tid (world.hosts n).log (world.hosts n).waiting has)
+    by false true far named = run_home o moves (start o) world (each_opens_joined AlongRun runs_go o opens) run begun n low tid named home_in far (has_first tid (world.hosts n).log (world.hosts n).waiting has)
     by false false far off = unnamed off (has_split tid (o.logs n) (grew n low).more (subst (Has tid) (grew n low).is has))

@@ -39,7 +39,7 @@ use Rattle.qs_lawful.proofs.NumberedLogs.{opened_numbered, opening_named}
 use Rattle.qs_every_run.specs.Agrees.{MakesStep}
 use Rattle.qs_every_run.specs.CutCommits.{EachKeepsCommits, EachKeepsVotes, KeptVotes}
 use Rattle.qs_every_run.specs.Joined.{Joined, book_in}
-use Rattle.qs_every_run.specs.JoinedOwed.{AfterStep, WholeSteps, StaysUnanimousThen, book_then}
+use Rattle.qs_every_run.specs.JoinedLaws.{AfterStep, WholeSteps, StaysUnanimousThen, book_then}
 use Rattle.qs_every_run.specs.JoinedPlaces.{PlacesAt}
 use Rattle.qs_every_run.proofs.JoinedHeld.{held_then}
 use Rattle.qs_every_run.proofs.JoinedLogged.{every_made}

@@ -30,14 +30,15 @@ use Rattle.qs_lawful.proofs.StopsWhole.{by_quiet, by_said}
 use Rattle.qs_every_run.specs.Agrees.{MakesStep}
 use Rattle.qs_every_run.specs.CutCommits.{KeptVotes}
 use Rattle.qs_every_run.specs.Joined.{Joined, book_in}
-use Rattle.qs_every_run.specs.JoinedOwed.{AfterStep, Owed, StaysUnanimousThen, WholeSteps}
+use Rattle.qs_every_run.specs.JoinedLaws.{AfterStep, StaysUnanimousThen, WholeSteps}
+use Rattle.qs_every_run.specs.CutBatches.{EachVoteOfStart}
 use Rattle.qs_every_run.proofs.BatchFits.{batch_fits}
 use Rattle.qs_every_run.proofs.BatchHeld.{down_then}
 use Rattle.qs_every_run.proofs.CutCommits.{keeps, keeps_votes_so}
 use Rattle.qs_every_run.proofs.JoinedSteps.{step_low, step_up}
 use Rattle.qs_every_run.proofs.MarkedBefore.{each_marked_before}
 
-module _ (P : Opening → World → Type 0) (steps : WholeSteps P) (owed : Owed P) (unanimous : AfterStep P StaysUnanimousThen) (o : Opening) (world : World) (n stamp free : ℕ) (source : Source) (cause : CrashCause) (j : Joined P o world) (may : may_move world (Cut n stamp free source true cause) ≡ true) where
+module _ (P : Opening → World → Type 0) (steps : WholeSteps P) (votes : EachVoteOfStart P) (unanimous : AfterStep P StaysUnanimousThen) (o : Opening) (world : World) (n stamp free : ℕ) (source : Source) (cause : CrashCause) (j : Joined P o world) (may : may_move world (Cut n stamp free source true cause) ≡ true) where
   abbrev book : BookValue
   book = book_in o world
 
@@ -96,7 +97,7 @@ module _ (P : Opening → World → Type 0) (steps : WholeSteps P) (owed : Owed 
     down : HoldsDown n (effect book (entry_of n stamp (acts.Crash cause))) (crash_node book.place state) (stopped_host stamp (cut_log host true out) host)
     down = subst (λ (rs : List Record). HoldsDown n (effect book (entry_of n stamp (acts.Crash cause))) (crash_node book.place state) (stopped_host stamp rs host)) (sym kept_log)
         (down_then n book state there lasts (each_marked_before (opened_from o 0 o.size) world.journal (opens_soundly o j.opens) (opening_named (opened_from o 0 o.size) (opened_numbered o 0 o.size)) j.lawful)
-        stamp cause base out.records logged said (batch_fits P steps unanimous o world n stamp free source event j makes state there (owed.votes o world n stamp free source event j makes state there)) settled_votes settled_commits host)
+        stamp cause base out.records logged said (batch_fits P steps unanimous o world n stamp free source event j makes state there (votes o world n stamp free source event j makes state there)) settled_votes settled_commits host)
 
   held : (e : Option Event) → event_of world n stamp source ≡ e → is_some e ≡ true → StopsWell book (moved (Cut n stamp free source true cause) world) n stamp cause
   held None none is = absurd (cc is)

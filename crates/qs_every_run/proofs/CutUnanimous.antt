@@ -62,7 +62,7 @@ use Rattle.qs_lawful.proofs.LastsWell.{LastsWell}
 use Rattle.qs_lawful.proofs.NumberedLogs.{opened_numbered, opening_named}
 use Rattle.qs_every_run.specs.Agrees.{MakesStep}
 use Rattle.qs_every_run.specs.Joined.{Joined, book_in}
-use Rattle.qs_every_run.specs.JoinedOwed.{EachCutUnanimous, WholeSteps, book_then}
+use Rattle.qs_every_run.specs.JoinedLaws.{EachCutUnanimous, WholeSteps, book_then}
 use Rattle.qs_every_run.proofs.JoinedLogged.{logged_by_log}
 use Rattle.qs_every_run.proofs.JoinedSteps.{step_entries, step_holds, step_lawful, step_low, step_up}
 use Rattle.qs_every_run.proofs.PlacesBegin.{begun_inc}

@@ -246,7 +246,7 @@ restless_kept = record {
   stales = λ t peer so. so;
 }
 
-restless : (node : NodeValue) (event : Event) (free : ℕ) → list_any is_restart (effects_of node event free).entries ≡ false
+pub restless : (node : NodeValue) (event : Event) (free : ℕ) → list_any is_restart (effects_of node event free).entries ≡ false
 restless node event free = step_traced Restless Restless restless_kept restless_kept node event free (record { lets = λ t so. so; comes = λ t line is so. so; learns = λ t peer tid label member number issuer op is so. so; takes = λ t peer tid label member number issuer op is so. so }) refl
 
 front_off : (p : Act → Bool) (before after : List Act) → list_any p (before ++ after) ≡ false → list_any p before ≡ false

@@ -12,12 +12,13 @@ use Rattle.qs_world.specs.Moves.{Source, Step, moved, step_with}
 use Rattle.qs_world.specs.World.{Opening, World}
 use Rattle.qs_every_run.specs.Agrees.{MakesStep}
 use Rattle.qs_every_run.specs.Awaited.{IsWaiting, WaitsAt}
-use Rattle.qs_every_run.specs.Awaiting.{AwaitedAt, AwaitsFresh, EachFreshAwaited, EachIssueWaits}
+use Rattle.qs_every_run.specs.Awaiting.{AwaitsFresh, EachFreshAwaited, EachIssueWaits}
 use Rattle.qs_every_run.specs.Joined.{Joined, book_in}
-use Rattle.qs_every_run.specs.JoinedOwed.{entries_in}
+use Rattle.qs_every_run.specs.JoinedPlaces.{PlacesAt}
+use Rattle.qs_every_run.specs.JoinedLaws.{entries_in}
 use Rattle.qs_every_run.proofs.ClientsGo.{of_steps}
 use Rattle.qs_every_run.proofs.FreshIssued.{IsIssuedIn, StandsIn, issued_or_stood}
-use Rattle.qs_every_run.proofs.JoinedAs.{placed_joined}
+use Rattle.qs_every_run.proofs.JoinedAs.{joined_as}
 use Rattle.qs_every_run.proofs.JoinedParts.{book_on}
 use Rattle.qs_every_run.proofs.OwnAwaited.{never_decided}
 use Rattle.qs_every_run.proofs.PlacesJoined.{amid}
@@ -25,7 +26,7 @@ use Rattle.qs_every_run.proofs.PlacesJoined.{amid}
 some_is : {X : Type 0} {x y : X} → Some x ≡ Some y → x ≡ y
 some_is e = cc e
 
-module _ (issues : EachIssueWaits AwaitedAt) (o : Opening) (world : World) (n stamp free : ℕ) (source : Source) (event : Event) (j : Joined AwaitedAt o world) (makes : MakesStep world n stamp source event) (lawful : IsLawful (book_in o world) (entries_in world n stamp free event))
+module _ (P : Opening → World → Type 0) (less : (o : Opening) (world : World) → P o world → PlacesAt o world) (issues : EachIssueWaits P) (o : Opening) (world : World) (n stamp free : ℕ) (source : Source) (event : Event) (j : Joined P o world) (makes : MakesStep world n stamp source event) (lawful : IsLawful (book_in o world) (entries_in world n stamp free event))
     (tid : Tid) (tx : TransactionValue) (found_next : find_transaction (book_in o (moved (Step n stamp free source) world)) tid ≡ Some tx) (undecided : is_open tx.cell ≡ true) where
   abbrev now : BookValue
   now = book_after (book_in o world) (entries_in world n stamp free event)
@@ -34,12 +35,12 @@ module _ (issues : EachIssueWaits AwaitedAt) (o : Opening) (world : World) (n st
   found_now = subst (λ (b : BookValue). find_transaction b tid ≡ Some tx) (ap (λ (e : Option Event). book_in o (step_with world n stamp free source e)) makes.comes ∙ book_on o world (step_with world n stamp free source (Some event)) (entries_in world n stamp free event) refl) found_next
 
   fresh_waits : AwaitsFresh n tid (book_in o world) tx (after_step (world.hosts n).node event free)
-  fresh_waits at member from_n away stands new = by (issued_or_stood stamp n tid at member (effects_of (world.hosts n).node event free).entries (book_in o world) (amid o world (placed_joined o world j) n stamp free source event makes).inv (of_steps AwaitedAt o world j n stamp free source event makes) lawful
+  fresh_waits at member from_n away stands new = by (issued_or_stood stamp n tid at member (effects_of (world.hosts n).node event free).entries (book_in o world) (amid o world (joined_as P PlacesAt o world (less o world) j) n stamp free source event makes).inv (of_steps P o world j n stamp free source event makes) lawful
       (record { tx = tx; found = found_now; stands = stands }))
     where
       waits : IsWaiting tid member at.number (after_step (world.hosts n).node event free) → WaitsAt tid member at.number (after_step (world.hosts n).node event free)
       waits (inl w) = w
-      waits (inr kept) = absurd (never_decided o world j n stamp free source event makes lawful tid tx found_now undecided kept)
+      waits (inr kept) = absurd (never_decided P less o world j n stamp free source event makes lawful tid tx found_now undecided kept)
 
       never : (x : Option Request) → x ≡ None → is_some x ≡ true → ⊥
       never None e some = cc some
@@ -49,5 +50,5 @@ module _ (issues : EachIssueWaits AwaitedAt) (o : Opening) (world : World) (n st
       by (inl issue) = waits (issues o world n stamp free source event j makes tid issue.issuer member at.number issue.op issue.among (ap (λ (k : NodeNo). k.0 == n) (sym issue.to) ∙ away))
       by (inr stood) = absurd (never (standing_request stood.tx at member) (new stood.tx stood.found) stood.stands)
 
-pub fresh_awaited : EachIssueWaits AwaitedAt → EachFreshAwaited AwaitedAt
-fresh_awaited issues o world n stamp free source event j makes lawful tid w shows before awaited tx found undecided placed = inr (fresh_waits issues o world n stamp free source event j makes lawful tid tx found undecided)
+pub fresh_awaited : (P : Opening → World → Type 0) → ((o : Opening) (world : World) → P o world → PlacesAt o world) → EachIssueWaits P → EachFreshAwaited P
+fresh_awaited P less issues o world n stamp free source event j makes lawful tid w shows before awaited tx found undecided placed = inr (fresh_waits P less issues o world n stamp free source event j makes lawful tid tx found undecided)

@@ -31,7 +31,7 @@ use Rattle.qs_lawful.proofs.OpenedCommits.{stays_among}
 use Rattle.qs_every_run.specs.Agrees.{MakesStep, nodes_in}
 use Rattle.qs_every_run.specs.Joined.{ChannelsAt, FactsAt, HeldAt, HomesAt, HomesHave, HoldsRunning, Joined, ClocksAt, LoggedAt, OwnersAt, RunningAt, ScriptsAt, WaysAt, book_in, ClientsAt, KeepsBackUnmet, QueuedAt}
 use Rattle.qs_every_run.specs.Owing.{Owes, OwesAt}
-use Rattle.qs_every_run.specs.JoinedOwed.{WholeSteps, AfterStep, StaysUnanimousThen}
+use Rattle.qs_every_run.specs.JoinedLaws.{WholeSteps, AfterStep, StaysUnanimousThen}
 use Rattle.qs_every_run.proofs.BornMoves.{born_moved}
 use Rattle.qs_every_run.proofs.JoinedFacts.{steps_facts}
 use Rattle.qs_every_run.proofs.JoinedHeld as held_proofs

@@ -1,10 +1,11 @@
--- What all stands together with what requests wait for stands together without it.
+-- What stands together with what goes on along a run stands together with a part of that.
 use Rattle.qs_world.specs.World.{Opening, World}
+use Rattle.qs_every_run.specs.AlongRun.{AlongRun}
 use Rattle.qs_every_run.specs.Awaiting.{AwaitedAt}
 use Rattle.qs_every_run.specs.Joined.{Joined}
 use Rattle.qs_every_run.specs.JoinedPlaces.{PlacesAt}
 
-joined_as : (P Q : Opening → World → Type 0) (o : Opening) (world : World) → (P o world → Q o world) → Joined P o world → Joined Q o world
+pub joined_as : (P Q : Opening → World → Type 0) (o : Opening) (world : World) → (P o world → Q o world) → Joined P o world → Joined Q o world
 joined_as P Q o world less j = record {
   opens = j.opens;
   size = j.size;
@@ -30,5 +31,14 @@ joined_as P Q o world less j = record {
   places = less j.places;
 }
 
+pub placed : (o : Opening) (world : World) → AwaitedAt o world → PlacesAt o world
+placed o world awaited tid begun = (awaited tid begun).places
+
 pub placed_joined : (o : Opening) (world : World) → Joined AwaitedAt o world → Joined PlacesAt o world
-placed_joined o world = joined_as AwaitedAt PlacesAt o world (λ awaited tid begun. (awaited tid begun).places)
+placed_joined o world = joined_as AwaitedAt PlacesAt o world (placed o world)
+
+pub along_awaited : (o : Opening) (world : World) → Joined AlongRun o world → Joined AwaitedAt o world
+along_awaited o world = joined_as AlongRun AwaitedAt o world (λ along. along.awaited)
+
+pub along_placed : (o : Opening) (world : World) → Joined AlongRun o world → Joined PlacesAt o world
+along_placed o world j = placed_joined o world (along_awaited o world j)

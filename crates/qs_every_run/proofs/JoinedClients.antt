@@ -37,7 +37,7 @@ use Rattle.qs_lawful.proofs.GivenByWorld.{line_comes}
 use Rattle.qs_lawful.proofs.LogFrames.{every_on}
 use Rattle.qs_every_run.specs.Answering.{Answering, BeginsOpen, Commands, IsFree, IsOfOpen, with_event}
 use Rattle.qs_every_run.specs.Joined.{ClientsAt, IsOwnClient}
-use Rattle.qs_every_run.specs.JoinedOwed.{HasOwner}
+use Rattle.qs_every_run.specs.JoinedLaws.{HasOwner}
 use Rattle.qs_every_run.specs.Traces.{fresh_command, trace_of}
 use Rattle.qs_every_run.proofs.Answered.{step_answers}
 use Rattle.qs_every_run.proofs.JoinedFacts.{formed}

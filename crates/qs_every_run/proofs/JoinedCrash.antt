@@ -37,7 +37,7 @@ use Rattle.qs_lawful.proofs.ScriptsLike.{crash_scripts}
 use Rattle.qs_lawful.proofs.WaysOn.{crash_ways}
 use Rattle.qs_every_run.specs.Joined.{HomesAt, HoldsRunning, Joined, ClocksAt, LoggedAt, OwnersAt, RunningAt, book_in}
 use Rattle.qs_every_run.specs.Owing.{Owes, OwesAt}
-use Rattle.qs_every_run.specs.JoinedOwed.{AfterStep, WholeSteps, StaysUnanimousThen}
+use Rattle.qs_every_run.specs.JoinedLaws.{AfterStep, WholeSteps, StaysUnanimousThen}
 use Rattle.qs_every_run.proofs.JoinedHeld as held_proofs
 use Rattle.qs_every_run.proofs.JoinedParts.{book_on, channels_later, lawful_on}
 use Rattle.qs_every_run.proofs.JoinedWays.{lasts_now}

@@ -54,7 +54,7 @@ use Rattle.qs_lawful.proofs.StopsWhole.{back_by, next_by}
 use Rattle.qs_lawful.proofs.Truths.{of_some}
 use Rattle.qs_every_run.specs.Agrees.{MakesStep}
 use Rattle.qs_every_run.specs.Joined.{HoldsRunning, Joined, book_in}
-use Rattle.qs_every_run.specs.JoinedOwed.{AfterStep, HasOwner, WholeSteps, StaysUnanimousThen, book_then, entries_in}
+use Rattle.qs_every_run.specs.JoinedLaws.{AfterStep, HasOwner, WholeSteps, StaysUnanimousThen, book_then, entries_in}
 use Rattle.qs_every_run.proofs.ClientsGo.{answers_aside, begins_owned, of_steps}
 use Rattle.qs_every_run.proofs.JoinedKept.{step_clients}
 use Rattle.qs_every_run.proofs.JoinedSaid.{step_said}

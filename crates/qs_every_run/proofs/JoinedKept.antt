@@ -16,7 +16,7 @@ use Rattle.qs_lawful.specs.Worlds.{HoldsKept}
 use Rattle.qs_lawful.proofs.SameSettings.{step_same}
 use Rattle.qs_every_run.specs.Agrees.{MakesStep}
 use Rattle.qs_every_run.specs.Joined.{Joined}
-use Rattle.qs_every_run.specs.JoinedOwed.{WholeSteps, book_then}
+use Rattle.qs_every_run.specs.JoinedLaws.{WholeSteps, book_then}
 use Rattle.qs_every_run.proofs.JoinedSteps.{step_holds, step_kept, step_lawful, step_low}
 use Rattle.qs_every_run.proofs.KeptAfter.{kept_so}
 use Rattle.qs_every_run.proofs.LabelsMoves.{steps_labels}

@@ -41,7 +41,8 @@ use Rattle.qs_lawful.proofs.WaysOn.{rise_ways}
 use Rattle.qs_every_run.specs.Agrees.{nodes_in}
 use Rattle.qs_every_run.specs.Joined.{ClocksAt, FactsAt, HeldAt, HomesAt, HomesHave, HoldsRunning, Joined, LoggedAt, OwnersAt, RunningAt, book_in, ClientsAt, IsOwnClient, QueuedAt}
 use Rattle.qs_every_run.specs.Owing.{Owes, OwesAt}
-use Rattle.qs_every_run.specs.JoinedOwed.{Owed, AfterStep, IsBetweenSteps, Keeps, StaysUnanimousThen, WholeSteps}
+use Rattle.qs_every_run.specs.JoinedLaws.{AfterStep, IsBetweenSteps, Keeps, StaysUnanimousThen, WholeSteps}
+use Rattle.qs_every_run.specs.CutBatches.{EachVoteOfStart}
 use Rattle.qs_every_run.specs.JoinedRuns.{EachMoveJoined}
 use Rattle.qs_every_run.specs.PlacesLaws.{GoesOn}
 use Rattle.qs_every_run.proofs.JoinedFacts.{rises_facts}
@@ -57,9 +58,8 @@ use Rattle.qs_every_run.proofs.OwingFresh.{opens_owing}
 use Rattle.qs_every_run.proofs.JoinedAfter.{log_goes_on, step_joined, then_joined}
 use Rattle.qs_every_run.proofs.JoinedCrash.{crash_joined}
 use Rattle.qs_every_run.proofs.CutHeld.{cut_held}
-use Rattle.qs_every_run.proofs.CutUnanimous.{cuts_unanimous}
 
-module _ (P : Opening → World → Type 0) (between : Keeps P IsBetweenSteps P) (steps : WholeSteps P) (owed : Owed P) (unanimous : AfterStep P StaysUnanimousThen) (o : Opening) (world : World) (j : Joined P o world) where
+module _ (P : Opening → World → Type 0) (between : Keeps P IsBetweenSteps P) (steps : WholeSteps P) (votes : EachVoteOfStart P) (unanimous : AfterStep P StaysUnanimousThen) (o : Opening) (world : World) (j : Joined P o world) where
   abbrev book : BookValue
   book = book_in o world
 
@@ -272,11 +272,11 @@ module _ (P : Opening → World → Type 0) (between : Keeps P IsBetweenSteps P)
 
       by : (e : Option Event) → event_of world n stamp source ≡ e → (b : Bool) → may_move world (Cut n stamp free source b cause) ≡ true → Joined P o (moved (Cut n stamp free source b cause) world)
       by None none b may_b = subst (λ (e : Option Event). Joined P o (cut_with world n stamp free b cause e)) (sym none) j
-      by (Some event) comes true may_b = crash_joined P steps unanimous o world j n stamp cause (cut_log (world.hosts n) true (effects_of (world.hosts n).node event free)) (Cut n stamp free source true cause) may_b (ap (cut_with world n stamp free true cause) comes) (log_goes_on (world.hosts n) (effects_of (world.hosts n).node event free)) (cut_ordered may_b) (cut_held P steps owed unanimous o world n stamp free source cause j may_b) (between o world (Cut n stamp free source true cause) tt j may_b)
+      by (Some event) comes true may_b = crash_joined P steps unanimous o world j n stamp cause (cut_log (world.hosts n) true (effects_of (world.hosts n).node event free)) (Cut n stamp free source true cause) may_b (ap (cut_with world n stamp free true cause) comes) (log_goes_on (world.hosts n) (effects_of (world.hosts n).node event free)) (cut_ordered may_b) (cut_held P steps votes unanimous o world n stamp free source cause j may_b) (between o world (Cut n stamp free source true cause) tt j may_b)
       by (Some event) comes false may_b = crash_joined P steps unanimous o world j n stamp cause (cut_log (world.hosts n) false (effects_of (world.hosts n).node event free)) (Cut n stamp free source false cause) may_b (ap (cut_with world n stamp free false cause) comes) (λ tid is. is) (cut_ordered may_b) (by_cut book world n stamp free source cause lasts j.held may_b) (between o world (Cut n stamp free source false cause) tt j may_b)
   move_joined (Stop n stamp cause) may = crash_joined P steps unanimous o world j n stamp cause (world.hosts n).log (Stop n stamp cause) may refl (λ tid is. is) (and_both (is_in_order world n stamp) _ (and_both (world.channels.up n) _ may).1).0 (by_stop book world n stamp cause lasts j.held may) (between o world (Stop n stamp cause) tt j may)
   move_joined (Rise n stamp inc) may = rise_joined n stamp inc may
   move_joined (Meet n stamp m inc) may = meet_joined n stamp m inc may
 
 pub each_move_joined : (P : Opening → World → Type 0) → GoesOn P → EachMoveJoined P
-each_move_joined P goes owed o world move j may = move_joined P (goes.between (cuts_unanimous P (goes.steps owed.replies_true owed.issues_wait))) (goes.steps owed.replies_true owed.issues_wait) owed goes.unanimous o world j move may
+each_move_joined P goes o world move j may = move_joined P goes.between goes.steps goes.votes goes.unanimous o world j move may

@@ -11,7 +11,6 @@ use Rattle.qs_refine.proofs.EveryRunShown.{every_run_shown}
 use Rattle.qs_lawful.proofs.OpenedScripts.{opens_scripts, opens_ways}
 use Rattle.qs_lawful.proofs.OpenedWorld.{world_held}
 use Rattle.qs_every_run.specs.Joined.{Joined}
-use Rattle.qs_every_run.specs.JoinedOwed.{Owed}
 use Rattle.qs_every_run.specs.JoinedRuns.{EachOpensJoined, EachRunJoined, EachRunLawful}
 use Rattle.qs_every_run.specs.PlacesLaws.{GoesOn}
 use Rattle.qs_every_run.proofs.BornMoves.{born_start}
@@ -61,12 +60,12 @@ each_opens_joined P goes o opens = record {
     least k = grind (arith)
 
 module _ (P : Opening → World → Type 0) (goes : GoesOn P) where
-  over : Owed P → (o : Opening) (moves : List Move) (old new : World) → Joined P o old → Run old moves new → Joined P o new
-  over owed o [] old new j run = subst (λ (w : World). Joined P o w) (sym run) j
-  over owed o (move ∷ moves) old new j run = over owed o moves (moved move old) new (each_move_joined P goes owed o old move j run.0) run.1
+  over : (o : Opening) (moves : List Move) (old new : World) → Joined P o old → Run old moves new → Joined P o new
+  over o [] old new j run = subst (λ (w : World). Joined P o w) (sym run) j
+  over o (move ∷ moves) old new j run = over o moves (moved move old) new (each_move_joined P goes o old move j run.0) run.1
 
   pub each_run_joined : EachRunJoined P
-  each_run_joined owed o moves new opens run = over owed o moves (start o) new (each_opens_joined P goes o opens) run
+  each_run_joined o moves new opens run = over o moves (start o) new (each_opens_joined P goes o opens) run
 
-  pub each_run_lawful : EachRunLawful P
-  each_run_lawful owed o moves new opens run = (each_run_joined owed o moves new opens run).lawful
+  pub each_run_lawful : EachRunLawful
+  each_run_lawful o moves new opens run = (each_run_joined o moves new opens run).lawful

@@ -15,7 +15,7 @@ use Rattle.qs_lawful.proofs.NumberedLogs.{opened_numbered}
 use Rattle.qs_lawful.proofs.SaidWhole.{step_says}
 use Rattle.qs_every_run.specs.Agrees.{MakesStep, nodes_in}
 use Rattle.qs_every_run.specs.Joined.{Joined, book_in}
-use Rattle.qs_every_run.specs.JoinedOwed.{WholeSteps, book_then}
+use Rattle.qs_every_run.specs.JoinedLaws.{WholeSteps, book_then}
 use Rattle.qs_every_run.proofs.JoinedSteps.{step_given, step_low, step_up}
 use Rattle.qs_every_run.proofs.SaidTells.{opened_length, tells_so}
 

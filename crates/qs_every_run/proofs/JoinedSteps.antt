@@ -29,7 +29,7 @@ use Rattle.qs_lawful.proofs.Still.{held_at}
 use Rattle.qs_lawful.proofs.WholeStep.{by_whole_step}
 use Rattle.qs_every_run.specs.Agrees.{MakesStep, PassesUndone, nodes_in}
 use Rattle.qs_every_run.specs.Joined.{Joined, book_in}
-use Rattle.qs_every_run.specs.JoinedOwed.{CommitsSettled, WholeSteps}
+use Rattle.qs_every_run.specs.JoinedLaws.{CommitsSettled, WholeSteps}
 use Rattle.qs_every_run.proofs.AgreesPasses.{passes_agree, stages_sound, waits_agree}
 use Rattle.qs_every_run.proofs.AgreesWhole.{event_agrees}
 use Rattle.qs_every_run.proofs.JoinedGiven.{given, step_on}

@@ -14,10 +14,10 @@ use Rattle.qs_lawful.specs.Tables.{HoldsServers, is_seen}
 use Rattle.qs_lawful.specs.Worlds.{HoldsNodeAt, HoldsUp}
 use Rattle.qs_lawful.proofs.Truths.{of_some}
 use Rattle.qs_every_run.specs.Joined.{Joined, book_in}
-use Rattle.qs_every_run.specs.Awaiting.{AwaitedAt}
+use Rattle.qs_every_run.specs.AlongRun.{AlongRun}
 use Rattle.qs_every_run.specs.StandsFor.{EachLogStandsFor, IsRestored}
 use Rattle.qs_every_run.proofs.JoinedMoves.{each_move_joined}
-use Rattle.qs_every_run.proofs.PlacesGoOn.{places_go}
+use Rattle.qs_every_run.proofs.RunsGoOn.{runs_go}
 
 equal : (a : ℕ) → (a == a) ≡ true
 equal a = grind (arith, nat_tests)
@@ -25,7 +25,7 @@ equal a = grind (arith, nat_tests)
 less_of : (a b : ℕ) → nat_lt a b ≡ true → a < b
 less_of a b is = grind (arith, nat_tests, is)
 
-module _ (o : Opening) (world : World) (n stamp inc : ℕ) (may : may_move world (Rise n stamp inc) ≡ true) (j : Joined AwaitedAt o (moved (Rise n stamp inc) world)) where
+module _ (o : Opening) (world : World) (n stamp inc : ℕ) (may : may_move world (Rise n stamp inc) ≡ true) (j : Joined AlongRun o (moved (Rise n stamp inc) world)) where
   abbrev after : World
   after = moved (Rise n stamp inc) world
 
@@ -74,8 +74,8 @@ module _ (o : Opening) (world : World) (n stamp inc : ℕ) (may : may_move world
     kept = at.kept;
   }
 
-pub each_log_stands_for : EachLogStandsFor AwaitedAt
-each_log_stands_for owed o world crash n stamp inc j is may rises = record { stopped = stopped.lawful; restored = rises_restored o (moved crash world) n stamp inc rises (each_move_joined AwaitedAt places_go owed o (moved crash world) (Rise n stamp inc) stopped rises) }
+pub each_log_stands_for : EachLogStandsFor AlongRun
+each_log_stands_for o world crash n stamp inc j is may rises = record { stopped = stopped.lawful; restored = rises_restored o (moved crash world) n stamp inc rises (each_move_joined AlongRun runs_go o (moved crash world) (Rise n stamp inc) stopped rises) }
   where
-    stopped : Joined AwaitedAt o (moved crash world)
-    stopped = each_move_joined AwaitedAt places_go owed o world crash j may
+    stopped : Joined AlongRun o (moved crash world)
+    stopped = each_move_joined AlongRun runs_go o world crash j may

@@ -28,13 +28,13 @@ use Rattle.qs_lawful.specs.Said.{IsApart}
 use Rattle.qs_lawful.proofs.OpenedCommits.{commit_among}
 use Rattle.qs_every_run.specs.CoherentAgain.{EachRunCoherent, IsNextOpening}
 use Rattle.qs_every_run.specs.Joined.{Joined}
-use Rattle.qs_every_run.specs.Awaiting.{AwaitedAt}
+use Rattle.qs_every_run.specs.AlongRun.{AlongRun}
 use Rattle.qs_every_run.specs.OwnChanges.{OwnChangesAt, is_own_vote}
 use Rattle.qs_every_run.proofs.CommitsHomeRuns.{Has, each_commits_home}
 use Rattle.qs_every_run.proofs.JoinedOver.{each_run_joined}
 use Rattle.qs_every_run.proofs.ListsHome.{IsHomed, lists_home}
 use Rattle.qs_every_run.proofs.OwnMoves.{each_has_own_changes}
-use Rattle.qs_every_run.proofs.PlacesGoOn.{places_go}
+use Rattle.qs_every_run.proofs.RunsGoOn.{runs_go}
 
 -- ---- tests
 
@@ -103,7 +103,7 @@ module _ (tid : Tid) (n : ℕ) where
 
 -- ---- an opening over the logs of a world
 
-module _ (o : Opening) (world : World) (next : Opening) (j : Joined AwaitedAt o world) (is : IsNextOpening world next) (owns : OwnChangesAt world)
+module _ (o : Opening) (world : World) (next : Opening) (j : Joined AlongRun o world) (is : IsNextOpening world next) (owns : OwnChangesAt world)
     (home : (n : ℕ) → n < world.size → (tid : Tid) → nat_lt tid.home.0 world.size ≡ true → Has tid (world.hosts n).log → Has tid (world.hosts tid.home.0).log) where
   earlier : (tid : Tid) → is_past_tid world tid ≡ true → is_earlier next tid ≡ true
   earlier tid past = subst (λ (s : ℕ). (not (nat_lt tid.home.0 s) || nat_lt tid.inc (next.settings tid.home.0).inc) ≡ true) (sym is.size) (by (nat_lt tid.home.0 world.size) refl past)
@@ -246,8 +246,8 @@ module _ (o : Opening) (world : World) (next : Opening) (j : Joined AwaitedAt o 
     whole = over (λ n log. is_whole_log next.size (recovery log)) (λ n low. subst (λ (s : ℕ). is_whole_log s (recovery (world.hosts n).log) ≡ true) (sym is.size) (j.shown.listed.whole_logs n low));
   }
 
-pub each_run_coherent : EachRunCoherent AwaitedAt
-each_run_coherent owed o moves world next opens run is = next_opens o world next j is (each_has_own_changes o moves world opens run) (λ n low tid home_in has. each_commits_home owed o moves world opens run n low tid home_in has)
+pub each_run_coherent : EachRunCoherent
+each_run_coherent o moves world next opens run is = next_opens o world next j is (each_has_own_changes o moves world opens run) (λ n low tid home_in has. each_commits_home o moves world opens run n low tid home_in has)
   where
-    j : Joined AwaitedAt o world
-    j = each_run_joined AwaitedAt places_go owed o moves world opens run
+    j : Joined AlongRun o world
+    j = each_run_joined AlongRun runs_go o moves world opens run

@@ -9,10 +9,10 @@ use Rattle.qs_refine.proofs.SoundParts.{and_both}
 use Rattle.qs_lawful.proofs.CoherentOpenings.{each_is}
 use Rattle.qs_every_run.specs.CoherentAgain.{EachRunMayFollow, IsNextOpening, next_of, next_setting}
 use Rattle.qs_every_run.specs.Joined.{Joined}
-use Rattle.qs_every_run.specs.Awaiting.{AwaitedAt}
+use Rattle.qs_every_run.specs.AlongRun.{AlongRun}
 use Rattle.qs_every_run.proofs.JoinedOver.{each_run_joined}
 use Rattle.qs_every_run.proofs.NextOpening.{each_run_coherent, each_so}
-use Rattle.qs_every_run.proofs.PlacesGoOn.{places_go}
+use Rattle.qs_every_run.proofs.RunsGoOn.{runs_go}
 
 above : (k : ℕ) → k < k + 1
 above k = grind (arith)
@@ -44,8 +44,8 @@ module _ (o : Opening) (world : World) (opens : IsOpening o) (size : world.size 
     labels = opens.labels;
   }
 
-pub each_run_may_follow : EachRunMayFollow AwaitedAt
-each_run_may_follow owed o moves world opens run = each_run_coherent owed o moves world (next_of o world) opens run (is_next o world opens j.size)
+pub each_run_may_follow : EachRunMayFollow
+each_run_may_follow o moves world opens run = each_run_coherent o moves world (next_of o world) opens run (is_next o world opens j.size)
   where
-    j : Joined AwaitedAt o world
-    j = each_run_joined AwaitedAt places_go owed o moves world opens run
+    j : Joined AlongRun o world
+    j = each_run_joined AlongRun runs_go o moves world opens run

@@ -35,7 +35,7 @@ use Rattle.qs_lawful.proofs.OpenedVotes.{opened_there}
 use Rattle.qs_lawful.proofs.OpenedWorld.{world_held}
 use Rattle.qs_lawful.proofs.Truths.{clash, node_is, of_some}
 use Rattle.qs_every_run.specs.Joined.{HoldsRunning, RunningAt}
-use Rattle.qs_every_run.specs.JoinedOwed.{Opens}
+use Rattle.qs_every_run.specs.JoinedLaws.{Opens}
 use Rattle.qs_every_run.proofs.FreshBeside.{BeginsWell, running_held}
 use Rattle.qs_every_run.proofs.JoinedFacts.{opens_facts}
 

@@ -52,15 +52,15 @@ use Rattle.qs_lawful.proofs.FirstComes.{coming_first}
 use Rattle.qs_every_run.specs.Agrees.{MakesStep, nodes_in}
 use Rattle.qs_every_run.specs.Answering.{IsFree}
 use Rattle.qs_every_run.specs.Awaited.{ComesSo, IsWaiting, TakesIt, WaitsAt}
-use Rattle.qs_every_run.specs.Awaiting.{AreAwaited, AwaitedAt, AwaitsFresh, AwaitsOwn, EachFreshAwaited, EachOwnAwaited, EachReplyTrue, HoldsAwaited}
+use Rattle.qs_every_run.specs.Awaiting.{AreAwaited, AwaitsFresh, AwaitsOwn, EachFreshAwaited, EachOwnAwaited, EachReplyTrue, HoldsAwaited}
 use Rattle.qs_every_run.specs.Joined.{Joined, book_in}
-use Rattle.qs_every_run.specs.JoinedOwed.{entries_in}
+use Rattle.qs_every_run.specs.JoinedLaws.{entries_in}
 use Rattle.qs_every_run.specs.JoinedPlaces.{PlacesAt}
 use Rattle.qs_every_run.specs.Placed.{HoldsPlaced, IsPlaced, Placed, field_of, goes_there}
 use Rattle.qs_every_run.proofs.AwaitedSteps.{steps_wait_on}
 use Rattle.qs_every_run.proofs.ClientsGo.{comes_free}
 use Rattle.qs_every_run.proofs.Entries.{each_at}
-use Rattle.qs_every_run.proofs.JoinedAs.{placed_joined}
+use Rattle.qs_every_run.proofs.JoinedAs.{joined_as}
 use Rattle.qs_every_run.proofs.JoinedHeld.{true_event}
 use Rattle.qs_every_run.proofs.JoinedParts.{book_on}
 use Rattle.qs_every_run.proofs.JoinedSteps.{step_holds}
@@ -112,7 +112,7 @@ stands_there at member (r ∷ rs) there stands = by (is_standing member r) refl 
     by true is true so all stands more = subst (λ (m : Member). (m.node.0 == at.link.to.0) ≡ true) (same_member-true r.member member (left (same_member r.member member) (not r.served) is)) so
     by false is true so all stands more = more (rw so at all) (rw is at stands)
 
-module _ (o : Opening) (world : World) (ja : Joined AwaitedAt o world) (n stamp free : ℕ) (source : Source) (event : Event) (makes : MakesStep world n stamp source event) (lawful : IsLawful (book_in o world) (entries_in world n stamp free event)) where
+module _ (P : Opening → World → Type 0) (less : (o : Opening) (world : World) → P o world → PlacesAt o world) (o : Opening) (world : World) (ja : Joined P o world) (n stamp free : ℕ) (source : Source) (event : Event) (makes : MakesStep world n stamp source event) (lawful : IsLawful (book_in o world) (entries_in world n stamp free event)) where
   abbrev book : BookValue
   book = book_in o world
 
@@ -120,7 +120,7 @@ module _ (o : Opening) (world : World) (ja : Joined AwaitedAt o world) (n stamp 
   node = (world.hosts n).node
 
   j : Joined PlacesAt o world
-  j = placed_joined o world ja
+  j = joined_as P PlacesAt o world (less o world) ja
 
   its : StepMay world n source
   its = step_may world n stamp source makes.may
@@ -180,7 +180,7 @@ module _ (o : Opening) (world : World) (ja : Joined AwaitedAt o world) (n stamp 
 
   -- ---- one that stood, and stands
 
-  module _ (replies : EachReplyTrue AwaitedAt) (tid : Tid) (was : TransactionValue) (had : find_transaction book tid ≡ Some was) (was_undecided : is_open was.cell ≡ true) (placed : Placed tid was (field_of world))
+  module _ (replies : EachReplyTrue P) (tid : Tid) (was : TransactionValue) (had : find_transaction book tid ≡ Some was) (was_undecided : is_open was.cell ≡ true) (placed : Placed tid was (field_of world))
       (tx : TransactionValue) (found : find_transaction (book_after book (entries_in world n stamp free event)) tid ≡ Some tx) (undecided : is_open tx.cell ≡ true)
       (at : RequestNo) (member : Member) (from_n : at.link.from.0 ≡ n) (away : (at.link.to.0 == n) ≡ false) (stood : is_some (standing_request was at member) ≡ true) where
     to_member : (member.node.0 == at.link.to.0) ≡ true
@@ -260,7 +260,7 @@ module _ (o : Opening) (world : World) (ja : Joined AwaitedAt o world) (n stamp 
 
 -- ---- all that it issued to others
 
-module _ (replies : EachReplyTrue AwaitedAt) (o : Opening) (world : World) (n stamp free : ℕ) (source : Source) (event : Event) (j : Joined AwaitedAt o world) (makes : MakesStep world n stamp source event) (lawful : IsLawful (book_in o world) (entries_in world n stamp free event))
+module _ (P : Opening → World → Type 0) (less : (o : Opening) (world : World) → P o world → PlacesAt o world) (replies : EachReplyTrue P) (o : Opening) (world : World) (n stamp free : ℕ) (source : Source) (event : Event) (j : Joined P o world) (makes : MakesStep world n stamp source event) (lawful : IsLawful (book_in o world) (entries_in world n stamp free event))
     (tid : Tid) (w : machine.World) (before : HoldsPlaced tid (book_in o world) (field_of world) w) (awaited : HoldsAwaited tid (book_in o world) (nodes_in world) w) (tx : TransactionValue) (found_next : find_transaction (book_in o (moved (Step n stamp free source) world)) tid ≡ Some tx) (undecided : is_open tx.cell ≡ true) where
   abbrev now : BookValue
   now = book_after (book_in o world) (entries_in world n stamp free event)
@@ -269,7 +269,7 @@ module _ (replies : EachReplyTrue AwaitedAt) (o : Opening) (world : World) (n st
   found_now = subst (λ (b : BookValue). find_transaction b tid ≡ Some tx) (ap (λ (e : Option Event). book_in o (step_with world n stamp free source e)) makes.comes ∙ book_on o world (step_with world n stamp free source (Some event)) (entries_in world n stamp free event) refl) found_next
 
   open_before : (was : TransactionValue) → find_transaction (book_in o world) tid ≡ Some was → is_open was.cell ≡ true
-  open_before was had = was_open n stamp tid (effects_of (world.hosts n).node event free).entries (book_in o world) (amid o world (placed_joined o world j) n stamp free source event makes).inv lawful was tx had found_now undecided
+  open_before was had = was_open n stamp tid (effects_of (world.hosts n).node event free).entries (book_in o world) (amid o world (joined_as P PlacesAt o world (less o world) j) n stamp free source event makes).inv lawful was tx had found_now undecided
 
   both : AwaitsFresh n tid (book_in o world) tx (after_step (world.hosts n).node event free) → IsDoomed w ⊎ AwaitsOwn n tid tx (after_step (world.hosts n).node event free)
   both fresh = of (find_transaction (book_in o world) tid) refl
@@ -281,15 +281,15 @@ module _ (replies : EachReplyTrue AwaitedAt) (o : Opening) (world : World) (n st
         where
           by : (at : RequestNo) (member : Member) → at.link.from.0 ≡ n → (at.link.to.0 == n) ≡ false → is_some (standing_request tx at member) ≡ true → (r : Option Request) → standing_request was at member ≡ r → WaitsAt tid member at.number (after_step (world.hosts n).node event free)
           by at member from_n away stands None none = fresh at member from_n away stands (λ other there. subst (λ (x : TransactionValue). standing_request x at member ≡ None) (some_is (sym had ∙ there)) none)
-          by at member from_n away stands (Some r) stood = waits_then o world j n stamp free source event makes lawful replies tid was had (open_before was had) placed tx found_now undecided at member from_n away (rw stood refl) (await n at member from_n away (rw stood refl))
+          by at member from_n away stands (Some r) stood = waits_then P less o world j n stamp free source event makes lawful replies tid was had (open_before was had) placed tx found_now undecided at member from_n away (rw stood refl) (await n at member from_n away (rw stood refl))
 
       of : (x : Option TransactionValue) → find_transaction (book_in o world) tid ≡ x → IsDoomed w ⊎ AwaitsOwn n tid tx (after_step (world.hosts n).node event free)
       of None none = inr (λ at member from_n away stands. fresh at member from_n away stands (λ was had. absurd (cc (none, had))))
       of (Some was) had = of_known was had (before was had (open_before was had)) (awaited was had (open_before was had))
 
-pub own_awaited : EachReplyTrue AwaitedAt → EachFreshAwaited AwaitedAt → EachOwnAwaited AwaitedAt
-own_awaited replies fresh o world n stamp free source event j makes lawful tid w shows before awaited tx found undecided placed = by (fresh o world n stamp free source event j makes lawful tid w shows before awaited tx found undecided placed)
+pub own_awaited : (P : Opening → World → Type 0) → ((o : Opening) (world : World) → P o world → PlacesAt o world) → EachReplyTrue P → EachFreshAwaited P → EachOwnAwaited P
+own_awaited P less replies fresh o world n stamp free source event j makes lawful tid w shows before awaited tx found undecided placed = by (fresh o world n stamp free source event j makes lawful tid w shows before awaited tx found undecided placed)
   where
     by : IsDoomed w ⊎ AwaitsFresh n tid (book_in o world) tx (after_step (world.hosts n).node event free) → IsDoomed w ⊎ AwaitsOwn n tid tx (after_step (world.hosts n).node event free)
     by (inl doomed) = inl doomed
-    by (inr those) = both replies o world n stamp free source event j makes lawful tid w before awaited tx found undecided those
+    by (inr those) = both P less replies o world n stamp free source event j makes lawful tid w before awaited tx found undecided those

@@ -86,20 +86,24 @@ same_off tid work new same off = subst (λ (ds : List (Tid × Doings)). is_put_o
 noted_off : (tid : Tid) (f : Doings → Doings) (work : Work) → ((o : Doings) → is_put_off (f o) ≡ is_put_off o) → IsOff tid work → IsOff tid (with_doings tid f work)
 noted_off tid f work same off = ap (λ (o : Option Doings). is_put_off (unwrap_or o no_doings)) (lookup_put tid_cmp tid (f (doings_of tid work)) (tid_itself tid) work.doings) ∙ (same (doings_of tid work) ∙ off)
 
+entered_off : (tid : Tid) (work : Work) (server : ServerNo) (ballot : Vote) → IsOff tid work → IsOff tid (enter_vote tid server ballot work)
+entered_off tid work server ballot off =
+    noted_off tid (λ doings. record doings { voted = true }) (with_manager (tm.voted tid (member_here work server) ballot (served_count tid server work)) (change_server server (λ value. after_vote value tid ballot) work)) (λ o. refl) off
+
+pub prepared_off : (tid : Tid) (work : Work) (server : ServerNo) → IsOff tid work → IsOff tid (with_doings tid (λ doings. record doings { prepared = true }) (enter_vote tid server votes.Recoverable work))
+prepared_off tid work server off = noted_off tid (λ doings. record doings { prepared = true }) (enter_vote tid server votes.Recoverable work) (λ o. refl) (entered_off tid work server votes.Recoverable off)
+
 pub vote_off : (tid : Tid) (work : Work) (server : ServerNo) → IsOff tid work → IsOff tid (vote_next tid work server)
 vote_off tid work server off = by (owes_note tid server work)
   where
     ballot : Vote
     ballot = vote_of (server_at work.node.servers server) tid work.room (vote_frame work)
 
-    entered_off : (b : Vote) → IsOff tid (enter_vote tid server b work)
-    entered_off b = noted_off tid (λ doings. record doings { voted = true }) (with_manager (tm.voted tid (member_here work server) b (served_count tid server work)) (change_server server (λ value. after_vote value tid b) work)) (λ o. refl) off
-
     voted : (b : Vote) → IsOff tid (log_vote b tid server (enter_vote tid server b work))
-    voted (votes.Abort reason) = entered_off (votes.Abort reason)
-    voted votes.ReadOnly = entered_off votes.ReadOnly
-    voted votes.Volatile = entered_off votes.Volatile
-    voted votes.Recoverable = noted_off tid (λ doings. record doings { prepared = true }) (enter_vote tid server votes.Recoverable work) (λ o. refl) (entered_off votes.Recoverable)
+    voted (votes.Abort reason) = entered_off tid work server (votes.Abort reason) off
+    voted votes.ReadOnly = entered_off tid work server votes.ReadOnly off
+    voted votes.Volatile = entered_off tid work server votes.Volatile off
+    voted votes.Recoverable = prepared_off tid work server off
 
     by : (b : Bool) → IsOff tid (if b then issue_note tid work.node.setting.audit work else vote_with tid server ballot work)
     by true = same_off tid work (issue_note tid work.node.setting.audit work) (note_same tid work.node.setting.audit work) off

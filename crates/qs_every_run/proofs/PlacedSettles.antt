@@ -36,7 +36,7 @@ use Rattle.qs_lawful.proofs.CoherentOpenings.{opens_soundly}
 use Rattle.qs_lawful.proofs.Still.{still_held}
 use Rattle.qs_every_run.specs.Agrees.{MakesStep, nodes_in}
 use Rattle.qs_every_run.specs.Joined.{Joined, book_in}
-use Rattle.qs_every_run.specs.JoinedOwed.{CommitsSettled}
+use Rattle.qs_every_run.specs.JoinedLaws.{CommitsSettled}
 use Rattle.qs_every_run.specs.JoinedPlaces.{PlacedOf, PlacesAt}
 use Rattle.qs_every_run.specs.Placed.{Field, field_of}
 use Rattle.qs_every_run.specs.PlacedActs.{OpenPlaced}

@@ -25,7 +25,7 @@ use Rattle.qs_lawful.proofs.LastsWell.{LastsWell}
 use Rattle.qs_lawful.proofs.NumberedLogs.{opened_numbered, opening_named}
 use Rattle.qs_every_run.specs.Agrees.{MakesStep}
 use Rattle.qs_every_run.specs.Joined.{Joined, book_in}
-use Rattle.qs_every_run.specs.JoinedOwed.{entries_in}
+use Rattle.qs_every_run.specs.JoinedLaws.{entries_in}
 use Rattle.qs_every_run.specs.JoinedPlaces.{PlacesAt}
 use Rattle.qs_every_run.specs.Placed.{Field, HoldsPlaced, Placed, field_of}
 use Rattle.qs_every_run.specs.PlacedActs.{OpenPlaced}

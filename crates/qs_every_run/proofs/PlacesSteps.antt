@@ -22,7 +22,7 @@ use Rattle.qs_refine.proofs.ShownMoves.{move_shown}
 use Rattle.qs_lawful.proofs.LastsAlways.{in_runs}
 use Rattle.qs_every_run.specs.Agrees.{MakesStep}
 use Rattle.qs_every_run.specs.Joined.{Joined, book_in}
-use Rattle.qs_every_run.specs.JoinedOwed.{entries_in}
+use Rattle.qs_every_run.specs.JoinedLaws.{entries_in}
 use Rattle.qs_every_run.specs.JoinedPlaces.{PlacedOf, PlacesAt}
 use Rattle.qs_every_run.specs.PlacesSteps.{StepsKeepPlaces, WholeFound}
 use Rattle.qs_every_run.proofs.FreshFinds.{fresh_find}

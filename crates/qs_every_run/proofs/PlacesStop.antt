@@ -44,7 +44,7 @@ use Rattle.qs_every_run.specs.JoinedPlaces.{PlacedOf}
 use Rattle.qs_every_run.specs.PlacesApart.{LeavesNone}
 use Rattle.qs_every_run.specs.StopLaws.{book_stopped}
 use Rattle.qs_every_run.proofs.ApartHere.{leaves_none}
-use Rattle.qs_every_run.specs.JoinedOwed.{CutsUnanimous}
+use Rattle.qs_every_run.specs.JoinedLaws.{CutsUnanimous}
 use Rattle.qs_every_run.specs.Placed.{HoldsPlaced, field_of}
 use Rattle.qs_every_run.proofs.JoinedParts.{book_on}
 use Rattle.qs_every_run.proofs.PlacesBegin.{begun_up}

@@ -1,19 +1,25 @@
 -- Rules in a row make the records that each of them makes; a rule that makes none leaves what was made.
-use Rattle.std.proofs.Common.{◌≡◌, ◌⊎◌, inl, inr, ℕ, ◌≤◌, ◌+◌, arith, ◌++◌, append-nil, append_assoc, Bool, true, false, List, [], ◌∷◌, Option, Some, None, fold, refl, sym, ap, subst, ◌∙◌, if◌then◌else◌}
+use Rattle.std.proofs.Common.{◌≡◌, ◌⊎◌, inl, inr, ℕ, ◌≤◌, ◌+◌, arith, ◌++◌, ◌||◌, append-nil, append_assoc, Bool, true, false, List, [], ◌∷◌, Option, Some, None, fold, refl, sym, ap, subst, ◌∙◌, if◌then◌else◌}
+use Rattle.std.specs.List.{list_any}
+use Rattle.std.proofs.lemmas.List.Folds.{list_any-append}
 use Rattle.qs_base.specs.declared.identifiers.NodeNo.{NodeNo}
 use Rattle.qs_base.specs.declared.identifiers.Tid.{Tid}
 use Rattle.qs_journal.specs.declared.entry.Act.{Act}
+use Rattle.qs_journal.specs.declared.entry.Act.TheVariants as acts
+use Rattle.qs_ops.specs.declared.vote.Vote.TheVariants as votes
 use Rattle.qs_record.specs.declared.record.Record.{Record}
 use Rattle.qs_record.specs.declared.record.Record.TheVariants as made
 use Rattle.qs_step.specs.Asking.{where_undecided}
 use Rattle.qs_step.specs.State.{Work, here, part_of}
 use Rattle.qs_tm.specs.Participant.{is_undecided}
 use Rattle.qs_tm.specs.declared.participant.Participant.{Participant}
+use Rattle.qs_lawful.specs.Logged.{IsPlain}
 use Rattle.qs_lawful.specs.Logs.{Every}
 use Rattle.qs_lawful.proofs.LogFrames.{every_on}
 use Rattle.qs_lawful.proofs.LogRecords.{every_append}
 use Rattle.qs_lawful.proofs.Recordless.{Quiet}
 use Rattle.qs_every_run.specs.CutRecords.{IsEntered, commits_of, decides_commit, decides_of, is_commit_record, one_if}
+use Rattle.qs_every_run.specs.OnRecord.{IsPut, is_prepare_at}
 
 -- ---- among more entries
 
@@ -28,6 +34,24 @@ ahead me done back (made.Prepare tid server covers changes) e = (record { before
 ahead me done back (made.Commit tid told) e = record { before = e.before; cause = e.cause; after = e.after ++ back; is = ap (λ (acts : List Act). acts ++ back) e.is ∙ append_assoc e.before _ back }
 ahead me done back (made.Aborted tid) e = record { before = e.before; cause = e.cause; after = e.after ++ back; is = ap (λ (acts : List Act). acts ++ back) e.is ∙ append_assoc e.before _ back }
 ahead me done back (made.End tid) e = absurd e
+
+-- ---- each vote that goes on record has its Prepare
+
+plain_put : (made : List Record) (act : Act) → IsPlain act → IsPut made act
+plain_put made (acts.Vote tid member votes.Recoverable covers) plain = absurd (cc plain)
+plain_put made act plain = tt
+
+pub all_plain : (made : List Record) (done : List Act) → Every IsPlain done → Every (IsPut made) done
+all_plain made done plain = every_on IsPlain (IsPut made) (plain_put made) done plain
+
+put_more : (front made back : List Record) (act : Act) → IsPut made act → IsPut (front ++ (made ++ back)) act
+put_more front made back (acts.Vote tid member votes.Recoverable covers) is =
+    list_any-append (is_prepare_at tid member.server.0) front (made ++ back) ∙ (ap (λ (b : Bool). list_any (is_prepare_at tid member.server.0) front || b) (list_any-append (is_prepare_at tid member.server.0) made back) ∙ in_all (list_any (is_prepare_at tid member.server.0) front) (list_any (is_prepare_at tid member.server.0) made) (list_any (is_prepare_at tid member.server.0) back) is)
+  where
+    in_all : (a b c : Bool) → b ≡ true → (a || (b || c)) ≡ true
+    in_all true b c e = refl
+    in_all false b c e = rw e refl
+put_more front made back act is = tt
 
 -- ---- counts
 
@@ -68,16 +92,17 @@ module _ (me : NodeNo) (Else : Record → Type 0) where
     pub setting : new.node.setting ≡ work.node.setting
     pub from : here work ≡ me → Every (IsFrom more) made
     pub once : (tid : Tid) → commits_of tid made ≤ decides_of tid more + told tid
+    pub puts : Every (IsPut made) more
 
   -- it enters some, and makes none
-  pub makes_none : (work new : Work) (more : List Act) → new.out.entries ≡ work.out.entries ++ more → new.out.records ≡ work.out.records → new.node.setting ≡ work.node.setting → Makes none_told work new
-  makes_none work new more entries records setting = record { more = more; made = []; entries = entries; records = records ∙ sym (append-nil work.out.records); setting = setting; from = λ is. tt; once = λ tid. least (decides_of tid more + 0) }
+  pub makes_none : (work new : Work) (more : List Act) → new.out.entries ≡ work.out.entries ++ more → new.out.records ≡ work.out.records → new.node.setting ≡ work.node.setting → Every (IsPut []) more → Makes none_told work new
+  makes_none work new more entries records setting puts = record { more = more; made = []; entries = entries; records = records ∙ sym (append-nil work.out.records); setting = setting; from = λ is. tt; once = λ tid. least (decides_of tid more + 0); puts = puts }
 
   pub makes_quiet : (work new : Work) → Quiet work new → Makes none_told work new
-  makes_quiet work new q = makes_none work new q.more q.entries q.records q.setting
+  makes_quiet work new q = makes_none work new q.more q.entries q.records q.setting (all_plain [] q.more q.plain)
 
   pub makes_self : (work : Work) → Makes none_told work work
-  makes_self work = makes_none work work [] (sym (append-nil work.out.entries)) refl refl
+  makes_self work = makes_none work work [] (sym (append-nil work.out.entries)) refl refl tt
 
   module _ (a_told b_told all_told : Tid → ℕ) (sums : (tid : Tid) → a_told tid + b_told tid ≡ all_told tid) where
     makes_both : (work mid new : Work) → Makes a_told work mid → Makes b_told mid new → Makes all_told work new
@@ -89,6 +114,8 @@ module _ (me : NodeNo) (Else : Record → Type 0) where
       setting = b.setting ∙ a.setting;
       from = λ is. every_append (IsFrom (a.more ++ b.more)) a.made b.made (every_on (IsFrom a.more) (IsFrom (a.more ++ b.more)) first a.made (a.from is))
           (every_on (IsFrom b.more) (IsFrom (a.more ++ b.more)) last b.made (b.from (ap (λ s. s.node) a.setting ∙ is)));
+      puts = every_append (IsPut (a.made ++ b.made)) a.more b.more (every_on (IsPut a.made) (IsPut (a.made ++ b.made)) (put_more [] a.made b.made) a.more a.puts)
+          (every_on (IsPut b.made) (IsPut (a.made ++ b.made)) (λ act is. subst (λ (rs : List Record). IsPut (a.made ++ rs) act) (append-nil b.made) (put_more a.made b.made [] act is)) b.more b.puts);
       once = λ tid. subst (λ (n : ℕ). n ≤ decides_of tid (a.more ++ b.more) + all_told tid) (sym (commits_both tid a.made b.made))
           (subst (λ (n : ℕ). commits_of tid a.made + commits_of tid b.made ≤ n + all_told tid) (sym (decides_both tid a.more b.more))
           (added (commits_of tid a.made) (commits_of tid b.made) (decides_of tid a.more) (decides_of tid b.more) (a_told tid) (b_told tid) (all_told tid) (a.once tid) (b.once tid) (sums tid)));

@@ -1,7 +1,9 @@
 -- Which records a node makes of itself at the end of a step: a Prepare with a vote, and a Commit or an Aborted with a decision.
-use Rattle.std.proofs.Common.{◌≡◌, inl, ℕ, ◌≤◌, ◌+◌, arith, append-nil, zero, suc, Bool, true, false, List, [], ◌∷◌, Option, Some, None, refl, sym, ap, ◌∙◌, if◌then◌else◌}
+use Rattle.std.proofs.Common.{◌≡◌, inl, ℕ, ◌≤◌, ◌+◌, ◌==◌, arith, append-nil, zero, suc, Bool, true, false, List, [], ◌∷◌, Option, Some, None, refl, sym, ap, ◌∙◌, if◌then◌else◌}
+use Rattle.std.proofs.lemmas.Bool.Decides.{nat_tests}
 use Rattle.std.specs.BTreeMap.{is_at}
 use Rattle.std.specs.Prelude.{slice_set, slice_index_or}
+use Rattle.qs_base.proofs.Same.{same_tid-self}
 use Rattle.qs_base.specs.Order.{tid_cmp}
 use Rattle.qs_base.specs.declared.identifiers.NodeNo.{NodeNo}
 use Rattle.qs_base.specs.declared.identifiers.Outcome.{Outcome}
@@ -38,10 +40,12 @@ use Rattle.qs_tm.specs.Participant as participant
 use Rattle.qs_tm.specs.Participant.{is_forgotten, member_of}
 use Rattle.qs_tm.specs.declared.members.MemberPart.{MemberPart}
 use Rattle.qs_tm.specs.declared.participant.Participant.{Participant}
+use Rattle.qs_lawful.specs.Logs.{Every}
 use Rattle.qs_lawful.proofs.LogEndings.{quiet_ends, quiet_notices}
 use Rattle.qs_lawful.proofs.LogLearning.{Learns, learn_acts, learns}
 use Rattle.qs_lawful.proofs.QuietRequests.{quiet_issue}
 use Rattle.qs_lawful.proofs.Recordless.{quiet_send, quiet_sends}
+use Rattle.qs_every_run.specs.OnRecord.{IsPut}
 use Rattle.qs_every_run.proofs.VotesKeep.{vote_has_changes, vote_keeps_changes}
 use Rattle.qs_every_run.proofs.RecordMakes.{Makes, makes_fold, makes_if, makes_none, makes_quiet, makes_self, makes_then, makes_where, none_told}
 
@@ -52,7 +56,7 @@ same_served [] n m e = refl
 same_served (x ∷ xs) zero m e = e
 same_served (x ∷ xs) (suc n) m e = same_served xs n m e
 
-covers_same : (tid : Tid) (server : ServerNo) (ballot : Vote) (work : Work) → served_count tid server (enter_vote tid server ballot work) ≡ served_count tid server work
+pub covers_same : (tid : Tid) (server : ServerNo) (ballot : Vote) (work : Work) → served_count tid server (enter_vote tid server ballot work) ≡ served_count tid server work
 covers_same tid server ballot work = by (part_of tid work) refl
   where
     voting : Participant → Participant
@@ -74,6 +78,13 @@ at_most n = grind (arith)
 least : (n : ℕ) → 0 ≤ n
 least n = grind (arith)
 
+itself : (n : ℕ) → (n == n) ≡ true
+itself n = grind (arith, nat_tests)
+
+learns_put : (node : NodeNo) (tid : Tid) (servers : List ServerNo) → Every (IsPut []) (learn_acts node tid servers)
+learns_put node tid [] = tt
+learns_put node tid (server ∷ servers) = (tt, learns_put node tid servers)
+
 module _ (me : NodeNo) (Else : Record → Type 0) where
   abbrev pub M : Work → Work → Type 0
   M work new = Makes me Else none_told work new
@@ -82,14 +93,14 @@ module _ (me : NodeNo) (Else : Record → Type 0) where
   then_m = makes_then me Else none_told
 
   pub still : (work new : Work) → new.out ≡ work.out → new.node.setting ≡ work.node.setting → M work new
-  still work new out setting = makes_none me Else work new [] (ap (λ o. o.entries) out ∙ sym (append-nil work.out.entries)) (ap (λ o. o.records) out) setting
+  still work new out setting = makes_none me Else work new [] (ap (λ o. o.entries) out ∙ sym (append-nil work.out.entries)) (ap (λ o. o.records) out) setting tt
 
   -- ---- votes
 
   vote_makes : (tid : Tid) (server : ServerNo) (work : Work) (ballot : Vote) → (ballot ≡ votes.Recoverable → is_empty (changes_in (server_at work.node.servers server) tid) ≡ false) → M work (vote_with tid server ballot work)
-  vote_makes tid server work (votes.Abort reason) has = makes_none me Else work (enter_vote tid server (votes.Abort reason) work) (acts.Vote tid (member_here work server) (votes.Abort reason) (served_count tid server work) ∷ []) refl refl refl
-  vote_makes tid server work votes.ReadOnly has = makes_none me Else work (enter_vote tid server votes.ReadOnly work) (acts.Vote tid (member_here work server) votes.ReadOnly (served_count tid server work) ∷ []) refl refl refl
-  vote_makes tid server work votes.Volatile has = makes_none me Else work (enter_vote tid server votes.Volatile work) (acts.Vote tid (member_here work server) votes.Volatile (served_count tid server work) ∷ []) refl refl refl
+  vote_makes tid server work (votes.Abort reason) has = makes_none me Else work (enter_vote tid server (votes.Abort reason) work) (acts.Vote tid (member_here work server) (votes.Abort reason) (served_count tid server work) ∷ []) refl refl refl (tt, tt)
+  vote_makes tid server work votes.ReadOnly has = makes_none me Else work (enter_vote tid server votes.ReadOnly work) (acts.Vote tid (member_here work server) votes.ReadOnly (served_count tid server work) ∷ []) refl refl refl (tt, tt)
+  vote_makes tid server work votes.Volatile has = makes_none me Else work (enter_vote tid server votes.Volatile work) (acts.Vote tid (member_here work server) votes.Volatile (served_count tid server work) ∷ []) refl refl refl (tt, tt)
   vote_makes tid server work votes.Recoverable has = record {
     more = acts.Vote tid (member_here work server) votes.Recoverable (served_count tid server work) ∷ [];
     made = made.Prepare tid server (served_count tid server voted) (changes_in (server_at voted.node.servers server) tid) ∷ [];
@@ -109,6 +120,7 @@ module _ (me : NodeNo) (Else : Record → Type 0) where
       tt,
     );
     once = λ t. least _;
+    puts = (rw (same_tid-self tid, itself server.0) refl, tt);
   }
     where
       voted : Work
@@ -135,7 +147,7 @@ module _ (me : NodeNo) (Else : Record → Type 0) where
     decided outcome = with_manager (tm.decide tid outcome) work
 
     bare : (outcome : Outcome) → M work (entered outcome (decided outcome))
-    bare outcome = makes_none me Else work (entered outcome (decided outcome)) (acts.Decide tid outcome cause ∷ []) refl refl refl
+    bare outcome = makes_none me Else work (entered outcome (decided outcome)) (acts.Decide tid outcome cause ∷ []) refl refl refl (tt, tt)
 
     with_commit : (told : List NodeNo) → M work (entered outcomes.Commit (log (made.Commit tid told) (decided outcomes.Commit)))
     with_commit told = record {
@@ -146,6 +158,7 @@ module _ (me : NodeNo) (Else : Record → Type 0) where
       setting = refl;
       from = λ is. (inl (record { before = []; cause = cause; after = []; is = refl }), tt);
       once = λ t. at_most _;
+      puts = (tt, tt);
     }
 
     with_aborted : M work (entered outcomes.Abort (log (made.Aborted tid) (decided outcomes.Abort)))
@@ -157,10 +170,11 @@ module _ (me : NodeNo) (Else : Record → Type 0) where
       setting = refl;
       from = λ is. (inl (record { before = []; cause = cause; after = []; is = refl }), tt);
       once = λ t. least _;
+      puts = (tt, tt);
     }
 
     pub noticed : (outcome : Outcome) (w : Work) → M w (give_notices tid outcome w)
-    noticed outcomes.Commit w = let l : Learns tid (learners_at tid w) w (give_notices tid outcomes.Commit w) = learns tid (learners_at tid w) w in makes_none me Else w (give_notices tid outcomes.Commit w) (learn_acts (here w) tid (learners_at tid w)) l.entries l.records l.setting
+    noticed outcomes.Commit w = let l : Learns tid (learners_at tid w) w (give_notices tid outcomes.Commit w) = learns tid (learners_at tid w) w in makes_none me Else w (give_notices tid outcomes.Commit w) (learn_acts (here w) tid (learners_at tid w)) l.entries l.records l.setting (learns_put (here w) tid (learners_at tid w))
     noticed outcomes.Abort w = makes_quiet me Else w (give_notices tid outcomes.Abort w) (quiet_notices tid w)
 
     told_after : (outcome : Outcome) (tell : List NodeNo) (w : Work) → M work w → M work (send_each tell (messages.Tell tid outcome) (give_notices tid outcome w))

@@ -50,8 +50,9 @@ use Rattle.qs_lawful.proofs.LogHappening.{quiet_restarted}
 use Rattle.qs_lawful.proofs.QuietCommands.{quiet_ask, quiet_ask_came, quiet_borrower, quiet_closer, quiet_inquiry, quiet_refusal, quiet_refuse, quiet_request_command}
 use Rattle.qs_lawful.proofs.QuietRequests.{quiet_reply, quiet_request, quiet_serve_all}
 use Rattle.qs_lawful.proofs.Recordless.{Quiet, quiet_answer, quiet_send, quiet_sends}
+use Rattle.qs_every_run.specs.OnRecord.{IsPut, StepsPutVotes}
 use Rattle.qs_every_run.specs.CutRecords.{IsResumed, IsSource, StepsMakeRecords, commits_of, decides_of, told_commit}
-use Rattle.qs_every_run.proofs.RecordMakes.{makes_fold, makes_if, makes_none, makes_then, makes_where, then_makes}
+use Rattle.qs_every_run.proofs.RecordMakes.{all_plain, makes_fold, makes_if, makes_none, makes_then, makes_where, then_makes}
 use Rattle.qs_every_run.proofs.RecordTold.{Back, Else, K, T, WasSo, back_aborted, back_on, back_self, k_then, least, me, quiet, self, told_less, told_makes, tell_makes}
 use Rattle.qs_every_run.proofs.RecordRules.{decide_makes, settle_makes, still}
 
@@ -84,7 +85,7 @@ module _ (start : NodeValue) (event : Event) where
   begin_makes : (line : ScriptLine) (o : Option BeginFault) (work : Work) → K start event work (begin_or_refuse line o work)
   begin_makes line None work =
       let begun : Work = enter (acts.Begin (tm.next_tid work.node.manager) line.label line.client) (put_label (record { label = line.label; tid = Some (tm.next_tid work.node.manager); owner = Some line.client }) (with_manager (tm.begin line.client) work)) in
-      k_then start event work begun (begin_as line (tm.next_tid work.node.manager) work) (makes_none (me start event) (Else start event) work begun (acts.Begin (tm.next_tid work.node.manager) line.label line.client ∷ []) refl refl refl)
+      k_then start event work begun (begin_as line (tm.next_tid work.node.manager) work) (makes_none (me start event) (Else start event) work begun (acts.Begin (tm.next_tid work.node.manager) line.label line.client ∷ []) refl refl refl (tt, tt))
       (quiet start event begun (answer line.client answers.Done begun) (quiet_answer line.client answers.Done begun))
   begin_makes line (Some (faults.LogFull need room)) work = quiet start event work (begin_or_refuse line (Some (faults.LogFull need room)) work) (quiet_refuse line need room work)
   begin_makes line (Some (faults.Last number)) work = self start event work
@@ -117,7 +118,7 @@ module _ (start : NodeValue) (event : Event) where
   tick_makes : (work : Work) → K start event work (tick work)
   tick_makes work =
       let older : Work = with_manager tm.tick (change_server timers_no (λ value. record value { timers = ticked value.timers }) (enter acts.Tick work)) in
-      k_then start event work older (tick work) (makes_none (me start event) (Else start event) work older (acts.Tick ∷ []) refl refl refl) (age_makes work.node.setting.age older)
+      k_then start event work older (tick work) (makes_none (me start event) (Else start event) work older (acts.Tick ∷ []) refl refl refl (tt, tt)) (age_makes work.node.setting.age older)
 
   module _ (work : Work) (setting : work.node.setting ≡ start.setting) (back : Back start.manager work.node.manager) where
     message_makes : (peer : NodeNo) (message : Message) → event ≡ events.Received peer message → T start event work (message_came peer message work)
@@ -141,9 +142,9 @@ module _ (start : NodeValue) (event : Event) where
 
   -- ---- as an incarnation begins
 
-  record Resumes (work new : Work) : Type 0 where
-    makes : K start event work new
-    back : Back start.manager new.node.manager
+  pub record Resumes (work new : Work) : Type 0 where
+    pub makes : K start event work new
+    pub back : Back start.manager new.node.manager
 
   by_quiet : (work new : Work) → Quiet work new → Back start.manager work.node.manager → Resumes work new
   by_quiet work new q back = record { makes = quiet start event work new q; back = back_on start.manager work.node.manager new.node.manager q.knows back }
@@ -178,6 +179,7 @@ module _ (start : NodeValue) (event : Event) where
           setting = q.setting;
           from = λ at. (inr (inr (inr source)), tt);
           once = λ t. least _;
+          puts = all_plain (made.Aborted tid ∷ []) q.more q.plain;
         };
         back = of (part_of tid done) refl;
       }
@@ -204,7 +206,7 @@ module _ (start : NodeValue) (event : Event) where
       let more : Resumes (resume_tid work tid) (fold resume_tid (resume_tid work tid) tids) = resumes tids (resume_tid work tid) one.back in
       record { makes = k_then start event work (resume_tid work tid) (fold resume_tid (resume_tid work tid) tids) one.makes more.makes; back = more.back }
 
-  begin_incarnation_makes : (work : Work) → Back start.manager work.node.manager → Resumes work (begin_incarnation work)
+  pub begin_incarnation_makes : (work : Work) → Back start.manager work.node.manager → Resumes work (begin_incarnation work)
   begin_incarnation_makes work back = by work.node.is_first
     where
       begun : Work
@@ -266,3 +268,8 @@ steps_make_records node event free = let m : T node event (work_on node free) (s
   once = λ tid. subst (λ (rs : List Record). commits_of tid rs ≤ decides_of tid (step_work node event free).out.entries + told_commit event tid) (sym m.records)
       (subst (λ (done : List Act). commits_of tid m.made ≤ decides_of tid done + told_commit event tid) (sym m.entries) (m.once tid));
 }
+
+-- and each vote that goes on record has its Prepare in the batch
+pub steps_put_votes : StepsPutVotes
+steps_put_votes node event free = let m : T node event (work_on node free) (step_work node event free) = step_makes node event free in
+    subst (λ (rs : List Record). Every (IsPut rs) (step_work node event free).out.entries) (sym m.records) (subst (λ (done : List Act). Every (IsPut m.made) done) (sym m.entries) m.puts)

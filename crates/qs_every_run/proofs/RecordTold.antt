@@ -102,7 +102,7 @@ module _ (start : NodeValue) (event : Event) where
   k_then = makes_then me Else none_told
 
   pub told_less : (work new : Work) → K work new → T work new
-  told_less work new m = record { more = m.more; made = m.made; entries = m.entries; records = m.records; setting = m.setting; from = m.from; once = λ tid. more_told _ (decides_of tid m.more) (told_commit event tid) (m.once tid) }
+  told_less work new m = record { more = m.more; made = m.made; entries = m.entries; records = m.records; setting = m.setting; from = m.from; once = λ tid. more_told _ (decides_of tid m.more) (told_commit event tid) (m.once tid); puts = m.puts }
 
   -- ---- what is told
 
@@ -137,6 +137,7 @@ module _ (start : NodeValue) (event : Event) where
             setting = refl;
             from = λ at. (inr (source prepared (made.Commit tid []) (ap (end_record tid) (sym is))), tt);
             once = λ t. subst (λ (n : ℕ). one_if (same_tid tid t) + 0 ≤ 0 + n) (counted outcomes.Commit is t) (equal (one_if (same_tid tid t)));
+            puts = tt;
           }
             where
               equal : (n : ℕ) → n + 0 ≤ 0 + n
@@ -149,6 +150,7 @@ module _ (start : NodeValue) (event : Event) where
             setting = refl;
             from = λ at. (inr (source prepared (made.Aborted tid) (ap (end_record tid) (sym is))), tt);
             once = λ t. least _;
+            puts = tt;
           }
 
           by : (b : Bool) → part.log.prepared ≡ b → T work (log_if (if b then Some (end_record tid outcome) else None) done)
@@ -205,6 +207,7 @@ module _ (start : NodeValue) (event : Event) where
           setting = refl;
           from = λ at. (inr (inr (inl (of (part_of tid work) refl is))), tt);
           once = λ t. least _;
+          puts = tt;
         }
 
     pub told_makes : (peer : NodeNo) (tid : Tid) (further : List NodeNo) → K work (told_came peer tid further work)

@@ -33,7 +33,7 @@ use Rattle.qs_lawful.proofs.LastsWell.{LastsWell}
 use Rattle.qs_lawful.proofs.LogFrames.{every_on}
 use Rattle.qs_lawful.proofs.ParcelsKept.{at_two, every_more}
 use Rattle.qs_every_run.specs.Joined.{Joined, book_in}
-use Rattle.qs_every_run.specs.JoinedOwed.{IsBetweenSteps}
+use Rattle.qs_every_run.specs.JoinedLaws.{IsBetweenSteps}
 use Rattle.qs_every_run.specs.JoinedPlaces.{PlacesAt}
 use Rattle.qs_every_run.specs.RepliesTrue.{AreFresh, BetweenKeepReplies, HasGiven, HoldsReplies, IsFresh, IsKeptBack, IsOfKnown, IsOfLast, IsServed, IsTold, OpensReplies, RepliesAt}
 use Rattle.qs_every_run.proofs.JoinedParts.{book_on, lawful_more}

@@ -20,7 +20,7 @@ use Rattle.qs_lawful.specs.Logs.{Every}
 use Rattle.qs_lawful.proofs.LogFrames.{every_on}
 use Rattle.qs_lawful.proofs.ParcelsKept.{at_two, every_more}
 use Rattle.qs_every_run.specs.Joined.{Joined, book_in}
-use Rattle.qs_every_run.specs.JoinedOwed.{entries_in}
+use Rattle.qs_every_run.specs.JoinedLaws.{entries_in}
 use Rattle.qs_every_run.specs.JoinedPlaces.{PlacesAt}
 use Rattle.qs_every_run.specs.RepliesTrue.{AreFresh, HasGiven, HoldsReplies, IsFresh, IsKeptBack, IsOfKnown, IsOfLast, IsSentSo, IsTold, RepliesAt, StepKeepsReplies, TellsSo}
 use Rattle.qs_every_run.proofs.JoinedParts.{book_on}

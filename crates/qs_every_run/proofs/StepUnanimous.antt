@@ -64,7 +64,7 @@ use Rattle.qs_lawful.proofs.NumberedLogs.{opened_numbered, opening_named}
 use Rattle.qs_lawful.proofs.Still.{still_held}
 use Rattle.qs_every_run.specs.Agrees.{MakesStep}
 use Rattle.qs_every_run.specs.Joined.{Joined, book_in}
-use Rattle.qs_every_run.specs.JoinedOwed.{entries_in, book_then}
+use Rattle.qs_every_run.specs.JoinedLaws.{entries_in, book_then}
 use Rattle.qs_every_run.specs.JoinedPlaces.{PlacedOf, PlacesAt}
 use Rattle.qs_every_run.specs.Placed.{IsLife, IsPresent, Placed, field_of}
 use Rattle.qs_every_run.specs.PlacedLaws.{IsFree, IsQuiet}

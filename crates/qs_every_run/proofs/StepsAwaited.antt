@@ -25,12 +25,12 @@ use Rattle.qs_every_run.specs.Agrees.{MakesStep, nodes_in}
 use Rattle.qs_every_run.specs.Awaited.{WaitsAt}
 use Rattle.qs_every_run.specs.Awaiting.{AreAwaited, AwaitedAt, AwaitedOf, AwaitsOwn, EachOwnAwaited, HoldsAwaited}
 use Rattle.qs_every_run.specs.Joined.{Joined, book_in}
-use Rattle.qs_every_run.specs.JoinedOwed.{IsStep, Keeps, entries_in}
+use Rattle.qs_every_run.specs.JoinedLaws.{IsStep, Keeps, entries_in}
 use Rattle.qs_every_run.specs.JoinedPlaces.{PlacedOf, PlacesAt}
 use Rattle.qs_every_run.specs.Placed.{HoldsPlaced, Placed, field_of}
 use Rattle.qs_every_run.specs.PlacesSteps.{WholeFound}
 use Rattle.qs_every_run.proofs.FreshFinds.{fresh_find}
-use Rattle.qs_every_run.proofs.JoinedAs.{placed_joined}
+use Rattle.qs_every_run.proofs.JoinedAs.{joined_as, placed_joined}
 use Rattle.qs_every_run.proofs.JoinedParts.{book_on, lawful_more}
 use Rattle.qs_every_run.proofs.PlacesJoined.{amid, whole_step_holds}
 use Rattle.qs_every_run.proofs.PlacesSteps.{home_is, moved_is, none_before, shown}
@@ -40,7 +40,7 @@ use Rattle.qs_every_run.proofs.WholeFinds.{whole_find}
 some_is : {X : Type 0} {x y : X} → Some x ≡ Some y → x ≡ y
 some_is e = cc e
 
-module _ (own : EachOwnAwaited AwaitedAt) (o : Opening) (world : World) (n stamp free : ℕ) (source : Source) (j : Joined AwaitedAt o world) (may : may_move world (Step n stamp free source) ≡ true)
+module _ (P : Opening → World → Type 0) (less : (o : Opening) (world : World) → P o world → AwaitedAt o world) (own : EachOwnAwaited P) (o : Opening) (world : World) (n stamp free : ℕ) (source : Source) (j : Joined P o world) (may : may_move world (Step n stamp free source) ≡ true)
     (event : Event) (comes : event_of world n stamp source ≡ Some event) (lawful : IsLawful (book_in o world) (entries_in world n stamp free event)) where
   abbrev book : BookValue
   book = book_in o world
@@ -52,7 +52,7 @@ module _ (own : EachOwnAwaited AwaitedAt) (o : Opening) (world : World) (n stamp
   next = moved (Step n stamp free source) world
 
   jp : Joined PlacesAt o world
-  jp = placed_joined o world j
+  jp = placed_joined o world (joined_as P AwaitedAt o world (less o world) j)
 
   makes : MakesStep world n stamp source event
   makes = record { may = may; comes = comes }
@@ -148,7 +148,7 @@ module _ (own : EachOwnAwaited AwaitedAt) (o : Opening) (world : World) (n stamp
   goes_on tid was = record { places = record { machine = f.next; shows = f.shows; placed = holds }; awaited = awaited_then tid f.next f.shows (λ tx found undecided. later tx (p.placed tx found undecided)) (λ tx found undecided. later_awaited tx (a.awaited tx found undecided)) holds }
     where
       a : AwaitedOf tid o world
-      a = j.places tid was
+      a = less o world j.places tid was
 
       p : PlacedOf tid o world
       p = a.places
@@ -174,14 +174,14 @@ module _ (own : EachOwnAwaited AwaitedAt) (o : Opening) (world : World) (n stamp
       by true was = goes_on tid was
       by false unbegun = begins tid (subst (λ (v : World). has_begun v tid ≡ true) next_is begun) unbegun
 
-pub steps_keep_awaited : EachOwnAwaited AwaitedAt → Keeps AwaitedAt IsStep AwaitedAt
-steps_keep_awaited own o world (Step n stamp free source) is j may lawful = by (event_of world n stamp source) refl
+pub steps_keep_awaited : (P : Opening → World → Type 0) → ((o : Opening) (world : World) → P o world → AwaitedAt o world) → EachOwnAwaited P → Keeps P IsStep AwaitedAt
+steps_keep_awaited P less own o world (Step n stamp free source) is j may lawful = by (event_of world n stamp source) refl
   where
     by : (e : Option Event) → event_of world n stamp source ≡ e → AwaitedAt o (moved (Step n stamp free source) world)
-    by None none = subst (λ (e : Option Event). AwaitedAt o (step_with world n stamp free source e)) (sym none) j.places
-    by (Some event) comes = awaited_next own o world n stamp free source j may event comes
+    by None none = subst (λ (e : Option Event). AwaitedAt o (step_with world n stamp free source e)) (sym none) (less o world j.places)
+    by (Some event) comes = awaited_next P less own o world n stamp free source j may event comes
         (lawful_more o world (step_with world n stamp free source (Some event)) (entries_in world n stamp free event) refl (subst (λ (e : Option Event). IsLawful (book_of o) (step_with world n stamp free source e).journal) comes lawful))
-steps_keep_awaited own o world (Cut n stamp free source is_kept cause) is j may lawful = absurd is
-steps_keep_awaited own o world (Stop n stamp cause) is j may lawful = absurd is
-steps_keep_awaited own o world (Rise n stamp inc) is j may lawful = absurd is
-steps_keep_awaited own o world (Meet n stamp m inc) is j may lawful = absurd is
+steps_keep_awaited P less own o world (Cut n stamp free source is_kept cause) is j may lawful = absurd is
+steps_keep_awaited P less own o world (Stop n stamp cause) is j may lawful = absurd is
+steps_keep_awaited P less own o world (Rise n stamp inc) is j may lawful = absurd is
+steps_keep_awaited P less own o world (Meet n stamp m inc) is j may lawful = absurd is

@@ -51,11 +51,11 @@ tick_leaves t work = then_leaves t work ticked (tick work) (entry_leaves t acts.
     aged (Some age) w = fold_leaves t (abort_old age) (λ v tid. decide_leaves t tid outcomes.Abort (Some (causes.Old age)) v) (tm.aged age w.node.manager) w
 
 -- a request of it
-abbrev IsOwn : Tid → Message → Type 0
+abbrev pub IsOwn : Tid → Message → Type 0
 IsOwn t (messages.Request tid label member number issuer op) = tid ≡ t
 IsOwn t message = ⊥
 
-message_leaves : (t : Tid) (peer : NodeNo) (message : Message) (work : Work) → (IsOwn t message → ⊥) → LeavesPlaces t work (message_came peer message work)
+pub message_leaves : (t : Tid) (peer : NodeNo) (message : Message) (work : Work) → (IsOwn t message → ⊥) → LeavesPlaces t work (message_came peer message work)
 message_leaves t peer messages.Hello work other = itself_leaves t work
 message_leaves t peer (messages.Request tid label member number issuer op) work other = by (same_tid tid t) refl
   where

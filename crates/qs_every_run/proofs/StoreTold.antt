@@ -29,7 +29,7 @@ use Rattle.qs_every_run.specs.Stores.{IsKeptStore, IsNoVoteIf, Store, store_of}
 use Rattle.qs_every_run.proofs.StoreRules as rules
 
 -- what is recorded as an outcome is learnt is no vote
-learnt_no_vote : (tid : Tid) (outcome : Outcome) (part : Participant) → IsNoVoteIf (record_learnt tid outcome part)
+pub learnt_no_vote : (tid : Tid) (outcome : Outcome) (part : Participant) → IsNoVoteIf (record_learnt tid outcome part)
 learnt_no_vote tid outcomes.Commit part = by part.log.prepared
   where
     by : (b : Bool) → IsNoVoteIf (if b then Some (records.Commit tid []) else None)

@@ -31,19 +31,21 @@ use Rattle.qs_step.specs.declared.state.OpenCommand.{OpenCommand}
 use Rattle.qs_tm.specs.Manager as tm
 use Rattle.qs_tm.specs.declared.manager.BeginFault.{BeginFault}
 use Rattle.qs_tm.specs.declared.manager.BeginFault.TheVariants as faults
-use Rattle.qs_every_run.specs.Deeds.{Deeds, IsKeptSo, deeds_of, traced}
+use Rattle.qs_every_run.specs.Deeds.{Deeds, deeds_of, traced}
+use Rattle.qs_every_run.specs.DeedsReplied.{IsKeptAt}
 use Rattle.qs_every_run.specs.Traces as traces
 use Rattle.qs_every_run.specs.Traces.{answered, entered, fresh_command}
+use Rattle.qs_every_run.proofs.TraceFirst as firsts
 use Rattle.qs_every_run.proofs.TraceRules as rules
 
-module _ (P : Deeds → Type 0) (k : IsKeptSo P) where
+module _ (P : Deeds → Type 0) (k : IsKeptAt P) where
   abbrev Keeps : Work → Work → Type 0
-  Keeps work new = rules.Keeps P k work new
+  Keeps work new = firsts.Keeps P work new
 
   -- ---- commands
 
   request_command_keeps : (client : ClientNo) (tid : Tid) (member : Member) (op : Op) (work : Work) → Keeps work (request_command client tid member op work)
-  request_command_keeps client tid member op work = rules.elim_keeps P k (next_number tid member.node work) work (λ number. request_as client tid member op number work) work (λ h. h)
+  request_command_keeps client tid member op work = firsts.elim_keeps P (next_number tid member.node work) work (λ number. request_as client tid member op number work) work (λ h. h)
       (λ number is h. rules.issue_as_keeps P k tid (record { issuer = client_server client; member = member; number = number; count = 0 }) op (command_rules.with_issued client (record { tid = tid; member = member; number = number }) work)
       (k.marks (deeds_of work) client (record { tid = tid; member = member; number = number }) h))
 
@@ -81,13 +83,13 @@ module _ (P : Deeds → Type 0) (k : IsKeptSo P) where
 
   owner_keeps : (client : ClientNo) (o : Option Tid) (command : Command) (work : Work) → Keeps work (owner_command client o command work)
   owner_keeps client None command work = rules.answer_keeps P k client answers.NotBegun work
-  owner_keeps client (Some tid) command work = rules.elim_keeps P k (kept_outcome tid work.node) (open_command client tid command work) (λ decided. answer client (decided_answer decided command) work) work (opens command) (λ decided is. rules.answer_keeps P k client (decided_answer decided command) work)
+  owner_keeps client (Some tid) command work = firsts.elim_keeps P (kept_outcome tid work.node) (open_command client tid command work) (λ decided. answer client (decided_answer decided command) work) work (opens command) (λ decided is. rules.answer_keeps P k client (decided_answer decided command) work)
     where
       opens : (c : Command) → Keeps work (open_command client tid c work)
       opens commands.Begin = λ h. h
-      opens commands.Commit = rules.undecided_keeps P k tid (ask tid) work (λ part. rules.if_keeps P k part.asked work (become_asked tid part (enter_ask tid work)) work (λ is h. h)
+      opens commands.Commit = firsts.undecided_keeps P tid (ask tid) work (λ part. firsts.if_keeps P part.asked work (become_asked tid part (enter_ask tid work)) work (λ is h. h)
           (λ is h. rules.become_asked_keeps P k tid part (enter_ask tid work) (k.commit_asked (deeds_of work) tid h)))
-      opens commands.Abort = rules.undecided_keeps P k tid (λ part. decide tid outcomes.Abort (Some causes.Asked)) work (λ part. rules.aborted_keeps P k tid (Some causes.Asked) work)
+      opens commands.Abort = firsts.undecided_keeps P tid (λ part. decide tid outcomes.Abort (Some causes.Asked)) work (λ part. rules.aborted_keeps P k tid (Some causes.Asked) work)
       opens commands.Take = λ h. h
       opens commands.Yield = λ h. h
       opens (commands.Request member op) = request_command_keeps client tid member op work
@@ -96,7 +98,7 @@ module _ (P : Deeds → Type 0) (k : IsKeptSo P) where
   borrower_keeps client tid command work = by command
     where
       takes : Keeps work (take_command client tid work)
-      takes = rules.elim_keeps P k (first_untaken client tid work.node.kept.now.loans) work (λ loan. take client tid loan work) work (λ h. h)
+      takes = firsts.elim_keeps P (first_untaken client tid work.node.kept.now.loans) work (λ loan. take client tid loan work) work (λ h. h)
           (λ loan is h. rules.answer_keeps P k client (if is_void tid loan work.node then answers.Ended else answers.Done) (with_kept (λ kept. record kept { loans = take_first client tid kept.loans }) work) h)
 
       lent : (c : Command) → Keeps work (lent_command client tid c work)
@@ -109,9 +111,9 @@ module _ (P : Deeds → Type 0) (k : IsKeptSo P) where
       lent (commands.Request member op) = request_command_keeps client tid member op work
 
       loans : (c : Command) → Keeps work (loan_command client tid c work)
-      loans c = rules.elim_keeps P k (last_taken client tid work.node.kept.now.loans) work (λ loan. with_loan client tid c loan work) work (λ h. h)
-          (λ loan is. rules.if_keeps P k loan.yielded (answer client answers.NotYours work) (if is_void tid loan work.node then answer client answers.Ended work else lent_command client tid c work) work (λ yielded. rules.answer_keeps P k client answers.NotYours work)
-          (λ yielded. rules.if_keeps P k (is_void tid loan work.node) (answer client answers.Ended work) (lent_command client tid c work) work (λ void. rules.answer_keeps P k client answers.Ended work) (λ void. lent c)))
+      loans c = firsts.elim_keeps P (last_taken client tid work.node.kept.now.loans) work (λ loan. with_loan client tid c loan work) work (λ h. h)
+          (λ loan is. firsts.if_keeps P loan.yielded (answer client answers.NotYours work) (if is_void tid loan work.node then answer client answers.Ended work else lent_command client tid c work) work (λ yielded. rules.answer_keeps P k client answers.NotYours work)
+          (λ yielded. firsts.if_keeps P (is_void tid loan work.node) (answer client answers.Ended work) (lent_command client tid c work) work (λ void. rules.answer_keeps P k client answers.Ended work) (λ void. lent c)))
 
       by : (c : Command) → Keeps work (borrower_command client tid c work)
       by commands.Take = takes
@@ -126,9 +128,9 @@ module _ (P : Deeds → Type 0) (k : IsKeptSo P) where
   obey_keeps line work waits = by line.command refl
     where
       labels : (c : Command) → Keeps work (elim (label_at line.label work.node) [ None ↦ work | Some begun ↦ labelled line.client begun c work ])
-      labels c = rules.elim_keeps P k (label_at line.label work.node) work (λ begun. labelled line.client begun c work) work (λ h. h)
-          (λ begun is. rules.if_keeps P k (is_owner line.client begun.owner) (owner_command line.client begun.tid c work) (elim begun.tid [ None ↦ work | Some tid ↦ borrower_command line.client tid c work ]) work
-          (λ own. owner_keeps line.client begun.tid c work) (λ own. rules.elim_keeps P k begun.tid work (λ tid. borrower_command line.client tid c work) work (λ h. h) (λ tid of. borrower_keeps line.client tid c work)))
+      labels c = firsts.elim_keeps P (label_at line.label work.node) work (λ begun. labelled line.client begun c work) work (λ h. h)
+          (λ begun is. firsts.if_keeps P (is_owner line.client begun.owner) (owner_command line.client begun.tid c work) (elim begun.tid [ None ↦ work | Some tid ↦ borrower_command line.client tid c work ]) work
+          (λ own. owner_keeps line.client begun.tid c work) (λ own. firsts.elim_keeps P begun.tid work (λ tid. borrower_command line.client tid c work) work (λ h. h) (λ tid of. borrower_keeps line.client tid c work)))
 
       by : (c : Command) → line.command ≡ c → Keeps work (obey line c work)
       by commands.Begin is = begin_keeps line work waits is

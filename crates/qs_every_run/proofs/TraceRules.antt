@@ -1,8 +1,8 @@
 -- What all things that a rule does keep, its rules keep: messages, answers, requests and replies, serving, notices and decisions.
-use Rattle.std.proofs.Common.{◌≡◌, ℕ, Bool, true, false, List, [], ◌∷◌, ◌++◌, fold, Option, Some, None, refl, ap}
+use Rattle.std.proofs.Common.{◌≡◌, ℕ, Bool, true, false, List, [], ◌∷◌, ◌++◌, Option, Some, None, refl}
 use Rattle.std.specs.BTreeMap.{is_at}
 use Rattle.std.specs.Map.{lookup, remove_entry}
-use Rattle.std.specs.Prelude.{not, ◌&&◌, unwrap_or, if◌then◌else◌}
+use Rattle.std.specs.Prelude.{not, ◌&&◌, if◌then◌else◌}
 use Rattle.qs_base.specs.declared.identifiers.ClientNo.{ClientNo}
 use Rattle.qs_base.specs.declared.identifiers.Member.{Member}
 use Rattle.qs_base.specs.declared.identifiers.NodeNo.{NodeNo}
@@ -12,16 +12,10 @@ use Rattle.qs_base.specs.declared.identifiers.ServerNo.{ServerNo}
 use Rattle.qs_base.specs.declared.identifiers.Tid.{Tid}
 use Rattle.qs_engage.specs.Engage.{is_node, uncovered}
 use Rattle.qs_engage.specs.Nodes.{listed, same_node}
-use Rattle.qs_engage.specs.declared.engage.Engaged.{Engaged}
-use Rattle.qs_engage.specs.declared.engage.Engaged.TheVariants as engagements
 use Rattle.qs_ipc.specs.Ipc as ipc
 use Rattle.qs_ipc.specs.Queue.{is_for}
 use Rattle.qs_ipc.specs.declared.delivery.Delivery.{Delivery}
-use Rattle.qs_base.specs.Order.{tid_cmp}
-use Rattle.qs_journal.specs.declared.entry.Act.{Act}
 use Rattle.qs_journal.specs.declared.entry.Act.TheVariants as acts
-use Rattle.qs_laws.proofs.Alikes.{tid_itself}
-use Rattle.qs_laws.proofs.Maps.{lookup_put}
 use Rattle.qs_ops.specs.Operations.{answer_of}
 use Rattle.qs_ops.specs.Server.{after_serving}
 use Rattle.qs_ops.specs.declared.answer.Answer.{Answer}
@@ -33,62 +27,31 @@ use Rattle.qs_packet.specs.declared.message.Message.{Message}
 use Rattle.qs_packet.specs.declared.message.Message.TheVariants as messages
 use Rattle.qs_record.specs.declared.record.Record.{Record}
 use Rattle.qs_servers.specs.Servers.{client_of, is_client}
-use Rattle.qs_step.specs.Asking.{ask_came, asked_by, become_asked, block, closer_came, count, pass_unknown, refusal_came, where_undecided}
-use Rattle.qs_step.specs.Bringing.{answer, enter, is_other, log_if, member_here, send, send_each, send_next}
-use Rattle.qs_step.specs.Deciding.{decide, decide_commit, due_endings, end_member, end_members, give_notices, keep_outcome, learn_member, learn_members, learners_at}
+use Rattle.qs_step.specs.Asking.{ask_came, asked_by, become_asked, block, closer_came, count, pass_unknown, refusal_came}
+use Rattle.qs_step.specs.Bringing.{answer, enter, is_other, log_if, member_here, send, send_each}
+use Rattle.qs_step.specs.Deciding.{decide, decide_commit, give_notices, keep_outcome}
 use Rattle.qs_step.specs.Requests as requests
 use Rattle.qs_step.specs.Requests.{answer_issuer, ask_on, enqueue, enter_issue, is_asked, issue, issue_as, issue_away, issue_here, label_of, next_number, reply_came, take_reply, waits_as, with_local}
-use Rattle.qs_step.specs.Serving.{cover_from, engage, enter_serve, lent_to, make_loan, may_serve, met, reply_here, serve, serve_all, serve_next, serve_or_drop}
+use Rattle.qs_step.specs.Serving.{lent_to, make_loan, may_serve, reply_here, serve, serve_all, serve_next, serve_or_drop}
 use Rattle.qs_step.specs.Settling.{is_quiet}
 use Rattle.qs_step.specs.State.{Work, change_server, client_cmp, doings_of, here, no_doings, part_of, with_doings, with_manager}
 use Rattle.qs_step.specs.State as state
-use Rattle.qs_step.specs.declared.state.Doings.{Doings}
 use Rattle.qs_step.specs.declared.state.OpenCommand.{OpenCommand}
 use Rattle.qs_tm.specs.Manager as tm
 use Rattle.qs_tm.specs.Participant.{is_by_files, is_undecided}
 use Rattle.qs_tm.specs.declared.manager.Decision.{Decision}
 use Rattle.qs_tm.specs.declared.participant.Outstanding.{Outstanding}
 use Rattle.qs_tm.specs.declared.participant.Participant.{Participant}
-use Rattle.qs_every_run.specs.Deeds.{Deeds, IsKeptSo, IsStill, deeds_of}
-use Rattle.qs_every_run.specs.Traces.{AsksNothing}
+use Rattle.qs_every_run.specs.Deeds.{Deeds, deeds_of, traced}
+use Rattle.qs_every_run.specs.DeedsReplied.{IsKeptAt}
+use Rattle.qs_every_run.specs.Traces.{sent}
+use Rattle.qs_every_run.proofs.TraceFirst as firsts
 
-module _ (P : Deeds → Type 0) (k : IsKeptSo P) where
-  abbrev pub Keeps : Work → Work → Type 0
-  Keeps work new = P (deeds_of work) → P (deeds_of new)
+module _ (P : Deeds → Type 0) (k : IsKeptAt P) where
+  abbrev Keeps : Work → Work → Type 0
+  Keeps work new = firsts.Keeps P work new
 
-  -- ---- shapes
-
-  pub if_keeps : (b : Bool) (x y work : Work) → (b ≡ true → Keeps work x) → (b ≡ false → Keeps work y) → Keeps work (if b then x else y)
-  if_keeps true x y work p q = p refl
-  if_keeps false x y work p q = q refl
-
-  pub elim_keeps : {A : Type 0} (o : Option A) (n : Work) (f : A → Work) (work : Work) → Keeps work n → ((x : A) → o ≡ Some x → Keeps work (f x)) → Keeps work (elim o [ None ↦ n | Some x ↦ f x ])
-  elim_keeps None n f work p q = p
-  elim_keeps (Some x) n f work p q = q x refl
-
-  pub fold_keeps : {A : Type 0} (f : Work → A → Work) → ((w : Work) (x : A) → Keeps w (f w x)) → (xs : List A) (work : Work) → Keeps work (fold f work xs)
-  fold_keeps f each [] work h = h
-  fold_keeps f each (x ∷ xs) work h = fold_keeps f each xs (f work x) (each work x h)
-
-  pub undecided_keeps : (tid : Tid) (rule : Participant → Work → Work) (work : Work) → ((part : Participant) → Keeps work (rule part work)) → Keeps work (where_undecided tid rule work)
-  undecided_keeps tid rule work each = elim_keeps (part_of tid work) work (λ part. if is_undecided part then rule part work else work) work (λ h. h)
-      (λ part known. if_keeps (is_undecided part) (rule part work) work work (λ is. each part) (λ is h. h))
-
-  -- ---- entries, messages, answers and records
-
-  pub enter_keeps : (act : Act) (work : Work) → IsStill act → Keeps work (enter act work)
-  enter_keeps act work still h = k.enters (deeds_of work) act still h
-
-  pub send_keeps : (to : NodeNo) (message : Message) (work : Work) → AsksNothing message → Keeps work (send to message work)
-  send_keeps to message work plain = if_keeps (is_other work.node.setting to) (record work { out = record work.out { messages = work.out.messages ++ record { to = to; message = message } ∷ [] } }) work work
-      (λ is h. k.sends (deeds_of work) to message plain h) (λ is h. h)
-
-  pub send_each_keeps : (nodes : List NodeNo) (message : Message) (work : Work) → AsksNothing message → Keeps work (send_each nodes message work)
-  send_each_keeps nodes message work plain = fold_keeps (send_next message) (λ w to. send_keeps to message w plain) nodes work
-
-  pub log_if_keeps : (o : Option Record) (work : Work) → Keeps work (log_if o work)
-  log_if_keeps None work h = h
-  log_if_keeps (Some rec) work h = h
+  -- ---- answers
 
   pub answer_keeps : (client : ClientNo) (said : Answer) (work : Work) → Keeps work (answer client said work)
   answer_keeps client said work h = by (lookup (is_at (client_cmp client)) work.node.commands) refl
@@ -109,11 +72,11 @@ module _ (P : Deeds → Type 0) (k : IsKeptSo P) where
   -- ---- requests
 
   own_keeps : (server : ServerNo) (delivery : Delivery) (work : Work) → delivery.from ≡ here work → Keeps work (enqueue server delivery work)
-  own_keeps server delivery work own = if_keeps (is_for server delivery.op) (state.with_queues (ipc.enqueue server delivery) work) work work (λ is h. k.queues (deeds_of work) server delivery own h) (λ is h. h)
+  own_keeps server delivery work own = firsts.if_keeps P (is_for server delivery.op) (state.with_queues (ipc.enqueue server delivery) work) work work (λ is h. k.queues (deeds_of work) server delivery own h) (λ is h. h)
 
   ask_on_keeps : (b : Bool) (tid : Tid) (to : NodeNo) (work : Work) → Keeps work (ask_on b tid to work)
   ask_on_keeps false tid to work h = h
-  ask_on_keeps true tid to work h = send_keeps to (messages.AskVote tid) work tt h
+  ask_on_keeps true tid to work h = firsts.send_keeps P k.first to (messages.AskVote tid) work tt h
 
   issue_here_keeps : (tid : Tid) (request : Outstanding) (op : Op) (work : Work) → Keeps work (issue_here tid request op work)
   issue_here_keeps tid request op work h = own_keeps request.member.server (record { tid = tid; from = here work; number = request.number; op = op; stale = false }) (with_local tid request.number (enter_issue tid request op work)) refl
@@ -133,92 +96,75 @@ module _ (P : Deeds → Type 0) (k : IsKeptSo P) where
       by false = k.issues (deeds_of work) tid request.issuer request.member request.number op h
 
   pub issue_as_keeps : (tid : Tid) (request : Outstanding) (op : Op) (work : Work) → Keeps work (issue_as tid request op work)
-  issue_as_keeps tid request op work = if_keeps (same_node request.member.node (here work)) (issue_here tid request op work) (issue_away tid request op work) work (λ is. issue_here_keeps tid request op work) (λ is. issue_away_keeps tid request op work is)
+  issue_as_keeps tid request op work = firsts.if_keeps P (same_node request.member.node (here work)) (issue_here tid request op work) (issue_away tid request op work) work (λ is. issue_here_keeps tid request op work) (λ is. issue_away_keeps tid request op work is)
 
   pub issue_keeps : (tid : Tid) (issuer : ServerNo) (member : Member) (op : Op) (changes : ℕ) (work : Work) → Keeps work (issue tid issuer member op changes work)
-  issue_keeps tid issuer member op changes work = elim_keeps (next_number tid member.node work) work (λ number. issue_as tid (record { issuer = issuer; member = member; number = number; count = changes }) op work) work (λ h. h)
+  issue_keeps tid issuer member op changes work = firsts.elim_keeps P (next_number tid member.node work) work (λ number. issue_as tid (record { issuer = issuer; member = member; number = number; count = changes }) op work) work (λ h. h)
       (λ number is. issue_as_keeps tid (record { issuer = issuer; member = member; number = number; count = changes }) op work)
 
   -- ---- replies
 
   take_reply_keeps : (tid : Tid) (reply : Reply) (request : Outstanding) (work : Work) → Keeps work (take_reply tid reply request work)
-  take_reply_keeps tid reply request work = if_keeps (is_by_files request) (with_manager (tm.note_served tid request.count) work) (answer_issuer tid request.member request.number reply (client_of request.issuer) work) work
+  take_reply_keeps tid reply request work = firsts.if_keeps P (is_by_files request) (with_manager (tm.note_served tid request.count) work) (answer_issuer tid request.member request.number reply (client_of request.issuer) work) work
       (λ is h. h)
-      (λ is. if_keeps (waits_as tid request.member request.number (lookup (is_at (client_cmp (client_of request.issuer))) work.node.commands)) (answer (client_of request.issuer) (answer_of reply) work) work work (λ w. answer_keeps (client_of request.issuer) (answer_of reply) work) (λ w h. h))
+      (λ is. firsts.if_keeps P (waits_as tid request.member request.number (lookup (is_at (client_cmp (client_of request.issuer))) work.node.commands)) (answer (client_of request.issuer) (answer_of reply) work) work work (λ w. answer_keeps (client_of request.issuer) (answer_of reply) work) (λ w h. h))
 
   pub reply_keeps : (tid : Tid) (member : Member) (number : ℕ) (reply : Reply) (work : Work) → Keeps work (reply_came tid member number reply work)
-  reply_keeps tid member number reply work = elim_keeps (requests.waiting_at tid member number work) work (λ request. take_reply tid reply request (with_manager (tm.drop_waiting tid member number) work)) work (λ h. h)
+  reply_keeps tid member number reply work = firsts.elim_keeps P (requests.waiting_at tid member number work) work (λ request. take_reply tid reply request (with_manager (tm.drop_waiting tid member number) work)) work (λ h. h)
       (λ request is h. take_reply_keeps tid reply request (with_manager (tm.drop_waiting tid member number) work) h)
 
   -- ---- engagement, and serving
 
-  pub engage_keeps : (peer : NodeNo) (tid : Tid) (number : ℕ) (work : Work) → Keeps work (engage tid peer number work)
-  engage_keeps peer tid number work h = cover (tm.engaged_at tid peer (met tid work).node.manager) (with_manager (tm.requested tid peer number) (met tid work)) (met_keeps h)
-    where
-      cover : (e : Engaged) (w : Work) → Keeps w (cover_from e tid peer number w)
-      cover engagements.Superior w h = h
-      cover engagements.Elsewhere w h = send_keeps peer (messages.Covered tid number) w tt h
-
-      met_keeps : Keeps work (met tid work)
-      met_keeps = if_keeps (same_node tid.home (here work)) work (with_manager (tm.meet tid) work) work (λ is h. h) (λ is h. h)
-
-  loan_keeps : (tid : Tid) (o : Option ClientNo) (work : Work) → (doings_of tid work).served ≡ true → Keeps work (make_loan tid o work)
-  loan_keeps tid None work served h = h
-  loan_keeps tid (Some client) work served h = k.lends (deeds_of work) tid client served h
-
-  -- that a request was served is noted
-  noted_so : (tid : Tid) (work : Work) → (doings_of tid (with_doings tid (λ doings. record doings { served = true }) work)).served ≡ true
-  noted_so tid work = ap (λ (o : Option Doings). (unwrap_or o no_doings).served) (lookup_put tid_cmp tid (record (doings_of tid work) { served = true }) (tid_itself tid) work.doings)
-
-  -- the first that waits at a server is served
+  -- the first that waits at a server is served, and its reply goes where it came from
   serve_keeps : (server : ServerNo) (delivery : Delivery) (reply : Reply) (work : Work) → ipc.next server work.node.queues ≡ Some delivery → Keeps work (serve server delivery reply (state.with_queues (ipc.after_next server) work))
-  serve_keeps server delivery reply work next h = given (loan_keeps delivery.tid (lent_to delivery.op) (enter_serve server delivery reply left) (is_noted (is_client server)) (by (is_client server)))
+  serve_keeps server delivery reply work next h = firsts.if_keeps P (same_node delivery.from (here lends)) (reply_came delivery.tid (member_here left server) delivery.number reply lends)
+      (if delivery.stale then lends else send delivery.from answered lends) lends
+      (λ is. reply_keeps delivery.tid (member_here left server) delivery.number reply lends)
+      (λ far. firsts.if_keeps P delivery.stale lends (send delivery.from answered lends) lends (λ stale h. h) (λ live h. replied (is_client server) (lent_to delivery.op) far live))
+      (is_served (is_client server) (lent_to delivery.op))
     where
       left : Work
       left = state.with_queues (ipc.after_next server) work
 
+      answered : Message
+      answered = messages.Answered delivery.tid (member_here left server) delivery.number reply
+
+      made : Bool → Option ClientNo → Work
+      made b o = make_loan delivery.tid o (enter (acts.Serve delivery.tid (member_here left server) delivery.from delivery.number reply)
+          (with_manager (tm.served delivery.tid server) (with_doings delivery.tid (λ doings. record doings { served = true }) (if b then left else change_server server (λ value. after_serving value delivery.tid delivery.op reply) left))))
+
       lends : Work
-      lends = make_loan delivery.tid (lent_to delivery.op) (enter_serve server delivery reply left)
+      lends = made (is_client server) (lent_to delivery.op)
 
-      by : (b : Bool) → P (deeds_of (enter (acts.Serve delivery.tid (member_here left server) delivery.from delivery.number reply)
-          (with_manager (tm.served delivery.tid server) (with_doings delivery.tid (λ doings. record doings { served = true }) (if b then left else change_server server (λ value. after_serving value delivery.tid delivery.op reply) left)))))
-      by true = k.serves (deeds_of work) server delivery reply next h
-      by false = k.serves (deeds_of work) server delivery reply next h
+      is_served : (b : Bool) (o : Option ClientNo) → P (deeds_of (made b o))
+      is_served true None = k.serves (deeds_of work) server delivery reply None next h
+      is_served true (Some client) = k.serves (deeds_of work) server delivery reply (Some client) next h
+      is_served false None = k.serves (deeds_of work) server delivery reply None next h
+      is_served false (Some client) = k.serves (deeds_of work) server delivery reply (Some client) next h
 
-      is_noted : (b : Bool) → (doings_of delivery.tid (with_doings delivery.tid (λ doings. record doings { served = true }) (if b then left else change_server server (λ value. after_serving value delivery.tid delivery.op reply) left))).served ≡ true
-      is_noted true = noted_so delivery.tid left
-      is_noted false = noted_so delivery.tid left
+      -- to no other node of the run nothing goes
+      either : (w : Work) → P (deeds_of w) → P (traced (sent delivery.from answered) (deeds_of w)) → P (deeds_of (send delivery.from answered w))
+      either w without with = firsts.if_keeps P (is_other w.node.setting delivery.from) (record w { out = record w.out { messages = w.out.messages ++ record { to = delivery.from; message = answered } ∷ [] } }) w w (λ is h. with) (λ is h. h) without
 
-      given : Keeps lends (serve server delivery reply left)
-      given = if_keeps (same_node delivery.from (here lends)) (reply_came delivery.tid (member_here left server) delivery.number reply lends)
-          (if delivery.stale then lends else send delivery.from (messages.Answered delivery.tid (member_here left server) delivery.number reply) lends) lends
-          (λ is. reply_keeps delivery.tid (member_here left server) delivery.number reply lends)
-          (λ is. if_keeps delivery.stale lends (send delivery.from (messages.Answered delivery.tid (member_here left server) delivery.number reply) lends) lends
-          (λ s h. h) (λ s. send_keeps delivery.from (messages.Answered delivery.tid (member_here left server) delivery.number reply) lends tt))
+      replied : (b : Bool) (o : Option ClientNo) → same_node delivery.from (here (made b o)) ≡ false → delivery.stale ≡ false → P (deeds_of (send delivery.from answered (made b o)))
+      replied true None far live = either (made true None) (is_served true None) (k.replies (deeds_of work) server delivery reply None next far live h)
+      replied true (Some client) far live = either (made true (Some client)) (is_served true (Some client)) (k.replies (deeds_of work) server delivery reply (Some client) next far live h)
+      replied false None far live = either (made false None) (is_served false None) (k.replies (deeds_of work) server delivery reply None next far live h)
+      replied false (Some client) far live = either (made false (Some client)) (is_served false (Some client)) (k.replies (deeds_of work) server delivery reply (Some client) next far live h)
 
   serve_next_keeps : (work : Work) (server : ServerNo) → Keeps work (serve_next work server)
-  serve_next_keeps work server = elim_keeps (ipc.next server work.node.queues) work (λ delivery. serve_or_drop server delivery left) work (λ h. h)
-      (λ delivery next. if_keeps (may_serve delivery.tid left) (elim (reply_here server delivery.tid delivery.op left.node) [ None ↦ left | Some reply ↦ serve server delivery reply left ]) left work
-      (λ may. elim_keeps (reply_here server delivery.tid delivery.op left.node) left (λ reply. serve server delivery reply left) work (λ h. k.leaves (deeds_of work) server h) (λ reply says. serve_keeps server delivery reply work next))
+  serve_next_keeps work server = firsts.elim_keeps P (ipc.next server work.node.queues) work (λ delivery. serve_or_drop server delivery left) work (λ h. h)
+      (λ delivery next. firsts.if_keeps P (may_serve delivery.tid left) (elim (reply_here server delivery.tid delivery.op left.node) [ None ↦ left | Some reply ↦ serve server delivery reply left ]) left work
+      (λ may. firsts.elim_keeps P (reply_here server delivery.tid delivery.op left.node) left (λ reply. serve server delivery reply left) work (λ h. k.leaves (deeds_of work) server h) (λ reply says. serve_keeps server delivery reply work next))
       (λ may h. k.leaves (deeds_of work) server h))
     where
       left : Work
       left = state.with_queues (ipc.after_next server) work
 
   pub serve_all_keeps : (work : Work) → Keeps work (serve_all work)
-  serve_all_keeps work = fold_keeps serve_next serve_next_keeps (ipc.turns work.node.queues) work
+  serve_all_keeps work = firsts.fold_keeps P serve_next serve_next_keeps (ipc.turns work.node.queues) work
 
   -- ---- notices and decisions
-
-  pub ended_keeps : (tid : Tid) (work : Work) → Keeps work (end_members tid work)
-  ended_keeps tid work = fold_keeps (end_member tid) (λ w s h. k.enters (deeds_of w) (acts.Ending tid (member_here w s)) tt h) (due_endings tid work) work
-
-  learnt_keeps : (tid : Tid) (outcome : Outcome) (work : Work) → Keeps work (learn_members tid outcome work)
-  learnt_keeps tid outcome work = fold_keeps (learn_member tid outcome) (λ w s h. k.enters (deeds_of w) (acts.Learn tid (member_here w s) outcome) tt h) (learners_at tid work) work
-
-  pub noticed_keeps : (tid : Tid) (outcome : Outcome) (work : Work) → Keeps work (give_notices tid outcome work)
-  noticed_keeps tid outcomes.Commit work h = learnt_keeps tid outcomes.Commit work h
-  noticed_keeps tid outcomes.Abort work h = learnt_keeps tid outcomes.Abort (end_members tid work) (ended_keeps tid work h)
 
   pub decided_keeps : (tid : Tid) (outcome : Outcome) (cause : Option Cause) (work : Work) → (outcome ≡ outcomes.Commit → is_quiet (doings_of tid work) ≡ true) → Keeps work (decide tid outcome cause work)
   decided_keeps tid outcome cause work quiet h = by (tm.decision tid outcome work.node.manager)
@@ -228,28 +174,28 @@ module _ (P : Deeds → Type 0) (k : IsKeptSo P) where
       logged (Some rec) = k.decides (deeds_of work) tid outcome cause quiet h
 
       by : (d : Decision) → P (deeds_of (send_each d.tell (messages.Tell tid outcome) (give_notices tid outcome (enter (acts.Decide tid outcome cause) (keep_outcome tid outcome cause (log_if d.rec (with_manager (tm.decide tid outcome) work)))))))
-      by d = send_each_keeps d.tell (messages.Tell tid outcome) (give_notices tid outcome (enter (acts.Decide tid outcome cause) (keep_outcome tid outcome cause (log_if d.rec (with_manager (tm.decide tid outcome) work))))) tt
-          (noticed_keeps tid outcome (enter (acts.Decide tid outcome cause) (keep_outcome tid outcome cause (log_if d.rec (with_manager (tm.decide tid outcome) work)))) (logged d.rec))
+      by d = firsts.send_each_keeps P k.first d.tell (messages.Tell tid outcome) (give_notices tid outcome (enter (acts.Decide tid outcome cause) (keep_outcome tid outcome cause (log_if d.rec (with_manager (tm.decide tid outcome) work))))) tt
+          (firsts.noticed_keeps P k.first tid outcome (enter (acts.Decide tid outcome cause) (keep_outcome tid outcome cause (log_if d.rec (with_manager (tm.decide tid outcome) work)))) (logged d.rec))
 
   pub aborted_keeps : (tid : Tid) (cause : Option Cause) (work : Work) → Keeps work (decide tid outcomes.Abort cause work)
   aborted_keeps tid cause work = decided_keeps tid outcomes.Abort cause work (λ is. absurd (cc is))
 
   pub commit_keeps : (tid : Tid) (work : Work) → is_quiet (doings_of tid work) ≡ true → Keeps work (decide_commit tid work)
-  commit_keeps tid work quiet = elim_keeps (tm.need_past tid work.room work.node.manager) (decide tid outcomes.Commit None work) (λ need. decide tid outcomes.Abort (Some (causes.Room need work.room)) work) work
+  commit_keeps tid work quiet = firsts.elim_keeps P (tm.need_past tid work.room work.node.manager) (decide tid outcomes.Commit None work) (λ need. decide tid outcomes.Abort (Some (causes.Room need work.room)) work) work
       (decided_keeps tid outcomes.Commit None work (λ is. quiet)) (λ need is. aborted_keeps tid (Some (causes.Room need work.room)) work)
 
   -- ---- asking, counting, and causes
 
   pub become_asked_keeps : (tid : Tid) (part : Participant) (work : Work) → Keeps work (become_asked tid part work)
-  become_asked_keeps tid part work = send_each_keeps (listed (uncovered part.engage)) (messages.AskVote tid) (with_manager (tm.ask tid) work) tt
+  become_asked_keeps tid part work = firsts.send_each_keeps P k.first (listed (uncovered part.engage)) (messages.AskVote tid) (with_manager (tm.ask tid) work) tt
 
   pub ask_came_keeps : (peer : NodeNo) (tid : Tid) (work : Work) → Keeps work (ask_came peer tid work)
-  ask_came_keeps peer tid work = undecided_keeps tid (asked_by peer tid) work (λ part. if_keeps (is_node peer part.engage.superior && (not part.engage.home && not part.asked)) (become_asked tid part work) work work (λ is. become_asked_keeps tid part work) (λ is h. h))
+  ask_came_keeps peer tid work = firsts.undecided_keeps P tid (asked_by peer tid) work (λ part. firsts.if_keeps P (is_node peer part.engage.superior && (not part.engage.home && not part.asked)) (become_asked tid part work) work work (λ is. become_asked_keeps tid part work) (λ is h. h))
 
   pub closer_keeps : (peer : NodeNo) (tid : Tid) (up_to : ℕ) (told : List NodeNo) (work : Work) → Keeps work (closer_came peer tid up_to told work)
-  closer_keeps peer tid up_to told work = undecided_keeps tid (λ part. count peer tid up_to told) work (λ part h. k.enters (deeds_of work) (acts.Counted tid peer up_to) tt h)
+  closer_keeps peer tid up_to told work = firsts.undecided_keeps P tid (λ part. count peer tid up_to told) work (λ part h. k.first.enters (deeds_of work) (acts.Counted tid peer up_to) tt h)
 
   pub refusal_keeps : (tid : Tid) (cause : Cause) (work : Work) → Keeps work (refusal_came tid cause work)
-  refusal_keeps tid cause work = elim_keeps (part_of tid work) (pass_unknown tid cause work) (λ part. if is_undecided part then block tid cause work else work) work
-      (if_keeps (same_node tid.home (here work)) work (send tid.home (messages.VotedAbort tid cause) work) work (λ is h. h) (λ is. send_keeps tid.home (messages.VotedAbort tid cause) work tt))
-      (λ part known. if_keeps (is_undecided part) (block tid cause work) work work (λ is h. h) (λ is h. h))
+  refusal_keeps tid cause work = firsts.elim_keeps P (part_of tid work) (pass_unknown tid cause work) (λ part. if is_undecided part then block tid cause work else work) work
+      (firsts.if_keeps P (same_node tid.home (here work)) work (send tid.home (messages.VotedAbort tid cause) work) work (λ is h. h) (λ is. firsts.send_keeps P k.first tid.home (messages.VotedAbort tid cause) work tt))
+      (λ part known. firsts.if_keeps P (is_undecided part) (block tid cause work) work work (λ is h. h) (λ is h. h))

@@ -57,7 +57,7 @@ use Rattle.qs_lawful.proofs.Still.{held_at}
 use Rattle.qs_lawful.proofs.WholeStep.{by_happen, first_held}
 use Rattle.qs_every_run.specs.Agrees.{MakesStep, PassesUndone, nodes_in}
 use Rattle.qs_every_run.specs.Joined.{Joined, book_in}
-use Rattle.qs_every_run.specs.JoinedOwed.{CommitsSettled}
+use Rattle.qs_every_run.specs.JoinedLaws.{CommitsSettled}
 use Rattle.qs_every_run.specs.JoinedPlaces.{PlacesAt}
 use Rattle.qs_every_run.specs.PlacesTurns.{SettledBy, TurnsSettle}
 use Rattle.qs_every_run.proofs.AgreesPasses.{passes_agree, stages_sound}

@@ -1,5 +1,5 @@
 -- What is on the way from a node stands after each thing that a rule of its step does: behind what was on it, what the step sent.
-use Rattle.std.proofs.Common.{◌≡◌, ℕ, ◌==◌, ◌&&◌, Bool, true, false, List, [], ◌∷◌, ◌++◌, length, map, Option, Some, None, refl, sym, ap, subst, ◌∙◌, if◌then◌else◌, append_assoc, append-nil}
+use Rattle.std.proofs.Common.{◌≡◌, ℕ, ◌==◌, ◌&&◌, Bool, true, false, List, [], ◌∷◌, ◌++◌, map, refl, sym, ap, subst, ◌∙◌, if◌then◌else◌, append_assoc, append-nil}
 use Rattle.std.proofs.lemmas.Grind.{flat_map-append}
 use Rattle.std.proofs.lemmas.List.{map-append}
 use Rattle.std.proofs.lemmas.List.Elements.{filter-append}
@@ -12,25 +12,20 @@ use Rattle.qs_base.specs.declared.identifiers.Tid.{Tid}
 use Rattle.qs_ipc.specs.declared.delivery.Delivery.{Delivery}
 use Rattle.qs_journal.specs.declared.entry.Act.{Act}
 use Rattle.qs_journal.specs.declared.entry.Act.TheVariants as acts
-use Rattle.qs_laws.proofs.Steps.{held}
-use Rattle.qs_machine.specs.Book.{BookValue, find_transaction}
-use Rattle.qs_machine.specs.Clauses.{broken_issue}
-use Rattle.qs_machine.specs.Lawful.{broken}
-use Rattle.qs_machine.specs.Transaction.{TransactionValue}
+use Rattle.qs_machine.specs.Book.{BookValue}
 use Rattle.qs_ops.specs.declared.answer.Answer.TheVariants as answers
 use Rattle.qs_ops.specs.declared.operation.Op.{Op}
 use Rattle.qs_packet.specs.declared.message.Message.{Message}
 use Rattle.qs_packet.specs.declared.message.Message.TheVariants as messages
 use Rattle.qs_step.specs.declared.event.Event.{Event}
 use Rattle.qs_step.specs.declared.event.Sending.{Sending}
-use Rattle.qs_world.specs.Posting.{entry_of}
 use Rattle.qs_world.specs.World.{Parcel}
 use Rattle.qs_refine.proofs.Posted.{parcels}
 use Rattle.qs_lawful.specs.Face.{at_server}
 use Rattle.qs_lawful.specs.Parcels.{is_asking_for, ops_of}
-use Rattle.qs_lawful.proofs.EntryTurns.{Actor, actor}
 use Rattle.qs_lawful.proofs.LastsWell.{LastsWell}
 use Rattle.qs_every_run.specs.Traces.{AsksNothing, IsKept, TakesIn, Trace}
+use Rattle.qs_every_run.proofs.EntriesMore.{issue_known}
 use Rattle.qs_every_run.proofs.WaysEntries.{Ops, asks_one, ops_asked, ops_issued}
 use Rattle.qs_every_run.proofs.WaysServing.{ops_served_far}
 use Rattle.qs_every_run.proofs.WaysTraced as coming
@@ -78,19 +73,6 @@ module _ (n stamp : ℕ) (before : BookValue) (w : LastsWell before) (b : ℕ) (
       by true = asks_none message is tid s k
       by false = refl
 
-  known : (book : BookValue) (tid : Tid) (issuer member : Member) (number : ℕ) (op : Op) → broken book (entry_of n stamp (acts.Issue tid issuer member number op)) ≡ None → (tx : TransactionValue) × (find_transaction book tid ≡ Some tx)
-  known book tid issuer member number op fine = by (find_transaction book tid) refl
-    where
-      it : Actor book (entry_of n stamp (acts.Issue tid issuer member number op))
-      it = actor book (entry_of n stamp (acts.Issue tid issuer member number op)) fine
-
-      allowed : broken_issue n it.state (length book.nodes) tid (find_transaction book tid) issuer member number op ≡ None
-      allowed = (held it.state.up 2 _ it.allowed).1
-
-      by : (o : Option TransactionValue) → find_transaction book tid ≡ o → (tx : TransactionValue) × (find_transaction book tid ≡ Some tx)
-      by None none = absurd (cc (subst (λ (o : Option TransactionValue). broken_issue n it.state (length book.nodes) tid o issuer member number op ≡ None) none allowed))
-      by (Some tx) found = (tx, found)
-
   pub from_kept : IsKept From
   from_kept = record {
     enters = λ t act is h. record { here = h.here; stands = coming.left_more n stamp before w n b (es t.messages) t.entries act (ordinary act is) h.stands };
@@ -121,7 +103,7 @@ module _ (n stamp : ℕ) (before : BookValue) (w : LastsWell before) (b : ℕ) (
       asked t tid label issuer member number op h = coming.alike n stamp before w n b (λ u s k. (way u s k ++ sent_ops t.messages u s k) ++ asks_one b tid member number op u s k)
           (λ u s k. way u s k ++ sent_ops (t.messages ++ record { to = member.node; message = messages.Request tid label member number issuer op } ∷ []) u s k) (t.entries ++ acts.Issue tid (record { node = t.setting.node; server = issuer }) member number op ∷ []) same
           (coming.one_more n stamp before w n b (λ u s k. way u s k ++ sent_ops t.messages u s k) (λ u s k. (way u s k ++ sent_ops t.messages u s k) ++ asks_one b tid member number op u s k) t.entries (acts.Issue tid (record { node = t.setting.node; server = issuer }) member number op)
-          (λ book lasts fine ops. let it = known book tid (record { node = t.setting.node; server = issuer }) member number op fine in
+          (λ book lasts fine ops. let it = issue_known n stamp book tid (record { node = t.setting.node; server = issuer }) member number op fine in
           ops_asked n stamp book tid (record { node = t.setting.node; server = issuer }) member number op b (λ u s k. way u s k ++ sent_ops t.messages u s k) it.0 it.1 ops) h.stands)
         where
           one : (w x y z : Bool) → ◌≡◌ {A = List Op} (if x then (if w && (y && z) then op ∷ [] else []) else []) (if w && ((x && y) && z) then op ∷ [] else [])

@@ -1,7 +1,6 @@
 -- What is on the way to a node stands after each thing that a rule of its step does.
 use Rattle.std.proofs.Common.{◌≡◌, ℕ, ◌==◌, ◌&&◌, Bool, true, false, List, [], ◌∷◌, ◌++◌, Some, None, refl, sym, ap, subst, ◌∙◌, arith, if◌then◌else◌, append_assoc, append-nil}
 use Rattle.std.proofs.lemmas.Bool.Decides.{nat_tests}
-use Rattle.std.proofs.lemmas.List.{map-append}
 use Rattle.qs_base.specs.Order.{same_tid}
 use Rattle.qs_base.specs.declared.identifiers.Member.{Member}
 use Rattle.qs_base.specs.declared.identifiers.NodeNo.{NodeNo}
@@ -12,22 +11,21 @@ use Rattle.qs_ipc.specs.Ipc.{IpcValue}
 use Rattle.qs_ipc.specs.declared.delivery.Delivery.{Delivery}
 use Rattle.qs_journal.specs.declared.entry.Act.{Act}
 use Rattle.qs_journal.specs.declared.entry.Act.TheVariants as acts
-use Rattle.qs_laws.proofs.Steps.{after_both, lawful_front, lawful_rest}
 use Rattle.qs_machine.specs.Book.{BookValue}
-use Rattle.qs_machine.specs.Lawful.{IsLawful, book_after, broken, effect}
+use Rattle.qs_machine.specs.Lawful.{broken, effect}
 use Rattle.qs_ops.specs.declared.answer.Answer.TheVariants as answers
 use Rattle.qs_ops.specs.declared.operation.Op.{Op}
 use Rattle.qs_packet.specs.declared.message.Message.TheVariants as messages
 use Rattle.qs_step.specs.declared.event.Event.{Event}
 use Rattle.qs_step.specs.declared.event.Event.TheVariants as events
-use Rattle.qs_world.specs.Posting.{entries_of, entry_of}
+use Rattle.qs_world.specs.Posting.{entry_of}
 use Rattle.qs_lawful.specs.Face.{at_server}
 use Rattle.qs_lawful.specs.Waits.{IsWithin}
-use Rattle.qs_lawful.proofs.LastsOpening.{lasts_ran}
 use Rattle.qs_lawful.proofs.LastsWell.{LastsWell}
 use Rattle.qs_lawful.proofs.OtherWays.{HoldsOps}
 use Rattle.qs_lawful.proofs.WithinParts.{within_around}
 use Rattle.qs_every_run.specs.Traces.{IsKept, IsOrdinary, TakesIn, Trace}
+use Rattle.qs_every_run.proofs.EntriesMore as more
 use Rattle.qs_every_run.proofs.RequestsLeft.{LeavesRequests}
 use Rattle.qs_every_run.proofs.WaysEntries.{Ops, ops_begun, ops_issued_far, ops_left, standing}
 use Rattle.qs_every_run.proofs.WaysServed.{came_from, comes_one, forgotten_same, marked_same, queued_more, waiting}
@@ -49,33 +47,18 @@ none_around (x ∷ xs) ys zs is = absurd (cc is)
 
 module _ (n stamp : ℕ) (before : BookValue) (w : LastsWell before) where
   abbrev pub Lawful : List Act → Type 0
-  Lawful entries = IsLawful before (entries_of n stamp entries)
+  Lawful entries = more.Lawful n stamp before w entries
 
   abbrev pub book_at : List Act → BookValue
-  book_at entries = book_after before (entries_of n stamp entries)
+  book_at entries = more.book_at n stamp before w entries
 
   -- what stands once they are lawful
   abbrev pub Standing : ℕ → ℕ → Ops → List Act → Type 0
   Standing a b ds entries = Lawful entries → HoldsOps (book_at entries) a b ds
 
-  more_entries : (entries : List Act) (act : Act) → entries_of n stamp (entries ++ act ∷ []) ≡ entries_of n stamp entries ++ entry_of n stamp act ∷ []
-  more_entries entries act = map-append (entry_of n stamp) entries (act ∷ [])
-
   pub one_more : (a b : ℕ) (ds es : Ops) (entries : List Act) (act : Act) → ((book : BookValue) → LastsWell book → broken book (entry_of n stamp act) ≡ None → HoldsOps book a b ds → HoldsOps (effect book (entry_of n stamp act)) a b es)
       → Standing a b ds entries → Standing a b es (entries ++ act ∷ [])
-  one_more a b ds es entries act goes stands lawful = subst (λ (x : BookValue). HoldsOps x a b es) (sym now_is) (goes (book_at entries) (lasts_ran (entries_of n stamp entries) before w front) last.0 (stands front))
-    where
-      both : IsLawful before (entries_of n stamp entries ++ entry_of n stamp act ∷ [])
-      both = subst (IsLawful before) (more_entries entries act) lawful
-
-      front : Lawful entries
-      front = lawful_front (entries_of n stamp entries) (entry_of n stamp act ∷ []) before both
-
-      last : IsLawful (book_at entries) (entry_of n stamp act ∷ [])
-      last = lawful_rest (entries_of n stamp entries) (entry_of n stamp act ∷ []) before both
-
-      now_is : book_at (entries ++ act ∷ []) ≡ effect (book_at entries) (entry_of n stamp act)
-      now_is = ap (book_after before) (more_entries entries act) ∙ after_both (entries_of n stamp entries) (entry_of n stamp act ∷ []) before
+  one_more a b ds es entries act = more.one_more n stamp before w (λ book. HoldsOps book a b ds) (λ book. HoldsOps book a b es) entries act
 
   -- alike where what is on the way is
   pub alike : (a b : ℕ) (ds es : Ops) (entries : List Act) → ((t : Tid) (s : ServerNo) (k : ℕ) → es t s k ≡ ds t s k) → Standing a b ds entries → Standing a b es entries

@@ -16,7 +16,6 @@ use Rattle.qs_refine.specs.ShownWorlds.{IsShownWorld}
 use Rattle.qs_refine.specs.Sound.{has_doubt}
 use Rattle.qs_every_run.specs.Agrees.{MakesStep}
 use Rattle.qs_every_run.specs.Joined.{Joined}
-use Rattle.qs_every_run.specs.JoinedOwed.{Owed}
 
 -- ---- what begins over the logs of a world, whether its nodes run or not: settings, scripts and labels that a run may begin with, and each node in a later incarnation
 
@@ -48,14 +47,14 @@ StepCommitsHome P = (o : Opening) (world : World) (n stamp free : ℕ) (source :
     → list_any (is_commit_of tid) (effects_of (world.hosts n).node event free).records ≡ true → list_any (is_commit_of tid) (world.hosts tid.home.0).log ≡ true
 
 -- so it is in every world of a run, whatever names it
-abbrev pub EachCommitsHome : (Opening → World → Type 0) → Type 0
-EachCommitsHome P = Owed P → (o : Opening) (moves : List Move) (world : World) → IsOpening o → Run (start o) moves world → (n : ℕ) → n < world.size → (tid : Tid) → nat_lt tid.home.0 world.size ≡ true
+abbrev pub EachCommitsHome : Type 0
+EachCommitsHome = (o : Opening) (moves : List Move) (world : World) → IsOpening o → Run (start o) moves world → (n : ℕ) → n < world.size → (tid : Tid) → nat_lt tid.home.0 world.size ≡ true
     → list_any (is_commit_of tid) (world.hosts n).log ≡ true → list_any (is_commit_of tid) (world.hosts tid.home.0).log ≡ true
 
 -- ---- the law
 
-abbrev pub EachRunCoherent : (Opening → World → Type 0) → Type 0
-EachRunCoherent P = Owed P → (o : Opening) (moves : List Move) (world : World) (next : Opening) → IsOpening o → Run (start o) moves world → IsNextOpening world next → IsOpening next
+abbrev pub EachRunCoherent : Type 0
+EachRunCoherent = (o : Opening) (moves : List Move) (world : World) (next : Opening) → IsOpening o → Run (start o) moves world → IsNextOpening world next → IsOpening next
 
 -- so after each run another may follow: the same nodes over their logs, each in the incarnation after its last, with the same clients
 abbrev pub next_setting : Setting → ℕ → Setting
@@ -64,5 +63,5 @@ next_setting setting inc = record setting { inc = inc + 1 }
 abbrev pub next_of : Opening → World → Opening
 next_of o world = record { alloc = o.alloc; size = world.size; settings = λ n. next_setting (o.settings n) (world.channels.inc n); logs = λ n. (world.hosts n).log; clients = o.clients }
 
-abbrev pub EachRunMayFollow : (Opening → World → Type 0) → Type 0
-EachRunMayFollow P = Owed P → (o : Opening) (moves : List Move) (world : World) → IsOpening o → Run (start o) moves world → IsOpening (next_of o world)
+abbrev pub EachRunMayFollow : Type 0
+EachRunMayFollow = (o : Opening) (moves : List Move) (world : World) → IsOpening o → Run (start o) moves world → IsOpening (next_of o world)

@@ -78,7 +78,7 @@ EachBatchFits P = (o : Opening) (world : World) (n stamp free : ℕ) (source : S
     → (state : machine.NodeValue) → slice_get (book_in o world).nodes n ≡ Some state
     → FitCut n (book_in o world) state (recovery ((world.hosts n).log ++ (world.hosts n).waiting)).committed [] (effects_of (world.hosts n).node event free).records
 
--- ---- what is owed of it
+-- ---- what is shown of each vote
 
 -- a vote of what its server had pending as the step began; it covers more than what is on record and found in the log, and not as many as what is on record of an aborted transaction that
 -- the log has ended

@@ -14,7 +14,6 @@ use Rattle.qs_lawful.specs.Said.{IsApart, IsUndone}
 use Rattle.qs_lawful.specs.WorldLaws.{StopsWell}
 use Rattle.qs_every_run.specs.Agrees.{MakesStep}
 use Rattle.qs_every_run.specs.Joined.{Joined, book_in}
-use Rattle.qs_every_run.specs.JoinedOwed.{Owed}
 
 -- the machine has what it has committed, or its home was to decide it and it is unanimous
 abbrev pub EachKeepsCommits : (Opening → World → Type 0) → Type 0
@@ -34,5 +33,5 @@ EachKeepsVotes P = (o : Opening) (world : World) (n stamp free : ℕ) (source : 
 
 -- a step is cut off with its batch kept: the crash is lawful, and the machine after it has the world after it, as where the batch is lost
 abbrev pub EachKeepsItsBatch : (Opening → World → Type 0) → Type 0
-EachKeepsItsBatch P = Owed P → (o : Opening) (world : World) (n stamp free : ℕ) (source : Source) (cause : CrashCause) → Joined P o world → may_move world (Cut n stamp free source true cause) ≡ true
+EachKeepsItsBatch P = (o : Opening) (world : World) (n stamp free : ℕ) (source : Source) (cause : CrashCause) → Joined P o world → may_move world (Cut n stamp free source true cause) ≡ true
     → StopsWell (book_in o world) (moved (Cut n stamp free source true cause) world) n stamp cause

@@ -1,4 +1,4 @@
--- The law of every run, as far as it is owed: from what is still to be shown, each run is lawful.
+-- The law of every run: all that stands together of a world stands as a run begins and after each move, and so each run is lawful.
 use Rattle.std.specs.Prelude.{◌≡◌, true, List}
 use Rattle.qs_world.specs.Histories.{IsLawfulRun}
 use Rattle.qs_world.specs.Moves.{Move, may_move, moved}
@@ -6,18 +6,17 @@ use Rattle.qs_world.specs.Openings.{IsOpening}
 use Rattle.qs_world.specs.Runs.{Run}
 use Rattle.qs_world.specs.World.{Opening, World, start}
 use Rattle.qs_every_run.specs.Joined.{Joined}
-use Rattle.qs_every_run.specs.JoinedOwed.{Owed}
 
 -- all stands together as a run begins, and after each move
 abbrev pub EachOpensJoined : (Opening → World → Type 0) → Type 0
 EachOpensJoined P = (o : Opening) → IsOpening o → Joined P o (start o)
 
 abbrev pub EachMoveJoined : (Opening → World → Type 0) → Type 0
-EachMoveJoined P = Owed P → (o : Opening) (world : World) (move : Move) → Joined P o world → may_move world move ≡ true → Joined P o (moved move world)
+EachMoveJoined P = (o : Opening) (world : World) (move : Move) → Joined P o world → may_move world move ≡ true → Joined P o (moved move world)
 
 -- so it does over every run, and the run's history is lawful
 abbrev pub EachRunJoined : (Opening → World → Type 0) → Type 0
-EachRunJoined P = Owed P → (o : Opening) (moves : List Move) (new : World) → IsOpening o → Run (start o) moves new → Joined P o new
+EachRunJoined P = (o : Opening) (moves : List Move) (new : World) → IsOpening o → Run (start o) moves new → Joined P o new
 
-abbrev pub EachRunLawful : (Opening → World → Type 0) → Type 0
-EachRunLawful P = Owed P → (o : Opening) (moves : List Move) (new : World) → IsLawfulRun o moves new
+abbrev pub EachRunLawful : Type 0
+EachRunLawful = (o : Opening) (moves : List Move) (new : World) → IsLawfulRun o moves new

@@ -1,3 +1,4 @@
+pub mod AlongRun
 pub mod Placed
 pub mod PlacedLaws
 pub mod PlacedActs
@@ -18,12 +19,13 @@ pub mod Rooms
 pub mod Joined
 pub mod Traces
 pub mod Deeds
+pub mod DeedsReplied
 pub mod Firsts
 pub mod Answering
 pub mod PlacesApart
 pub mod Awaiting
 pub mod Awaited
-pub mod JoinedOwed
+pub mod JoinedLaws
 pub mod JoinedPlaces
 pub mod StepLaws
 pub mod JoinedRuns
@@ -37,6 +39,7 @@ pub mod CutVotes
 pub mod TriedOwing
 pub mod TriedApart
 pub mod RepliesTrue
+pub mod RepliesRuns
 pub mod PlacesJoined
 pub mod PlacesTurns
 pub mod PlacesSteps
@@ -49,3 +52,8 @@ pub mod CoherentAgain
 pub mod StandsFor
 pub mod TriedStale
 pub mod CutBatches
+pub mod Stocks
+pub mod VotesSame
+pub mod OnRecord
+pub mod CoversAhead
+pub mod RecordLaws

@@ -12,7 +12,7 @@ use Rattle.qs_agree.specs.Carry.{Leads}
 use Rattle.qs_refine.specs.EachMove.{ShowsAll}
 use Rattle.qs_every_run.specs.Agrees.{MakesStep}
 use Rattle.qs_every_run.specs.Joined.{Joined, book_in}
-use Rattle.qs_every_run.specs.JoinedOwed.{entries_in}
+use Rattle.qs_every_run.specs.JoinedLaws.{entries_in}
 use Rattle.qs_every_run.specs.JoinedPlaces.{PlacedOf, PlacesAt}
 use Rattle.qs_every_run.specs.Placed.{HoldsPlaced, field_of}
 use Rattle.qs_every_run.specs.PlacesWhole.{StepsWell}

@@ -13,7 +13,7 @@ use Rattle.qs_refine.specs.Begun.{has_begun}
 use Rattle.qs_refine.specs.EachMove.{ShowsAll}
 use Rattle.qs_every_run.specs.Agrees.{MakesStep}
 use Rattle.qs_every_run.specs.Joined.{Joined, book_in}
-use Rattle.qs_every_run.specs.JoinedOwed.{IsStep, Keeps, entries_in}
+use Rattle.qs_every_run.specs.JoinedLaws.{IsStep, Keeps, entries_in}
 use Rattle.qs_every_run.specs.JoinedPlaces.{PlacesAt}
 use Rattle.qs_every_run.specs.PlacesWhole.{StepsWell}
 

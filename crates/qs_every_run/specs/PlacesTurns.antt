@@ -25,7 +25,7 @@ use Rattle.qs_lawful.specs.GivenStep.{done_work, first_work}
 use Rattle.qs_lawful.specs.Standing.{Stands}
 use Rattle.qs_every_run.specs.Agrees.{MakesStep, nodes_in}
 use Rattle.qs_every_run.specs.Joined.{Joined, book_in}
-use Rattle.qs_every_run.specs.JoinedOwed.{CommitsSettled}
+use Rattle.qs_every_run.specs.JoinedLaws.{CommitsSettled}
 use Rattle.qs_every_run.specs.JoinedPlaces.{PlacesAt}
 use Rattle.qs_every_run.specs.Placed.{field_of}
 use Rattle.qs_every_run.specs.PlacedActs.{OpenPlaced}

@@ -37,7 +37,7 @@ use Rattle.qs_lawful.specs.Parcels.{way_between}
 use Rattle.qs_lawful.proofs.LastsWell.{LastsWell}
 use Rattle.qs_every_run.specs.Agrees.{MakesStep}
 use Rattle.qs_every_run.specs.Joined.{Joined, book_in}
-use Rattle.qs_every_run.specs.JoinedOwed.{IsBetweenSteps, Opens, book_then, entries_in}
+use Rattle.qs_every_run.specs.JoinedLaws.{IsBetweenSteps, Opens, book_then, entries_in}
 use Rattle.qs_every_run.specs.JoinedPlaces.{PlacesAt}
 use Rattle.qs_every_run.specs.Placed.{Placed, field_of}
 

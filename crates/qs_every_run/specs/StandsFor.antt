@@ -11,7 +11,6 @@ use Rattle.qs_lawful.specs.Said.{HoldsSaid}
 use Rattle.qs_lawful.specs.Tables.{HoldsServers, is_seen}
 use Rattle.qs_lawful.specs.Worlds.{HoldsKept}
 use Rattle.qs_every_run.specs.Joined.{Joined, book_in}
-use Rattle.qs_every_run.specs.JoinedOwed.{Owed}
 
 -- ---- a crash of a node
 
@@ -41,5 +40,5 @@ pub record StandsFor (o : Opening) (world : World) (crash : Move) (n stamp inc :
   pub restored : IsRestored o (moved (Rise n stamp inc) (moved crash world)) n
 
 abbrev pub EachLogStandsFor : (Opening → World → Type 0) → Type 0
-EachLogStandsFor P = Owed P → (o : Opening) (world : World) (crash : Move) (n stamp inc : ℕ) → Joined P o world → IsCrashOf n crash → may_move world crash ≡ true → may_move (moved crash world) (Rise n stamp inc) ≡ true
+EachLogStandsFor P = (o : Opening) (world : World) (crash : Move) (n stamp inc : ℕ) → Joined P o world → IsCrashOf n crash → may_move world crash ≡ true → may_move (moved crash world) (Rise n stamp inc) ≡ true
     → StandsFor o world crash n stamp inc

@@ -17,7 +17,7 @@ use Rattle.qs_lawful.specs.Parcels.{HoldsWays}
 use Rattle.qs_lawful.specs.Scripts.{HoldsScripts}
 use Rattle.qs_every_run.specs.Agrees.{MakesStep}
 use Rattle.qs_every_run.specs.Joined.{ClientsAt, Joined, book_in}
-use Rattle.qs_every_run.specs.JoinedOwed.{HasOwner}
+use Rattle.qs_every_run.specs.JoinedLaws.{HasOwner}
 use Rattle.qs_every_run.specs.Labels.{AreOwned}
 use Rattle.qs_every_run.specs.Owing.{Owes}
 

@@ -1,7 +1,7 @@
-//! Every run of the world of nodes is lawful, as far as it is owed.
+//! Every run of the world of nodes is lawful.
 ghost use Rattle.qs_every_run.specs.StepLaws.{AnswersAside, BeginsOwned, InStep, KeepsClients, KeepsLabels, KeepsOwing, KeepsScripts, KeepsWays, CountsHaveRoom};
 ghost use Rattle.qs_every_run.specs.Rooms.{AskedOfRun, OwnedOfRun, RoomsAt, RoomsStay};
-ghost use Rattle.qs_every_run.specs.Awaiting.{AwaitedAt};
+ghost use Rattle.qs_every_run.specs.AlongRun.{AlongRun};
 ghost use Rattle.qs_every_run.specs.JoinedPlaces.{PlacesAt};
 ghost use Rattle.qs_every_run.specs.PlacesLaws.{PlacesGoOn};
 ghost use Rattle.qs_every_run.specs.JoinedRuns.{EachMoveJoined, EachOpensJoined, EachRunJoined, EachRunLawful};
@@ -11,17 +11,17 @@ ghost use Rattle.qs_every_run.specs.CutRecords.{StepsMakeRecords};
 ghost use Rattle.qs_every_run.specs.CutVotes.{BatchLeavesVotes, DueVotesCut, EachMarkedBefore, StepsVoteDue};
 ghost use Rattle.qs_every_run.specs.Firsts.{CommitsStood, CommitsUnanimous, StepsCommitFirst, StepsVoteFirst};
 ghost use Rattle.qs_every_run.specs.Labels.{RequestsOwned};
-ghost use Rattle.qs_every_run.specs.JoinedOwed.{Opens};
+ghost use Rattle.qs_every_run.specs.JoinedLaws.{Opens};
 ghost use Rattle.qs_every_run.specs.RiseLaws.{EachRiseKeepsBeside, EachRisesRunning};
 ghost use Rattle.qs_every_run.specs.StaysLaws.{StepsKeepLogged, StepsTickOnce, StepsYoung};
 
-/// From what is still to be shown, which stands in one record: all that the machines and the nodes have together stands as a run begins, over
-/// old logs too that a restart can take up, and after each move; so each run's history is lawful.
+/// All that the machines and the nodes have together stands as a run begins, over old logs too that a restart can take up, and after each move; so
+/// each run's history is lawful.
 pub fn runs_are_lawful()
-    ensures opens { EachOpensJoined AwaitedAt }
-    ensures moves { EachMoveJoined AwaitedAt }
-    ensures runs { EachRunJoined AwaitedAt }
-    ensures lawful { EachRunLawful AwaitedAt }
+    ensures opens { EachOpensJoined AlongRun }
+    ensures moves { EachMoveJoined AlongRun }
+    ensures runs { EachRunJoined AlongRun }
+    ensures lawful { EachRunLawful }
 {}
 
 /// As a run begins, over old logs too, and as a node restarts, the machine has beside each node that begins all that it is to have beside it.
@@ -94,7 +94,7 @@ pub fn kept_batches_are_settled()
 /// a restart may find, where each vote of the batch is of what was pending as the step began. Each vote stood on record or could be made then, and no
 /// vote that was told is lost; what the log has committed is what the restart applies, and what it has in doubt is on record then.
 pub fn kept_batches_are_held()
-    ensures { EachKeepsItsBatch PlacesAt }
+    ensures { EachKeepsItsBatch AlongRun }
 {}
 
 /// What commit was asked for, or has a request, began in the run, so it has an owner. And each label of a transaction of its own that a node keeps after

@@ -6,10 +6,11 @@ ghost use Rattle.qs_every_run.specs.PlacesComes.{MessageComes, NoticeComes, Requ
 ghost use Rattle.qs_every_run.specs.PlacesWhole.{ServeAllGoes, StepPlaces};
 ghost use Rattle.qs_every_run.specs.PlacesJoined.{WholeStepPlaces};
 ghost use Rattle.qs_every_run.specs.PlacesSteps.{FreshFind, StepsKeepPlaces, WholeFind};
-ghost use Rattle.qs_every_run.specs.JoinedOwed.{EachCommitsSettled};
+ghost use Rattle.qs_every_run.specs.JoinedLaws.{EachCommitsSettled};
 ghost use Rattle.qs_every_run.specs.JoinedPlaces.{PlacesAt};
 ghost use Rattle.qs_every_run.specs.PlacesTurns.{FindsSettle, OthersBeside, PlacedSettles, TurnsBegan, TurnsFollow, TurnsGo, TurnsSettle, TurnsShown};
 ghost use Rattle.qs_every_run.specs.Awaited.{BusyEngaged, IssuesWait, StepsWaitOn, WaitsEngaged};
+ghost use Rattle.qs_every_run.specs.Awaiting.{EachIssueWaits};
 ghost use Rattle.qs_every_run.specs.PlacesGo.{IssueGoes, SettleGoes, CommandGoes, WaitGoes};
 ghost use Rattle.qs_every_run.specs.PlacesEnds.{StepBegins, StepEnds};
 ghost use Rattle.qs_every_run.specs.PlacedLaws.{ReadyFree, FreeAgrees, QuietUnanimous, CommittedFree, CommittedWays, CommittedKeeps, CommittedUnanimous};
@@ -124,4 +125,9 @@ pub fn requests_wait()
     ensures issues { IssuesWait }
     ensures busy { BusyEngaged }
     ensures engaged { WaitsEngaged }
+{}
+
+/// So what a node issues to another one in a step waits there for its reply as the step ends, or its transaction is decided there.
+pub fn issues_wait()
+    ensures { EachIssueWaits PlacesAt }
 {}

@@ -1,5 +1,6 @@
 //! Replies that come are true.
-ghost use Rattle.qs_every_run.specs.RepliesTrue.{BetweenKeepReplies, FreshMarked, FreshQueues, GivenStays, IssuesGive, OpensReplies, RepliesTrue, ServedStays, ServesOnce, StepKeepsReplies};
+ghost use Rattle.qs_every_run.specs.RepliesRuns.{MovesKeepReplies};
+ghost use Rattle.qs_every_run.specs.RepliesTrue.{BetweenKeepReplies, EachStepTells, FreshMarked, FreshQueues, GivenStays, IssuesGive, OpensReplies, RepliesTrue, ServedStays, ServesOnce, StepKeepsReplies};
 
 /// That a node gave a number in an incarnation stays so through each entry of a history, while it begins no later one; and so does that
 /// the request under it stands at its member no more, or crossed the transaction there. It does so once it is served.
@@ -29,4 +30,15 @@ pub fn queues_stay_fresh()
     ensures issues { IssuesGive }
     ensures queues { FreshQueues }
     ensures marks { FreshMarked }
+{}
+
+/// A whole step sends a reply only as it serves the request, and a request only as it issues it; what comes to wait is of the incarnation that its node
+/// knows, and what waits of a node that restarted is stale from the beginning of the step in which that is known.
+pub fn steps_tell_true()
+    ensures { EachStepTells }
+{}
+
+/// So it stays through every move whose entries are lawful.
+pub fn replies_are_carried()
+    ensures { MovesKeepReplies }
 {}

@@ -1,4 +1,4 @@
--- What is still to be shown so that every run is lawful: each is a law of its own, of a run's beginning, of what a step is given, or of what a move keeps.
+-- The laws that the induction over a run goes by, as statements: of a run's beginning, of what a step is given, and of what a move keeps.
 use Rattle.std.specs.Prelude.{◌≡◌, ℕ, ◌<◌, ◌==◌, ⊤, true, false, List, None, Some, is_some, slice_get, Bool}
 use Rattle.qs_base.specs.declared.identifiers.ClientNo.{ClientNo}
 use Rattle.qs_base.specs.declared.identifiers.Tid.{Tid}
@@ -31,9 +31,7 @@ use Rattle.qs_lawful.specs.Entering.{book_at}
 use Rattle.qs_lawful.specs.Given.{AtEach}
 use Rattle.qs_lawful.specs.GivenStep.{done_work}
 use Rattle.qs_every_run.specs.Agrees.{MakesStep}
-use Rattle.qs_every_run.specs.CutBatches.{EachVoteOfStart}
 use Rattle.qs_every_run.specs.Joined.{Joined, book_in}
-use Rattle.qs_every_run.specs.Awaiting.{EachIssueWaits, EachReplyTrue}
 
 -- ---- as a run begins
 
@@ -99,12 +97,3 @@ Keeps P kind X = (o : Opening) (world : World) (move : Move) → kind move → J
 pub record WholeSteps (P : Opening → World → Type 0) : Type 0 where
   pub commits : EachCommitsSettled P  -- what a step is given
   pub places : Keeps P IsStep P  -- what all places hold of each transaction goes on through it
-
--- ---- all that is owed
-
-pub record Owed (P : Opening → World → Type 0) : Type 0 where
-  -- the votes of a step, where it is cut off with its batch kept
-  pub votes : EachVoteOfStart P
-  -- a step
-  pub replies_true : EachReplyTrue P  -- a reply that comes is of a request that stands no more
-  pub issues_wait : EachIssueWaits P  -- what its node issues to others in it waits there for its reply as it ends, or is decided there
