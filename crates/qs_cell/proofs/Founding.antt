@@ -5,7 +5,7 @@ use Rattle.std.specs.Global.{Global}
 use Rattle.qs_disk.specs.Disk.{DiskState, EachImage}
 use Rattle.qs_disk.specs.Moments.{Keeps}
 use Rattle.qs_files.specs.declared.files.Files.{Files}
-use Rattle.qs_incarnation.specs.Incarnation.{HasOneOf}
+use Rattle.qs_incarnation.specs.Incarnation.{HasOneOf, IsLeftOrRaised}
 use Rattle.qs_incarnation.specs.declared.incarnation.ReopenFault.TheVariants as reopen_faults
 use Rattle.qs_ops.specs.declared.no_server.NoServer.{NoServer}
 use Rattle.qs_record.specs.declared.record.Record.{Record}
@@ -23,11 +23,12 @@ module _ {D : Type 0} (told : Type 0) (state : D → DiskState) (own : D → ℕ
   refused : (old : Stopped D) (new : NodeState D) (said : Result Bool RestartFault) (restarted : Restarted D Files NoServer) → IsRestarted own alloc old restarted
       → new ≡ state_after restarted → answer_after restarted ≡ Err restart_faults.DiskFailed → said ≡ Err restart_faults.NoMemory
       → (told → (a b : List Record) → EachImage (HasOneOf a b) (state old.disk.disk).now → Keeps (HasOneOf a b) (state old.disk.disk) (state (disk_of new).disk))
+      → (told → Keeps (IsLeftOrRaised (state old.disk.disk)) (state old.disk.disk) (state (disk_of new).disk))
       → Restarts told state own alloc old new said
-  refused old new said (restarts.Up running) is node failed said_is moments = absurd (cc failed)
-  refused old new said (restarts.Down stopped reopen_faults.Tripped) is node failed said_is moments = absurd (cc failed)
-  refused old new said (restarts.Down stopped reopen_faults.NoMemory) is node failed said_is moments = absurd (cc failed)
-  refused old new said (restarts.Down stopped reopen_faults.DiskFailed) is node failed said_is moments = record {
+  refused old new said (restarts.Up running) is node failed said_is moments touched = absurd (cc failed)
+  refused old new said (restarts.Down stopped reopen_faults.Tripped) is node failed said_is moments touched = absurd (cc failed)
+  refused old new said (restarts.Down stopped reopen_faults.NoMemory) is node failed said_is moments touched = absurd (cc failed)
+  refused old new said (restarts.Down stopped reopen_faults.DiskFailed) is node failed said_is moments touched = record {
     restarted = restarts.Down stopped reopen_faults.NoMemory;
     is = (
       is.0,
@@ -41,6 +42,8 @@ module _ {D : Type 0} (told : Type 0) (state : D → DiskState) (own : D → ℕ
     reopened = λ yes. tt;
     found = λ yes. tt;
     moments = moments;
+    stands = λ yes. tt;
+    touched = touched;
   }
 
   pub starts_founded : (old new : NodeState D) (answer said : Result Bool RestartFault) → StartsAgain told state own alloc old new answer
@@ -48,4 +51,4 @@ module _ {D : Type 0} (told : Type 0) (state : D → DiskState) (own : D → ℕ
   starts_founded old new answer said starts (inl same) = subst (StartsAgain told state own alloc old new) (sym same) starts
   starts_founded (states.Up running) new answer said starts (inr other) = absurd (cc (sym starts.1 ∙ other.0))
   starts_founded (states.Down stopped) new answer said starts (inr other) =
-      refused stopped new said starts.restarted starts.is starts.node (sym starts.said ∙ other.0) other.1 starts.moments
+      refused stopped new said starts.restarted starts.is starts.node (sym starts.said ∙ other.0) other.1 starts.moments starts.touched

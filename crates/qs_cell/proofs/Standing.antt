@@ -8,7 +8,7 @@ use Rattle.qs_disk.specs.Fuse.{FusedValue}
 use Rattle.qs_disk.specs.Moments.{Keeps}
 use Rattle.qs_files.specs.declared.files.Files.{Files}
 use Rattle.qs_host.specs.Host.{HostValue, IsLogAfter, IsOldOrAfter}
-use Rattle.qs_incarnation.specs.Incarnation.{open_limit, IsRaisedLog, IsReopened, IsArmed, HasOneOf}
+use Rattle.qs_incarnation.specs.Incarnation.{open_limit, IsLeftOrRaised, IsRaisedLog, IsReopened, IsArmed, HasOneOf}
 use Rattle.qs_journal.specs.declared.script_line.Point.{Point}
 use Rattle.qs_lanes.specs.declared.ends.NodeEnds.{NodeEnds}
 use Rattle.qs_log.specs.Log.{LogValue, Stands, records_of}
@@ -70,13 +70,15 @@ setting_made own size occasion old (outcomes.CutOff stopped) is = is.setting
 pub makes_of : {D : Type 0} (told : Type 0) (state : D → DiskState) (own size : D → ℕ) (occasion : Occasion) (old : Up D) (outcome : Outcome D Files NoServer)
     (new : NodeState D) (answers : List ClientAnswer) → IsOutcome own (size old.host.log.disk.disk) occasion old outcome → new ≡ state_of outcome
     → answers ≡ answers_of outcome
+    → (told → IfStands outcome (λ disk. StandsAfter (out_of (size old.host.log.disk.disk) occasion old) old.host.log disk (state disk.disk)))
     → (told → Keeps (IsOldOrAfter (out_of (size old.host.log.disk.disk) occasion old) old.host.log) (state old.host.log.disk.disk) (state (disk_after outcome).disk))
     → Makes told state own size occasion old new answers
-makes_of {D} told state own size occasion old outcome new answers is node said moments = record {
+makes_of {D} told state own size occasion old outcome new answers is node said stands moments = record {
   outcome = outcome;
   is = is;
   node = node;
   said = said;
+  stands = stands;
   moments = λ yes. subst (λ (d : FusedValue D).
       Keeps (IsOldOrAfter (out_of (size old.host.log.disk.disk) occasion old) old.host.log) (state old.host.log.disk.disk) (state d.disk))
       (disk_made outcome ∙ ap (λ (n : NodeState D). disk_of n) (sym node)) (moments yes);
@@ -131,16 +133,17 @@ started_moments {D} state P s alloc setting crashes points log running begins ke
 
 pub started_of : {D : Type 0} (told : Type 0) (state : D → DiskState) (alloc : Global) (disk : D) (setting : Setting) (ends : List NodeEnds) (plan : NodePlan)
     (log : LogValue (FusedValue D)) (running : Up D) (found : Recovered) (faults : ℕ) → Begins alloc setting plan.crashes plan.points log running → found ≡ found_in log
-    → (told → IsRaisedLog open_limit (state disk).content log) → IsArmed plan.stops log.disk.fuse
+    → (told → IsRaisedLog open_limit (state disk).content log) → IsArmed plan.stops log.disk.fuse → (told → Stands log (state log.disk.disk))
     → IsStarted told state alloc disk setting ends plan
     (record { alloc = alloc; seat = record { node = states.Up running; ends = ends }; opened = opened_with running.carried.setting found; faults = faults })
-started_of {D} told state alloc disk setting ends plan log running found faults begins is raised armed =
+started_of {D} told state alloc disk setting ends plan log running found faults begins is raised armed stands =
     let same : log ≡ running.host.log = sym (ap (λ (h : HostValue (FusedValue D)). h.log) begins.host) in
     record {
       running = running;
       node = refl;
       begins = subst (λ (l : LogValue (FusedValue D)). Begins alloc setting plan.crashes plan.points l running) same begins;
       raised = λ yes. subst (λ (l : LogValue (FusedValue D)). IsRaisedLog open_limit (state disk).content l) same (raised yes);
+      stands = λ yes. subst (λ (l : LogValue (FusedValue D)). Stands l (state l.disk.disk)) same (stands yes);
       armed = subst (λ (l : LogValue (FusedValue D)). IsArmed plan.stops l.disk.fuse) same armed;
       lanes = refl;
       opened = ap (λ (s : Setting). opened_with s found) begins.setting ∙ ap (opened_with (setting_in log setting)) is
@@ -195,17 +198,23 @@ pub restarts_of : {D : Type 0} (told : Type 0) (state : D → DiskState) (own : 
     → (told → IfUp restarted (λ log. (a b : List Record) → EachImage (HasOneOf a b) (state old.disk.disk).now → (records_of log ≡ a) ⊎ (records_of log ≡ b)))
     → (told → (a b : List Record) → EachImage (HasOneOf a b) (state old.disk.disk).now
     → Keeps (HasOneOf a b) (state old.disk.disk) (state (restarted_disk restarted).disk))
+    → (told → IfUp restarted (λ log. Stands log (state log.disk.disk)))
+    → (told → Keeps (IsLeftOrRaised (state old.disk.disk)) (state old.disk.disk) (state (restarted_disk restarted).disk))
     → Restarts told state own alloc old new answer
-restarts_of {D} told state own alloc old restarted new answer is node said reopened found moments = record {
+restarts_of {D} told state own alloc old restarted new answer is node said reopened found moments stands touched = record {
   restarted = restarted;
   is = is;
   node = node;
   said = said;
   reopened = reopened;
   found = found;
-  moments = λ yes a b here. subst (λ (d : FusedValue D). Keeps (HasOneOf a b) (state old.disk.disk) (state d.disk))
-      (disk_restarted restarted ∙ ap (λ (n : NodeState D). disk_of n) (sym node)) (moments yes a b here);
+  moments = λ yes a b here. subst (λ (d : FusedValue D). Keeps (HasOneOf a b) (state old.disk.disk) (state d.disk)) same (moments yes a b here);
+  stands = stands;
+  touched = λ yes. subst (λ (d : FusedValue D). Keeps (IsLeftOrRaised (state old.disk.disk)) (state old.disk.disk) (state d.disk)) same (touched yes);
 }
+  where
+    same : restarted_disk restarted ≡ disk_of new
+    same = disk_restarted restarted ∙ ap (λ (n : NodeState D). disk_of n) (sym node)
 
 pub stands_restarted : {D : Type 0} (state : D → DiskState) (restarted : Restarted D Files NoServer) → IfUp restarted (λ log. Stands log (state log.disk.disk))
     → LogStands state (state_after restarted)

@@ -1,5 +1,5 @@
 -- What an event of a cell does: a whole step, a crash right behind it, a crash in place of it, or one that cuts it off.
-use Rattle.std.specs.Prelude.{◌≡◌, ◌⊎◌, ℕ, ◌==◌, Bool, true, false, List, map, Option, Some, None, if◌then◌else◌}
+use Rattle.std.specs.Prelude.{◌≡◌, ◌⊎◌, ℕ, ◌==◌, ◌&&◌, Bool, true, false, List, map, Option, Some, None, if◌then◌else◌}
 use Rattle.std.specs.List.{list_any}
 use Rattle.qs_disk.specs.Disk.{DiskState}
 use Rattle.qs_disk.specs.Fuse.{FusedValue}
@@ -7,6 +7,7 @@ use Rattle.qs_host.specs.Host.{effects_at, node_after, log_after, IsLogAfter}
 use Rattle.qs_journal.specs.declared.entry.CrashCause.{CrashCause}
 use Rattle.qs_journal.specs.declared.entry.CrashCause.TheVariants as causes
 use Rattle.qs_log.specs.Log.{LogValue, Stands}
+use Rattle.qs_machine.specs.Clauses.{is_crash}
 use Rattle.qs_step.specs.declared.event.ClientAnswer.{ClientAnswer}
 use Rattle.qs_step.specs.declared.event.Effects.{Effects}
 use Rattle.qs_step.specs.declared.trace.Did.TheVariants as dids
@@ -57,10 +58,12 @@ abbrev pub spent_after : Effects → Seen → Option CrashCause → List Watched
 spent_after out s (Some cause) = s.points
 spent_after out s None = spent out.entries s.points
 
--- a fault of the disk is by plan where the fuse before it tripped, and else the disk's own
+-- a fault of the disk is by plan where the fuse before it tripped, and else the disk's own, whose count of faults rose or stands at its last value;
+-- where neither count tells it, as that of trips stands at its last value, the fuse tripped
 abbrev pub fault_cause : {D : Type 0} → (D → ℕ) → FusedValue D → FusedValue D → CrashCause
 fault_cause own before now =
-    if before.fuse.trips == now.fuse.trips then causes.Disk (own before.disk) (own now.disk) else causes.Plan
+    if (before.fuse.trips == now.fuse.trips) && is_crash (causes.Disk (own before.disk) (own now.disk)) then causes.Disk (own before.disk) (own now.disk)
+    else causes.Plan
 
 -- ---- what comes of an event
 

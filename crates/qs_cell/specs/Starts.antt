@@ -77,6 +77,7 @@ pub record IsStarted {D : Type 0} (told : Type 0) (state : D → DiskState) (all
   pub node : new.seat.node ≡ states.Up running
   pub begins : Begins alloc setting plan.crashes plan.points running.host.log running
   pub raised : told → IsRaisedLog open_limit (state disk).content running.host.log
+  pub stands : told → LogStands state (states.Up running)
   pub armed : IsArmed plan.stops running.host.log.disk.fuse
   pub lanes : new.seat.ends ≡ ends
   pub opened : new.opened ≡ opened_with (setting_in running.host.log setting) (found_in running.host.log)

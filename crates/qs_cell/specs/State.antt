@@ -8,7 +8,7 @@ use Rattle.qs_files.specs.declared.files.Files.{Files}
 use Rattle.qs_host.specs.Host.{is_settled}
 use Rattle.qs_ipc.specs.Ipc as ipc
 use Rattle.qs_journal.specs.declared.entry.CrashCause.{CrashCause}
-use Rattle.qs_incarnation.specs.Incarnation.{IsReopened, HasOneOf}
+use Rattle.qs_incarnation.specs.Incarnation.{IsLeftOrRaised, IsReopened, HasOneOf}
 use Rattle.qs_incarnation.specs.declared.incarnation.ReopenFault.{ReopenFault}
 use Rattle.qs_incarnation.specs.declared.incarnation.ReopenFault.TheVariants as reopen_faults
 use Rattle.qs_log.specs.Log.{Stands, records_of}
@@ -98,17 +98,19 @@ abbrev pub answer_after : {D : Type 0} → Restarted D Files NoServer → Result
 answer_after (restarts.Up running) = Ok true
 answer_after (restarts.Down stopped why) = answer_of why
 
--- the node that was down is started again, over what a power cut leaves: each image keeps the records that images had, and
--- the log of a node that is up has those of one
+-- the node that was down is started again, over what a power cut leaves: each image keeps the records that images had, and is changed at most by the
+-- raise of the incarnation; and the log of a node that is up stands there and has the records of one
 pub record Restarts {D : Type 0} (told : Type 0) (state : D → DiskState) (own : D → ℕ) (alloc : Global) (old : Stopped D) (new : NodeState D) (answer : Result Bool RestartFault) : Type 0 where
   pub restarted : Restarted D Files NoServer
   pub is : IsRestarted own alloc old restarted
   pub node : new ≡ state_after restarted
   pub said : answer ≡ answer_after restarted
   pub reopened : told → IfUp restarted (IsReopened (state old.disk.disk))
+  pub stands : told → IfUp restarted (λ log. Stands log (state log.disk.disk))
   pub found : told → IfUp restarted (λ log. (a b : List Record) → EachImage (HasOneOf a b) (state old.disk.disk).now → (records_of log ≡ a) ⊎ (records_of log ≡ b))
   pub moments : told → (a b : List Record) → EachImage (HasOneOf a b) (state old.disk.disk).now
       → Keeps (HasOneOf a b) (state old.disk.disk) (state (disk_of new).disk)
+  pub touched : told → Keeps (IsLeftOrRaised (state old.disk.disk)) (state old.disk.disk) (state (disk_of new).disk)
 
 -- a node that is up is left alone
 abbrev pub StartsAgain : {D : Type 0} → Type 0 → (D → DiskState) → (D → ℕ) → Global → NodeState D → NodeState D → Result Bool RestartFault → Type 0

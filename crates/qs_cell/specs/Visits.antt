@@ -20,7 +20,7 @@ use Rattle.qs_chronicle.specs.declared.carried.Carried.{Carried}
 use Rattle.qs_chronicle.specs.declared.carried.Held.{Held}
 use Rattle.qs_chronicle.specs.declared.occasion.Occasion.{Occasion}
 use Rattle.qs_chronicle.specs.declared.occasion.Occasion.TheVariants as occasions
-use Rattle.qs_cell.specs.Cell.{IsOutcome, out_of}
+use Rattle.qs_cell.specs.Cell.{IfStands, IsOutcome, StandsAfter, out_of}
 use Rattle.qs_lanes.specs.Lanes.{next_line, at_client, without_line, delivered}
 use Rattle.qs_cell.specs.Restart.{in_round_as}
 use Rattle.qs_cell.specs.State.{Up, IsSeenAs, disk_of, carried_of, is_queued, state_of, answers_of}
@@ -80,12 +80,14 @@ all_delivered answers ends = fold deliver ends answers
 
 -- ---- an event
 
--- the node made it: at each moment each image has the records of before the step, or those of after it
+-- the node made it: where the step stands the log stands on the disk with it, and at each moment each image has the records of before the step, or
+-- those of after it
 pub record Makes {D : Type 0} (told : Type 0) (state : D → DiskState) (own size : D → ℕ) (occasion : Occasion) (old : Up D) (new : NodeState D) (answers : List ClientAnswer) : Type 0 where
   pub outcome : Outcome D Files NoServer
   pub is : IsOutcome own (size old.host.log.disk.disk) occasion old outcome
   pub node : new ≡ state_of outcome
   pub said : answers ≡ answers_of outcome
+  pub stands : told → IfStands outcome (λ disk. StandsAfter (out_of (size old.host.log.disk.disk) occasion old) old.host.log disk (state disk.disk))
   pub moments : told → Keeps (IsOldOrAfter (out_of (size old.host.log.disk.disk) occasion old) old.host.log)
       (state old.host.log.disk.disk) (state (disk_of new).disk)
 

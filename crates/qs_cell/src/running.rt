@@ -6,6 +6,7 @@ ghost use Rattle.qs_host.specs.Host.{IsOldOrAfter, worked_node, effects_at};
 ghost use Rattle.qs_host.specs.declared.down.HostFault.TheVariants as faults;
 ghost use Rattle.qs_journal.specs.declared.entry.CrashCause.TheVariants as causes;
 ghost use Rattle.qs_log.specs.Log.{Stands};
+ghost use Rattle.qs_machine.specs.Clauses.{is_crash};
 ghost use Rattle.qs_chronicle.specs.Chronicle.{HasRoom, entry_of, noted};
 ghost use Rattle.qs_chronicle.specs.Carried.{seen, answered};
 ghost use Rattle.qs_chronicle.specs.Occasions.{taken, event_of, did_of};
@@ -236,14 +237,19 @@ fn cut_cause<D: Disk, X: Server>(down: &HostDown<Fused<D>, X>, trips: u64, own: 
 fn fault_cause<D: Disk>(disk: &Fused<D>, trips: u64, own: u64) -> CrashCause
     ensures { (before : FusedValue D) → before.fuse.trips ≡ trips → D.fault_count before.disk ≡ own → result ≡ fault_cause D.fault_count before disk.now }
 {
-    if trips == disk.trips() {
-        CrashCause::Disk {
-            from: own,
-            to: disk.own_faults(),
-        }
+    let now = disk.own_faults();
+    if trips == disk.trips() && has_risen(own, now) {
+        CrashCause::Disk { from: own, to: now }
     } else {
         CrashCause::Plan
     }
+}
+
+/// Whether a count of faults has risen, or stands at its last value.
+fn has_risen(before: u64, now: u64) -> bool
+    ensures { result ≡ is_crash (causes.Disk before now) }
+{
+    before < now || (before == u64::MAX && now == u64::MAX)
 }
 
 /// The step stands; a line of the script may stop the node right behind it.

@@ -6,7 +6,7 @@ ghost use Rattle.qs_cell.specs.Within.{IsStopped, IsLeftDown, Begins};
 ghost use Rattle.qs_cell.specs.declared.stopped.Restarted.TheVariants as restarts;
 ghost use Rattle.qs_disk.specs.Disk.{EachImage};
 ghost use Rattle.qs_disk.specs.Moments.{Keeps};
-ghost use Rattle.qs_incarnation.specs.Incarnation.{IsReopened, HasOneOf};
+ghost use Rattle.qs_incarnation.specs.Incarnation.{IsLeftOrRaised, IsReopened, HasOneOf};
 ghost use Rattle.qs_log.specs.Log.{Stands, records_of};
 ghost use Rattle.qs_ops.specs.declared.server.Kind.TheVariants as kinds;
 ghost use Rattle.qs_record.specs.declared.record.Record.{Record};
@@ -111,9 +111,10 @@ impl<D: Disk> Stopped<D> {
         ensures stands { D.told → IfUp result (λ log. Stands log (D.state log.disk.disk)) }
         ensures found { D.told → IfUp result (λ log. (a b : List Record) → EachImage (HasOneOf a b) (D.state self.disk.disk).now → (records_of log ≡ a) ⊎ (records_of log ≡ b)) }
 
-        // At each moment each image has the records that images had before.
+        // At each moment each image has the records that images had before, and is changed at most by the raise.
         ensures moments { D.told → (a b : List Record) → EachImage (HasOneOf a b) (D.state self.disk.disk).now
             → Keeps (HasOneOf a b) (D.state self.disk.disk) (D.state (restarted_disk result).disk) }
+        ensures touched { D.told → Keeps (IsLeftOrRaised (D.state self.disk.disk)) (D.state self.disk.disk) (D.state (restarted_disk result).disk) }
         ensures size { D.byte_count (restarted_disk result).disk ≡ D.byte_count self.disk.disk }
     {
         let Stopped {

@@ -7,7 +7,7 @@ use Rattle.qs_disk.proofs.Moments.{keeps_trans, keeps_weaken, cut_keeps, cut_con
 use Rattle.qs_disk.specs.Disk.{DiskState, IsImage, EachImage, Cuts}
 use Rattle.qs_disk.specs.Moments.{Keeps}
 use Rattle.qs_disk.specs.Fuse.{FusedValue}
-use Rattle.qs_incarnation.specs.Incarnation.{reopen_limit, IsRaisedLog, IsReopened, IsOldOrRaised, IsTouched, HasLogOf, HasOneOf}
+use Rattle.qs_incarnation.specs.Incarnation.{reopen_limit, IsRaisedLog, IsReopened, IsOldOrRaised, IsTouched, IsLeftOrRaised, HasOneOf}
 use Rattle.qs_log.specs.Image.{IsLog, live_area}
 use Rattle.qs_log.specs.Log.{LogValue, Stands, HasSameRecords, IsSameButFuse, raised_of}
 use Rattle.qs_log.specs.Log.{IsOldOrRaised as IsOldOrRaisedLog}
@@ -145,3 +145,21 @@ found_if s t cut x (Err e) done cuts raised = raised
 pub kept_moments : {A E : Type 0} (s t u : DiskState) (cut : Result A E) (x : A) → cut ≡ Ok x → Cuts (is_ok cut) s t → Keeps (IsTouched t) t u
     → (a b : List Record) → EachImage (HasOneOf a b) s.now → Keeps (HasOneOf a b) s u
 kept_moments s t u cut x done cuts keeps a b here = touched_holds a b s t u (is_ok cut) here cuts (cut_is_done cut x done) keeps
+
+pub left_by_cut : (ok : Bool) (s t : DiskState) → Cuts ok s t → Keeps (IsLeftOrRaised s) s t
+left_by_cut ok s t cuts = cut_keeps (IsLeftOrRaised s) ok s t (λ c image. inl image) cuts
+
+-- each image is one that a power cut might have left, or has the log of one that is raised
+left_or_raised : (s t u : DiskState) (ok : Bool) → Cuts ok s t → IsTrue ok → Keeps (IsTouched t) t u → Keeps (IsLeftOrRaised s) s u
+left_or_raised s t u ok cuts done keeps =
+    keeps_trans (IsLeftOrRaised s) s t u (left_by_cut ok s t cuts)
+    (keeps_weaken (IsTouched t) (IsLeftOrRaised s) t u (λ c touched. elim touched [
+      | inl image ↦ inl (cuts.images c image)
+      | inr other ↦ elim other [
+        | inl same ↦ inl (subst (IsImage s.now) (sym same) (cuts.left done))
+        | inr raised ↦ inr (record { content = t.content; image = cuts.left done; says = raised })
+      ]
+    ]) keeps)
+
+pub left_moments : {A E : Type 0} (s t u : DiskState) (cut : Result A E) (x : A) → cut ≡ Ok x → Cuts (is_ok cut) s t → Keeps (IsTouched t) t u → Keeps (IsLeftOrRaised s) s u
+left_moments s t u cut x done cuts keeps = left_or_raised s t u (is_ok cut) cuts (cut_is_done cut x done) keeps

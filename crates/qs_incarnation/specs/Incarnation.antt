@@ -1,6 +1,6 @@
 -- How the log of a node begins an incarnation, as a run begins and again after a power cut, and what that leaves on the disk.
-use Rattle.std.specs.Prelude.{◌≡◌, ◌≢◌, ◌⊎◌, ℕ, ◌-◌, ◌^◌, List, [], Option, Some, Ok, Result, Err}
-use Rattle.qs_disk.specs.Disk.{DiskState, IsImage, EachImage}
+use Rattle.std.specs.Prelude.{◌≡◌, ◌≢◌, ◌⊎◌, ℕ, ◌-◌, ◌^◌, List, [], Some, Ok, Result, Err}
+use Rattle.qs_disk.specs.Disk.{DiskState, IsImage}
 use Rattle.qs_disk.specs.Fuse.{FuseValue, FusedValue}
 use Rattle.qs_incarnation.specs.declared.incarnation.LogReopen.{LogReopen}
 use Rattle.qs_log.specs.Image.{IsLog}
@@ -45,6 +45,16 @@ pub record IsOldOrRaised (content c : List ℕ) : Type 0 where
 -- an image of before, the content of before, or its log in the next incarnation
 abbrev pub IsTouched : DiskState → List ℕ → Type 0
 IsTouched old c = IsImage old.now c ⊎ ((c ≡ old.content) ⊎ IsOldOrRaised old.content c)
+
+-- the image has the log of one that a power cut may have left before, with its incarnation or the next
+pub record IsRaisedFrom (old : DiskState) (c : List ℕ) : Type 0 where
+  pub content : List ℕ
+  pub image : IsImage old.now content
+  pub says : IsOldOrRaised content c
+
+-- an image of before, or its log in the next incarnation
+abbrev pub IsLeftOrRaised : DiskState → List ℕ → Type 0
+IsLeftOrRaised old c = IsImage old.now c ⊎ IsRaisedFrom old c
 
 -- the image has a log of these records
 pub record HasLogOf (records : List Record) (image : List ℕ) : Type 0 where

@@ -3,7 +3,7 @@ ghost use Rattle.std.specs.Prelude.{◌≡◌, ◌≢◌, ◌↔◌, ◌⊎◌, 
 ghost use Rattle.qs_base.specs.Causes.{Rose};
 ghost use Rattle.qs_disk.specs.Disk.{EachImage};
 ghost use Rattle.qs_disk.specs.Moments.{Keeps};
-ghost use Rattle.qs_incarnation.specs.Incarnation.{open_limit, IsRaisedLog, IsReopened, IsTouched, HasOneOf, IsArmed, HasTripped, disk_of};
+ghost use Rattle.qs_incarnation.specs.Incarnation.{open_limit, IsRaisedLog, IsReopened, IsTouched, IsLeftOrRaised, HasOneOf, IsArmed, HasTripped, disk_of};
 ghost use Rattle.qs_incarnation.specs.declared.incarnation.ReopenFault.TheVariants as reopen_faults;
 ghost use Rattle.qs_log.specs.Image.{IsDamaged};
 ghost use Rattle.qs_log.specs.Log.{Stands, HasSameRecords, IsOldOrRaised, raised_of, top_of};
@@ -149,9 +149,10 @@ pub fn begin_again<D: Disk>(alloc: Global, disk: Fused<D>) -> Result<Log<Fused<D
     ensures tripped { IfErr result (λ back. (back.why ≡ reopen_faults.Tripped) ↔ HasTripped disk back.disk) }
     ensures failed { IfErr result (λ back. back.why ≡ reopen_faults.DiskFailed → Rose (D.fault_count disk.disk) (D.fault_count back.disk.disk)) }
 
-    // Each image has the records that images had before.
+    // Each image has the records that images had before, and is changed at most by the raise.
     ensures moments { D.told → (a b : List Record) → EachImage (HasOneOf a b) (D.state disk.disk).now
         → Keeps (HasOneOf a b) (D.state disk.disk) (D.state (disk_of result).disk) }
+    ensures touched { D.told → Keeps (IsLeftOrRaised (D.state disk.disk)) (D.state disk.disk) (D.state (disk_of result).disk) }
     ensures size { D.byte_count (disk_of result).disk ≡ D.byte_count disk.disk }
 {
     let before = Counts::of(&disk);
@@ -172,6 +173,7 @@ fn after_power_cut<D: Disk>(
     ensures found { D.told → IfOk result (λ log. (a b : List Record) → EachImage (HasOneOf a b) (D.state disk.disk).now → (log.forced ≡ a) ⊎ (log.forced ≡ b)) }
     ensures moments { D.told → (a b : List Record) → EachImage (HasOneOf a b) (D.state disk.disk).now
         → Keeps (HasOneOf a b) (D.state disk.disk) (D.state (log_disk result).disk) }
+    ensures touched { D.told → Keeps (IsLeftOrRaised (D.state disk.disk)) (D.state disk.disk) (D.state (log_disk result).disk) }
     ensures size { D.byte_count (log_disk result).disk ≡ D.byte_count disk.disk }
 {
     let mut disk = disk;

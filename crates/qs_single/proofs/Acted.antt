@@ -1,9 +1,9 @@
 -- A visit goes on in the world turn by turn: the clients by number, then the queues and the clock.
-use Rattle.std.proofs.Common.{inl, inr, refl, subst, sym, ℕ, Bool, true, false, List, [], ◌∷◌, ◌++◌, Option, Some, None, Ok, map, if◌then◌else◌}
+use Rattle.std.proofs.Common.{◌≡◌, ◌∙◌, ap, inl, inr, refl, subst, sym, ℕ, Bool, true, false, List, [], ◌∷◌, ◌++◌, Option, Some, None, Ok, map, if◌then◌else◌}
 use Rattle.std.specs.Prelude.{⊤}
 use Rattle.qs_cell.specs.Starts.{CellValue}
-use Rattle.qs_cell.specs.State.{StartsAgain, Up, is_queued}
-use Rattle.qs_cell.specs.Visits.{Seat, TurnsAll, client_source, due, left_by, sources_of}
+use Rattle.qs_cell.specs.State.{StartsAgain, Up, cause_of, is_queued}
+use Rattle.qs_cell.specs.Visits.{IsSameNode, Seat, TakesTurn, TurnsAll, client_source, due, left_by, sources_of}
 use Rattle.qs_cell.specs.declared.state.NodeState.{NodeState}
 use Rattle.qs_cell.specs.declared.state.NodeState.TheVariants as states
 use Rattle.qs_cell.specs.declared.stopped.Stopped.{Stopped}
@@ -11,9 +11,11 @@ use Rattle.qs_chronicle.specs.declared.occasion.Occasion.{Occasion}
 use Rattle.qs_chronicle.specs.declared.occasion.Occasion.TheVariants as occasions
 use Rattle.qs_client.specs.declared.cell.ClientCell.{ClientCell}
 use Rattle.qs_disk.specs.Disk.{DiskState}
+use Rattle.qs_journal.specs.declared.entry.CrashCause.{CrashCause}
 use Rattle.qs_lanes.specs.declared.ends.NodeEnds.{NodeEnds}
+use Rattle.qs_rounds.specs.Rounds.{is_refused}
 use Rattle.qs_world.specs.World.{World}
-use Rattle.qs_single.specs.Acting.{AreOfClients, AreSureTurns, IsLaterIf, StartsGoOn, TellsHistory, VisitsGoOn}
+use Rattle.qs_single.specs.Acting.{AreOfClients, AreGivenTurns, StartsGoOn, TellsHistory, VisitsGoOn}
 use Rattle.qs_single.specs.Reached.{IsInWorld}
 use Rattle.qs_single.specs.Seats.{HasCell, OfClient, OfNode}
 use Rattle.qs_single.specs.Visiting.{IsOwn, IsTurnOf}
@@ -60,34 +62,63 @@ module _ {D : Type 0} (told : Type 0) (state : D → DiskState) (own size : D �
   its_own : AreOwn due left_by (sources_of [])
   its_own = join due left_by (sources_of []) its_split
 
-  own_turns : (sources : List _) (old new : Seat D) (turns : TurnsAll told state own size sources old new) → AreOwn due left_by sources → AreSureTurns told state own size sources old new turns
+  -- a node that is down stays so, for the same cause
+  record IsDownAs (stopped : Stopped D) (ready : NodeState D) : Type 0 where
+    again : Stopped D
+    is : ready ≡ states.Down again
+    cause : again.cause ≡ stopped.cause
+
+  ready_down : (stopped : Stopped D) (ready : NodeState D) → IsSameNode (states.Down stopped) ready → IsDownAs stopped ready
+  ready_down stopped (states.Up running) same = absurd same
+  ready_down stopped (states.Down again) same = record { again = again; is = refl; cause = same.1.1.0 }
+
+  turn_down : (stopped : Stopped D) (ready : NodeState D) (source : _) (ends : List NodeEnds) (mid : Seat D) → ready ≡ states.Down stopped
+      → TakesTurn told state own size (due source ready ends) (left_by source ready ends) (record { node = ready; ends = ends }) mid → mid.node ≡ states.Down stopped
+  turn_down stopped (states.Up running) source ends mid is turn = absurd (cc is)
+  turn_down stopped (states.Down again) source ends mid is turn = ap (λ (s : Seat D). s.node) turn ∙ is
+
+  stays_down : (stopped : Stopped D) (sources : List _) (old new : Seat D) → TurnsAll told state own size sources old new → old.node ≡ states.Down stopped → cause_of new.node ≡ Some stopped.cause
+  stays_down stopped [] old new turns is = ap (λ (s : Seat D). cause_of s.node) turns ∙ ap (λ (n : NodeState D). cause_of n) is
+  stays_down stopped (source ∷ sources) old new (mid, (turn, rest)) is =
+      let down : IsDownAs stopped turn.ready = ready_down stopped turn.ready (subst (λ (n : NodeState D). IsSameNode n turn.ready) is turn.same) in
+      stays_down down.again sources mid new rest (turn_down down.again turn.ready source old.ends mid down.is turn.turn) ∙ ap (λ (c : CrashCause). Some c) down.cause
+
+  -- where no memory was refused in the end, none was before
+  was_granted : (sources : List _) (mid new : Seat D) → TurnsAll told state own size sources mid new → is_refused (cause_of new.node) ≡ false → is_refused (cause_of mid.node) ≡ false
+  was_granted sources mid new rest granted = by mid.node refl
+    where
+      by : (node : NodeState D) → mid.node ≡ node → is_refused (cause_of node) ≡ false
+      by (states.Up running) is = refl
+      by (states.Down stopped) is = ap is_refused (sym (stays_down stopped sources mid new rest is)) ∙ granted
+
+  own_turns : (sources : List _) (old new : Seat D) (turns : TurnsAll told state own size sources old new) → is_refused (cause_of new.node) ≡ false → AreOwn due left_by sources → AreGivenTurns told state own size sources old new turns
       → IsInWorld told state start old.node old.ends clients → IsInWorld told state start new.node new.ends clients
-  own_turns [] old new turns all sure was = subst (λ (s : Seat D). IsInWorld told state start s.node s.ends clients) (sym turns) was
-  own_turns (source ∷ sources) old new (mid, (turn, rest)) all sure was = own_turns sources mid new rest all.1 sure.1
-      (each_turn_goes told state own size start OfNode turn.ready old.ends mid clients (due source turn.ready old.ends) (left_by source turn.ready old.ends) (all.0 turn.ready old.ends) turn.turn sure.0
+  own_turns [] old new turns granted all sure was = subst (λ (s : Seat D). IsInWorld told state start s.node s.ends clients) (sym turns) was
+  own_turns (source ∷ sources) old new (mid, (turn, rest)) granted all sure was = own_turns sources mid new rest granted all.1 sure.1
+      (each_turn_goes told state own size start OfNode turn.ready old.ends mid clients (due source turn.ready old.ends) (left_by source turn.ready old.ends) (all.0 turn.ready old.ends) turn.turn (was_granted sources mid new rest granted) sure.0
       (each_room told state start old.node turn.ready old.ends clients turn.same was))
 
-  all_turns : (ends : List NodeEnds) (old new : Seat D) (turns : TurnsAll told state own size (map client_source ends ++ sources_of []) old new) → AreOfClients ends clients
-      → AreSureTurns told state own size (map client_source ends ++ sources_of []) old new turns → IsInWorld told state start old.node old.ends clients → IsInWorld told state start new.node new.ends clients
-  all_turns [] old new turns all sure was = own_turns (sources_of []) old new turns its_own sure was
-  all_turns (end ∷ ends) old new (mid, (turn, rest)) all sure was = all_turns ends mid new rest (λ e there. all e (inr there)) sure.1
+  all_turns : (ends : List NodeEnds) (old new : Seat D) (turns : TurnsAll told state own size (map client_source ends ++ sources_of []) old new) → is_refused (cause_of new.node) ≡ false → AreOfClients ends clients
+      → AreGivenTurns told state own size (map client_source ends ++ sources_of []) old new turns → IsInWorld told state start old.node old.ends clients → IsInWorld told state start new.node new.ends clients
+  all_turns [] old new turns granted all sure was = own_turns (sources_of []) old new turns granted its_own sure was
+  all_turns (end ∷ ends) old new (mid, (turn, rest)) granted all sure was = all_turns ends mid new rest granted (λ e there. all e (inr there)) sure.1
       (each_turn_goes told state own size start (OfClient end.client) turn.ready old.ends mid clients (due (client_source end) turn.ready old.ends) (left_by (client_source end) turn.ready old.ends)
-      (client_turn end (all end (inl refl)) turn.ready old.ends) turn.turn sure.0
+      (client_turn end (all end (inl refl)) turn.ready old.ends) turn.turn (was_granted (map client_source ends ++ sources_of []) mid new rest granted) sure.0
       (each_room told state start old.node turn.ready old.ends clients turn.same was))
 
 pub each_visit : {D : Type 0} (told : Type 0) (state : D → DiskState) (own size : D → ℕ) (start : World) (old new : Seat D) (clients : List ClientCell) → VisitsGoOn told state own size start old new clients
-each_visit told state own size start old new clients visits sure all was =
-    all_turns told state own size start clients old.ends (record { node = visits.begun; ends = old.ends }) new visits.turns all sure
+each_visit told state own size start old new clients visits granted sure all was =
+    all_turns told state own size start clients old.ends (record { node = visits.begun; ends = old.ends }) new visits.turns granted all sure
     (each_visit_begins told state start old.node visits.begun old.ends clients visits.round was)
 
 pub each_start : {D : Type 0} (told : Type 0) (state : D → DiskState) (own : D → ℕ) (start : World) (old new : CellValue D) (did : Bool) (clients : List ClientCell) → StartsGoOn told state own start old new did clients
-each_start told state own start old new did clients t starts later was =
-    subst (λ (ends : List NodeEnds). IsInWorld told state start new.seat.node ends clients) (sym starts.ends) (by old.seat.node starts.starts later was)
+each_start told state own start old new did clients t starts was =
+    subst (λ (ends : List NodeEnds). IsInWorld told state start new.seat.node ends clients) (sym starts.ends) (by old.seat.node starts.starts was)
   where
-    by : (node : NodeState _) → StartsAgain told state own old.alloc node new.seat.node (Ok did) → IsLaterIf told state node new.seat.node → IsInWorld told state start node old.seat.ends clients
+    by : (node : NodeState _) → StartsAgain told state own old.alloc node new.seat.node (Ok did) → IsInWorld told state start node old.seat.ends clients
         → IsInWorld told state start new.seat.node old.seat.ends clients
-    by (states.Up running) again after shown = subst (λ (n : NodeState _). IsInWorld told state start n old.seat.ends clients) (sym again.0) shown
-    by (states.Down stopped) again after shown = each_restart told state own old.alloc start stopped new.seat.node old.seat.ends clients (Ok did) t again after shown
+    by (states.Up running) again shown = subst (λ (n : NodeState _). IsInWorld told state start n old.seat.ends clients) (sym again.0) shown
+    by (states.Down stopped) again shown = each_restart told state own old.alloc start stopped new.seat.node old.seat.ends clients (Ok did) t again shown
 
 pub each_history : {D : Type 0} (told : Type 0) (state : D → DiskState) (start : World) (node : NodeState D) (ends : List NodeEnds) (clients : List ClientCell) → TellsHistory told state start node ends clients
 each_history told state start (states.Up running) ends clients was = record { moves = was.reached.moves; world = was.reached.world; run = was.reached.run; shows = was.reached.shows.node.told.journal }

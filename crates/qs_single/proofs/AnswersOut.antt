@@ -56,7 +56,7 @@ module _ (k : ClientNo) where
     pub held_is : held_for k (carried.answered said commands) ≡ held_for k commands
     pub none : list_any (is_answer_to k.0) said ≡ false
 
-  left : (said : List ClientAnswer) (ends : List NodeEnds) (commands : Commands) → answers_to k said ≡ [] → IsLeft ends commands said
+  pub left : (said : List ClientAnswer) (ends : List NodeEnds) (commands : Commands) → answers_to k said ≡ [] → IsLeft ends commands said
   left [] ends commands e = record { ends_are = refl; held_is = refl; none = refl }
   left (a ∷ said) ends commands e = by (is_answer_to k.0 a) refl e (left said (deliver ends a) (without commands a))
     where

@@ -154,9 +154,11 @@ moved_in told state start (states.Up running) olds news befores afters on was = 
     shows = record {
       node = was.reached.shows.node;
       rising = was.reached.shows.rising;
+      held = was.reached.shows.held;
       each = on running.carried.setting.inc (Some running.carried.setting.inc) running.carried.commands was.reached.world.clients was.reached.shows.each;
     };
   };
+  inc = was.inc;
   stands = was.stands;
 }
 moved_in told state start (states.Down stopped) olds news befores afters on was = record {
@@ -165,6 +167,7 @@ moved_in told state start (states.Down stopped) olds news befores afters on was 
   to_first = go was.first was.to_first;
   to_other = go was.other was.to_other;
   images = was.images;
+  incs = was.incs;
 }
   where
     go : (log : List Record) → Reached start (SeatDown stopped olds befores log) → Reached start (SeatDown stopped news afters log)

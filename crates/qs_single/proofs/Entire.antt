@@ -41,9 +41,9 @@ seats_of script (c ∷ clients) (e ∷ ends) seats end (inr there) =
 
 pub each_run : {D : Type 0} (told : Type 0) (state : D → DiskState) (own size : D → ℕ) (alloc : Global) (script : Script) (disk : D) (cast : Cast D) (o : Opening) (rng : Lcg) (n : ℕ) (new : Cast D) (later : Lcg)
     → IsRunOfWorld told state own size alloc script disk cast o rng n new later
-each_run told state own size alloc script disk cast o rng n new later t begun stands opens rounds sure =
+each_run told state own size alloc script disk cast o rng n new later t begun opens rounds sure =
     let was : IsCastIn told state (start o) cast = record {
-      carried = each_cast told state own alloc script disk cast o t begun stands opens;
+      carried = each_cast told state own alloc script disk cast o t begun opens;
       lanes = seats_of script cast.clients cast.node.seat.ends begun.seats;
     } in
     let now : IsCastIn told state (start o) new = each_rounds told state own size (start o) rng n cast new later t rounds sure was in
@@ -67,7 +67,7 @@ each_book told state own alloc script disk cast o t begun opens =
 
 pub each_lawful : {D : Type 0} (told : Type 0) (state : D → DiskState) (own size : D → ℕ) (alloc : Global) (script : Script) (disk : D) (cast : Cast D) (o : Opening) (rng : Lcg) (n : ℕ) (new : Cast D) (later : Lcg)
     → IsLawfulAsRuns told state own size alloc script disk cast o rng n new later
-each_lawful told state own size alloc script disk cast o rng n new later t begun stands opens rounds sure is_opening lawful =
-    let run : Reached (start o) (λ world. world.journal ≡ journal_of new.node) = each_run told state own size alloc script disk cast o rng n new later t begun stands opens rounds sure in
+each_lawful told state own size alloc script disk cast o rng n new later t begun opens rounds sure is_opening lawful =
+    let run : Reached (start o) (λ world. world.journal ≡ journal_of new.node) = each_run told state own size alloc script disk cast o rng n new later t begun opens rounds sure in
     subst (λ (b : BookValue). IsLawful b (journal_of new.node)) (each_book told state own alloc script disk cast o t begun opens)
     (subst (λ (l : List Entry). IsLawful (book_of o) l) run.shows (lawful run.moves run.world is_opening run.run))

@@ -16,8 +16,15 @@ pub mod Hands
 pub mod Handing
 -- The clients of a cell as answers go out.
 pub mod AnswersOut
+-- What a node does of itself answers nobody.
+pub mod AnswersNobody
+-- A step answers each client once.
+pub mod AnswersOnce
+pub mod StepAnswers
 -- An event that is due comes.
 pub mod Taking
+-- What waits at the node is in hand.
+pub mod InHand
 -- A cell and its clients through an event and a restart.
 pub mod Seated
 -- Runs are made longer.

@@ -4,14 +4,14 @@ use Rattle.std.proofs.lemmas.Bool.Decides.{nat_tests}
 use Rattle.std.specs.Global.{Global}
 use Rattle.std.specs.Prelude.{⊤}
 use Rattle.qs_base.specs.declared.identifiers.ClientNo.{ClientNo}
-use Rattle.qs_cell.specs.State.{LogStands}
 use Rattle.qs_cell.specs.declared.state.NodeState.{NodeState}
-use Rattle.qs_cell.specs.declared.state.NodeState.TheVariants as states
 use Rattle.qs_channels.specs.Network.{Among}
 use Rattle.qs_chronicle.specs.Carried.{Commands, Seen}
 use Rattle.qs_client.specs.declared.cell.ClientCell.{ClientCell}
 use Rattle.qs_client.specs.declared.progress.Progress.{Progress}
 use Rattle.qs_disk.specs.Disk.{DiskState}
+use Rattle.qs_disk.specs.Fuse.{FusedValue}
+use Rattle.qs_host.specs.Host.{HostValue}
 use Rattle.qs_journal.specs.declared.script_line.ScriptLine.{ScriptLine}
 use Rattle.qs_lanes.specs.Lanes.{ends_of, is_of}
 use Rattle.qs_lanes.specs.declared.ends.NodeEnds.{NodeEnds}
@@ -23,6 +23,7 @@ use Rattle.qs_rounds.specs.Seats.{AreSeated, HasBegun, IsSeated, has_seat, numbe
 use Rattle.qs_statements.specs.declared.script.Script.{Script}
 use Rattle.qs_statements.specs.declared.script.Seat.{Seat}
 use Rattle.qs_step.specs.State.{client_cmp}
+use Rattle.qs_step.specs.declared.setting.Setting.{Setting}
 use Rattle.qs_world.specs.Moves as moves
 use Rattle.qs_world.specs.World.{Opening, start}
 use Rattle.qs_single.specs.Carrying.{AreApart, IsCarried}
@@ -30,6 +31,7 @@ use Rattle.qs_single.specs.Opened.{CastBegins, OpensScript}
 use Rattle.qs_single.specs.Reached.{IsInWorld}
 use Rattle.qs_single.specs.Showing.{ShowsIn}
 use Rattle.qs_single.proofs.Begins.{each_begins}
+use Rattle.qs_single.proofs.InHand.{none_waits}
 
 -- ---- the numbers of those who have a seat
 
@@ -148,7 +150,7 @@ smaller n few many less within = grind (arith, nat_tests)
 -- ---- the cast
 
 module _ {D : Type 0} (told : Type 0) (state : D → DiskState) (own : D → ℕ) (alloc : Global) (script : Script) (disk : D) (cast : Cast D) (o : Opening) (t : told) (begun : HasBegun told state own alloc script disk cast)
-    (stands : told → LogStands state (states.Up begun.started.running)) (opens : OpensScript alloc script cast.clients begun.started.running.host.log o) where
+    (opens : OpensScript alloc script cast.clients begun.started.running.host.log o) where
   apart : AreApart cast.clients
   unfolding seated
   apart = clients_apart cast.clients (subst NumbersApart (sym begun.clients) numbers)
@@ -204,12 +206,14 @@ module _ {D : Type 0} (told : Type 0) (state : D → DiskState) (own : D → ℕ
         shows = record {
           node = each_begins alloc _ _ _ begun.started.running.host.log begun.started.running o begun.started.begins refl (begun.started.raised t).waiting opens.node;
           rising = subst (λ (c : Commands). IsRising client_cmp c) (sym no_commands) tt;
+          held = none_waits begun.started.running.host.node.commands begun.started.running.carried.commands (ap (λ (h : HostValue (FusedValue D)). h.node.commands) begun.started.begins.host);
           each = shown;
         };
       };
-      stands = stands;
+      inc = sym (ap (λ (s : Setting). s.inc) begun.started.begins.setting);
+      stands = begun.started.stands;
     });
   }
 
 pub each_cast : {D : Type 0} (told : Type 0) (state : D → DiskState) (own : D → ℕ) (alloc : Global) (script : Script) (disk : D) (cast : Cast D) (o : Opening) → CastBegins told state own alloc script disk cast o
-each_cast told state own alloc script disk cast o t begun stands opens = begins told state own alloc script disk cast o t begun stands opens
+each_cast told state own alloc script disk cast o t begun opens = begins told state own alloc script disk cast o t begun opens

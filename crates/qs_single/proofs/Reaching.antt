@@ -1,7 +1,7 @@
 -- Each event and each restart of a cell goes on in the world: a run is made longer, and where a step is cut off two runs are kept.
-use Rattle.std.proofs.Common.{◌≡◌, ◌⊎◌, ◌∙◌, ap, inl, inr, subst, sym, ℕ, ◌<◌, Bool, true, false, List, [], ◌∷◌, ◌++◌, None, Result, append-nil}
+use Rattle.std.proofs.Common.{◌≡◌, ◌⊎◌, ◌∙◌, ap, inl, inr, refl, subst, sym, ℕ, ◌+◌, ◌<◌, ◌≤◌, Bool, true, false, List, [], ◌∷◌, ◌++◌, None, Result, Ok, append-nil, arith}
 use Rattle.std.specs.Global.{Global}
-use Rattle.qs_cell.specs.Cell.{IsOutcome, out_of}
+use Rattle.qs_cell.specs.Cell.{IfStands, IsOutcome, StandsAfter, out_of}
 use Rattle.qs_cell.specs.Restart.{IsRestarted, IsStillDown, IsUp, IfUp, inc_of}
 use Rattle.qs_cell.specs.State.{Restarts, Up, answers_of, cause_of, disk_of, state_after, state_of}
 use Rattle.qs_cell.specs.Visits.{all_delivered}
@@ -19,17 +19,19 @@ use Rattle.qs_client.specs.declared.cell.ClientCell.{ClientCell}
 use Rattle.qs_disk.specs.Disk.{DiskState, EachImage}
 use Rattle.qs_disk.specs.Fuse.{FusedValue}
 use Rattle.qs_files.specs.declared.files.Files.{Files}
-use Rattle.qs_host.specs.Host.{HostValue, IsOldOrAfter, log_after}
-use Rattle.qs_incarnation.specs.Incarnation.{HasOneOf, IsReopened}
+use Rattle.qs_host.specs.Host.{HostValue, IsOldOrAfter, appended, forced_if, log_after}
+use Rattle.qs_incarnation.specs.Incarnation.{HasOneOf, IsLeftOrRaised, IsReopened}
 use Rattle.qs_lanes.specs.declared.ends.NodeEnds.{NodeEnds}
 use Rattle.qs_laws.proofs.Rising.{IsRising}
 use Rattle.qs_local.proofs.AsHost.{stepped as stepped_as_host}
 use Rattle.qs_local.specs.InWorld.{host_of}
 use Rattle.qs_log.specs.Image.{IsLog}
-use Rattle.qs_log.specs.Log.{LogValue, Stands, records_of}
+use Rattle.qs_log.specs.Log.{LogValue, Stands, raised_of, records_of}
 use Rattle.qs_ops.specs.declared.no_server.NoServer.{NoServer}
 use Rattle.qs_record.specs.declared.record.Record.{Record}
 use Rattle.qs_rounds.specs.Rounds.{is_refused}
+use Rattle.qs_slot.specs.Slot.{Present}
+use Rattle.qs_slot.specs.Turning.{SlotsValue}
 use Rattle.qs_step.specs.State.{client_cmp}
 use Rattle.qs_step.specs.declared.event.ClientAnswer.{ClientAnswer}
 use Rattle.qs_step.specs.declared.event.Effects.{Effects}
@@ -40,8 +42,8 @@ use Rattle.qs_world.specs.Runs.{Run}
 use Rattle.qs_world.specs.World.{Host, World}
 use Rattle.qs_single.specs.Events.{MovesTo, cut_of, step_of, stop_behind, stop_of}
 use Rattle.qs_single.specs.Beginnings.{rise_of}
-use Rattle.qs_single.specs.Reached.{EventsGoOn, IsHalted, IsInWorld, IsLater, IsRunning, IsSureOf, Reached, RestartsGoOn}
-use Rattle.qs_single.specs.Seats.{From, IsDueFrom, SeatDown, SeatUp, left}
+use Rattle.qs_single.specs.Reached.{EventsGoOn, HasReached, IsHalted, IsInWorld, IsRunning, Reached, RestartsGoOn}
+use Rattle.qs_single.specs.Seats.{From, IsDueFrom, IsGiven, SeatDown, SeatUp, left}
 use Rattle.qs_single.specs.Showing.{ShowsIn}
 use Rattle.qs_single.specs.Shown.{ShowsTold}
 use Rattle.qs_single.proofs.Seated as seated
@@ -69,6 +71,20 @@ cut_lost stamp host out h e = ap (λ (x : Host). x.log) e
 cut_kept : {D : Type 0} (stamp : ℕ) (host : HostValue D) (out : Effects) (h : Host) → h ≡ host_of stamp host → cut_log h true out ≡ (log_after out host.log).forced
 cut_kept stamp host out h e = ap (λ (x : Host). world_moves.log_after x out) e ∙ sym (ap (λ (x : Host). x.log) (stepped_as_host stamp stamp host host.node out))
 
+-- ---- incarnations
+
+same_present : {a b : Present} → ◌≡◌ {A = Result Present ℕ} (Ok a) (Ok b) → a ≡ b
+same_present e = cc e
+
+reaches : {a b : ℕ} → a ≡ b → b ≤ a
+reaches e = omega arith
+
+above : (a b : ℕ) → a ≤ b → a < b + 1
+above a b within = omega arith
+
+more : (a b : ℕ) → a ≤ b → a ≤ b + 1
+more a b within = omega arith
+
 module _ {D : Type 0} (told : Type 0) (state : D → DiskState) (own : D → ℕ) (start : World) where
   -- ---- each event
 
@@ -90,55 +106,76 @@ module _ {D : Type 0} (told : Type 0) (state : D → DiskState) (own : D → ℕ
     either image (inl is) = inl (record { present = old.host.log.slots.present; used = old.host.log.used; log = is })
     either image (inr is) = inr (record { present = (log_after out old.host.log).slots.present; used = (log_after out old.host.log).used; log = is })
 
-    pub goes_on : (o : Outcome D Files NoServer) → IsOutcome own size occasion old o → IsSureOf told state size occasion old o (state_of o)
+    -- no step touches the slots
+    same_slots : (due : Bool) (log : LogValue (FusedValue D)) → (forced_if due log).slots ≡ log.slots
+    same_slots true log = refl
+    same_slots false log = refl
+
+    inc_after : inc_of (log_after out old.host.log) ≡ old.carried.setting.inc
+    inc_after = ap (λ (s : SlotsValue). s.present.value.inc) (same_slots out.force (appended out.records old.host.log)) ∙ was.inc
+
+    none_behind : (image : List ℕ) → IsOldOrAfter out old.host.log image → HasReached old.carried.setting.inc image
+    none_behind image (inl is) = record { present = old.host.log.slots.present; slots = is.slots; reached = reaches was.inc }
+    none_behind image (inr is) = record { present = (log_after out old.host.log).slots.present; slots = is.slots; reached = reaches inc_after }
+
+    incs_of : (stopped : Stopped D) → stopped.carried.setting ≡ old.carried.setting → EachImage (IsOldOrAfter out old.host.log) (state stopped.disk.disk).now
+        → EachImage (HasReached stopped.carried.setting.inc) (state stopped.disk.disk).now
+    incs_of stopped same images image at = subst (λ (s : Setting). HasReached s.inc image) (sym same) (none_behind image (images image at))
+
+    pub goes_on : (o : Outcome D Files NoServer) → IsOutcome own size occasion old o → is_refused (cause_of (state_of o)) ≡ false → IsGiven occasion old
+        → (told → IfStands o (λ disk. StandsAfter out old.host.log disk (state disk.disk)))
         → (told → EachImage (IsOldOrAfter out old.host.log) (state (disk_of (state_of o)).disk).now)
         → IsInWorld told state start (state_of o) (all_delivered (answers_of o) (left source old ends)) clients
-    goes_on (outcomes.Whole running said) is sure images = record {
-      reached = reach start (step_of size occasion old) was.reached (λ world seat. seated.whole size source occasion old ends clients world due_is seat sure.given running said is);
-      stands = λ t. subst (λ (l : LogValue (FusedValue D)). Stands l (state running.host.log.disk.disk)) (sym is.log) (sure.stands t);
+    goes_on (outcomes.Whole running said) is granted given stands images = record {
+      reached = reach start (step_of size occasion old) was.reached (λ world seat. seated.whole size source occasion old ends clients world due_is seat given running said is);
+      inc = ap (λ (l : LogValue (FusedValue D)). inc_of l) is.log ∙ (inc_after ∙ sym (ap (λ (s : Setting). s.inc) is.setting));
+      stands = λ t. subst (λ (l : LogValue (FusedValue D)). Stands l (state running.host.log.disk.disk)) (sym is.log) (stands t);
     }
-    goes_on (outcomes.Followed stopped said) is sure images = record {
+    goes_on (outcomes.Followed stopped said) is granted given stands images = record {
       first = kept_log;
       other = kept_log;
       to_first = reached;
       to_other = reached;
-      images = λ t. one_log (record (log_after out old.host.log) { disk = stopped.disk }) (state stopped.disk.disk) (sure.stands t);
+      images = λ t. one_log (record (log_after out old.host.log) { disk = stopped.disk }) (state stopped.disk.disk) (stands t);
+      incs = λ t. incs_of stopped is.setting (images t);
     }
       where
         reached : Reached start (SeatDown stopped (all_delivered said (left source old ends)) clients kept_log)
         reached = reach_then start (step_of size occasion old) (stop_behind old stopped.cause)
-            (reach start (step_of size occasion old) was.reached (λ world seat. seated.followed size source occasion old ends clients world due_is seat sure.given stopped said is))
-    goes_on (outcomes.Replaced stopped) is sure images = record {
+            (reach start (step_of size occasion old) was.reached (λ world seat. seated.followed size source occasion old ends clients world due_is seat given stopped said is))
+    goes_on (outcomes.Replaced stopped) is granted given stands images = record {
       first = lost_log;
       other = lost_log;
       to_first = reached;
       to_other = reached;
       images = λ t. subst (λ (d : FusedValue D). EachImage (HasOneOf lost_log lost_log) (state d.disk).now) (sym is.disk) (one_log old.host.log (state old.host.log.disk.disk) (was.stands t));
+      incs = λ t. incs_of stopped is.setting (images t);
     }
       where
         reached : Reached start (SeatDown stopped (left source old ends) clients lost_log)
-        reached = reach start (stop_of old stopped.cause) was.reached (λ world seat. seated.replaced size source occasion old ends clients world due_is seat stopped is sure.granted)
-    goes_on (outcomes.CutOff stopped) is sure images = record {
+        reached = reach start (stop_of old stopped.cause) was.reached (λ world seat. seated.replaced size source occasion old ends clients world due_is seat stopped is granted)
+    goes_on (outcomes.CutOff stopped) is granted given stands images = record {
       first = lost_log;
       other = kept_log;
       to_first = reach start (cut_of size occasion old false stopped.cause) was.reached (λ world seat. cut_with world seat false lost_log (cut_lost old.carried.chronicle.told.stamp old.host out (world.hosts 0) seat.node.host));
       to_other = reach start (cut_of size occasion old true stopped.cause) was.reached (λ world seat. cut_with world seat true kept_log (cut_kept old.carried.chronicle.told.stamp old.host out (world.hosts 0) seat.node.host));
       images = λ t image at. either image (images t image at);
+      incs = λ t. incs_of stopped is.setting (images t);
     }
       where
         cut_with : (world : World) → SeatUp old ends clients world → (is_kept : Bool) (log : List Record) → cut_log (world.hosts 0) is_kept out ≡ log
             → MovesTo (SeatDown stopped (left source old ends) clients log) (cut_of size occasion old is_kept stopped.cause) world
         cut_with world seat is_kept log same =
             subst (λ (l : List Record). MovesTo (SeatDown stopped (left source old ends) clients l) (cut_of size occasion old is_kept stopped.cause) world) same
-            (seated.cut size source occasion old ends clients world due_is seat own stopped sure.given.counted is sure.cause is_kept)
+            (seated.cut size source occasion old ends clients world due_is seat own stopped given.counted is is_kept)
 
 pub each_event : {D : Type 0} (told : Type 0) (state : D → DiskState) (own size : D → ℕ) (start : World) (source : From) (occasion : Occasion) (old : Up D) (new : NodeState D) (ends : List NodeEnds) (clients : List ClientCell) (answers : List ClientAnswer)
     → EventsGoOn told state own size start source occasion old new ends clients answers
-each_event told state own size start source occasion old new ends clients answers makes sure due_is was =
+each_event told state own size start source occasion old new ends clients answers makes granted given due_is was =
     subst (λ (n : NodeState _). IsInWorld told state start n (all_delivered answers (left source old ends)) clients) (sym makes.node)
     (subst (λ (a : List ClientAnswer). IsInWorld told state start (state_of makes.outcome) (all_delivered a (left source old ends)) clients) (sym makes.said)
     (goes_on told state own start (size old.host.log.disk.disk) source occasion old ends clients due_is was makes.outcome makes.is
-    (record { stands = sure.stands; cause = sure.cause; granted = subst (λ (n : NodeState _). is_refused (cause_of n) ≡ false) makes.node sure.granted; given = sure.given })
+    (subst (λ (n : NodeState _). is_refused (cause_of n) ≡ false) makes.node granted) given makes.stands
     (λ t. subst (λ (n : NodeState _). EachImage (IsOldOrAfter (out_of (size old.host.log.disk.disk) occasion old) old.host.log) (state (disk_of n).disk).now) makes.node (makes.moments t).here)))
 
 -- ---- a restart
@@ -187,28 +224,52 @@ module _ {D : Type 0} (told : Type 0) (state : D → DiskState) (own : D → ℕ
       down (inl first) = subst (λ (l : List Record). Reached start (SeatDown old ends clients l)) (sym (all_forced ∙ first)) was.to_first
       down (inr other) = subst (λ (l : List Record). Reached start (SeatDown old ends clients l)) (sym (all_forced ∙ other)) was.to_other
 
+  -- each image that was left says an incarnation that is as high, and the log that was opened one that is higher
+  is_later : told → (log : LogValue (FusedValue D)) → IsReopened (state old.disk.disk) log → old.carried.setting.inc < inc_of log
+  is_later t log again =
+      let before : HasReached old.carried.setting.inc again.content = was.incs t again.content again.image in
+      let same : before.present ≡ again.raised.present = same_present (sym before.slots ∙ again.raised.records.slots) in
+      subst (λ (n : ℕ). old.carried.setting.inc < n) (sym (ap (λ (p : Present). p.value.inc) again.raised.raised))
+      (above old.carried.setting.inc again.raised.present.value.inc (subst (λ (p : Present). old.carried.setting.inc ≤ p.value.inc) same before.reached))
+
+  none_fell : told → (image : List ℕ) → IsLeftOrRaised (state old.disk.disk) image → HasReached old.carried.setting.inc image
+  none_fell t image (inl before) = was.incs t image before
+  none_fell t image (inr raised) = by raised.says.says
+    where
+      before : HasReached old.carried.setting.inc raised.content
+      before = was.incs t raised.content raised.image
+
+      reached : old.carried.setting.inc ≤ raised.says.present.value.inc
+      reached = subst (λ (p : Present). old.carried.setting.inc ≤ p.value.inc) (same_present (sym before.slots ∙ raised.says.log.slots)) before.reached
+
+      by : IsLog raised.says.present raised.says.records raised.says.used image ⊎ IsLog (raised_of raised.says.present) raised.says.records raised.says.used image → HasReached old.carried.setting.inc image
+      by (inl log) = record { present = raised.says.present; slots = log.slots; reached = reached }
+      by (inr log) = record { present = raised_of raised.says.present; slots = log.slots; reached = more old.carried.setting.inc raised.says.present.value.inc reached }
+
   still : (stopped : Stopped D) → IsStillDown old stopped → (log : List Record) → Reached start (SeatDown old ends clients log) → Reached start (SeatDown stopped ends clients log)
   still stopped is log r = record { moves = r.moves; world = r.world; run = r.run; shows = seat_still old stopped ends clients log r.world is r.shows }
 
   restarted : (t : told) (new : NodeState D) (answer : Result Bool RestartFault) (r : Restarts told state own alloc old new answer) (o : Restarted D Files NoServer) → new ≡ state_after o → IsRestarted own alloc old o
       → IfUp o (IsReopened (state old.disk.disk))
       → IfUp o (λ log. (a b : List Record) → EachImage (HasOneOf a b) (state old.disk.disk).now → (records_of log ≡ a) ⊎ (records_of log ≡ b))
-      → IsLater told state old (state_after o) → IsInWorld told state start (state_after o) ends clients
-  restarted t new answer r (restarts.Up running) same is reopened found later = record {
-    reached = rises_with running is reopened.raised.waiting later.0 (found was.first was.other (was.images t));
-    stands = later.1;
+      → (told → IfUp o (λ log. Stands log (state log.disk.disk))) → IsInWorld told state start (state_after o) ends clients
+  restarted t new answer r (restarts.Up running) same is reopened found stands = record {
+    reached = rises_with running is reopened.raised.waiting (is_later t running.host.log reopened) (found was.first was.other (was.images t));
+    inc = sym (ap (λ (s : Setting). s.inc) is.setting);
+    stands = stands;
   }
-  restarted t new answer r (restarts.Down stopped why) same is reopened found later = record {
+  restarted t new answer r (restarts.Down stopped why) same is reopened found stands = record {
     first = was.first;
     other = was.other;
     to_first = still stopped is.0 was.first was.to_first;
     to_other = still stopped is.0 was.other was.to_other;
     images = λ again. subst (λ (n : NodeState D). EachImage (HasOneOf was.first was.other) (state (disk_of n).disk).now) same (r.moments t was.first was.other (was.images t)).here;
+    incs = λ again. subst (λ (s : Setting). EachImage (HasReached s.inc) (state stopped.disk.disk).now) (sym is.0.setting)
+        (λ image at. none_fell again image (subst (λ (n : NodeState D). EachImage (IsLeftOrRaised (state old.disk.disk)) (state (disk_of n).disk).now) same (r.touched again).here image at));
   }
 
 pub each_restart : {D : Type 0} (told : Type 0) (state : D → DiskState) (own : D → ℕ) (alloc : Global) (start : World) (old : Stopped D) (new : NodeState D) (ends : List NodeEnds) (clients : List ClientCell) (answer : Result Bool RestartFault)
     → RestartsGoOn told state own alloc start old new ends clients answer
-each_restart told state own alloc start old new ends clients answer t r later was =
+each_restart told state own alloc start old new ends clients answer t r was =
     subst (λ (n : NodeState _). IsInWorld told state start n ends clients) (sym r.node)
-    (restarted told state own alloc start old ends clients was t new answer r r.restarted r.node r.is (r.reopened t) (r.found t)
-    (subst (λ (n : NodeState _). IsLater told state old n) r.node later))
+    (restarted told state own alloc start old ends clients was t new answer r r.restarted r.node r.is (r.reopened t) (r.found t) r.stands)

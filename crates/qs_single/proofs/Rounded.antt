@@ -11,7 +11,7 @@ use Rattle.rand_pcg.specs.Lcg.{Lcg}
 use Rattle.qs_single.specs.Acting.{AreOfClients}
 use Rattle.qs_single.specs.Carrying.{AreApart, IsCarried}
 use Rattle.qs_single.specs.Reached.{IsInWorld}
-use Rattle.qs_single.specs.Rounding.{AreSureRounds, AreSureVisits, IsCastIn, IsSureNode, IsSureVisit, RoundsGoOn}
+use Rattle.qs_single.specs.Rounding.{AreGivenRounds, AreGivenVisits, IsCastIn, IsGivenNode, IsGivenVisit, RoundsGoOn}
 use Rattle.qs_single.proofs.Acted.{each_start, each_visit}
 use Rattle.qs_single.proofs.Carried.{each_carries, each_client_turn}
 use Rattle.qs_single.proofs.Numbers.{carried_numbers, clients_numbers, numbers_of, of_clients_on, set_numbers, visit_numbers}
@@ -21,16 +21,16 @@ visit_keeps None at olds news did got visit = ap (map number_of) visit.0
 visit_keeps (Some client) at olds news did got (after, (visit, is)) = ap (map number_of) is ∙ set_numbers olds at client after got visit.client
 
 module _ {D : Type 0} (told : Type 0) (state : D → DiskState) (own size : D → ℕ) (start : World) (t : told) where
-  node_goes : (up : Bool) (old new : CellValue D) (did : Bool) (clients : List ClientCell) (visit : NodeVisitIf up told state own size old new did) → IsSureNode told state own size up old new did visit
+  node_goes : (up : Bool) (old new : CellValue D) (did : Bool) (clients : List ClientCell) (visit : NodeVisitIf up told state own size old new did) → IsGivenNode told state own size up old new did visit
       → AreOfClients old.seat.ends clients → IsInWorld told state start old.seat.node old.seat.ends clients → IsInWorld told state start new.seat.node new.seat.ends clients
-  node_goes true old new did clients acts sure all was = each_visit told state own size start old.seat new.seat clients acts.visits sure all was
-  node_goes false old new did clients starts sure all was = each_start told state own start old new did clients t starts sure was
+  node_goes true old new did clients acts sure all was = each_visit told state own size start old.seat new.seat clients acts.visits acts.granted sure all was
+  node_goes false old new did clients starts sure all was = each_start told state own start old new did clients t starts was
 
   node_keeps : (up : Bool) (old new : CellValue D) (did : Bool) → NodeVisitIf up told state own size old new did → numbers_of new.seat.ends ≡ numbers_of old.seat.ends
   node_keeps true old new did acts = visit_numbers told state own size (record { node = acts.visits.begun; ends = old.seat.ends }) new.seat acts.visits.turns
   node_keeps false old new did starts = ap numbers_of starts.ends
 
-  visit_goes : (place : ℕ) (old new : Cast D) (did : Bool) (visit : VisitAt told state own size place old new did) → IsSureVisit told state own size place old new did visit → IsCastIn told state start old → IsCastIn told state start new
+  visit_goes : (place : ℕ) (old new : Cast D) (did : Bool) (visit : VisitAt told state own size place old new did) → IsGivenVisit told state own size place old new did visit → IsCastIn told state start old → IsCastIn told state start new
   visit_goes zero old new did (visit, same) sure was = record {
     carried = record {
       apart = subst AreApart (sym same) was.carried.apart;
@@ -45,11 +45,11 @@ module _ {D : Type 0} (told : Type 0) (state : D → DiskState) (own size : D �
         (visit_keeps (slice_get old.clients at) at old.clients new.clients did refl visit) was.lanes;
   }
 
-  visits_go : (places : List ℕ) (old new : Cast D) (did : Bool) (visits : VisitAll told state own size places old new did) → AreSureVisits told state own size places old new did visits → IsCastIn told state start old → IsCastIn told state start new
+  visits_go : (places : List ℕ) (old new : Cast D) (did : Bool) (visits : VisitAll told state own size places old new did) → AreGivenVisits told state own size places old new did visits → IsCastIn told state start old → IsCastIn told state start new
   visits_go [] old new did visits sure was = subst (λ (c : Cast D). IsCastIn told state start c) (sym visits.0) was
   visits_go (place ∷ places) old new did (mid, (first, (more, (visit, (rest, is))))) sure was = visits_go places mid new more rest sure.1 (visit_goes place old mid first visit sure.0 was)
 
-  rounds_go : (rng : Lcg) (n : ℕ) (old new : Cast D) (later : Lcg) (rounds : Rounds told state own size rng n old new later) → AreSureRounds told state own size rng n old new later rounds → IsCastIn told state start old → IsCastIn told state start new
+  rounds_go : (rng : Lcg) (n : ℕ) (old new : Cast D) (later : Lcg) (rounds : Rounds told state own size rng n old new later) → AreGivenRounds told state own size rng n old new later rounds → IsCastIn told state start old → IsCastIn told state start new
   rounds_go rng zero old new later rounds sure was = subst (λ (c : Cast D). IsCastIn told state start c) (sym rounds.0) was
   rounds_go rng (suc n) old new later (mid, (quiet, (round, rest))) sure was = rounds_go (drawn_order (count_of old) rng).1 n mid new later rest sure.1
       (visits_go (drawn_order (count_of old) rng).0 round.carried mid round.did round.visits sure.0 (record {

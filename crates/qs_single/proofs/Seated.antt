@@ -8,18 +8,17 @@ use Rattle.qs_cell.specs.State.{Up}
 use Rattle.qs_cell.specs.Visits.{all_delivered}
 use Rattle.qs_cell.specs.declared.stopped.Stopped.{Stopped}
 use Rattle.qs_chronicle.specs.Carried.{Commands, Seen, answered}
-use Rattle.qs_chronicle.specs.Occasions.{taken}
+use Rattle.qs_chronicle.specs.Occasions.{event_of, taken}
 use Rattle.qs_chronicle.specs.declared.occasion.Occasion.{Occasion}
 use Rattle.qs_chronicle.specs.declared.occasion.Occasion.TheVariants as occasions
 use Rattle.qs_client.specs.declared.cell.ClientCell.{ClientCell}
-use Rattle.qs_host.specs.Host.{free_of, log_after}
+use Rattle.qs_host.specs.Host.{free_of, log_after, node_after}
 use Rattle.qs_journal.specs.declared.entry.CrashCause.{CrashCause}
 use Rattle.qs_journal.specs.declared.entry.CrashCause.TheVariants as causes
 use Rattle.qs_lanes.specs.declared.ends.NodeEnds.{NodeEnds}
 use Rattle.qs_laws.proofs.Rising.{IsRising}
-use Rattle.qs_machine.specs.Clauses.{is_crash}
 use Rattle.qs_rounds.specs.Rounds.{is_refused}
-use Rattle.qs_step.specs.State.{client_cmp}
+use Rattle.qs_step.specs.State.{NodeValue, client_cmp}
 use Rattle.qs_step.specs.declared.event.ClientAnswer.{ClientAnswer}
 use Rattle.qs_step.specs.declared.event.Event.{Event}
 use Rattle.qs_step.specs.declared.setting.Setting.{Setting}
@@ -30,11 +29,12 @@ use Rattle.qs_single.specs.Beginnings.{rise_of}
 use Rattle.qs_single.specs.Clients.{ShowsClient}
 use Rattle.qs_single.specs.Events.{Comes, MovesTo, cut_of, source_of, stamp_at, step_of, stop_behind, stop_of}
 use Rattle.qs_single.specs.Seats.{From, IsDueFrom, IsGiven, RisesInSeat, SeatDown, SeatUp, ShowsEach, left}
-use Rattle.qs_single.specs.Showing.{ShowsIn, held_for}
+use Rattle.qs_single.specs.Showing.{AnswersRight, IsInHand, ShowsIn, held_for}
 use Rattle.qs_single.specs.Shown.{ShowsDown, ShowsUp}
 use Rattle.qs_single.proofs.AnswersOut.{each_answers, each_handed_back, each_hands}
 use Rattle.qs_single.proofs.Begins.{each_rises}
 use Rattle.qs_single.proofs.Handing.{itself}
+use Rattle.qs_single.proofs.InHand.{answers_right, none_waits, still_held}
 use Rattle.qs_single.proofs.Steps as steps
 use Rattle.qs_single.proofs.Steps.{each_whole}
 use Rattle.qs_single.proofs.Stops.{each_cut, each_followed, each_replaced}
@@ -85,9 +85,16 @@ module _ {D : Type 0} (size : ℕ) (source : From) (occasion : Occasion) (old : 
   comes_with : may_serve old.host.node (source_of occasion) ≡ true → Comes occasion world
   comes_with counted = record { comes = it.comes; served = ap (λ (h : Host). may_serve h.node (source_of occasion)) seat.node.host ∙ counted }
 
+  -- each is answered who has a command in hand, and what waits on is in hand
+  right : AnswersRight in_hand_then (out_of size occasion old).answers
+  right = answers_right old.host.node occasion (free_of size old.host) inc old.carried.commands seat.held
+
+  still : IsInHand (node_after size old.host (event_of occasion)).commands (answered (out_of size occasion old).answers in_hand_then)
+  still = still_held old.host.node occasion (free_of size old.host) inc old.carried.commands seat.held
+
   -- the step's answers have gone out
-  each_told : IsGiven size occasion old → ShowsEach inc (Some inc) (answered (out_of size occasion old).answers in_hand_then) (all_delivered (out_of size occasion old).answers (left source old ends)) (clients_after (out_of size occasion old).answers over) clients
-  each_told given client there = each_answers inc (Some inc) in_hand_then (left source old ends) over (out_of size occasion old).answers client it.rising given.answers (it.each client there)
+  each_told : ShowsEach inc (Some inc) (answered (out_of size occasion old).answers in_hand_then) (all_delivered (out_of size occasion old).answers (left source old ends)) (clients_after (out_of size occasion old).answers over) clients
+  each_told client there = each_answers inc (Some inc) in_hand_then (left source old ends) over (out_of size occasion old).answers client it.rising right (it.each client there)
 
   told_rising : IsRising client_cmp (answered (out_of size occasion old).answers in_hand_then)
   told_rising = answered_rising (out_of size occasion old).answers in_hand_then it.rising
@@ -97,7 +104,7 @@ module _ {D : Type 0} (size : ℕ) (source : From) (occasion : Occasion) (old : 
   each_back client there = on_clients inc None in_hand_then (left source old ends) (handed_back 0 over) (handed_back 0 world.clients) client (back_same occasion world.clients client.client.0 (seat.each client there).shows.at)
       (each_handed_back inc (Some inc) in_hand_then (left source old ends) over client (it.each client there))
 
-  module _ (given : IsGiven size occasion old) where
+  module _ (given : IsGiven occasion old) where
     comes : Comes occasion world
     comes = comes_with given.counted
 
@@ -107,8 +114,10 @@ module _ {D : Type 0} (size : ℕ) (source : From) (occasion : Occasion) (old : 
       leads = record {
         node = goes.leads;
         rising = subst (λ (c : Commands). IsRising client_cmp c) (sym commands_are) told_rising;
+        held = subst (λ (n : NodeValue). IsInHand n.commands new.carried.commands) (sym is.node)
+            (subst (λ (c : Commands). IsInHand (node_after size old.host (event_of occasion)).commands c) (sym commands_are) still);
         each = λ client there. shown client (on_clients inc (Some inc) (answered (out_of size occasion old).answers in_hand_then) (all_delivered (out_of size occasion old).answers (left source old ends))
-            (clients_after (out_of size occasion old).answers over) (moved (step_of size occasion old) world).clients client (sym (world_clients client.client.0)) (each_told given client there));
+            (clients_after (out_of size occasion old).answers over) (moved (step_of size occasion old) world).clients client (sym (world_clients client.client.0)) (each_told client there));
       };
     }
       where
@@ -137,10 +146,10 @@ module _ {D : Type 0} (size : ℕ) (source : From) (occasion : Occasion) (old : 
       (on_clients inc None commands others f g client (sym (same client.client.0)) (each client there)))
 
   -- it was answered before it stopped
-  each_told_back : IsGiven size occasion old → ShowsEach inc None (answered (out_of size occasion old).answers in_hand_then) (all_delivered (out_of size occasion old).answers (left source old ends)) (handed_back 0 (clients_after (out_of size occasion old).answers over)) clients
-  each_told_back given client there = each_handed_back inc (Some inc) (answered (out_of size occasion old).answers in_hand_then) (all_delivered (out_of size occasion old).answers (left source old ends)) (clients_after (out_of size occasion old).answers over) client (each_told given client there)
+  each_told_back : ShowsEach inc None (answered (out_of size occasion old).answers in_hand_then) (all_delivered (out_of size occasion old).answers (left source old ends)) (handed_back 0 (clients_after (out_of size occasion old).answers over)) clients
+  each_told_back client there = each_handed_back inc (Some inc) (answered (out_of size occasion old).answers in_hand_then) (all_delivered (out_of size occasion old).answers (left source old ends)) (clients_after (out_of size occasion old).answers over) client (each_told client there)
 
-  pub followed : IsGiven size occasion old → (new : Stopped D) (said : List ClientAnswer) → IsFollowed size occasion old new said
+  pub followed : IsGiven occasion old → (new : Stopped D) (said : List ClientAnswer) → IsFollowed size occasion old new said
       → MovesTo (MovesTo (SeatDown new (all_delivered said (left source old ends)) clients (log_after (out_of size occasion old) old.host.log).forced) (stop_behind old new.cause)) (step_of size occasion old) world
   followed given new said is = record {
     may = goes.may;
@@ -151,7 +160,7 @@ module _ {D : Type 0} (size : ℕ) (source : From) (occasion : Occasion) (old : 
         rising = subst (λ (c : Commands). IsRising client_cmp c) (sym commands_are) told_rising;
         each = subst (λ (a : List ClientAnswer). ShowsEach new.carried.setting.inc None new.carried.commands (all_delivered a (left source old ends)) (moved (stop_behind old new.cause) (moved (step_of size occasion old) world)).clients clients) (sym is.answers)
             (down new (answered (out_of size occasion old).answers in_hand_then) (all_delivered (out_of size occasion old).answers (left source old ends)) (handed_back 0 (clients_after (out_of size occasion old).answers over))
-            (moved (stop_behind old new.cause) (moved (step_of size occasion old) world)).clients commands_are is.setting world_clients (each_told_back given));
+            (moved (stop_behind old new.cause) (moved (step_of size occasion old) world)).clients commands_are is.setting world_clients each_told_back);
       };
     };
   }
@@ -185,9 +194,9 @@ module _ {D : Type 0} (size : ℕ) (source : From) (occasion : Occasion) (old : 
       commands_are (inl memory) = absurd (cc (sym (refused memory) ∙ granted))
       commands_are (inr planned) = planned.commands
 
-  pub cut : (own : D → ℕ) (new : Stopped D) → may_serve old.host.node (source_of occasion) ≡ true → IsCutOff own size occasion old new → is_crash new.cause ≡ true
+  pub cut : (own : D → ℕ) (new : Stopped D) → may_serve old.host.node (source_of occasion) ≡ true → IsCutOff own size occasion old new
       → (is_kept : Bool) → MovesTo (SeatDown new (left source old ends) clients (cut_log (world.hosts 0) is_kept (out_of size occasion old))) (cut_of size occasion old is_kept new.cause) world
-  cut own new counted is crash is_kept = record {
+  cut own new counted is is_kept = record {
     may = goes.may;
     leads = record {
       node = goes.leads;
@@ -197,7 +206,7 @@ module _ {D : Type 0} (size : ℕ) (source : From) (occasion : Occasion) (old : 
   }
     where
       goes : MovesTo (ShowsDown new (cut_log (world.hosts 0) is_kept (out_of size occasion old))) (cut_of size occasion old is_kept new.cause) world
-      goes = each_cut own size occasion old new world is crash seat.node (comes_with counted) is_kept
+      goes = each_cut own size occasion old new world is seat.node (comes_with counted) is_kept
 
       world_clients : (k : ℕ) → (moved (cut_of size occasion old is_kept new.cause) world).clients k ≡ handed_back 0 world.clients k
       world_clients k = ap (λ (o : Option Event). (cut_with world 0 (stamp_at old) (free_of size old.host) is_kept new.cause o).clients k) (it.comes (stamp_at old))
@@ -210,6 +219,7 @@ each_rises_seated alloc old new ends clients world is none later seat = record {
   leads = record {
     node = goes.leads;
     rising = subst (λ (c : Commands). IsRising client_cmp c) (sym commands_are) seat.rising;
+    held = none_waits new.host.node.commands new.carried.commands (ap (λ (n : NodeValue). n.commands) is.node);
     each = λ client there. shown client (each_hands old.carried.setting.inc old.carried.commands ends world.clients client (inc_of new.host.log) (seat.each client there) later);
   };
 }

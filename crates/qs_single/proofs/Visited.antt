@@ -1,8 +1,8 @@
 -- A source's turn in a visit: an event is made, or nothing is due of the source and its lanes stay as they are.
 use Rattle.std.proofs.Common.{◌≡◌, ◌⊎◌, ◌∙◌, ap, inl, inr, refl, subst, sym, ℕ, ◌==◌, ◌≤◌, false, drop, List, [], ◌∷◌, Option, Some, None}
 use Rattle.qs_base.specs.declared.identifiers.ClientNo.{ClientNo}
-use Rattle.qs_cell.specs.Restart.{in_round_as}
-use Rattle.qs_cell.specs.State.{IsSeenAs, Up}
+use Rattle.qs_cell.specs.Restart.{in_round_as, inc_of}
+use Rattle.qs_cell.specs.State.{IsSeenAs, Up, cause_of}
 use Rattle.qs_cell.specs.Visits.{Seat, TakesTurn, all_delivered, as_command, due_of, held_by, left_of}
 use Rattle.qs_cell.specs.declared.state.NodeState.{NodeState}
 use Rattle.qs_cell.specs.declared.state.NodeState.TheVariants as states
@@ -24,15 +24,16 @@ use Rattle.qs_link.specs.Lane.{on_way}
 use Rattle.qs_local.specs.InWorld.{host_of}
 use Rattle.qs_log.specs.Log.{Stands}
 use Rattle.qs_record.specs.declared.record.Record.{Record}
+use Rattle.qs_rounds.specs.Rounds.{is_refused}
 use Rattle.qs_step.specs.State.{client_cmp}
 use Rattle.qs_step.specs.declared.event.ClientAnswer.{ClientAnswer}
 use Rattle.qs_step.specs.declared.setting.Setting.{Setting}
 use Rattle.qs_world.specs.World.{Client, World}
-use Rattle.qs_single.specs.Reached.{IsInWorld, IsRunning, Reached}
+use Rattle.qs_single.specs.Reached.{HasReached, IsInWorld, IsRunning, Reached}
 use Rattle.qs_single.specs.Seats.{From, IsDueFrom, OfClient, OfNode, SeatDown, SeatUp, ShowsEach, left as left_for}
-use Rattle.qs_single.specs.Showing.{ShowsIn, held_for}
+use Rattle.qs_single.specs.Showing.{IsInHand, ShowsIn, held_for}
 use Rattle.qs_single.specs.Shown.{ShowsTold}
-use Rattle.qs_single.specs.Visiting.{IsSureTurn, IsTurnOf, RoomGoesOn, TurnGoesOn, VisitBegins}
+use Rattle.qs_single.specs.Visiting.{IsGivenTurn, IsTurnOf, RoomGoesOn, TurnGoesOn, VisitBegins}
 use Rattle.qs_single.proofs.Carried.{moved_in}
 use Rattle.qs_single.proofs.Clients.{stands_on}
 use Rattle.qs_single.proofs.Handing.{found_changed, found_other, same_or}
@@ -86,11 +87,11 @@ each_still number own_inc None ends clients none inc now commands shown each cli
 module _ {D : Type 0} (told : Type 0) (state : D → DiskState) (own size : D → ℕ) (start : World) (clients : List ClientCell) where
   -- an event is made
   made : (source : From) (running : Up D) (occasion : Occasion) (ends left : List NodeEnds) (new : Seat D) → IsDueFrom source occasion running ends clients → left ≡ left_for source running ends
-      → (turn : TakesTurn told state own size (Some occasion) left (record { node = states.Up running; ends = ends }) new) → IsSureTurn told state own size (Some occasion) left (states.Up running) ends new turn
+      → (turn : TakesTurn told state own size (Some occasion) left (record { node = states.Up running; ends = ends }) new) → is_refused (cause_of new.node) ≡ false → IsGivenTurn told state own size (Some occasion) left (states.Up running) ends new turn
       → IsRunning told state start running ends clients → IsInWorld told state start new.node new.ends clients
-  made source running occasion ends left new due_is left_is (answers, (makes, ends_are)) sure was =
+  made source running occasion ends left new due_is left_is (answers, (makes, ends_are)) granted sure was =
       subst (λ (l : List NodeEnds). IsInWorld told state start new.node l clients) (sym (ends_are ∙ ap (all_delivered answers) left_is))
-      (each_event told state own size start source occasion running new.node ends clients answers makes sure due_is was)
+      (each_event told state own size start source occasion running new.node ends clients answers makes granted sure due_is was)
 
   -- nothing is due
   idle : (node : NodeState D) (ends left : List NodeEnds) (new : Seat D) → new ≡ record { node = node; ends = left } → IsInWorld told state start node left clients → IsInWorld told state start new.node new.ends clients
@@ -103,27 +104,27 @@ module _ {D : Type 0} (told : Type 0) (state : D → DiskState) (own size : D �
   down stopped (Some occasion) ends new e turn was = absurd (cc e)
 
   pub goes : (source : From) (ready : NodeState D) (ends : List NodeEnds) (new : Seat D) (due : Option Occasion) (left : List NodeEnds) → IsTurnOf source ready ends clients due left
-      → (turn : TakesTurn told state own size due left (record { node = ready; ends = ends }) new) → IsSureTurn told state own size due left ready ends new turn
+      → (turn : TakesTurn told state own size due left (record { node = ready; ends = ends }) new) → is_refused (cause_of new.node) ≡ false → IsGivenTurn told state own size due left ready ends new turn
       → IsInWorld told state start ready ends clients → IsInWorld told state start new.node new.ends clients
-  goes (OfClient number) (states.Up running) ends new (Some occasion) left it turn sure was = made (OfClient number) running occasion ends left new (sym it.is.0, it.cell) it.is.1 turn sure was
-  goes (OfClient number) (states.Up running) ends new None left it turn sure was =
+  goes (OfClient number) (states.Up running) ends new (Some occasion) left it turn granted sure was = made (OfClient number) running occasion ends left new (sym it.is.0, it.cell) it.is.1 turn granted sure was
+  goes (OfClient number) (states.Up running) ends new None left it turn granted sure was =
       idle (states.Up running) ends left new turn (subst (λ (l : List NodeEnds). IsInWorld told state start (states.Up running) l clients) (sym it.is.1)
       (moved_in told state start (states.Up running) ends (left_of number (held_by number running.carried) ends) clients clients
       (each_still number running.carried.setting.inc (held_by number running.carried) ends clients (sym it.is.0)) was))
-  goes (OfClient number) (states.Down stopped) ends new due left it turn sure was =
+  goes (OfClient number) (states.Down stopped) ends new due left it turn granted sure was =
       down stopped due ends new it.is.0 (subst (λ (l : List NodeEnds). TakesTurn told state own size due l (record { node = states.Down stopped; ends = ends }) new) it.is.1 turn) was
-  goes OfNode (states.Up running) ends new (Some occasion) left it turn sure was = made OfNode running occasion ends left new it.0 it.1 turn sure was
-  goes OfNode (states.Up running) ends new None left it turn sure was =
+  goes OfNode (states.Up running) ends new (Some occasion) left it turn granted sure was = made OfNode running occasion ends left new it.0 it.1 turn granted sure was
+  goes OfNode (states.Up running) ends new None left it turn granted sure was =
       idle (states.Up running) ends left new turn (subst (λ (l : List NodeEnds). IsInWorld told state start (states.Up running) l clients) (sym it.1) was)
-  goes OfNode (states.Down stopped) ends new None left it turn sure was =
+  goes OfNode (states.Down stopped) ends new None left it turn granted sure was =
       idle (states.Down stopped) ends left new turn (subst (λ (l : List NodeEnds). IsInWorld told state start (states.Down stopped) l clients) (sym it.1) was)
-  goes OfNode (states.Down stopped) ends new (Some occasion) left it (answers, (makes, ends_are)) sure was =
+  goes OfNode (states.Down stopped) ends new (Some occasion) left it (answers, (makes, ends_are)) granted sure was =
       subst (λ (n : NodeState D). IsInWorld told state start n new.ends clients) (sym makes.0)
       (subst (λ (l : List NodeEnds). IsInWorld told state start (states.Down stopped) l clients) (sym (ends_are ∙ (ap (λ (a : List ClientAnswer). all_delivered a left) makes.1 ∙ it.1))) was)
 
 pub each_turn_goes : {D : Type 0} (told : Type 0) (state : D → DiskState) (own size : D → ℕ) (start : World) (source : From) (ready : NodeState D) (ends : List NodeEnds) (new : Seat D) (clients : List ClientCell)
     → TurnGoesOn told state own size start source ready ends new clients
-each_turn_goes told state own size start source ready ends new clients due left it turn sure was = goes told state own size start clients source ready ends new due left it turn sure was
+each_turn_goes told state own size start source ready ends new clients due left it turn granted sure was = goes told state own size start clients source ready ends new due left it turn granted sure was
 
 -- ---- what is told else of the cell
 
@@ -165,6 +166,8 @@ module _ {D : Type 0} (told : Type 0) (state : D → DiskState) (start : World) 
           setting = ap (λ (h : HostValue (FusedValue D)). h.node.setting) host ∙ (seat.node.setting ∙ sym setting);
         };
         rising = subst (λ (c : Commands). IsRising client_cmp c) (sym same.commands) seat.rising;
+        held = subst (λ (h : HostValue (FusedValue D)). IsInHand h.node.commands new.carried.commands) (sym host)
+            (subst (λ (c : Commands). IsInHand old.host.node.commands c) (sym same.commands) seat.held);
         each = each_alike old.carried.setting new.carried.setting old.carried.commands new.carried.commands (λ i. Some i) ends world.clients clients setting same.commands seat.each;
       }
 
@@ -189,6 +192,7 @@ module _ {D : Type 0} (told : Type 0) (state : D → DiskState) (start : World) 
   pub seen_on : (old new : NodeState D) → IsSeenAs f old new → IsInWorld told state start old ends clients → IsInWorld told state start new ends clients
   seen_on (states.Up old) (states.Up new) is was = record {
     reached = record { moves = was.reached.moves; world = was.reached.world; run = was.reached.run; shows = seat_up old new was.reached.world is was.reached.shows };
+    inc = ap (λ (h : HostValue (FusedValue D)). inc_of h.log) is.0 ∙ (was.inc ∙ sym (ap (λ (s : Setting). s.inc) is.1.1));
     stands = λ t. subst (λ (h : HostValue (FusedValue D)). Stands h.log (state h.log.disk.disk)) (sym is.0) (was.stands t);
   }
   seen_on (states.Down old) (states.Down new) is was = record {
@@ -197,6 +201,8 @@ module _ {D : Type 0} (told : Type 0) (state : D → DiskState) (start : World) 
     to_first = go was.first was.to_first;
     to_other = go was.other was.to_other;
     images = λ t. subst (λ (d : FusedValue D). EachImage (HasOneOf was.first was.other) (state d.disk).now) (sym is.0) (was.images t);
+    incs = λ t. subst (λ (s : Setting). EachImage (HasReached s.inc) (state new.disk.disk).now) (sym is.1.1.1.1)
+        (subst (λ (d : FusedValue D). EachImage (HasReached old.carried.setting.inc) (state d.disk).now) (sym is.0) (was.incs t));
   }
     where
       go : (log : List Record) → Reached start (SeatDown old ends clients log) → Reached start (SeatDown new ends clients log)

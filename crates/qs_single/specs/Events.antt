@@ -9,7 +9,6 @@ use Rattle.qs_chronicle.specs.declared.occasion.Occasion.{Occasion}
 use Rattle.qs_chronicle.specs.declared.occasion.Occasion.TheVariants as occasions
 use Rattle.qs_host.specs.Host.{free_of, log_after}
 use Rattle.qs_journal.specs.declared.entry.CrashCause.{CrashCause}
-use Rattle.qs_machine.specs.Clauses.{is_crash}
 use Rattle.qs_step.specs.declared.event.ClientAnswer.{ClientAnswer}
 use Rattle.qs_world.specs.Moves as moves
 use Rattle.qs_world.specs.Moves.{Cut, Move, Source, Step, Stop, cut_log, moved, may_serve}
@@ -69,5 +68,5 @@ ReplacedMoves size occasion old new world =
 -- a step that is cut off leaves the log of before, or with its batch that of after: each is a move
 abbrev pub CutMoves : {D F X : Type 0} → (D → ℕ) → ℕ → Occasion → Running D F X → Stopped D → World → Type 0
 CutMoves own size occasion old new world =
-    IsCutOff own size occasion old new → is_crash new.cause ≡ true → ShowsUp old world → Comes occasion world
+    IsCutOff own size occasion old new → ShowsUp old world → Comes occasion world
     → (is_kept : Bool) → MovesTo (ShowsDown new (cut_log (world.hosts 0) is_kept (out_of size occasion old))) (cut_of size occasion old is_kept new.cause) world

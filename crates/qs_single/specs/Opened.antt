@@ -3,8 +3,6 @@
 use Rattle.std.specs.Prelude.{◌≡◌, ℕ, List}
 use Rattle.std.specs.Global.{Global}
 use Rattle.qs_cell.specs.Starts.{setting_in}
-use Rattle.qs_cell.specs.State.{LogStands}
-use Rattle.qs_cell.specs.declared.state.NodeState.TheVariants as states
 use Rattle.qs_channels.specs.Network.{Among}
 use Rattle.qs_client.specs.declared.cell.ClientCell.{ClientCell}
 use Rattle.qs_disk.specs.Disk.{DiskState}
@@ -28,8 +26,7 @@ pub record OpensScript {D : Type 0} (alloc : Global) (script : Script) (clients 
   pub node : OpensWith alloc (setting_in log (setting_by script)) log.forced o
   pub scripts : (client : ClientCell) → Among clients client → o.clients client.client.0 ≡ (0, commands_of client.client script.lines)
 
--- where the disk tells what is on it, and the log stands there, which the cell keeps
+-- where the disk tells what is on it
 abbrev pub CastBegins : {D : Type 0} → Type 0 → (D → DiskState) → (D → ℕ) → Global → Script → D → Cast D → Opening → Type 0
 CastBegins told state own alloc script disk cast o =
-    told → (begun : HasBegun told state own alloc script disk cast) → (told → LogStands state (states.Up begun.started.running))
-    → OpensScript alloc script cast.clients begun.started.running.host.log o → IsCarried told state (start o) cast.node cast.clients
+    told → (begun : HasBegun told state own alloc script disk cast) → OpensScript alloc script cast.clients begun.started.running.host.log o → IsCarried told state (start o) cast.node cast.clients

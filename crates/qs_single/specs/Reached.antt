@@ -1,12 +1,9 @@
 -- What a run of the world leads to: a cell that is up with its clients, or a cell that is down, whose disk has one of two logs, with a world for each.
-use Rattle.std.specs.Prelude.{◌≡◌, ◌<◌, ⊤, ℕ, Bool, true, false, List, Result}
+use Rattle.std.specs.Prelude.{◌≡◌, ◌≤◌, ◌^◌, ℕ, Bool, false, List, Result, Ok}
 use Rattle.std.specs.Global.{Global}
-use Rattle.qs_cell.specs.Cell.{IfStands, StandsAfter, out_of}
 use Rattle.qs_cell.specs.Restart.{inc_of}
 use Rattle.qs_cell.specs.State.{LogStands, Restarts, Up, cause_of}
 use Rattle.qs_cell.specs.Visits.{Makes, all_delivered}
-use Rattle.qs_cell.specs.declared.running.Outcome.{Outcome}
-use Rattle.qs_cell.specs.declared.running.Outcome.TheVariants as outcomes
 use Rattle.qs_cell.specs.declared.state.NodeState.{NodeState}
 use Rattle.qs_cell.specs.declared.state.NodeState.TheVariants as states
 use Rattle.qs_cell.specs.declared.state.RestartFault.{RestartFault}
@@ -14,13 +11,11 @@ use Rattle.qs_cell.specs.declared.stopped.Stopped.{Stopped}
 use Rattle.qs_chronicle.specs.declared.occasion.Occasion.{Occasion}
 use Rattle.qs_client.specs.declared.cell.ClientCell.{ClientCell}
 use Rattle.qs_disk.specs.Disk.{DiskState, EachImage}
-use Rattle.qs_files.specs.declared.files.Files.{Files}
 use Rattle.qs_incarnation.specs.Incarnation.{HasOneOf}
 use Rattle.qs_lanes.specs.declared.ends.NodeEnds.{NodeEnds}
-use Rattle.qs_machine.specs.Clauses.{is_crash}
-use Rattle.qs_ops.specs.declared.no_server.NoServer.{NoServer}
 use Rattle.qs_record.specs.declared.record.Record.{Record}
 use Rattle.qs_rounds.specs.Rounds.{is_refused}
+use Rattle.qs_slot.specs.Slot.{Present, slots_in}
 use Rattle.qs_step.specs.declared.event.ClientAnswer.{ClientAnswer}
 use Rattle.qs_world.specs.Moves.{Move}
 use Rattle.qs_world.specs.Runs.{Run}
@@ -35,18 +30,26 @@ pub record Reached (start : World) (P : World → Type 0) : Type 0 where
   pub run : Run start moves world
   pub shows : P world
 
--- a cell that is up, over its log
+-- a cell that is up, over its log, in the incarnation that this says
 pub record IsRunning {D : Type 0} (told : Type 0) (state : D → DiskState) (start : World) (running : Up D) (ends : List NodeEnds) (clients : List ClientCell) : Type 0 where
   pub reached : Reached start (SeatUp running ends clients)
+  pub inc : inc_of running.host.log ≡ running.carried.setting.inc
   pub stands : told → LogStands state (states.Up running)
 
--- a cell that is down: each image of its disk has one of two logs, and there is a run to a world with each
+-- the image has a log in this incarnation or a later one
+pub record HasReached (inc : ℕ) (image : List ℕ) : Type 0 where
+  pub present : Present
+  pub slots : slots_in (2 ^ 62) image ≡ Ok present
+  pub reached : inc ≤ present.value.inc
+
+-- a cell that is down: each image of its disk has one of two logs, and there is a run to a world with each; none has fallen behind its incarnation
 pub record IsHalted {D : Type 0} (told : Type 0) (state : D → DiskState) (start : World) (stopped : Stopped D) (ends : List NodeEnds) (clients : List ClientCell) : Type 0 where
   pub first : List Record
   pub other : List Record
   pub to_first : Reached start (SeatDown stopped ends clients first)
   pub to_other : Reached start (SeatDown stopped ends clients other)
   pub images : told → EachImage (HasOneOf first other) (state stopped.disk.disk).now
+  pub incs : told → EachImage (HasReached stopped.carried.setting.inc) (state stopped.disk.disk).now
 
 abbrev pub IsInWorld : {D : Type 0} → Type 0 → (D → DiskState) → World → NodeState D → List NodeEnds → List ClientCell → Type 0
 IsInWorld told state start (states.Up running) ends clients = IsRunning told state start running ends clients
@@ -54,35 +57,15 @@ IsInWorld told state start (states.Down stopped) ends clients = IsHalted told st
 
 -- ---- an event
 
--- a step that is cut off is so for a cause that histories have: the disk's own count of faults rose
-abbrev pub IsCauseKnown : {D : Type 0} → Outcome D Files NoServer → Type 0
-IsCauseKnown (outcomes.Whole running answers) = ⊤
-IsCauseKnown (outcomes.Followed stopped answers) = ⊤
-IsCauseKnown (outcomes.Replaced stopped) = ⊤
-IsCauseKnown (outcomes.CutOff stopped) = is_crash stopped.cause ≡ true
-
--- what else is given of an event: the log stands on the disk where the step does, the cause of a cut is known, no memory was refused, and what
--- each run gives
-pub record IsSureOf {D : Type 0} (told : Type 0) (state : D → DiskState) (size : ℕ) (occasion : Occasion) (old : Up D) (outcome : Outcome D Files NoServer) (new : NodeState D) : Type 0 where
-  pub stands : told → IfStands outcome (λ disk. StandsAfter (out_of size occasion old) old.host.log disk (state disk.disk))
-  pub cause : IsCauseKnown outcome
-  pub granted : is_refused (cause_of new) ≡ false
-  pub given : IsGiven size occasion old
-
--- each event goes on in the world
+-- each event in which no memory was refused goes on in the world
 abbrev pub EventsGoOn : {D : Type 0} → Type 0 → (D → DiskState) → (D → ℕ) → (D → ℕ) → World → From → Occasion → Up D → NodeState D → List NodeEnds → List ClientCell → List ClientAnswer → Type 0
 EventsGoOn told state own size start source occasion old new ends clients answers =
-    (makes : Makes told state own size occasion old new answers) → IsSureOf told state (size old.host.log.disk.disk) occasion old makes.outcome new → IsDueFrom source occasion old ends clients
+    Makes told state own size occasion old new answers → is_refused (cause_of new) ≡ false → IsGiven occasion old → IsDueFrom source occasion old ends clients
     → IsRunning told state start old ends clients → IsInWorld told state start new (all_delivered answers (left source old ends)) clients
 
 -- ---- a restart
 
--- a node that is up after it stands over its log, in a later incarnation than before
-abbrev pub IsLater : {D : Type 0} → Type 0 → (D → DiskState) → Stopped D → NodeState D → Type 0
-IsLater told state old (states.Up running) = (old.carried.setting.inc < inc_of running.host.log) × (told → LogStands state (states.Up running))
-IsLater told state old (states.Down stopped) = ⊤
-
 -- where the disk tells what is on it, it finds one of the two logs, and goes on in the world that shows that one; a restart that fails leaves both
 abbrev pub RestartsGoOn : {D : Type 0} → Type 0 → (D → DiskState) → (D → ℕ) → Global → World → Stopped D → NodeState D → List NodeEnds → List ClientCell → Result Bool RestartFault → Type 0
 RestartsGoOn told state own alloc start old new ends clients answer =
-    told → Restarts told state own alloc old new answer → IsLater told state old new → IsHalted told state start old ends clients → IsInWorld told state start new ends clients
+    told → Restarts told state own alloc old new answer → IsHalted told state start old ends clients → IsInWorld told state start new ends clients

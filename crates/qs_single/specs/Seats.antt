@@ -9,14 +9,12 @@ use Rattle.qs_cell.specs.Visits.{all_delivered, due_command, held_by, left_of}
 use Rattle.qs_cell.specs.declared.stopped.Stopped.{Stopped}
 use Rattle.qs_channels.specs.Network.{Among}
 use Rattle.qs_chronicle.specs.Carried.{Commands}
-use Rattle.qs_chronicle.specs.Occasions.{taken}
 use Rattle.qs_chronicle.specs.declared.occasion.Occasion.{Occasion}
 use Rattle.qs_chronicle.specs.declared.occasion.Occasion.TheVariants as occasions
 use Rattle.qs_client.specs.declared.cell.ClientCell.{ClientCell}
 use Rattle.qs_host.specs.Host.{log_after}
 use Rattle.qs_lanes.specs.declared.ends.NodeEnds.{NodeEnds}
 use Rattle.qs_laws.proofs.Rising.{IsRising}
-use Rattle.qs_machine.specs.Clauses.{is_crash}
 use Rattle.qs_record.specs.declared.record.Record.{Record}
 use Rattle.qs_rounds.specs.Rounds.{is_refused}
 use Rattle.qs_step.specs.State.{client_cmp}
@@ -25,7 +23,7 @@ use Rattle.qs_world.specs.Moves.{cut_log, may_serve}
 use Rattle.qs_world.specs.World.{Client, World}
 use Rattle.qs_single.specs.Beginnings.{rise_of}
 use Rattle.qs_single.specs.Events.{MovesTo, cut_of, source_of, step_of, stop_behind, stop_of}
-use Rattle.qs_single.specs.Showing.{AnswersRight, ShowsIn}
+use Rattle.qs_single.specs.Showing.{IsInHand, ShowsIn}
 use Rattle.qs_single.specs.Shown.{ShowsDown, ShowsUp}
 
 -- ---- a cell and its clients
@@ -33,10 +31,11 @@ use Rattle.qs_single.specs.Shown.{ShowsDown, ShowsUp}
 abbrev pub ShowsEach : ℕ → Option ℕ → Commands → List NodeEnds → (ℕ → Client) → List ClientCell → Type 0
 ShowsEach inc now commands ends shown clients = (client : ClientCell) → Among clients client → ShowsIn inc now commands ends shown client
 
--- its node is up
+-- its node is up, and has no command that the cell has not in hand
 pub record SeatUp {D : Type 0} (running : Up D) (ends : List NodeEnds) (clients : List ClientCell) (world : World) : Type 0 where
   pub node : ShowsUp running world
   pub rising : IsRising client_cmp running.carried.commands
+  pub held : IsInHand running.host.node.commands running.carried.commands
   pub each : ShowsEach running.carried.setting.inc (Some running.carried.setting.inc) running.carried.commands ends world.clients clients
 
 -- or down, where its disk has these records
@@ -67,10 +66,9 @@ abbrev pub IsDueFrom : {D : Type 0} → From → Occasion → Up D → List Node
 IsDueFrom (OfClient number) occasion old ends clients = (due_command number old.carried ends ≡ Some occasion) × HasCell number clients
 IsDueFrom OfNode occasion old ends clients = is_of_node occasion ≡ true
 
--- what waits can be counted, and the step answers who is to be answered: what every run gives
-pub record IsGiven {D : Type 0} (size : ℕ) (occasion : Occasion) (old : Up D) : Type 0 where
+-- what waits can be counted
+pub record IsGiven {D : Type 0} (occasion : Occasion) (old : Up D) : Type 0 where
   pub counted : may_serve old.host.node (source_of occasion) ≡ true
-  pub answers : AnswersRight (taken occasion old.carried.setting.inc old.carried.commands) (out_of size occasion old).answers
 
 -- the lanes once it is taken from them
 abbrev pub left : {D : Type 0} → From → Up D → List NodeEnds → List NodeEnds
@@ -80,13 +78,13 @@ left OfNode old ends = ends
 -- a whole step
 abbrev pub WholeInSeat : {D : Type 0} → ℕ → From → Occasion → Up D → Up D → List NodeEnds → List ClientCell → List ClientAnswer → World → Type 0
 WholeInSeat size source occasion old new ends clients said world =
-    IsDueFrom source occasion old ends clients → IsGiven size occasion old → IsWhole size occasion old new said → SeatUp old ends clients world
+    IsDueFrom source occasion old ends clients → IsGiven occasion old → IsWhole size occasion old new said → SeatUp old ends clients world
     → MovesTo (SeatUp new (all_delivered said (left source old ends)) clients) (step_of size occasion old) world
 
 -- and a stop behind it
 abbrev pub FollowedInSeat : {D : Type 0} → ℕ → From → Occasion → Up D → Stopped D → List NodeEnds → List ClientCell → List ClientAnswer → World → Type 0
 FollowedInSeat size source occasion old new ends clients said world =
-    IsDueFrom source occasion old ends clients → IsGiven size occasion old → IsFollowed size occasion old new said → SeatUp old ends clients world
+    IsDueFrom source occasion old ends clients → IsGiven occasion old → IsFollowed size occasion old new said → SeatUp old ends clients world
     → MovesTo (MovesTo (SeatDown new (all_delivered said (left source old ends)) clients (log_after (out_of size occasion old) old.host.log).forced) (stop_behind old new.cause)) (step_of size occasion old) world
 
 -- a stop in place of a step, for another reason than that memory was refused: where it was, the run ends
@@ -98,7 +96,7 @@ ReplacedInSeat size source occasion old new ends clients world =
 -- a step that is cut off, with its batch kept or lost
 abbrev pub CutInSeat : {D : Type 0} → (D → ℕ) → ℕ → From → Occasion → Up D → Stopped D → List NodeEnds → List ClientCell → World → Type 0
 CutInSeat own size source occasion old new ends clients world =
-    IsDueFrom source occasion old ends clients → may_serve old.host.node (source_of occasion) ≡ true → IsCutOff own size occasion old new → is_crash new.cause ≡ true → SeatUp old ends clients world
+    IsDueFrom source occasion old ends clients → may_serve old.host.node (source_of occasion) ≡ true → IsCutOff own size occasion old new → SeatUp old ends clients world
     → (is_kept : Bool) → MovesTo (SeatDown new (left source old ends) clients (cut_log (world.hosts 0) is_kept (out_of size occasion old))) (cut_of size occasion old is_kept new.cause) world
 
 -- ---- a restart, which finds the records that the world shows, in a later incarnation

@@ -16,6 +16,7 @@ use Rattle.qs_lanes.specs.declared.ends.NodeEnds.{NodeEnds}
 use Rattle.qs_laws.proofs.Rising.{IsRising}
 use Rattle.qs_step.specs.State.{client_cmp}
 use Rattle.qs_step.specs.declared.event.ClientAnswer.{ClientAnswer}
+use Rattle.qs_step.specs.declared.state.OpenCommand.{OpenCommand}
 use Rattle.qs_world.specs.Moves.{client_count}
 use Rattle.qs_world.specs.Posting.{clients_after, handed, handed_back, is_answer_to, next_line}
 use Rattle.qs_world.specs.World.{Client}
@@ -80,6 +81,30 @@ abbrev pub AnswersGo : ℕ → Option ℕ → Commands → List NodeEnds → (�
 AnswersGo inc now commands ends clients said client =
     IsRising client_cmp commands → AnswersRight commands said → ShowsIn inc now commands ends clients client
     → ShowsIn inc now (answered said commands) (fold deliver ends said) (clients_after said clients) client
+
+-- ---- what waits at the node
+
+-- the commands that wait there
+abbrev pub Waiting : Type 0
+Waiting = List (ClientNo × OpenCommand)
+
+abbrev pub line_of : Option OpenCommand → Option ℕ
+line_of None = None
+line_of (Some command) = Some command.line.line
+
+-- the number of the line that waits for a client
+abbrev pub its_line : ClientNo → Waiting → Option ℕ
+its_line client waits = line_of (lookup (is_at (client_cmp client)) waits)
+
+pub record IsHeldAs (held : Option Held) (number : ℕ) : Type 0 where
+  pub command : Held
+  pub has : held ≡ Some command
+  pub number_is : number ≡ command.line.line
+
+-- each line that waits at the node is in the hands of the cell
+pub record IsInHand (waits : Waiting) (commands : Commands) : Type 0 where
+  pub rising : IsRising client_cmp waits
+  pub held : (client : ClientNo) (number : ℕ) → its_line client waits ≡ Some number → IsHeldAs (held_for client commands) number
 
 -- ---- the node stops, and starts again
 

@@ -1,8 +1,8 @@
 -- A source's turn in a visit, and the beginning of a visit: the cell with its clients goes on in the world.
-use Rattle.std.specs.Prelude.{◌≡◌, ⊤, ℕ, true, List, Option, Some, None}
+use Rattle.std.specs.Prelude.{◌≡◌, ⊤, ℕ, true, false, List, Option, Some, None}
 use Rattle.qs_base.specs.declared.identifiers.ClientNo.{ClientNo}
 use Rattle.qs_cell.specs.Restart.{in_round_as}
-use Rattle.qs_cell.specs.State.{IsSeenAs}
+use Rattle.qs_cell.specs.State.{IsSeenAs, cause_of}
 use Rattle.qs_cell.specs.Visits.{IsSameNode, Seat, TakesTurn, due_command, held_by, left_of}
 use Rattle.qs_cell.specs.declared.state.NodeState.{NodeState}
 use Rattle.qs_cell.specs.declared.state.NodeState.TheVariants as states
@@ -10,9 +10,10 @@ use Rattle.qs_chronicle.specs.declared.occasion.Occasion.{Occasion}
 use Rattle.qs_client.specs.declared.cell.ClientCell.{ClientCell}
 use Rattle.qs_disk.specs.Disk.{DiskState}
 use Rattle.qs_lanes.specs.declared.ends.NodeEnds.{NodeEnds}
+use Rattle.qs_rounds.specs.Rounds.{is_refused}
 use Rattle.qs_world.specs.World.{World}
-use Rattle.qs_single.specs.Reached.{IsInWorld, IsSureOf}
-use Rattle.qs_single.specs.Seats.{From, HasCell, OfClient, OfNode, is_of_node}
+use Rattle.qs_single.specs.Reached.{IsInWorld}
+use Rattle.qs_single.specs.Seats.{From, HasCell, IsGiven, OfClient, OfNode, is_of_node}
 
 -- ---- what is due of a source, and the lanes that it leaves
 
@@ -35,17 +36,17 @@ IsTurnOf OfNode node ends clients due left = IsOwn due × (left ≡ ends)
 
 -- ---- a turn
 
--- what else is given of the event, where one is made
-abbrev pub IsSureTurn : {D : Type 0} → (told : Type 0) → (state : D → DiskState) → (own size : D → ℕ) → (due : Option Occasion) → (left : List NodeEnds) → (ready : NodeState D) → (ends : List NodeEnds) → (new : Seat D)
+-- what is given of the event, where one is made
+abbrev pub IsGivenTurn : {D : Type 0} → (told : Type 0) → (state : D → DiskState) → (own size : D → ℕ) → (due : Option Occasion) → (left : List NodeEnds) → (ready : NodeState D) → (ends : List NodeEnds) → (new : Seat D)
     → TakesTurn told state own size due left (record { node = ready; ends = ends }) new → Type 0
-IsSureTurn told state own size None left ready ends new turn = ⊤
-IsSureTurn told state own size (Some occasion) left (states.Up running) ends new (answers, (makes, is)) = IsSureOf told state (size running.host.log.disk.disk) occasion running makes.outcome new.node
-IsSureTurn told state own size (Some occasion) left (states.Down stopped) ends new turn = ⊤
+IsGivenTurn told state own size None left ready ends new turn = ⊤
+IsGivenTurn told state own size (Some occasion) left (states.Up running) ends new turn = IsGiven occasion running
+IsGivenTurn told state own size (Some occasion) left (states.Down stopped) ends new turn = ⊤
 
 abbrev pub TurnGoesOn : {D : Type 0} → Type 0 → (D → DiskState) → (D → ℕ) → (D → ℕ) → World → From → NodeState D → List NodeEnds → Seat D → List ClientCell → Type 0
 TurnGoesOn told state own size start source ready ends new clients =
     (due : Option Occasion) (left : List NodeEnds) → IsTurnOf source ready ends clients due left
-    → (turn : TakesTurn told state own size due left (record { node = ready; ends = ends }) new) → IsSureTurn told state own size due left ready ends new turn
+    → (turn : TakesTurn told state own size due left (record { node = ready; ends = ends }) new) → is_refused (cause_of new.node) ≡ false → IsGivenTurn told state own size due left ready ends new turn
     → IsInWorld told state start ready ends clients → IsInWorld told state start new.node new.ends clients
 
 -- ---- nothing happens as room is made, and as a visit begins

@@ -3,8 +3,6 @@
 use Rattle.std.specs.Prelude.{◌≡◌, ℕ, List, [], ◌∷◌}
 use Rattle.std.specs.Global.{Global}
 use Rattle.qs_cell.specs.Starts.{journal_of}
-use Rattle.qs_cell.specs.State.{LogStands}
-use Rattle.qs_cell.specs.declared.state.NodeState.TheVariants as states
 use Rattle.qs_disk.specs.Disk.{DiskState}
 use Rattle.qs_machine.specs.Lawful.{IsLawful}
 use Rattle.qs_machine.specs.Opening.{opening}
@@ -18,14 +16,13 @@ use Rattle.qs_world.specs.World.{Opening, World, start}
 use Rattle.rand_pcg.specs.Lcg.{Lcg}
 use Rattle.qs_single.specs.Opened.{OpensScript}
 use Rattle.qs_single.specs.Reached.{Reached}
-use Rattle.qs_single.specs.Rounding.{AreSureRounds}
+use Rattle.qs_single.specs.Rounding.{AreGivenRounds}
 
--- as far as its events and restarts are sure
+-- as far as this is given of its events
 abbrev pub IsRunOfWorld : {D : Type 0} → Type 0 → (D → DiskState) → (D → ℕ) → (D → ℕ) → Global → Script → D → Cast D → Opening → Lcg → ℕ → Cast D → Lcg → Type 0
 IsRunOfWorld told state own size alloc script disk cast o rng n new later =
-    told → (begun : HasBegun told state own alloc script disk cast) → (told → LogStands state (states.Up begun.started.running))
-    → OpensScript alloc script cast.clients begun.started.running.host.log o
-    → (rounds : Rounds told state own size rng n cast new later) → AreSureRounds told state own size rng n cast new later rounds
+    told → (begun : HasBegun told state own alloc script disk cast) → OpensScript alloc script cast.clients begun.started.running.host.log o
+    → (rounds : Rounds told state own size rng n cast new later) → AreGivenRounds told state own size rng n cast new later rounds
     → Reached (start o) (λ world. world.journal ≡ journal_of new.node)
 
 -- and the reference machine opens with what the cell tells that the log held
@@ -36,7 +33,6 @@ OpensAsTold told state own alloc script disk cast o =
 -- so where each run of that opening is lawful, what the cell tells is lawful from what its log held
 abbrev pub IsLawfulAsRuns : {D : Type 0} → Type 0 → (D → DiskState) → (D → ℕ) → (D → ℕ) → Global → Script → D → Cast D → Opening → Lcg → ℕ → Cast D → Lcg → Type 0
 IsLawfulAsRuns told state own size alloc script disk cast o rng n new later =
-    told → (begun : HasBegun told state own alloc script disk cast) → (told → LogStands state (states.Up begun.started.running))
-    → OpensScript alloc script cast.clients begun.started.running.host.log o
-    → (rounds : Rounds told state own size rng n cast new later) → AreSureRounds told state own size rng n cast new later rounds
+    told → (begun : HasBegun told state own alloc script disk cast) → OpensScript alloc script cast.clients begun.started.running.host.log o
+    → (rounds : Rounds told state own size rng n cast new later) → AreGivenRounds told state own size rng n cast new later rounds
     → IsOpening o → ((moves : List Move) (world : World) → IsLawfulRun o moves world) → IsLawful (opening (cast.node.opened ∷ [])) (journal_of new.node)

@@ -8,7 +8,7 @@ pub returns-clause-makes : goal.returns-clause-makes
 returns-clause-makes g c =
     subst (λ node. MakesIn g.D.Disk.told g.D.Disk.state g.D.Disk.fault_count g.D.Disk.byte_count c.args.occasion node c.after_event.result.0 c.after_event.result.1) (sym c.in-Up.is)
     (makes_of g.D.Disk.told g.D.Disk.state g.D.Disk.fault_count g.D.Disk.byte_count c.args.occasion c.in-Up.running c.event.result c.after_event.result.0 c.after_event.result.1 c.event.ensures.outcome
-    c.after_event.ensures.state c.after_event.ensures.answers c.event.ensures.moments)
+    c.after_event.ensures.state c.after_event.ensures.answers c.event.ensures.stands c.event.ensures.moments)
 
 pub returns-clause-stands : goal.returns-clause-stands
 returns-clause-stands g c = λ told.

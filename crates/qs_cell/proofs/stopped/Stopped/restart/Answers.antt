@@ -2,7 +2,7 @@ use Rattle.std.proofs.Common.{subst, sym}
 use Rattle.std.specs.Prelude.{◌⊎◌, ◌≡◌}
 use Rattle.qs_disk.specs.Disk.{EachImage}
 use Rattle.qs_disk.specs.Moments.{Keeps}
-use Rattle.qs_incarnation.specs.Incarnation.{IsReopened, HasOneOf}
+use Rattle.qs_incarnation.specs.Incarnation.{IsLeftOrRaised, IsReopened, HasOneOf}
 use Rattle.qs_log.specs.Log.{Stands, records_of}
 use Rattle.qs_cell.proofs.Standing.{if_up, found_all}
 use Rattle.qs_cell.proofs.stopped.Stopped.restart.Goals as goal
@@ -25,3 +25,8 @@ pub returns-in-Ok-clause-moments : goal.returns-in-Ok-clause-moments
 returns-in-Ok-clause-moments g c = λ told a b here.
     let s = (g.D.Disk.state c.args.self.disk.disk) in
     subst (λ d. Keeps (HasOneOf a b) s (g.D.Disk.state d.disk)) (sym c.begin_incarnation.ensures.disk) (c.in-Ok.ensures.moments told a b here)
+
+pub returns-in-Ok-clause-touched : goal.returns-in-Ok-clause-touched
+returns-in-Ok-clause-touched g c = λ told.
+    let s = (g.D.Disk.state c.args.self.disk.disk) in
+    subst (λ d. Keeps (IsLeftOrRaised s) s (g.D.Disk.state d.disk)) (sym c.begin_incarnation.ensures.disk) (c.in-Ok.ensures.touched told)
