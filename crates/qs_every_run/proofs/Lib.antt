@@ -264,3 +264,11 @@ pub mod CountsVotes
 pub mod CoversRecords
 pub mod CoversBeyond
 pub mod CoversCounts
+pub mod TalliedParts
+pub mod TalliedQueues
+pub mod TalliedLoans
+pub mod TalliedRules
+pub mod TalliedCommands
+pub mod TalliedStages
+pub mod TalliedOpened
+pub mod TalliedMoves

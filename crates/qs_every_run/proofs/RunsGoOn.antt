@@ -41,12 +41,13 @@ use Rattle.qs_every_run.proofs.RepliesTrue.{replies_true}
 use Rattle.qs_every_run.proofs.SameVotes.{each_vote_same}
 use Rattle.qs_every_run.proofs.StepUnanimous.{steps_stay_unanimous}
 use Rattle.qs_every_run.proofs.StepsAwaited.{steps_keep_awaited}
+use Rattle.qs_every_run.proofs.TalliedMoves.{moves_counted, opens_counted}
 
 along_places : (o : Opening) (world : World) → AlongRun o world → PlacesAt o world
 along_places o world along = placed o world along.awaited
 
 opens_along : Opens AlongRun
-opens_along o opens = record { awaited = opens_places o opens; replies = opens_replies o opens; records = opens_records o opens; covers = opens_covers o opens }
+opens_along o opens = record { awaited = opens_places o opens; replies = opens_replies o opens; records = opens_records o opens; covers = opens_covers o opens; counted = opens_counted o opens }
 
 between_along : Keeps AlongRun IsBetweenSteps AlongRun
 between_along o world move kind j may lawful = record {
@@ -54,6 +55,7 @@ between_along o world move kind j may lawful = record {
   replies = moves_keep_replies o world move (along_placed o world j) j.places.replies may lawful;
   records = moves_keep_records AlongRun o world move j j.places.records may lawful;
   covers = moves_keep_covers AlongRun o world move j j.places.covers may lawful;
+  counted = moves_counted AlongRun o world move j j.places.counted may;
 }
 
 replies_along : EachReplyTrue AlongRun
@@ -69,6 +71,7 @@ steps_along o world move kind j may lawful = record {
   replies = moves_keep_replies o world move (along_placed o world j) j.places.replies may lawful;
   records = moves_keep_records AlongRun o world move j j.places.records may lawful;
   covers = moves_keep_covers AlongRun o world move j j.places.covers may lawful;
+  counted = moves_counted AlongRun o world move j j.places.counted may;
 }
 
 whole_along : WholeSteps AlongRun

@@ -53,7 +53,7 @@ use Rattle.qs_tm.specs.declared.participant.Participant.{Participant}
 use Rattle.qs_every_run.specs.Stores.{IsKeptStore, IsNoVoteIf, Store, store_of}
 
 -- a count that is full stays so, and none asks
-served_unasked : (server : ServerNo) (part : Participant) → (participant.served server part).asked ≡ part.asked
+pub served_unasked : (server : ServerNo) (part : Participant) → (participant.served server part).asked ≡ part.asked
 served_unasked server part = by ((member_of part server).served == last_number)
   where
     by : (b : Bool) → (if b then part else record (participant.with_member server (record (member_of part server) { served = (member_of part server).served + 1; fresh = true }) part) {

@@ -57,3 +57,4 @@ pub mod VotesSame
 pub mod OnRecord
 pub mod CoversAhead
 pub mod RecordLaws
+pub mod Counted

@@ -4,6 +4,7 @@
 
 mod coherent_again;
 mod comes;
+pub mod counted;
 pub mod found;
 mod joined_agrees;
 mod joined_runs;

@@ -49,9 +49,11 @@ every_lookup P (e ∷ es) all at rec is = by (is_at (voter_cmp at) e.0) refl is 
 
 each_found : (fs : List Found) → Every (λ (f : Found). is_found fs (voter f.tid f.server.0) ≡ true) fs
 each_found [] = tt
-each_found (f ∷ fs) =
-    (rw (same_tid-self f.tid, same_number f.server.0, least f.covers) refl, every_on (λ (g : Found). is_found fs (voter g.tid g.server.0) ≡ true) (λ (g : Found). is_found (f ∷ fs) (voter g.tid g.server.0) ≡ true)
-    (λ g is. or_more (is_found_as (voter g.tid g.server.0) 0 f) (is_found fs (voter g.tid g.server.0)) is) fs (each_found fs))
+each_found (f ∷ fs) = (
+  rw (same_tid-self f.tid, same_number f.server.0, least f.covers) refl,
+  every_on (λ (g : Found). is_found fs (voter g.tid g.server.0) ≡ true) (λ (g : Found). is_found (f ∷ fs) (voter g.tid g.server.0) ≡ true)
+      (λ g is. or_more (is_found_as (voter g.tid g.server.0) 0 f) (is_found fs (voter g.tid g.server.0)) is) fs (each_found fs),
+)
   where
     same_number : (n : ℕ) → (n == n) ≡ true
     same_number n = grind (arith, nat_tests)

@@ -15,8 +15,8 @@ use Rattle.qs_journal.specs.declared.entry.CrashCause.{CrashCause}
 use Rattle.qs_lanes.specs.declared.ends.NodeEnds.{NodeEnds}
 use Rattle.qs_rounds.specs.Rounds.{is_refused}
 use Rattle.qs_world.specs.World.{World}
-use Rattle.qs_single.specs.Acting.{AreOfClients, AreGivenTurns, StartsGoOn, TellsHistory, VisitsGoOn}
-use Rattle.qs_single.specs.Reached.{IsInWorld}
+use Rattle.qs_single.specs.Acting.{AreOfClients, StartsGoOn, TellsHistory, VisitsGoOn}
+use Rattle.qs_single.specs.Reached.{IsInWorld, ServesAll}
 use Rattle.qs_single.specs.Seats.{HasCell, OfClient, OfNode}
 use Rattle.qs_single.specs.Visiting.{IsOwn, IsTurnOf}
 use Rattle.qs_single.proofs.Reaching.{each_restart}
@@ -91,24 +91,24 @@ module _ {D : Type 0} (told : Type 0) (state : D → DiskState) (own size : D �
       by (states.Up running) is = refl
       by (states.Down stopped) is = ap is_refused (sym (stays_down stopped sources mid new rest is)) ∙ granted
 
-  own_turns : (sources : List _) (old new : Seat D) (turns : TurnsAll told state own size sources old new) → is_refused (cause_of new.node) ≡ false → AreOwn due left_by sources → AreGivenTurns told state own size sources old new turns
+  own_turns : (sources : List _) (old new : Seat D) → TurnsAll told state own size sources old new → is_refused (cause_of new.node) ≡ false → AreOwn due left_by sources → ServesAll start
       → IsInWorld told state start old.node old.ends clients → IsInWorld told state start new.node new.ends clients
-  own_turns [] old new turns granted all sure was = subst (λ (s : Seat D). IsInWorld told state start s.node s.ends clients) (sym turns) was
-  own_turns (source ∷ sources) old new (mid, (turn, rest)) granted all sure was = own_turns sources mid new rest granted all.1 sure.1
-      (each_turn_goes told state own size start OfNode turn.ready old.ends mid clients (due source turn.ready old.ends) (left_by source turn.ready old.ends) (all.0 turn.ready old.ends) turn.turn (was_granted sources mid new rest granted) sure.0
+  own_turns [] old new turns granted all serves was = subst (λ (s : Seat D). IsInWorld told state start s.node s.ends clients) (sym turns) was
+  own_turns (source ∷ sources) old new (mid, (turn, rest)) granted all serves was = own_turns sources mid new rest granted all.1 serves
+      (each_turn_goes told state own size start OfNode turn.ready old.ends mid clients (due source turn.ready old.ends) (left_by source turn.ready old.ends) (all.0 turn.ready old.ends) turn.turn (was_granted sources mid new rest granted) serves
       (each_room told state start old.node turn.ready old.ends clients turn.same was))
 
-  all_turns : (ends : List NodeEnds) (old new : Seat D) (turns : TurnsAll told state own size (map client_source ends ++ sources_of []) old new) → is_refused (cause_of new.node) ≡ false → AreOfClients ends clients
-      → AreGivenTurns told state own size (map client_source ends ++ sources_of []) old new turns → IsInWorld told state start old.node old.ends clients → IsInWorld told state start new.node new.ends clients
-  all_turns [] old new turns granted all sure was = own_turns (sources_of []) old new turns granted its_own sure was
-  all_turns (end ∷ ends) old new (mid, (turn, rest)) granted all sure was = all_turns ends mid new rest granted (λ e there. all e (inr there)) sure.1
+  all_turns : (ends : List NodeEnds) (old new : Seat D) → TurnsAll told state own size (map client_source ends ++ sources_of []) old new → is_refused (cause_of new.node) ≡ false → AreOfClients ends clients
+      → ServesAll start → IsInWorld told state start old.node old.ends clients → IsInWorld told state start new.node new.ends clients
+  all_turns [] old new turns granted all serves was = own_turns (sources_of []) old new turns granted its_own serves was
+  all_turns (end ∷ ends) old new (mid, (turn, rest)) granted all serves was = all_turns ends mid new rest granted (λ e there. all e (inr there)) serves
       (each_turn_goes told state own size start (OfClient end.client) turn.ready old.ends mid clients (due (client_source end) turn.ready old.ends) (left_by (client_source end) turn.ready old.ends)
-      (client_turn end (all end (inl refl)) turn.ready old.ends) turn.turn (was_granted (map client_source ends ++ sources_of []) mid new rest granted) sure.0
+      (client_turn end (all end (inl refl)) turn.ready old.ends) turn.turn (was_granted (map client_source ends ++ sources_of []) mid new rest granted) serves
       (each_room told state start old.node turn.ready old.ends clients turn.same was))
 
 pub each_visit : {D : Type 0} (told : Type 0) (state : D → DiskState) (own size : D → ℕ) (start : World) (old new : Seat D) (clients : List ClientCell) → VisitsGoOn told state own size start old new clients
-each_visit told state own size start old new clients visits granted sure all was =
-    all_turns told state own size start clients old.ends (record { node = visits.begun; ends = old.ends }) new visits.turns granted all sure
+each_visit told state own size start old new clients visits granted serves all was =
+    all_turns told state own size start clients old.ends (record { node = visits.begun; ends = old.ends }) new visits.turns granted all serves
     (each_visit_begins told state start old.node visits.begun old.ends clients visits.round was)
 
 pub each_start : {D : Type 0} (told : Type 0) (state : D → DiskState) (own : D → ℕ) (start : World) (old new : CellValue D) (did : Bool) (clients : List ClientCell) → StartsGoOn told state own start old new did clients

@@ -148,7 +148,6 @@ pub begin_quiet : (work : Work) → IsQuiet work (begin_incarnation work)
 begin_quiet work = if_quiet work.node.is_first (fold resume_tid (with_node (λ node. record node { is_first = false }) work) (known_tids work)) work work
     (fold_quiet resume_tid resume_quiet (known_tids work) (with_node (λ node. record node { is_first = false }) work)) refl
 
-
 -- ---- the vote pass, and settling
 
 vote_next_quiet : (tid : Tid) (work : Work) (server : ServerNo) → IsQuiet work (vote_next tid work server)

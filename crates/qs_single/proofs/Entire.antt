@@ -22,12 +22,16 @@ use Rattle.rand_pcg.specs.Lcg.{Lcg}
 use Rattle.qs_single.specs.Acting.{AreOfClients}
 use Rattle.qs_single.specs.Opened.{setting_by}
 use Rattle.qs_single.specs.Reached.{Reached}
+use Rattle.qs_every_run.specs.AlongRun.{AlongRun}
+use Rattle.qs_every_run.proofs.JoinedOver.{each_run_lawful}
+use Rattle.qs_every_run.proofs.RunsGoOn.{runs_go}
 use Rattle.qs_single.specs.Rounding.{IsCastIn}
 use Rattle.qs_single.specs.Seats.{HasCell}
-use Rattle.qs_single.specs.Whole.{IsLawfulAsRuns, IsRunOfWorld, OpensAsTold}
+use Rattle.qs_single.specs.Whole.{IsLawfulFromLog, IsRunOfWorld, OpensAsTold}
 use Rattle.qs_single.proofs.Acted.{each_history}
 use Rattle.qs_single.proofs.Opening.{each_cast}
 use Rattle.qs_single.proofs.Rounded.{each_rounds}
+use Rattle.qs_single.proofs.ServedAlone.{serves_alone}
 
 -- each lane is of the client that has its seat
 seats_of : (script : Script) (clients : List ClientCell) (ends : List NodeEnds) → AreSeated script clients ends → AreOfClients ends clients
@@ -41,12 +45,12 @@ seats_of script (c ∷ clients) (e ∷ ends) seats end (inr there) =
 
 pub each_run : {D : Type 0} (told : Type 0) (state : D → DiskState) (own size : D → ℕ) (alloc : Global) (script : Script) (disk : D) (cast : Cast D) (o : Opening) (rng : Lcg) (n : ℕ) (new : Cast D) (later : Lcg)
     → IsRunOfWorld told state own size alloc script disk cast o rng n new later
-each_run told state own size alloc script disk cast o rng n new later t begun opens rounds sure =
+each_run told state own size alloc script disk cast o rng n new later t begun opens rounds is_opening =
     let was : IsCastIn told state (start o) cast = record {
       carried = each_cast told state own alloc script disk cast o t begun opens;
       lanes = seats_of script cast.clients cast.node.seat.ends begun.seats;
     } in
-    let now : IsCastIn told state (start o) new = each_rounds told state own size (start o) rng n cast new later t rounds sure was in
+    let now : IsCastIn told state (start o) new = each_rounds told state own size (start o) rng n cast new later t rounds (serves_alone o is_opening opens.node.size) was in
     each_history told state (start o) new.node.seat.node new.node.seat.ends new.clients now.carried.shows
 
 pub each_book : {D : Type 0} (told : Type 0) (state : D → DiskState) (own : D → ℕ) (alloc : Global) (script : Script) (disk : D) (cast : Cast D) (o : Opening) → OpensAsTold told state own alloc script disk cast o
@@ -66,8 +70,8 @@ each_book told state own alloc script disk cast o t begun opens =
     all_forced = sym (ap (λ (l : List Record). begun.started.running.host.log.forced ++ l) (begun.started.raised t).waiting ∙ append-nil begun.started.running.host.log.forced)
 
 pub each_lawful : {D : Type 0} (told : Type 0) (state : D → DiskState) (own size : D → ℕ) (alloc : Global) (script : Script) (disk : D) (cast : Cast D) (o : Opening) (rng : Lcg) (n : ℕ) (new : Cast D) (later : Lcg)
-    → IsLawfulAsRuns told state own size alloc script disk cast o rng n new later
-each_lawful told state own size alloc script disk cast o rng n new later t begun opens rounds sure is_opening lawful =
-    let run : Reached (start o) (λ world. world.journal ≡ journal_of new.node) = each_run told state own size alloc script disk cast o rng n new later t begun opens rounds sure in
+    → IsLawfulFromLog told state own size alloc script disk cast o rng n new later
+each_lawful told state own size alloc script disk cast o rng n new later t begun opens rounds is_opening =
+    let run : Reached (start o) (λ world. world.journal ≡ journal_of new.node) = each_run told state own size alloc script disk cast o rng n new later t begun opens rounds is_opening in
     subst (λ (b : BookValue). IsLawful b (journal_of new.node)) (each_book told state own alloc script disk cast o t begun opens)
-    (subst (λ (l : List Entry). IsLawful (book_of o) l) run.shows (lawful run.moves run.world is_opening run.run))
+    (subst (λ (l : List Entry). IsLawful (book_of o) l) run.shows (each_run_lawful AlongRun runs_go o run.moves run.world is_opening run.run))

@@ -43,3 +43,4 @@ pub mod Numbers
 pub mod Rounded
 -- A whole run.
 pub mod Entire
+pub mod ServedAlone

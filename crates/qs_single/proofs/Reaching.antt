@@ -37,12 +37,12 @@ use Rattle.qs_step.specs.declared.event.ClientAnswer.{ClientAnswer}
 use Rattle.qs_step.specs.declared.event.Effects.{Effects}
 use Rattle.qs_step.specs.declared.setting.Setting.{Setting}
 use Rattle.qs_world.specs.Moves as world_moves
-use Rattle.qs_world.specs.Moves.{Move, cut_log, may_move, moved}
+use Rattle.qs_world.specs.Moves.{Move, cut_log, may_move, may_serve, moved}
 use Rattle.qs_world.specs.Runs.{Run}
 use Rattle.qs_world.specs.World.{Host, World}
-use Rattle.qs_single.specs.Events.{MovesTo, cut_of, step_of, stop_behind, stop_of}
+use Rattle.qs_single.specs.Events.{MovesTo, cut_of, source_of, step_of, stop_behind, stop_of}
 use Rattle.qs_single.specs.Beginnings.{rise_of}
-use Rattle.qs_single.specs.Reached.{EventsGoOn, HasReached, IsHalted, IsInWorld, IsRunning, Reached, RestartsGoOn}
+use Rattle.qs_single.specs.Reached.{EventsGoOn, HasReached, IsHalted, IsInWorld, IsRunning, Reached, RestartsGoOn, ServesAll}
 use Rattle.qs_single.specs.Seats.{From, IsDueFrom, IsGiven, SeatDown, SeatUp, left}
 use Rattle.qs_single.specs.Showing.{ShowsIn}
 use Rattle.qs_single.specs.Shown.{ShowsTold}
@@ -169,13 +169,21 @@ module _ {D : Type 0} (told : Type 0) (state : D → DiskState) (own : D → ℕ
             subst (λ (l : List Record). MovesTo (SeatDown stopped (left source old ends) clients l) (cut_of size occasion old is_kept stopped.cause) world) same
             (seated.cut size source occasion old ends clients world due_is seat own stopped given.counted is is_kept)
 
+-- the run leads to a world whose host has the node
+given_in : {D : Type 0} (told : Type 0) (state : D → DiskState) (start : World) (occasion : Occasion) (old : Up D) (ends : List NodeEnds) (clients : List ClientCell)
+    → IsRunning told state start old ends clients → ServesAll start → IsGiven occasion old
+given_in told state start occasion old ends clients was serves = record {
+  counted = ap (λ (h : Host). may_serve h.node (source_of occasion)) (sym was.reached.shows.node.host)
+      ∙ serves was.reached.moves was.reached.world was.reached.run was.reached.shows.node.up (source_of occasion);
+}
+
 pub each_event : {D : Type 0} (told : Type 0) (state : D → DiskState) (own size : D → ℕ) (start : World) (source : From) (occasion : Occasion) (old : Up D) (new : NodeState D) (ends : List NodeEnds) (clients : List ClientCell) (answers : List ClientAnswer)
     → EventsGoOn told state own size start source occasion old new ends clients answers
-each_event told state own size start source occasion old new ends clients answers makes granted given due_is was =
+each_event told state own size start source occasion old new ends clients answers makes granted serves due_is was =
     subst (λ (n : NodeState _). IsInWorld told state start n (all_delivered answers (left source old ends)) clients) (sym makes.node)
     (subst (λ (a : List ClientAnswer). IsInWorld told state start (state_of makes.outcome) (all_delivered a (left source old ends)) clients) (sym makes.said)
     (goes_on told state own start (size old.host.log.disk.disk) source occasion old ends clients due_is was makes.outcome makes.is
-    (subst (λ (n : NodeState _). is_refused (cause_of n) ≡ false) makes.node granted) given makes.stands
+    (subst (λ (n : NodeState _). is_refused (cause_of n) ≡ false) makes.node granted) (given_in told state start occasion old ends clients was serves) makes.stands
     (λ t. subst (λ (n : NodeState _). EachImage (IsOldOrAfter (out_of (size old.host.log.disk.disk) occasion old) old.host.log) (state (disk_of n).disk).now) makes.node (makes.moments t).here)))
 
 -- ---- a restart

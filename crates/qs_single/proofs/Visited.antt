@@ -29,11 +29,11 @@ use Rattle.qs_step.specs.State.{client_cmp}
 use Rattle.qs_step.specs.declared.event.ClientAnswer.{ClientAnswer}
 use Rattle.qs_step.specs.declared.setting.Setting.{Setting}
 use Rattle.qs_world.specs.World.{Client, World}
-use Rattle.qs_single.specs.Reached.{HasReached, IsInWorld, IsRunning, Reached}
+use Rattle.qs_single.specs.Reached.{HasReached, IsInWorld, IsRunning, Reached, ServesAll}
 use Rattle.qs_single.specs.Seats.{From, IsDueFrom, OfClient, OfNode, SeatDown, SeatUp, ShowsEach, left as left_for}
 use Rattle.qs_single.specs.Showing.{IsInHand, ShowsIn, held_for}
 use Rattle.qs_single.specs.Shown.{ShowsTold}
-use Rattle.qs_single.specs.Visiting.{IsGivenTurn, IsTurnOf, RoomGoesOn, TurnGoesOn, VisitBegins}
+use Rattle.qs_single.specs.Visiting.{IsTurnOf, RoomGoesOn, TurnGoesOn, VisitBegins}
 use Rattle.qs_single.proofs.Carried.{moved_in}
 use Rattle.qs_single.proofs.Clients.{stands_on}
 use Rattle.qs_single.proofs.Handing.{found_changed, found_other, same_or}
@@ -87,11 +87,11 @@ each_still number own_inc None ends clients none inc now commands shown each cli
 module _ {D : Type 0} (told : Type 0) (state : D → DiskState) (own size : D → ℕ) (start : World) (clients : List ClientCell) where
   -- an event is made
   made : (source : From) (running : Up D) (occasion : Occasion) (ends left : List NodeEnds) (new : Seat D) → IsDueFrom source occasion running ends clients → left ≡ left_for source running ends
-      → (turn : TakesTurn told state own size (Some occasion) left (record { node = states.Up running; ends = ends }) new) → is_refused (cause_of new.node) ≡ false → IsGivenTurn told state own size (Some occasion) left (states.Up running) ends new turn
+      → TakesTurn told state own size (Some occasion) left (record { node = states.Up running; ends = ends }) new → is_refused (cause_of new.node) ≡ false → ServesAll start
       → IsRunning told state start running ends clients → IsInWorld told state start new.node new.ends clients
-  made source running occasion ends left new due_is left_is (answers, (makes, ends_are)) granted sure was =
+  made source running occasion ends left new due_is left_is (answers, (makes, ends_are)) granted serves was =
       subst (λ (l : List NodeEnds). IsInWorld told state start new.node l clients) (sym (ends_are ∙ ap (all_delivered answers) left_is))
-      (each_event told state own size start source occasion running new.node ends clients answers makes granted sure due_is was)
+      (each_event told state own size start source occasion running new.node ends clients answers makes granted serves due_is was)
 
   -- nothing is due
   idle : (node : NodeState D) (ends left : List NodeEnds) (new : Seat D) → new ≡ record { node = node; ends = left } → IsInWorld told state start node left clients → IsInWorld told state start new.node new.ends clients
@@ -104,27 +104,27 @@ module _ {D : Type 0} (told : Type 0) (state : D → DiskState) (own size : D �
   down stopped (Some occasion) ends new e turn was = absurd (cc e)
 
   pub goes : (source : From) (ready : NodeState D) (ends : List NodeEnds) (new : Seat D) (due : Option Occasion) (left : List NodeEnds) → IsTurnOf source ready ends clients due left
-      → (turn : TakesTurn told state own size due left (record { node = ready; ends = ends }) new) → is_refused (cause_of new.node) ≡ false → IsGivenTurn told state own size due left ready ends new turn
+      → TakesTurn told state own size due left (record { node = ready; ends = ends }) new → is_refused (cause_of new.node) ≡ false → ServesAll start
       → IsInWorld told state start ready ends clients → IsInWorld told state start new.node new.ends clients
-  goes (OfClient number) (states.Up running) ends new (Some occasion) left it turn granted sure was = made (OfClient number) running occasion ends left new (sym it.is.0, it.cell) it.is.1 turn granted sure was
-  goes (OfClient number) (states.Up running) ends new None left it turn granted sure was =
+  goes (OfClient number) (states.Up running) ends new (Some occasion) left it turn granted serves was = made (OfClient number) running occasion ends left new (sym it.is.0, it.cell) it.is.1 turn granted serves was
+  goes (OfClient number) (states.Up running) ends new None left it turn granted serves was =
       idle (states.Up running) ends left new turn (subst (λ (l : List NodeEnds). IsInWorld told state start (states.Up running) l clients) (sym it.is.1)
       (moved_in told state start (states.Up running) ends (left_of number (held_by number running.carried) ends) clients clients
       (each_still number running.carried.setting.inc (held_by number running.carried) ends clients (sym it.is.0)) was))
-  goes (OfClient number) (states.Down stopped) ends new due left it turn granted sure was =
+  goes (OfClient number) (states.Down stopped) ends new due left it turn granted serves was =
       down stopped due ends new it.is.0 (subst (λ (l : List NodeEnds). TakesTurn told state own size due l (record { node = states.Down stopped; ends = ends }) new) it.is.1 turn) was
-  goes OfNode (states.Up running) ends new (Some occasion) left it turn granted sure was = made OfNode running occasion ends left new it.0 it.1 turn granted sure was
-  goes OfNode (states.Up running) ends new None left it turn granted sure was =
+  goes OfNode (states.Up running) ends new (Some occasion) left it turn granted serves was = made OfNode running occasion ends left new it.0 it.1 turn granted serves was
+  goes OfNode (states.Up running) ends new None left it turn granted serves was =
       idle (states.Up running) ends left new turn (subst (λ (l : List NodeEnds). IsInWorld told state start (states.Up running) l clients) (sym it.1) was)
-  goes OfNode (states.Down stopped) ends new None left it turn granted sure was =
+  goes OfNode (states.Down stopped) ends new None left it turn granted serves was =
       idle (states.Down stopped) ends left new turn (subst (λ (l : List NodeEnds). IsInWorld told state start (states.Down stopped) l clients) (sym it.1) was)
-  goes OfNode (states.Down stopped) ends new (Some occasion) left it (answers, (makes, ends_are)) granted sure was =
+  goes OfNode (states.Down stopped) ends new (Some occasion) left it (answers, (makes, ends_are)) granted serves was =
       subst (λ (n : NodeState D). IsInWorld told state start n new.ends clients) (sym makes.0)
       (subst (λ (l : List NodeEnds). IsInWorld told state start (states.Down stopped) l clients) (sym (ends_are ∙ (ap (λ (a : List ClientAnswer). all_delivered a left) makes.1 ∙ it.1))) was)
 
 pub each_turn_goes : {D : Type 0} (told : Type 0) (state : D → DiskState) (own size : D → ℕ) (start : World) (source : From) (ready : NodeState D) (ends : List NodeEnds) (new : Seat D) (clients : List ClientCell)
     → TurnGoesOn told state own size start source ready ends new clients
-each_turn_goes told state own size start source ready ends new clients due left it turn granted sure was = goes told state own size start clients source ready ends new due left it turn granted sure was
+each_turn_goes told state own size start source ready ends new clients due left it turn granted serves was = goes told state own size start clients source ready ends new due left it turn granted serves was
 
 -- ---- what is told else of the cell
 

@@ -12,8 +12,8 @@ use Rattle.qs_disk.specs.Disk.{DiskState}
 use Rattle.qs_lanes.specs.declared.ends.NodeEnds.{NodeEnds}
 use Rattle.qs_rounds.specs.Rounds.{is_refused}
 use Rattle.qs_world.specs.World.{World}
-use Rattle.qs_single.specs.Reached.{IsInWorld}
-use Rattle.qs_single.specs.Seats.{From, HasCell, IsGiven, OfClient, OfNode, is_of_node}
+use Rattle.qs_single.specs.Reached.{IsInWorld, ServesAll}
+use Rattle.qs_single.specs.Seats.{From, HasCell, OfClient, OfNode, is_of_node}
 
 -- ---- what is due of a source, and the lanes that it leaves
 
@@ -36,17 +36,10 @@ IsTurnOf OfNode node ends clients due left = IsOwn due × (left ≡ ends)
 
 -- ---- a turn
 
--- what is given of the event, where one is made
-abbrev pub IsGivenTurn : {D : Type 0} → (told : Type 0) → (state : D → DiskState) → (own size : D → ℕ) → (due : Option Occasion) → (left : List NodeEnds) → (ready : NodeState D) → (ends : List NodeEnds) → (new : Seat D)
-    → TakesTurn told state own size due left (record { node = ready; ends = ends }) new → Type 0
-IsGivenTurn told state own size None left ready ends new turn = ⊤
-IsGivenTurn told state own size (Some occasion) left (states.Up running) ends new turn = IsGiven occasion running
-IsGivenTurn told state own size (Some occasion) left (states.Down stopped) ends new turn = ⊤
-
 abbrev pub TurnGoesOn : {D : Type 0} → Type 0 → (D → DiskState) → (D → ℕ) → (D → ℕ) → World → From → NodeState D → List NodeEnds → Seat D → List ClientCell → Type 0
 TurnGoesOn told state own size start source ready ends new clients =
     (due : Option Occasion) (left : List NodeEnds) → IsTurnOf source ready ends clients due left
-    → (turn : TakesTurn told state own size due left (record { node = ready; ends = ends }) new) → is_refused (cause_of new.node) ≡ false → IsGivenTurn told state own size due left ready ends new turn
+    → TakesTurn told state own size due left (record { node = ready; ends = ends }) new → is_refused (cause_of new.node) ≡ false → ServesAll start
     → IsInWorld told state start ready ends clients → IsInWorld told state start new.node new.ends clients
 
 -- ---- nothing happens as room is made, and as a visit begins

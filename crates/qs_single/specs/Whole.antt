@@ -9,20 +9,18 @@ use Rattle.qs_machine.specs.Opening.{opening}
 use Rattle.qs_rounds.specs.Rounds.{Cast, Rounds}
 use Rattle.qs_rounds.specs.Seats.{HasBegun}
 use Rattle.qs_statements.specs.declared.script.Script.{Script}
-use Rattle.qs_world.specs.Histories.{IsLawfulRun, book_of}
-use Rattle.qs_world.specs.Moves.{Move}
+use Rattle.qs_world.specs.Histories.{book_of}
 use Rattle.qs_world.specs.Openings.{IsOpening}
-use Rattle.qs_world.specs.World.{Opening, World, start}
+use Rattle.qs_world.specs.World.{Opening, start}
 use Rattle.rand_pcg.specs.Lcg.{Lcg}
 use Rattle.qs_single.specs.Opened.{OpensScript}
 use Rattle.qs_single.specs.Reached.{Reached}
-use Rattle.qs_single.specs.Rounding.{AreGivenRounds}
 
--- as far as this is given of its events
+-- where a run may begin with that opening
 abbrev pub IsRunOfWorld : {D : Type 0} → Type 0 → (D → DiskState) → (D → ℕ) → (D → ℕ) → Global → Script → D → Cast D → Opening → Lcg → ℕ → Cast D → Lcg → Type 0
 IsRunOfWorld told state own size alloc script disk cast o rng n new later =
     told → (begun : HasBegun told state own alloc script disk cast) → OpensScript alloc script cast.clients begun.started.running.host.log o
-    → (rounds : Rounds told state own size rng n cast new later) → AreGivenRounds told state own size rng n cast new later rounds
+    → Rounds told state own size rng n cast new later → IsOpening o
     → Reached (start o) (λ world. world.journal ≡ journal_of new.node)
 
 -- and the reference machine opens with what the cell tells that the log held
@@ -30,9 +28,9 @@ abbrev pub OpensAsTold : {D : Type 0} → Type 0 → (D → DiskState) → (D �
 OpensAsTold told state own alloc script disk cast o =
     told → (begun : HasBegun told state own alloc script disk cast) → OpensScript alloc script cast.clients begun.started.running.host.log o → book_of o ≡ opening (cast.node.opened ∷ [])
 
--- so where each run of that opening is lawful, what the cell tells is lawful from what its log held
-abbrev pub IsLawfulAsRuns : {D : Type 0} → Type 0 → (D → DiskState) → (D → ℕ) → (D → ℕ) → Global → Script → D → Cast D → Opening → Lcg → ℕ → Cast D → Lcg → Type 0
-IsLawfulAsRuns told state own size alloc script disk cast o rng n new later =
+-- so what the cell tells is lawful from what its log held, since every run of that opening is
+abbrev pub IsLawfulFromLog : {D : Type 0} → Type 0 → (D → DiskState) → (D → ℕ) → (D → ℕ) → Global → Script → D → Cast D → Opening → Lcg → ℕ → Cast D → Lcg → Type 0
+IsLawfulFromLog told state own size alloc script disk cast o rng n new later =
     told → (begun : HasBegun told state own alloc script disk cast) → OpensScript alloc script cast.clients begun.started.running.host.log o
-    → (rounds : Rounds told state own size rng n cast new later) → AreGivenRounds told state own size rng n cast new later rounds
-    → IsOpening o → ((moves : List Move) (world : World) → IsLawfulRun o moves world) → IsLawful (opening (cast.node.opened ∷ [])) (journal_of new.node)
+    → Rounds told state own size rng n cast new later → IsOpening o
+    → IsLawful (opening (cast.node.opened ∷ [])) (journal_of new.node)

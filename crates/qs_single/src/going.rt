@@ -21,14 +21,14 @@ ghost use Rattle.qs_single.specs.Opened.{CastBegins};
 ghost use Rattle.qs_single.specs.Reached.{EventsGoOn, RestartsGoOn};
 ghost use Rattle.qs_single.specs.Rounding.{RoundsGoOn};
 ghost use Rattle.qs_single.specs.Seats.{From};
-ghost use Rattle.qs_single.specs.Whole.{IsLawfulAsRuns, IsRunOfWorld, OpensAsTold};
+ghost use Rattle.qs_single.specs.Whole.{IsLawfulFromLog, IsRunOfWorld, OpensAsTold};
 ghost use Rattle.qs_single.specs.Visiting.{RoomGoesOn, TurnGoesOn, VisitBegins};
 
 use qs_disk::Disk;
 
-/// Where a run leads to a world that shows a cell and its clients, a longer run leads to one that shows them after an event that the cell makes. Where
-/// the event is cut off two runs do, with its batch kept and lost, until a restart finds which of the two logs the disk has: it goes on in the world
-/// of that log, and one that fails leaves both.
+/// Where a run leads to a world that shows a cell and its clients, a longer run leads to one that shows them after an event that the cell makes, if what
+/// waits can be served in each world that a run from there leads to. Where the event is cut off two runs do, with its batch kept and lost, until a
+/// restart finds which of the two logs the disk has: it goes on in the world of that log, and one that fails leaves both.
 pub fn cells_go_on<D: Disk>()
     ensures events { (source : From) (start : World) (occasion : Occasion) (old : Up D) (new : NodeState D) (ends : List NodeEnds) (clients : List ClientCell) (answers : List ClientAnswer)
         → EventsGoOn D.told D.state D.fault_count D.byte_count start source occasion old new ends clients answers }
@@ -48,7 +48,8 @@ pub fn casts_begin<D: Disk>()
     ensures { (alloc : Global) (script : Script) (disk : D) (cast : Cast D) (o : Opening) → CastBegins D.told D.state D.fault_count alloc script disk cast o }
 {}
 
-/// A source's turn in a visit: the event that is due of it is made, or nothing happens. And nothing happens as a visit begins, and as room is made.
+/// A source's turn in a visit: the event that is due of it is made, if what waits can be served in each world that a run leads to, or nothing happens.
+/// And nothing happens as a visit begins, and as room is made.
 pub fn turns_go_on<D: Disk>()
     ensures turns { (source : From) (start : World) (ready : NodeState D) (ends : List NodeEnds) (new : Seat D) (clients : List ClientCell)
         → TurnGoesOn D.told D.state D.fault_count D.byte_count start source ready ends new clients }
@@ -56,26 +57,27 @@ pub fn turns_go_on<D: Disk>()
     ensures begins { (start : World) (old begun : NodeState D) (ends : List NodeEnds) (clients : List ClientCell) → VisitBegins D.told D.state start old begun ends clients }
 {}
 
-/// A visit of a node that is up goes on in the world turn by turn, and one of a node that is down by a restart. And what a cell that is shown tells
-/// is the history of a run.
+/// A visit of a node that is up goes on in the world turn by turn, if what waits can be served in each world that a run leads to, and one of a node
+/// that is down by a restart. And what a cell that is shown tells is the history of a run.
 pub fn visits_go_on<D: Disk>()
     ensures visits { (start : World) (old new : Seat D) (clients : List ClientCell) → VisitsGoOn D.told D.state D.fault_count D.byte_count start old new clients }
     ensures starts { (start : World) (old new : CellValue D) (did : Bool) (clients : List ClientCell) → StartsGoOn D.told D.state D.fault_count start old new did clients }
     ensures history { (start : World) (node : NodeState D) (ends : List NodeEnds) (clients : List ClientCell) → TellsHistory D.told D.state start node ends clients }
 {}
 
-/// The rounds of a run: where the disk tells what is on it, the cast goes on in the world, as far as the events and restarts are sure.
+/// The rounds of a run: where the disk tells what is on it, and what waits can be served in each world that a run leads to, the cast goes on in the
+/// world.
 pub fn rounds_go_on<D: Disk>()
     ensures { (start : World) (rng : Lcg) (n : ℕ) (old new : Cast D) (later : Lcg) → RoundsGoOn D.told D.state D.fault_count D.byte_count start rng n old new later }
 {}
 
-/// A run of one node is a run of the world of one node, as far as its events and restarts are sure: what the cell tells after so many rounds is the
-/// history of a run that begins with what the log of the disk held. And the reference machine opens with what the cell
-/// tells that its log held; so where each run of that opening is lawful, so is what the cell tells.
+/// A run of one node is a run of the world of one node, where a run may begin with what the log of its disk held (`IsOpening`): what the cell tells
+/// after so many rounds is the history of a run of that opening, since what waits at the only node of a run can be counted. And the reference machine
+/// opens with what the cell tells that its log held; so what the cell tells is lawful.
 pub fn run_is_of_the_world<D: Disk>()
     ensures run { (alloc : Global) (script : Script) (disk : D) (cast : Cast D) (o : Opening) (rng : Lcg) (n : ℕ) (new : Cast D) (later : Lcg)
         → IsRunOfWorld D.told D.state D.fault_count D.byte_count alloc script disk cast o rng n new later }
     ensures machine { (alloc : Global) (script : Script) (disk : D) (cast : Cast D) (o : Opening) → OpensAsTold D.told D.state D.fault_count alloc script disk cast o }
     ensures lawful { (alloc : Global) (script : Script) (disk : D) (cast : Cast D) (o : Opening) (rng : Lcg) (n : ℕ) (new : Cast D) (later : Lcg)
-        → IsLawfulAsRuns D.told D.state D.fault_count D.byte_count alloc script disk cast o rng n new later }
+        → IsLawfulFromLog D.told D.state D.fault_count D.byte_count alloc script disk cast o rng n new later }
 {}

@@ -1,0 +1,11 @@
+//! What waits at the only node of a run can be counted.
+ghost use Rattle.qs_every_run.specs.AlongRun.{AlongRun};
+ghost use Rattle.qs_every_run.specs.Counted.{EachCountsAlone, MovesKeepCounted, OpensCounted};
+
+/// At the only node of a run each server has served and has waiting of a transaction no more than numbers were given to its requests: so it is as a run begins,
+/// and after each move. So what waits there can be counted, and may be served.
+pub fn what_waits_alone_counts()
+    ensures opens { OpensCounted }
+    ensures moves { MovesKeepCounted AlongRun }
+    ensures serves { EachCountsAlone AlongRun }
+{}
