@@ -1,5 +1,5 @@
 //! A node over its log.
-ghost use Rattle.std.specs.Prelude.{◌≡◌, ◌≤◌, IfOk, IfErr, OnOk};
+ghost use Rattle.std.specs.Prelude.{◌≡◌, ◌≤◌, ◌++◌, IfOk, IfErr, OnOk, Err, fold};
 ghost use Rattle.qs_base.specs.Causes.{Rose};
 ghost use Rattle.qs_disk.specs.Moments.{Keeps};
 ghost use Rattle.qs_ipc.specs.Ipc as ipc;
@@ -11,6 +11,7 @@ ghost use Rattle.qs_servers.specs.Servers.{server_at};
 ghost use Rattle.qs_step.specs.Opening.{recovered_of};
 ghost use Rattle.qs_step.specs.Step.{accept};
 ghost use Rattle.qs_tm.specs.Manager as tm;
+ghost use Rattle.qs_room.specs.Room.{after_record};
 ghost use Rattle.qs_host.specs.Host.{effects_at, worked_node, is_settled, opened_host, IsLogAfter, IsOldOrAfter, disk_of};
 ghost use Rattle.qs_host.specs.declared.down.HostFault.TheVariants.{Disk as OfDisk};
 
@@ -32,6 +33,13 @@ use std::marker::Model;
 #[derive(Drop)]
 pub struct Host<D: Disk, F: Server, X: Server> {
     node: Node<F, X>,
+    // In a box, since a host is handed on by value many times in each event.
+    logged: Box<Logged<D>>,
+}
+
+/// A log, and which of its transactions are not ended.
+#[derive(Drop)]
+struct Logged<D: Disk> {
     log: Log<D>,
     unended: Unended,
 }
@@ -52,9 +60,9 @@ impl<D: Disk, F: Server, X: Server> Model for Host<D, F, X> {
 
     ghost Value = { HostValue D };
 
-    ghost view = { λ h. record { node = h.node; log = h.log } };
+    ghost view = { λ h. record { node = h.node; log = h.logged.value.log } };
 
-    ghost invariant = { λ h. h.unended ≡ room.unended (records_of h.log) };
+    ghost invariant = { λ h. h.logged.value.unended ≡ room.unended (records_of h.logged.value.log) };
 }
 
 impl<D: Disk, F: Server, X: Server> Host<D, F, X> {
@@ -84,9 +92,19 @@ impl<D: Disk, F: Server, X: Server> Host<D, F, X> {
             Ok(unended) => unended,
             Err(NoMemory) => return Err(HostOpen { log, kept, extra }),
         };
+        let logged = match Box::new(alloc, Logged { log, unended }) {
+            Ok(logged) => logged,
+            Err(failed) => {
+                let Logged { log, .. } = failed.value;
+                return Err(HostOpen { log, kept, extra });
+            }
+        };
         match Node::new(alloc, found, setting, kept, files, extra) {
-            Ok(node) => Ok(Host { node, log, unended }),
-            Err(NodeOpen { kept, extra }) => Err(HostOpen { log, kept, extra }),
+            Ok(node) => Ok(Host { node, logged }),
+            Err(NodeOpen { kept, extra }) => {
+                let Logged { log, .. } = Box::into_inner(logged);
+                Err(HostOpen { log, kept, extra })
+            }
         }
     }
 
@@ -98,9 +116,10 @@ impl<D: Disk, F: Server, X: Server> Host<D, F, X> {
         ensures log { self.new.log ≡ self.old.log }
         ensures saved { self.new.node.kept.saved ≡ self.old.node.kept.saved }
     {
-        let free = self
+        let logged = &*self.logged;
+        let free = logged
             .unended
-            .free_room(self.log.room(), self.node.setting().keep);
+            .free_room(logged.log.room(), self.node.setting().keep);
         self.node.step(event, free)
     }
 
@@ -127,18 +146,17 @@ impl<D: Disk, F: Server, X: Server> Host<D, F, X> {
         ensures extra { IfErr result (λ down. X.state down.extra ≡ cleared self.node.servers.extra) }
         ensures cause { IfErr result (λ down. down.why ≡ OfDisk → Rose (D.fault_count self.log.disk) (D.fault_count down.disk)) }
     {
-        let Host {
-            node,
-            mut log,
-            mut unended,
-        } = self;
-        match append_and_force(&mut log, &mut unended, out) {
+        let Host { node, mut logged } = self;
+        match log_out(&mut logged, out) {
             Ok(()) => {
                 let mut node = node;
                 node.accept();
-                Ok(Host { node, log, unended })
+                Ok(Host { node, logged })
             }
-            Err(why) => Err(down(node, log, why)),
+            Err(why) => {
+                let Logged { log, .. } = Box::into_inner(logged);
+                Err(down(node, log, why))
+            }
         }
     }
 
@@ -149,8 +167,9 @@ impl<D: Disk, F: Server, X: Server> Host<D, F, X> {
         ensures kept { result.1 ≡ self.node.kept.saved }
         ensures extra { X.state result.2 ≡ cleared self.node.servers.extra }
     {
-        let Host { node, log, .. } = self;
+        let Host { node, logged } = self;
         let (kept, extra) = node.into_parts();
+        let Logged { log, .. } = Box::into_inner(logged);
         (log.into_disk(), kept, extra)
     }
 
@@ -188,15 +207,30 @@ impl<D: Disk, F: Server, X: Server> Host<D, F, X> {
     pub fn settled(&self) -> bool
         ensures { result ≡ is_settled self.now }
     {
-        !self.undecided() && self.unended.is_empty()
+        !self.undecided() && self.logged.unended.is_empty()
     }
 
     /// The disk of its log.
     pub fn disk(&self) -> &D
         ensures { result.now ≡ self.now.log.disk }
     {
-        self.log.disk()
+        self.logged.log.disk()
     }
+}
+
+/// The records wait, and are forced where they are to be. After a fault only the disk of the log is of use.
+fn log_out<D: Disk>(logged: &mut Logged<D>, out: &Effects) -> Result<(), HostFault>
+    requires stands { D.told → Stands logged.old.log (D.state logged.old.log.disk) }
+    ensures log { OnOk result (IsLogAfter out.now logged.old.log logged.new.log) }
+    ensures records { OnOk result (records_of logged.new.log ≡ records_of logged.old.log ++ out.now.records) }
+    ensures unended { OnOk result (logged.new.unended ≡ fold after_record logged.old.unended out.now.records) }
+    ensures stands { D.told → OnOk result (Stands logged.new.log (D.state logged.new.log.disk)) }
+    ensures moments { D.told → Keeps (IsOldOrAfter out.now logged.old.log) (D.state logged.old.log.disk) (D.state logged.new.log.disk) }
+    ensures size { D.byte_count logged.new.log.disk ≡ D.byte_count logged.old.log.disk }
+    ensures later { D.fault_count logged.old.log.disk ≤ D.fault_count logged.new.log.disk }
+    ensures cause { result ≡ Err OfDisk → Rose (D.fault_count logged.old.log.disk) (D.fault_count logged.new.log.disk) }
+{
+    append_and_force(&mut logged.log, &mut logged.unended, out)
 }
 
 /// What is left of a node that stopped within a step. It takes no memory.

@@ -36,7 +36,8 @@ use std::mem::replace;
 /// comes to it.
 #[derive(Drop)]
 pub struct Node<F: Server, X: Server> {
-    work: Work<Servers<F, X>>,
+    // In a box, since a node is handed on by value many times in each event.
+    work: Box<Work<Servers<F, X>>>,
 }
 
 /// What a node that could not be made hands back.
@@ -51,7 +52,7 @@ impl<F: Server, X: Server> Model for Node<F, X> {
 
     ghost Value = { NodeValue };
 
-    ghost view = { λ n. n.work.node };
+    ghost view = { λ n. n.work.value.node };
 }
 
 impl<F: Server, X: Server> Node<F, X> {
@@ -81,8 +82,10 @@ impl<F: Server, X: Server> Node<F, X> {
         let mut servers = Servers::new(alloc, files, extra);
         match open_parts(alloc, &setting, &found, &mut keeping, &mut servers) {
             Ok(manager) => {
-                keeping.accept();
-                Ok(Node::made_of(alloc, setting, manager, servers, keeping, found))
+                Node::boxed(
+                    alloc,
+                    work_of(alloc, setting, manager, servers, keeping, found),
+                )
             }
             Err(NoMemory) => Err(NodeOpen {
                 kept: keeping.restore(),
@@ -91,35 +94,22 @@ impl<F: Server, X: Server> Node<F, X> {
         }
     }
 
-    /// A node that has made no step.
-    fn made_of(
-        alloc: Global,
-        setting: Setting,
-        manager: Manager,
-        servers: Servers<F, X>,
-        kept: Keeping,
-        found: Recovered,
-    ) -> Node<F, X>
-        ensures { result ≡ record { setting = setting; manager = manager; queues = []; servers = servers; kept = kept; commands = []; locals = []; is_first = true; committed = found.committed } }
+    /// A node that has made no step. What it keeps for its clients counts; for want of memory it is handed back as it was.
+    fn boxed(alloc: Global, work: Work<Servers<F, X>>) -> Result<Node<F, X>, NodeOpen<X>>
+        ensures ok { IfOk result (λ node. node ≡ accept work.node) }
+        ensures kept { IfErr result (λ back. back.kept ≡ work.node.kept.saved) }
+        ensures extra { IfErr result (λ back. X.state back.extra ≡ cleared work.node.servers.extra) }
     {
-        let node = NodeState {
-            setting,
-            manager,
-            queues: Ipc::new(alloc),
-            servers,
-            kept,
-            commands: Map::new(alloc),
-            locals: Map::new(alloc),
-            is_first: true,
-            committed: found.committed,
-        };
-        Node {
-            work: Work {
-                node,
-                room: 0,
-                doings: Map::new(alloc),
-                out: no_effects(alloc),
-            },
+        match Box::new(alloc, work) {
+            Ok(work) => {
+                let mut node = Node { work };
+                node.accept();
+                Ok(node)
+            }
+            Err(failed) => {
+                let (kept, extra) = parts_of(failed.value);
+                Err(NodeOpen { kept, extra })
+            }
         }
     }
 
@@ -131,12 +121,7 @@ impl<F: Server, X: Server> Node<F, X> {
         ensures effects { IfOk result (λ out. out ≡ effects_of self.old event free) }
         ensures saved { self.new.kept.saved ≡ self.old.kept.saved }
     {
-        let alloc = self.work.node.manager.alloc;
-        self.work.room = free;
-        self.work.doings = Map::new(alloc);
-        self.work.out = no_effects(alloc);
-        run(&mut self.work, event)?;
-        Ok(replace(&mut self.work.out, no_effects(alloc)))
+        step(&mut self.work, event, free)
     }
 
     /// What the last step brought about was done: what the node keeps for its clients counts. It takes no
@@ -153,9 +138,7 @@ impl<F: Server, X: Server> Node<F, X> {
         ensures kept { result.0 ≡ self.kept.saved }
         ensures extra { X.state result.1 ≡ cleared self.servers.extra }
     {
-        let Work { node, .. } = self.work;
-        let NodeState { kept, servers, .. } = node;
-        (kept.restore(), servers.into_extra())
+        parts_of(Box::into_inner(self.work))
     }
 
     /// Changes that give the committed contents of the server again where they are applied in order to empty
@@ -186,6 +169,64 @@ impl<F: Server, X: Server> Node<F, X> {
     {
         self.work.node.manager.has_undecided()
     }
+}
+
+/// The work of a node that has made no step.
+fn work_of<F: Server, X: Server>(
+    alloc: Global,
+    setting: Setting,
+    manager: Manager,
+    servers: Servers<F, X>,
+    kept: Keeping,
+    found: Recovered,
+) -> Work<Servers<F, X>>
+    ensures { result.node ≡ record { setting = setting; manager = manager; queues = []; servers = servers; kept = kept; commands = []; locals = []; is_first = true; committed = found.committed } }
+{
+    let node = NodeState {
+        setting,
+        manager,
+        queues: Ipc::new(alloc),
+        servers,
+        kept,
+        commands: Map::new(alloc),
+        locals: Map::new(alloc),
+        is_first: true,
+        committed: found.committed,
+    };
+    Work {
+        node,
+        room: 0,
+        doings: Map::new(alloc),
+        out: no_effects(alloc),
+    }
+}
+
+/// What the node kept for its clients at the last `accept`, and the further server, emptied. It takes no memory.
+fn parts_of<F: Server, X: Server>(work: Work<Servers<F, X>>) -> (Kept, X)
+    ensures kept { result.0 ≡ work.node.kept.saved }
+    ensures extra { X.state result.1 ≡ cleared work.node.servers.extra }
+{
+    let Work { node, .. } = work;
+    let NodeState { kept, servers, .. } = node;
+    (kept.restore(), servers.into_extra())
+}
+
+/// The event comes to the node, over a log with `free` bytes free.
+fn step<F: Server, X: Server>(
+    work: &mut Work<Servers<F, X>>,
+    event: Event,
+    free: u64,
+) -> Result<Effects, NoMemory>
+    ensures ok { OnOk result (work.new.node ≡ (step_work work.old.node event free).node) }
+    ensures effects { IfOk result (λ out. out ≡ effects_of work.old.node event free) }
+    ensures saved { work.new.node.kept.saved ≡ work.old.node.kept.saved }
+{
+    let alloc = work.node.manager.alloc;
+    work.room = free;
+    work.doings = Map::new(alloc);
+    work.out = no_effects(alloc);
+    run(work, event)?;
+    Ok(replace(&mut work.out, no_effects(alloc)))
 }
 
 /// What a new node takes up from its log. What is kept for clients, as it was handed in, and which server the
