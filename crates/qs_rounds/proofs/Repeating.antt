@@ -5,8 +5,8 @@ use Rattle.qs_cell.specs.Starts.{journal_of}
 use Rattle.qs_disk.specs.Disk.{DiskState}
 use Rattle.qs_plans.specs.Budget.{budget}
 use Rattle.qs_plans.specs.Order.{seeded, drawn_order}
-use Rattle.qs_rounds.specs.Breaks.{BreaksRound, own_faults}
-use Rattle.qs_rounds.specs.Endings.{EndsWith, IsEnding, IsCutShort, IsOver}
+use Rattle.qs_rounds.specs.Breaks.{BreaksRound, RefusesRound, own_faults}
+use Rattle.qs_rounds.specs.Endings.{EndsWith, IsEnding, IsCutShort, IsOutOfMemory, IsOver}
 use Rattle.qs_rounds.specs.Rounds.{Cast, IsRound, IsSameStart, Rounds, count_of}
 use Rattle.qs_rounds.specs.declared.rounds.Ending.{Ending}
 use Rattle.qs_statements.specs.declared.script.Script.{Script}
@@ -74,6 +74,11 @@ module _ {D : Type 0} (told : Type 0) (state : D → DiskState) (own size : D �
     broken = broken;
     rose = subst (λ (f : ℕ). Rose f (own_faults own c.node)) same broken.rose;
   }
+
+  -- in one of them memory was refused
+  pub refused_at : (seed n : ℕ) (a b c : Cast D) (later : Lcg) → Rounds told state own size (seeded seed) n a b later
+      → RefusesRound told state own size (drawn_order (count_of b) later).0 b c → IsOutOfMemory told state own size seed a c
+  refused_at seed n a b c later all refused = record { rounds = n; before = b; drawn = later; earlier = all; refused = refused }
 
 pub same_start : {D : Type 0} (a b c : Cast D) → IsSameStart a.node b.node → IsSameStart b.node c.node → IsSameStart a.node c.node
 same_start a b c first second = record { opened = second.opened ∙ first.opened; faults = second.faults ∙ first.faults }

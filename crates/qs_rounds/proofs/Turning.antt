@@ -1,4 +1,4 @@
--- The visits of a round, one after the other, up to one in which the disk failed.
+-- The visits of a round, one after the other, up to one in which the disk failed or memory was refused.
 use Rattle.std.proofs.Common.{◌≡◌, ◌∙◌, ◌<◌, ap, subst, sym, refl, inl, inr, ℕ, zero, suc, ◌+◌, Bool, true, false, ◌||◌, List, [], ◌∷◌, ◌++◌, length, take, drop, get_or, append_assoc, arith}
 use Rattle.std.proofs.lemmas.List.{append-nil}
 use Rattle.std.specs.Prelude.{Result, Ok, Err, OnOk}
@@ -7,7 +7,7 @@ use Rattle.qs_cell.specs.Starts.{CellValue}
 use Rattle.qs_cell.specs.Visits.{Grows}
 use Rattle.qs_journal.specs.declared.entry.Entry.{Entry}
 use Rattle.qs_disk.specs.Disk.{DiskState}
-use Rattle.qs_rounds.specs.Breaks.{BreaksRound, FailsAt, VisitSome, own_faults}
+use Rattle.qs_rounds.specs.Breaks.{BreaksRound, VisitSome, VisitsUntil, own_faults}
 use Rattle.qs_rounds.specs.Rounds.{Cast, CarriesAll, IsSameStart, NodeVisitIf, VisitAt, VisitAll, is_up}
 
 take_more : (xs : List ℕ) (i : ℕ) (d : ℕ) → i < length xs → take (suc i) xs ≡ take i xs ++ get_or xs i d ∷ []
@@ -53,11 +53,11 @@ module _ {D : Type 0} (told : Type 0) (state : D → DiskState) (own size : D �
     ),
   )
 
-  broken : (xs : List ℕ) (p : ℕ) (ys : List ℕ) (a b c : Cast D) (d : Bool) → VisitAll told state own size xs a b d → FailsAt told state own p b c
-      → VisitSome told state own size (xs ++ p ∷ ys) a c
-  broken [] p ys a b c d all fails = inl (subst (λ (x : Cast D). FailsAt told state own p x c) all.0 fails)
-  broken (x ∷ xs) p ys a b c d all fails =
-      inr (all.0, (all.1.0, (all.1.1.1.0, broken xs p ys all.0 b c all.1.1.0 all.1.1.1.1.0 fails)))
+  until : (Comes : ℕ → Cast D → Cast D → Type 0) (xs : List ℕ) (p : ℕ) (ys : List ℕ) (a b c : Cast D) (d : Bool) → VisitAll told state own size xs a b d → Comes p b c
+      → VisitsUntil told state own size Comes (xs ++ p ∷ ys) a c
+  until Comes [] p ys a b c d all comes = inl (subst (λ (x : Cast D). Comes p x c) all.0 comes)
+  until Comes (x ∷ xs) p ys a b c d all comes =
+      inr (all.0, (all.1.0, (all.1.1.1.0, until Comes xs p ys all.0 b c all.1.1.0 all.1.1.1.1.0 comes)))
 
   -- the visit at the next place
   pub visits_more : (xs : List ℕ) (i p q : ℕ) (a b c : Cast D) (d e : Bool) → i < length xs → p ≡ get_or xs i q → VisitAll told state own size (take i xs) a b d
@@ -67,12 +67,12 @@ module _ {D : Type 0} (told : Type 0) (state : D → DiskState) (own size : D �
       (sym (ap (λ (n : ℕ). take n xs) (one_more i) ∙ take_more xs i q less ∙ ap (λ (x : ℕ). take i xs ++ x ∷ []) (sym is)))
       (more (take i xs) p a b c d e all visit)
 
-  -- the place at which the disk failed
-  pub visits_broken : (xs : List ℕ) (i p q : ℕ) (a b c : Cast D) (d : Bool) → i < length xs → p ≡ get_or xs i q → VisitAll told state own size (take i xs) a b d
-      → FailsAt told state own p b c → VisitSome told state own size xs a c
-  visits_broken xs i p q a b c d less is all fails =
-      subst (λ (l : List ℕ). VisitSome told state own size l a c) (ap (λ (x : ℕ). take i xs ++ x ∷ drop (suc i) xs) is ∙ split_at xs i q less)
-      (broken (take i xs) p (drop (suc i) xs) a b c d all fails)
+  -- the place at which the disk failed, or memory was refused
+  pub visits_until : (Comes : ℕ → Cast D → Cast D → Type 0) (xs : List ℕ) (i p q : ℕ) (a b c : Cast D) (d : Bool) → i < length xs → p ≡ get_or xs i q
+      → VisitAll told state own size (take i xs) a b d → Comes p b c → VisitsUntil told state own size Comes xs a c
+  visits_until Comes xs i p q a b c d less is all comes =
+      subst (λ (l : List ℕ). VisitsUntil told state own size Comes l a c) (ap (λ (x : ℕ). take i xs ++ x ∷ drop (suc i) xs) is ∙ split_at xs i q less)
+      (until Comes (take i xs) p (drop (suc i) xs) a b c d all comes)
 
 -- ---- what the node was started with stays
 

@@ -5,7 +5,7 @@ use Rattle.qs_cell.specs.Starts.{journal_of}
 use Rattle.qs_disk.specs.Disk.{DiskState}
 use Rattle.qs_plans.specs.Budget.{budget}
 use Rattle.qs_plans.specs.Order.{seeded, drawn_order}
-use Rattle.qs_rounds.specs.Breaks.{BreaksRound, own_faults}
+use Rattle.qs_rounds.specs.Breaks.{BreaksRound, RefusesRound, own_faults}
 use Rattle.qs_rounds.specs.Rounds.{Cast, IsRound, Rounds, all_ended, are_settled, count_of}
 use Rattle.qs_rounds.specs.declared.rounds.Ending.{Ending}
 use Rattle.qs_statements.specs.declared.script.Script.{Script}
@@ -45,3 +45,11 @@ pub record IsCutShort {D : Type 0} (told : Type 0) (state : D → DiskState) (ow
   pub earlier : Rounds told state own size (seeded seed) rounds old before drawn
   pub broken : BreaksRound told state own size (drawn_order (count_of before) drawn).0 before new
   pub rose : Rose old.node.faults (own_faults own new.node)
+
+-- after so many rounds memory was refused
+pub record IsOutOfMemory {D : Type 0} (told : Type 0) (state : D → DiskState) (own size : D → ℕ) (seed : ℕ) (old new : Cast D) : Type 0 where
+  pub rounds : ℕ
+  pub before : Cast D
+  pub drawn : Lcg
+  pub earlier : Rounds told state own size (seeded seed) rounds old before drawn
+  pub refused : RefusesRound told state own size (drawn_order (count_of before) drawn).0 before new

@@ -3,7 +3,7 @@ ghost use Rattle.std.specs.Prelude.{◌≡◌, ◌&&◌, ◌||◌, not, IfOk, On
 ghost use Rattle.qs_base.specs.declared.identifiers.NodeNo.{NodeNo};
 ghost use Rattle.qs_cell.specs.Starts.{journal_of};
 ghost use Rattle.qs_cell.specs.Visits.{Grows};
-ghost use Rattle.qs_rounds.specs.Breaks.{BreaksRound, FailsAt, VisitSome};
+ghost use Rattle.qs_rounds.specs.Breaks.{BreaksRound, FailsAt, RefusedAt, RefusesRound, VisitSome, VisitsUntil};
 ghost use Rattle.qs_rounds.specs.Lanes.{AreJoined};
 ghost use Rattle.std.specs.List.{list_all};
 ghost use Rattle.qs_rounds.specs.Rounds.{IsRound, has_ended, IsSameStart, VisitAt, VisitAll, CarriesAll, all_ended, are_settled, count_of};
@@ -78,10 +78,11 @@ impl<D: Disk> Actors<D> {
     /// What stands in the lanes is carried to their ends, and each actor is visited once, in the order of these places. A
     /// fault of the disk is told where the node was down and could not be started again for it; it comes only where the
     /// disk's own count of faults rose since it was handed in. `NoMemory` comes where memory was refused, be it within a step
-    /// of the node.
+    /// of the node; each visit before that was made.
     pub fn round(&mut self, order: &[usize]) -> Result<RoundEnd, RoundFault>
         ensures round { IfOk result (λ end. IsRound D.told D.state D.fault_count D.byte_count order.now self.old self.new end.quiet) }
         ensures broken { (node : NodeNo) → result ≡ Err (faults.DiskFault node) → BreaksRound D.told D.state D.fault_count D.byte_count order.now self.old self.new }
+        ensures refused { result ≡ Err faults.NoMemory → RefusesRound D.told D.state D.fault_count D.byte_count order.now self.old self.new }
         ensures named { (node : NodeNo) → result ≡ Err (faults.DiskFault node) → node ≡ first_node }
         ensures start { IsSameStart self.old.node self.new.node }
         ensures grows { Grows (journal_of self.old.node) (journal_of self.new.node) }
@@ -107,6 +108,7 @@ impl<D: Disk> Actors<D> {
     fn visit_all(&mut self, order: &[usize]) -> Result<bool, RoundFault>
         ensures visits { IfOk result (VisitAll D.told D.state D.fault_count D.byte_count order.now self.old self.new) }
         ensures broken { (node : NodeNo) → result ≡ Err (faults.DiskFault node) → VisitSome D.told D.state D.fault_count D.byte_count order.now self.old self.new }
+        ensures refused { result ≡ Err faults.NoMemory → VisitsUntil D.told D.state D.fault_count D.byte_count (RefusedAt D.told D.state D.fault_count D.byte_count) order.now self.old self.new }
         ensures named { (node : NodeNo) → result ≡ Err (faults.DiskFault node) → node ≡ first_node }
         ensures start { IsSameStart self.old.node self.new.node }
         ensures grows { Grows (journal_of self.old.node) (journal_of self.new.node) }
@@ -123,6 +125,7 @@ impl<D: Disk> Actors<D> {
     fn visit(&mut self, place: usize) -> Result<bool, RoundFault>
         ensures visits { IfOk result (VisitAt D.told D.state D.fault_count D.byte_count place self.old self.new) }
         ensures broken { (node : NodeNo) → result ≡ Err (faults.DiskFault node) → FailsAt D.told D.state D.fault_count place self.old self.new }
+        ensures refused { result ≡ Err faults.NoMemory → RefusedAt D.told D.state D.fault_count D.byte_count place self.old self.new }
         ensures named { (node : NodeNo) → result ≡ Err (faults.DiskFault node) → node ≡ first_node }
         ensures start { IsSameStart self.old.node self.new.node }
         ensures grows { Grows (journal_of self.old.node) (journal_of self.new.node) }

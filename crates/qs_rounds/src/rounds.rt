@@ -5,8 +5,8 @@ ghost use Rattle.qs_cell.specs.Starts.{journal_of};
 ghost use Rattle.qs_cell.specs.Visits.{Grows};
 ghost use Rattle.qs_plans.specs.Budget.{budget};
 ghost use Rattle.qs_plans.specs.Order.{drawn_order};
-ghost use Rattle.qs_rounds.specs.Breaks.{BreaksRound};
-ghost use Rattle.qs_rounds.specs.Endings.{IsEnding, IsCutShort, IsOver};
+ghost use Rattle.qs_rounds.specs.Breaks.{BreaksRound, RefusesRound};
+ghost use Rattle.qs_rounds.specs.Endings.{IsEnding, IsCutShort, IsOutOfMemory, IsOver};
 ghost use Rattle.qs_rounds.specs.Rounds.{IsRound, IsSameStart, all_ended, are_settled, count_of};
 ghost use Rattle.qs_rounds.specs.Seats.{first_node};
 ghost use Rattle.qs_rounds.specs.declared.faults.RoundFault.TheVariants as faults;
@@ -37,6 +37,7 @@ pub fn rounds_of<D: Disk>(
 ) -> Result<Ending, RoundFault>
     ensures ending { IfOk result (IsEnding D.told D.state D.fault_count D.byte_count script.now seed actors.old actors.new) }
     ensures cut { (node : NodeNo) → result ≡ Err (faults.DiskFault node) → IsCutShort D.told D.state D.fault_count D.byte_count seed actors.old actors.new }
+    ensures refused { result ≡ Err faults.NoMemory → IsOutOfMemory D.told D.state D.fault_count D.byte_count seed actors.old actors.new }
     ensures named { (node : NodeNo) → result ≡ Err (faults.DiskFault node) → node ≡ first_node }
     ensures start { IsSameStart actors.old.node actors.new.node }
     ensures grows { Grows (journal_of actors.old.node) (journal_of actors.new.node) }
@@ -64,6 +65,8 @@ fn next_round<D: Disk>(
     ensures drawn { OnOk result (orders.new.rng ≡ (drawn_order (count_of actors.old) orders.old.rng).1) }
     ensures broken { (node : NodeNo) → result ≡ Err (faults.DiskFault node)
         → BreaksRound D.told D.state D.fault_count D.byte_count (drawn_order (count_of actors.old) orders.old.rng).0 actors.old actors.new }
+    ensures refused { result ≡ Err faults.NoMemory
+        → RefusesRound D.told D.state D.fault_count D.byte_count (drawn_order (count_of actors.old) orders.old.rng).0 actors.old actors.new }
     ensures named { (node : NodeNo) → result ≡ Err (faults.DiskFault node) → node ≡ first_node }
     ensures start { IsSameStart actors.old.node actors.new.node }
     ensures grows { Grows (journal_of actors.old.node) (journal_of actors.new.node) }

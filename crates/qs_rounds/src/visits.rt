@@ -1,11 +1,11 @@
 //! The visits of a round: of the node, and of a client.
-ghost use Rattle.std.specs.Prelude.{◌≡◌, false, List, length, slice_get, Err, IfOk};
+ghost use Rattle.std.specs.Prelude.{◌≡◌, false, true, List, length, slice_get, Err, IfOk, OnErr};
 ghost use Rattle.qs_base.specs.declared.identifiers.NodeNo.{NodeNo};
 ghost use Rattle.qs_cell.specs.Joined.{StayJoined};
 ghost use Rattle.qs_cell.specs.Starts.{journal_of};
 ghost use Rattle.qs_cell.specs.Visits.{Grows};
 ghost use Rattle.qs_lanes.specs.declared.ends.NodeEnds.{NodeEnds};
-ghost use Rattle.qs_rounds.specs.Breaks.{NodeFails};
+ghost use Rattle.qs_rounds.specs.Breaks.{NodeFails, NodeRefusedIf};
 ghost use Rattle.qs_rounds.specs.Lanes.{AllJoined};
 ghost use Rattle.qs_rounds.specs.Rounds.{ClientVisitAt, IsSameStart, NodeActs, NodeStarts, NodeVisit, is_refused, is_up};
 ghost use Rattle.qs_rounds.specs.Seats.{first_node};
@@ -23,6 +23,7 @@ use qs_plans::NODE;
 pub fn visit_node<D: Disk>(node: &mut NodeCell<D>) -> Result<bool, RoundFault>
     ensures visits { IfOk result (NodeVisit D.told D.state D.fault_count D.byte_count node.old node.new) }
     ensures broken { (at : NodeNo) → result ≡ Err (faults.DiskFault at) → NodeFails D.told D.state D.fault_count node.old node.new }
+    ensures refused { result ≡ Err faults.NoMemory → NodeRefusedIf (is_up node.old) D.told D.state D.fault_count D.byte_count node.old node.new }
     ensures named { (at : NodeNo) → result ≡ Err (faults.DiskFault at) → at ≡ first_node }
     ensures start { IsSameStart node.old node.new }
     ensures grows { Grows (journal_of node.old) (journal_of node.new) }
@@ -39,6 +40,7 @@ pub fn visit_node<D: Disk>(node: &mut NodeCell<D>) -> Result<bool, RoundFault>
 /// `NoMemory` comes where memory was refused, be it within a step.
 fn act<D: Disk>(node: &mut NodeCell<D>) -> Result<bool, NoMemory>
     ensures acts { IfOk result (NodeActs D.told D.state D.fault_count D.byte_count node.old node.new) }
+    ensures refused { OnErr result (NodeRefusedIf true D.told D.state D.fault_count D.byte_count node.old node.new) }
     ensures start { IsSameStart node.old node.new }
     ensures grows { Grows (journal_of node.old) (journal_of node.new) }
     ensures joined { StayJoined node.old.seat.ends node.new.seat.ends }
@@ -62,6 +64,7 @@ fn restart<D: Disk>(node: &mut NodeCell<D>) -> Result<bool, RoundFault>
     requires down { is_up node.old ≡ false }
     ensures starts { IfOk result (NodeStarts D.told D.state D.fault_count node.old node.new) }
     ensures broken { (at : NodeNo) → result ≡ Err (faults.DiskFault at) → NodeFails D.told D.state D.fault_count node.old node.new }
+    ensures refused { result ≡ Err faults.NoMemory → NodeRefusedIf false D.told D.state D.fault_count D.byte_count node.old node.new }
     ensures named { (at : NodeNo) → result ≡ Err (faults.DiskFault at) → at ≡ first_node }
     ensures start { IsSameStart node.old node.new }
     ensures grows { Grows (journal_of node.old) (journal_of node.new) }

@@ -1,6 +1,6 @@
 use Rattle.std.proofs.Common.{◌∙◌, ap, subst, ℕ, List}
 use Rattle.qs_plans.specs.Order.{drawn_order}
-use Rattle.qs_rounds.specs.Breaks.{BreaksRound}
+use Rattle.qs_rounds.specs.Breaks.{BreaksRound, RefusesRound}
 use Rattle.rand_pcg.specs.Lcg.{Lcg}
 use Rattle.qs_rounds.proofs.rounds.next_round.Goals as goal
 
@@ -10,3 +10,10 @@ returns-clause-broken g c = λ node is.
     (c.as_slice.ensures.value ∙ ap (λ (drawn : List ℕ × Lcg). drawn.0) c.in_ok-order.ensures.order
     ∙ ap (λ (n : ℕ). (drawn_order n c.args.orders.now.rng).0) c.count.ensures)
     (c.round.ensures.broken node is)
+
+pub returns-clause-refused : goal.returns-clause-refused
+returns-clause-refused g c = λ is.
+    subst (λ order. RefusesRound g.D.Disk.told g.D.Disk.state g.D.Disk.fault_count g.D.Disk.byte_count order c.args.actors.now c.round.new.self)
+    (c.as_slice.ensures.value ∙ ap (λ (drawn : List ℕ × Lcg). drawn.0) c.in_ok-order.ensures.order
+    ∙ ap (λ (n : ℕ). (drawn_order n c.args.orders.now.rng).0) c.count.ensures)
+    (c.round.ensures.refused is)

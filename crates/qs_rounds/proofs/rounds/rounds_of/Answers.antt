@@ -2,7 +2,7 @@ use Rattle.std.proofs.Common.{◌+◌, rules}
 use Rattle.qs_cell.specs.Starts.{journal_of}
 use Rattle.qs_plans.specs.Budget.{budget}
 use Rattle.qs_plans.specs.Order.{seeded}
-use Rattle.qs_rounds.proofs.Repeating.{rounds_more, ending_with, cut_at, same_start}
+use Rattle.qs_rounds.proofs.Repeating.{rounds_more, ending_with, cut_at, refused_at, same_start}
 use Rattle.qs_rounds.proofs.Spending.{lt_le_on, more_on, most_on}
 use Rattle.qs_rounds.proofs.Turning.{grows_on}
 use Rattle.qs_rounds.proofs.rounds.rounds_of.Goals as goal
@@ -11,6 +11,11 @@ pub returns-in_err-end-clause-cut : goal.returns-in_err-end-clause-cut
 returns-in_err-end-clause-cut g c = λ node is.
     cut_at g.D.Disk.told g.D.Disk.state g.D.Disk.fault_count g.D.Disk.byte_count c.args.seed c.loop-rounds.rounds c.args.actors.now c.loop-rounds.actors
     c.next_round.new.actors c.loop-rounds.orders.rng c.loop-rounds.invariant.made (c.in_err-end.ensures.broken node (search rules)) c.loop-rounds.invariant.start.faults
+
+pub returns-in_err-end-clause-refused : goal.returns-in_err-end-clause-refused
+returns-in_err-end-clause-refused g c = λ is.
+    refused_at g.D.Disk.told g.D.Disk.state g.D.Disk.fault_count g.D.Disk.byte_count c.args.seed c.loop-rounds.rounds c.args.actors.now c.loop-rounds.actors
+    c.next_round.new.actors c.loop-rounds.orders.rng c.loop-rounds.invariant.made (c.in_err-end.ensures.refused (search rules))
 
 pub ending_of-requires : goal.ending_of-requires
 ending_of-requires g c =

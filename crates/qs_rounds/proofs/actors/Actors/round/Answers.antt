@@ -1,5 +1,5 @@
-use Rattle.std.proofs.Common.{◌∙◌, ap, rules, ◌&&◌, not}
-use Rattle.qs_rounds.specs.Breaks.{VisitSome}
+use Rattle.std.proofs.Common.{◌∙◌, ap, inr, rules, ◌&&◌, not}
+use Rattle.qs_rounds.specs.Breaks.{RefusedAt, VisitSome, VisitsUntil}
 use Rattle.qs_rounds.specs.Rounds.{is_up}
 use Rattle.qs_rounds.proofs.Turning.{breaks}
 use Rattle.qs_rounds.proofs.actors.Actors.round.Goals as goal
@@ -9,6 +9,12 @@ returns-in_err-did-clause-broken g c = λ node is.
     let some : VisitSome g.D.Disk.told g.D.Disk.state g.D.Disk.fault_count g.D.Disk.byte_count c.args.order.now c.carry.new.self c.visit_all.new.self = search rules in
     breaks g.D.Disk.told g.D.Disk.state g.D.Disk.fault_count g.D.Disk.byte_count c.args.order.now c.args.self.now c.carry.new.self c.visit_all.new.self
     c.in_ok-carry.ensures.carries c.carry.ensures.start.faults some
+
+pub returns-in_err-did-clause-refused : goal.returns-in_err-did-clause-refused
+returns-in_err-did-clause-refused g c = λ is.
+    let until : VisitsUntil g.D.Disk.told g.D.Disk.state g.D.Disk.fault_count g.D.Disk.byte_count (RefusedAt g.D.Disk.told g.D.Disk.state g.D.Disk.fault_count g.D.Disk.byte_count)
+    c.args.order.now c.carry.new.self c.visit_all.new.self = search rules in
+    inr (c.carry.new.self, (c.in_ok-carry.ensures.carries, until))
 
 pub returns-clause-round : goal.returns-clause-round
 returns-clause-round g c = record {
