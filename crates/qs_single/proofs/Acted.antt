@@ -1,11 +1,12 @@
 -- A visit goes on in the world turn by turn: the clients by number, then the queues and the clock.
-use Rattle.std.proofs.Common.{◌≡◌, ◌∙◌, ap, inl, inr, refl, subst, sym, ℕ, Bool, true, false, List, [], ◌∷◌, ◌++◌, Option, Some, None, Ok, map, if◌then◌else◌}
+use Rattle.std.proofs.Common.{◌≡◌, ◌∙◌, ap, inl, inr, refl, subst, sym, ℕ, Bool, true, false, List, [], ◌∷◌, ◌++◌, Option, Some, None, Result, Ok, map, if◌then◌else◌}
 use Rattle.std.specs.Prelude.{⊤}
 use Rattle.qs_cell.specs.Starts.{CellValue}
 use Rattle.qs_cell.specs.State.{StartsAgain, Up, cause_of, is_queued}
 use Rattle.qs_cell.specs.Visits.{IsSameNode, Seat, TakesTurn, TurnsAll, client_source, due, left_by, sources_of}
 use Rattle.qs_cell.specs.declared.state.NodeState.{NodeState}
 use Rattle.qs_cell.specs.declared.state.NodeState.TheVariants as states
+use Rattle.qs_cell.specs.declared.state.RestartFault.{RestartFault}
 use Rattle.qs_cell.specs.declared.stopped.Stopped.{Stopped}
 use Rattle.qs_chronicle.specs.declared.occasion.Occasion.{Occasion}
 use Rattle.qs_chronicle.specs.declared.occasion.Occasion.TheVariants as occasions
@@ -28,7 +29,7 @@ own_if false = tt
 
 module _ {D : Type 0} (told : Type 0) (state : D → DiskState) (own size : D → ℕ) (start : World) (clients : List ClientCell) where
   -- what is due of a client
-  client_turn : (end : NodeEnds) → HasCell end.client clients → (ready : NodeState D) (ends : List NodeEnds) → IsTurnOf (OfClient end.client) ready ends clients (due (client_source end) ready ends) (left_by (client_source end) ready ends)
+  pub client_turn : (end : NodeEnds) → HasCell end.client clients → (ready : NodeState D) (ends : List NodeEnds) → IsTurnOf (OfClient end.client) ready ends clients (due (client_source end) ready ends) (left_by (client_source end) ready ends)
   client_turn end has (states.Up running) ends = record { cell = has; is = (refl, refl) }
   client_turn end has (states.Down stopped) ends = record { cell = has; is = (refl, refl) }
 
@@ -59,7 +60,7 @@ module _ {D : Type 0} (told : Type 0) (state : D → DiskState) (own size : D �
   its_split : AreSplit due left_by (sources_of [])
   its_split = (((λ running ends. (own_if (is_queued (states.Up running)), refl)), (λ stopped ends. (tt, refl))), (((λ running ends. (refl, refl)), (λ stopped ends. (tt, refl))), tt))
 
-  its_own : AreOwn due left_by (sources_of [])
+  pub its_own : AreOwn due left_by (sources_of [])
   its_own = join due left_by (sources_of []) its_split
 
   -- a node that is down stays so, for the same cause
@@ -72,7 +73,7 @@ module _ {D : Type 0} (told : Type 0) (state : D → DiskState) (own size : D �
   ready_down stopped (states.Up running) same = absurd same
   ready_down stopped (states.Down again) same = record { again = again; is = refl; cause = same.1.1.0 }
 
-  turn_down : (stopped : Stopped D) (ready : NodeState D) (source : _) (ends : List NodeEnds) (mid : Seat D) → ready ≡ states.Down stopped
+  pub turn_down : (stopped : Stopped D) (ready : NodeState D) (source : _) (ends : List NodeEnds) (mid : Seat D) → ready ≡ states.Down stopped
       → TakesTurn told state own size (due source ready ends) (left_by source ready ends) (record { node = ready; ends = ends }) mid → mid.node ≡ states.Down stopped
   turn_down stopped (states.Up running) source ends mid is turn = absurd (cc is)
   turn_down stopped (states.Down again) source ends mid is turn = ap (λ (s : Seat D). s.node) turn ∙ is
@@ -111,14 +112,20 @@ each_visit told state own size start old new clients visits granted serves all w
     all_turns told state own size start clients old.ends (record { node = visits.begun; ends = old.ends }) new visits.turns granted all serves
     (each_visit_begins told state start old.node visits.begun old.ends clients visits.round was)
 
-pub each_start : {D : Type 0} (told : Type 0) (state : D → DiskState) (own : D → ℕ) (start : World) (old new : CellValue D) (did : Bool) (clients : List ClientCell) → StartsGoOn told state own start old new did clients
-each_start told state own start old new did clients t starts was =
-    subst (λ (ends : List NodeEnds). IsInWorld told state start new.seat.node ends clients) (sym starts.ends) (by old.seat.node starts.starts was)
+-- whatever the restart answers
+pub starts_on : {D : Type 0} (told : Type 0) (state : D → DiskState) (own : D → ℕ) (start : World) (old new : CellValue D) (answer : Result Bool RestartFault) (clients : List ClientCell) → told
+    → StartsAgain told state own old.alloc old.seat.node new.seat.node answer → new.seat.ends ≡ old.seat.ends → IsInWorld told state start old.seat.node old.seat.ends clients
+    → IsInWorld told state start new.seat.node new.seat.ends clients
+starts_on told state own start old new answer clients t starts ends was =
+    subst (λ (lanes : List NodeEnds). IsInWorld told state start new.seat.node lanes clients) (sym ends) (by old.seat.node starts was)
   where
-    by : (node : NodeState _) → StartsAgain told state own old.alloc node new.seat.node (Ok did) → IsInWorld told state start node old.seat.ends clients
+    by : (node : NodeState _) → StartsAgain told state own old.alloc node new.seat.node answer → IsInWorld told state start node old.seat.ends clients
         → IsInWorld told state start new.seat.node old.seat.ends clients
     by (states.Up running) again shown = subst (λ (n : NodeState _). IsInWorld told state start n old.seat.ends clients) (sym again.0) shown
-    by (states.Down stopped) again shown = each_restart told state own old.alloc start stopped new.seat.node old.seat.ends clients (Ok did) t again shown
+    by (states.Down stopped) again shown = each_restart told state own old.alloc start stopped new.seat.node old.seat.ends clients answer t again shown
+
+pub each_start : {D : Type 0} (told : Type 0) (state : D → DiskState) (own : D → ℕ) (start : World) (old new : CellValue D) (did : Bool) (clients : List ClientCell) → StartsGoOn told state own start old new did clients
+each_start told state own start old new did clients t starts was = starts_on told state own start old new (Ok did) clients t starts.starts starts.ends was
 
 pub each_history : {D : Type 0} (told : Type 0) (state : D → DiskState) (start : World) (node : NodeState D) (ends : List NodeEnds) (clients : List ClientCell) → TellsHistory told state start node ends clients
 each_history told state start (states.Up running) ends clients was = record { moves = was.reached.moves; world = was.reached.world; run = was.reached.run; shows = was.reached.shows.node.told.journal }

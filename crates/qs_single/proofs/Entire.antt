@@ -12,15 +12,16 @@ use Rattle.qs_machine.specs.Opening.{opening}
 use Rattle.qs_machine.specs.declared.opened.Opened.{Opened}
 use Rattle.qs_record.specs.declared.record.Record.{Record}
 use Rattle.qs_rounds.specs.Rounds.{Cast}
-use Rattle.qs_rounds.specs.Seats.{AreSeated}
+use Rattle.qs_rounds.specs.Seats.{AreSeated, HasBegun}
 use Rattle.qs_statements.specs.declared.script.Script.{Script}
 use Rattle.qs_step.specs.Opening.{recovered_of}
 use Rattle.qs_step.specs.declared.setting.Setting.{Setting}
 use Rattle.qs_world.specs.Histories.{book_of, opened_from, opened_with}
+use Rattle.qs_world.specs.Openings.{IsOpening}
 use Rattle.qs_world.specs.World.{Opening, start}
 use Rattle.rand_pcg.specs.Lcg.{Lcg}
 use Rattle.qs_single.specs.Acting.{AreOfClients}
-use Rattle.qs_single.specs.Opened.{setting_by}
+use Rattle.qs_single.specs.Opened.{OpensScript, setting_by}
 use Rattle.qs_single.specs.Reached.{Reached}
 use Rattle.qs_every_run.specs.AlongRun.{AlongRun}
 use Rattle.qs_every_run.proofs.JoinedOver.{each_run_lawful}
@@ -43,14 +44,19 @@ seats_of script (c ∷ clients) (e ∷ ends) seats end (inr there) =
     let it : HasCell end.client clients = seats_of script clients ends seats.1 end there in
     record { cell = it.cell; there = inr it.there; is = it.is }
 
+-- it begins so
+pub begins_in : {D : Type 0} (told : Type 0) (state : D → DiskState) (own : D → ℕ) (alloc : Global) (script : Script) (disk : D) (cast : Cast D) (o : Opening) → told
+    → (begun : HasBegun told state own alloc script disk cast) → OpensScript alloc script cast.clients begun.started.running.host.log o → IsCastIn told state (start o) cast
+begins_in told state own alloc script disk cast o t begun opens = record {
+  carried = each_cast told state own alloc script disk cast o t begun opens;
+  lanes = seats_of script cast.clients cast.node.seat.ends begun.seats;
+}
+
 pub each_run : {D : Type 0} (told : Type 0) (state : D → DiskState) (own size : D → ℕ) (alloc : Global) (script : Script) (disk : D) (cast : Cast D) (o : Opening) (rng : Lcg) (n : ℕ) (new : Cast D) (later : Lcg)
     → IsRunOfWorld told state own size alloc script disk cast o rng n new later
 each_run told state own size alloc script disk cast o rng n new later t begun opens rounds is_opening =
-    let was : IsCastIn told state (start o) cast = record {
-      carried = each_cast told state own alloc script disk cast o t begun opens;
-      lanes = seats_of script cast.clients cast.node.seat.ends begun.seats;
-    } in
-    let now : IsCastIn told state (start o) new = each_rounds told state own size (start o) rng n cast new later t rounds (serves_alone o is_opening opens.node.size) was in
+    let now : IsCastIn told state (start o) new = each_rounds told state own size (start o) rng n cast new later t rounds (serves_alone o is_opening opens.node.size)
+    (begins_in told state own alloc script disk cast o t begun opens) in
     each_history told state (start o) new.node.seat.node new.node.seat.ends new.clients now.carried.shows
 
 pub each_book : {D : Type 0} (told : Type 0) (state : D → DiskState) (own : D → ℕ) (alloc : Global) (script : Script) (disk : D) (cast : Cast D) (o : Opening) → OpensAsTold told state own alloc script disk cast o
@@ -69,9 +75,15 @@ each_book told state own alloc script disk cast o t begun opens =
     all_forced : begun.started.running.host.log.forced ≡ begun.started.running.host.log.forced ++ begun.started.running.host.log.waiting
     all_forced = sym (ap (λ (l : List Record). begun.started.running.host.log.forced ++ l) (begun.started.raised t).waiting ∙ append-nil begun.started.running.host.log.forced)
 
+-- where the cast is in the world, what its cell tells is lawful
+pub lawful_in : {D : Type 0} (told : Type 0) (state : D → DiskState) (o : Opening) → IsOpening o → (cast : Cast D) → IsCastIn told state (start o) cast → IsLawful (book_of o) (journal_of cast.node)
+lawful_in told state o is_opening cast now =
+    let run : Reached (start o) (λ world. world.journal ≡ journal_of cast.node) = each_history told state (start o) cast.node.seat.node cast.node.seat.ends cast.clients now.carried.shows in
+    subst (λ (l : List Entry). IsLawful (book_of o) l) run.shows (each_run_lawful AlongRun runs_go o run.moves run.world is_opening run.run)
+
 pub each_lawful : {D : Type 0} (told : Type 0) (state : D → DiskState) (own size : D → ℕ) (alloc : Global) (script : Script) (disk : D) (cast : Cast D) (o : Opening) (rng : Lcg) (n : ℕ) (new : Cast D) (later : Lcg)
     → IsLawfulFromLog told state own size alloc script disk cast o rng n new later
 each_lawful told state own size alloc script disk cast o rng n new later t begun opens rounds is_opening =
-    let run : Reached (start o) (λ world. world.journal ≡ journal_of new.node) = each_run told state own size alloc script disk cast o rng n new later t begun opens rounds is_opening in
     subst (λ (b : BookValue). IsLawful b (journal_of new.node)) (each_book told state own alloc script disk cast o t begun opens)
-    (subst (λ (l : List Entry). IsLawful (book_of o) l) run.shows (each_run_lawful AlongRun runs_go o run.moves run.world is_opening run.run))
+    (lawful_in told state o is_opening new (each_rounds told state own size (start o) rng n cast new later t rounds (serves_alone o is_opening opens.node.size)
+    (begins_in told state own alloc script disk cast o t begun opens)))

@@ -44,3 +44,15 @@ pub mod Rounded
 -- A whole run.
 pub mod Entire
 pub mod ServedAlone
+-- The opening of a run.
+pub mod OpensOver
+-- What the node was opened with stays.
+pub mod SameStart
+-- What the images of the disk have as a run ends.
+pub mod LogsLeft
+-- Where the node is down then.
+pub mod RestoredDisk
+-- Where memory was refused.
+pub mod Refused
+-- What stands then.
+pub mod AtEnd

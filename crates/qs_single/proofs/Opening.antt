@@ -99,6 +99,14 @@ clients_apart : (clients : List ClientCell) → NumbersApart (map number_of clie
 clients_apart [] apart = tt
 clients_apart (c ∷ clients) apart = ((λ o there. apart.0 o.client (number_there clients o there)), clients_apart clients apart.1)
 
+-- there are no more numbers than clients may have
+pub seated_small : (seats : List Seat) (clients : List ClientCell) → map number_of clients ≡ seated seats → (client : ClientCell) → Among clients client → client.client.0 < client_count
+unfolding seated
+seated_small seats clients numbers client there = in_seats (subst (λ (l : List ClientNo). Among l client.client) numbers (number_there clients client there))
+  where
+    in_seats : Among (seated seats) client.client → client.client.0 < client_count
+    in_seats at = below seats client_count client.client at
+
 -- ---- each client by its seat
 
 record HasSeat (script : Script) (client : ClientCell) (ends : List NodeEnds) : Type 0 where
@@ -158,13 +166,6 @@ module _ {D : Type 0} (told : Type 0) (state : D → DiskState) (own : D → ℕ
       numbers : NumbersApart (seated script.seats)
       numbers = numbers_apart script.seats client_count
 
-  small : (client : ClientCell) → Among cast.clients client → client.client.0 < client_count
-  unfolding seated
-  small client there = in_seats (subst (λ (l : List ClientNo). Among l client.client) begun.clients (number_there cast.clients client there))
-    where
-      in_seats : Among (seated script.seats) client.client → client.client.0 < client_count
-      in_seats at = below script.seats client_count client.client at
-
   no_commands : begun.started.running.carried.commands ≡ []
   no_commands = ap (λ (s : Seen). s.commands) begun.started.begins.seen
 
@@ -172,7 +173,7 @@ module _ {D : Type 0} (told : Type 0) (state : D → DiskState) (own : D → ℕ
       → ShowsIn begun.started.running.carried.setting.inc (Some begun.started.running.carried.setting.inc) begun.started.running.carried.commands cast.node.seat.ends (start o).clients client
   shown client there =
       subst (λ (c : Commands). ShowsIn begun.started.running.carried.setting.inc (Some begun.started.running.carried.setting.inc) c cast.node.seat.ends (start o).clients client) (sym no_commands) (record {
-        small = smaller client.client.0 client_count moves.client_count (small client there) (omega arith);
+        small = smaller client.client.0 client_count moves.client_count (seated_small script.seats cast.clients begun.clients client there) (omega arith);
         own = λ n line at. own_line client.client script.lines n line (ap (λ (r : Progress). slice_get r.lines n) (sym has.seat.progress) ∙ at);
         end = has.end;
         there = has.there;

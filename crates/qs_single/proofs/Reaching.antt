@@ -1,6 +1,7 @@
 -- Each event and each restart of a cell goes on in the world: a run is made longer, and where a step is cut off two runs are kept.
-use Rattle.std.proofs.Common.{◌≡◌, ◌⊎◌, ◌∙◌, ap, inl, inr, refl, subst, sym, ℕ, ◌+◌, ◌<◌, ◌≤◌, Bool, true, false, List, [], ◌∷◌, ◌++◌, None, Result, Ok, append-nil, arith}
+use Rattle.std.proofs.Common.{◌≡◌, ◌⊎◌, ◌∙◌, ap, inl, inr, refl, subst, sym, ℕ, ◌+◌, ◌<◌, ◌≤◌, Bool, true, false, List, [], ◌∷◌, ◌++◌, None, Some, Result, Ok, append-nil, arith}
 use Rattle.std.specs.Global.{Global}
+use Rattle.std.specs.Prelude.{⊤}
 use Rattle.qs_cell.specs.Cell.{IfStands, IsOutcome, StandsAfter, out_of}
 use Rattle.qs_cell.specs.Restart.{IsRestarted, IsStillDown, IsUp, IfUp, inc_of}
 use Rattle.qs_cell.specs.State.{Restarts, Up, answers_of, cause_of, disk_of, state_after, state_of}
@@ -73,10 +74,10 @@ cut_kept stamp host out h e = ap (λ (x : Host). world_moves.log_after x out) e 
 
 -- ---- incarnations
 
-same_present : {a b : Present} → ◌≡◌ {A = Result Present ℕ} (Ok a) (Ok b) → a ≡ b
+pub same_present : {a b : Present} → ◌≡◌ {A = Result Present ℕ} (Ok a) (Ok b) → a ≡ b
 same_present e = cc e
 
-reaches : {a b : ℕ} → a ≡ b → b ≤ a
+pub reaches : {a b : ℕ} → a ≡ b → b ≤ a
 reaches e = omega arith
 
 above : (a b : ℕ) → a ≤ b → a < b + 1
@@ -84,6 +85,19 @@ above a b within = omega arith
 
 more : (a b : ℕ) → a ≤ b → a ≤ b + 1
 more a b within = omega arith
+
+-- of a stop in place of an event the command is told where memory was not refused
+abbrev pub IsGranted : {D : Type 0} → Outcome D Files NoServer → Type 0
+IsGranted (outcomes.Replaced stopped) = is_refused (Some stopped.cause) ≡ false
+IsGranted (outcomes.Whole running said) = ⊤
+IsGranted (outcomes.Followed stopped said) = ⊤
+IsGranted (outcomes.CutOff stopped) = ⊤
+
+pub granted_by : {D : Type 0} (o : Outcome D Files NoServer) → is_refused (cause_of (state_of o)) ≡ false → IsGranted o
+granted_by (outcomes.Replaced stopped) granted = granted
+granted_by (outcomes.Whole running said) granted = tt
+granted_by (outcomes.Followed stopped said) granted = tt
+granted_by (outcomes.CutOff stopped) granted = tt
 
 module _ {D : Type 0} (told : Type 0) (state : D → DiskState) (own : D → ℕ) (start : World) where
   -- ---- each event
@@ -122,7 +136,7 @@ module _ {D : Type 0} (told : Type 0) (state : D → DiskState) (own : D → ℕ
         → EachImage (HasReached stopped.carried.setting.inc) (state stopped.disk.disk).now
     incs_of stopped same images image at = subst (λ (s : Setting). HasReached s.inc image) (sym same) (none_behind image (images image at))
 
-    pub goes_on : (o : Outcome D Files NoServer) → IsOutcome own size occasion old o → is_refused (cause_of (state_of o)) ≡ false → IsGiven occasion old
+    pub goes_on : (o : Outcome D Files NoServer) → IsOutcome own size occasion old o → IsGranted o → IsGiven occasion old
         → (told → IfStands o (λ disk. StandsAfter out old.host.log disk (state disk.disk)))
         → (told → EachImage (IsOldOrAfter out old.host.log) (state (disk_of (state_of o)).disk).now)
         → IsInWorld told state start (state_of o) (all_delivered (answers_of o) (left source old ends)) clients
@@ -170,7 +184,7 @@ module _ {D : Type 0} (told : Type 0) (state : D → DiskState) (own : D → ℕ
             (seated.cut size source occasion old ends clients world due_is seat own stopped given.counted is is_kept)
 
 -- the run leads to a world whose host has the node
-given_in : {D : Type 0} (told : Type 0) (state : D → DiskState) (start : World) (occasion : Occasion) (old : Up D) (ends : List NodeEnds) (clients : List ClientCell)
+pub given_in : {D : Type 0} (told : Type 0) (state : D → DiskState) (start : World) (occasion : Occasion) (old : Up D) (ends : List NodeEnds) (clients : List ClientCell)
     → IsRunning told state start old ends clients → ServesAll start → IsGiven occasion old
 given_in told state start occasion old ends clients was serves = record {
   counted = ap (λ (h : Host). may_serve h.node (source_of occasion)) (sym was.reached.shows.node.host)
@@ -183,7 +197,7 @@ each_event told state own size start source occasion old new ends clients answer
     subst (λ (n : NodeState _). IsInWorld told state start n (all_delivered answers (left source old ends)) clients) (sym makes.node)
     (subst (λ (a : List ClientAnswer). IsInWorld told state start (state_of makes.outcome) (all_delivered a (left source old ends)) clients) (sym makes.said)
     (goes_on told state own start (size old.host.log.disk.disk) source occasion old ends clients due_is was makes.outcome makes.is
-    (subst (λ (n : NodeState _). is_refused (cause_of n) ≡ false) makes.node granted) (given_in told state start occasion old ends clients was serves) makes.stands
+    (granted_by makes.outcome (subst (λ (n : NodeState _). is_refused (cause_of n) ≡ false) makes.node granted)) (given_in told state start occasion old ends clients was serves) makes.stands
     (λ t. subst (λ (n : NodeState _). EachImage (IsOldOrAfter (out_of (size old.host.log.disk.disk) occasion old) old.host.log) (state (disk_of n).disk).now) makes.node (makes.moments t).here)))
 
 -- ---- a restart

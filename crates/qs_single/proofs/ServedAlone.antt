@@ -1,9 +1,7 @@
 -- In each world of a run of one node what waits may be served, since it can be counted.
-use Rattle.std.proofs.Common.{◌≡◌, ◌∙◌, ℕ, true}
-use Rattle.qs_world.specs.Moves.{Move, Source, may_serve}
+use Rattle.std.proofs.Common.{◌≡◌, ◌∙◌}
 use Rattle.qs_world.specs.Openings.{IsOpening}
-use Rattle.qs_world.specs.Runs.{Run}
-use Rattle.qs_world.specs.World.{Opening, World, start}
+use Rattle.qs_world.specs.World.{Opening, start}
 use Rattle.qs_every_run.specs.AlongRun.{AlongRun}
 use Rattle.qs_every_run.specs.Joined.{Joined}
 use Rattle.qs_every_run.proofs.JoinedOver.{each_run_joined}

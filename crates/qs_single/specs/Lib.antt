@@ -26,3 +26,7 @@ pub mod Acting
 pub mod Rounding
 -- A whole run.
 pub mod Whole
+-- What it opens with.
+pub mod OverLog
+-- What stands as it ends.
+pub mod Ends

@@ -1,6 +1,7 @@
--- The rounds of a run: the cast goes on in the world, round by round.
-use Rattle.std.specs.Prelude.{ℕ}
+-- The rounds of a run: the cast goes on in the world, round by round, and through one that is cut short.
+use Rattle.std.specs.Prelude.{ℕ, List}
 use Rattle.qs_disk.specs.Disk.{DiskState}
+use Rattle.qs_rounds.specs.Breaks.{BreaksRound}
 use Rattle.qs_rounds.specs.Rounds.{Cast, Rounds}
 use Rattle.qs_world.specs.World.{World}
 use Rattle.rand_pcg.specs.Lcg.{Lcg}
@@ -15,3 +16,8 @@ pub record IsCastIn {D : Type 0} (told : Type 0) (state : D → DiskState) (star
 abbrev pub RoundsGoOn : {D : Type 0} → Type 0 → (D → DiskState) → (D → ℕ) → (D → ℕ) → World → Lcg → ℕ → Cast D → Cast D → Lcg → Type 0
 RoundsGoOn told state own size start rng n old new later =
     told → Rounds told state own size rng n old new later → ServesAll start → IsCastIn told state start old → IsCastIn told state start new
+
+-- a round that is cut short, in an order of places
+abbrev pub BreaksGoOn : {D : Type 0} → Type 0 → (D → DiskState) → (D → ℕ) → (D → ℕ) → World → List ℕ → Cast D → Cast D → Type 0
+BreaksGoOn told state own size start order old new =
+    told → BreaksRound told state own size order old new → ServesAll start → IsCastIn told state start old → IsCastIn told state start new

@@ -1,6 +1,6 @@
 -- A run of one node is a run of the world: from the cast as it begins, through its rounds, what the cell tells is the history of a run of the world of one
 -- node, which opens with what the log of the disk held.
-use Rattle.std.specs.Prelude.{◌≡◌, ℕ, List, [], ◌∷◌}
+use Rattle.std.specs.Prelude.{◌≡◌, ℕ, [], ◌∷◌}
 use Rattle.std.specs.Global.{Global}
 use Rattle.qs_cell.specs.Starts.{journal_of}
 use Rattle.qs_disk.specs.Disk.{DiskState}

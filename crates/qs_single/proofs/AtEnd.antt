@@ -1,0 +1,97 @@
+-- As the rounds of a run end, and where one was cut short, its journal is lawful, another run may begin over its disk, and where the node is up what is committed
+-- is on the disk.
+use Rattle.std.proofs.Common.{◌≡◌, ◌∙◌, ap, subst, sym, ℕ, ◌-◌, Bool, [], ◌∷◌}
+use Rattle.std.specs.Global.{Global}
+use Rattle.qs_cell.specs.Starts.{journal_of}
+use Rattle.qs_cell.specs.State.{disk_of}
+use Rattle.qs_disk.specs.Disk.{DiskState}
+use Rattle.qs_machine.specs.Book.{BookValue}
+use Rattle.qs_machine.specs.Lawful.{IsLawful, book_after}
+use Rattle.qs_machine.specs.Opening.{opening}
+use Rattle.qs_machine.specs.declared.opened.Opened.{Opened}
+use Rattle.qs_may_begin.specs.Coherent.{IsCoherentDisk, IsCoherentImage}
+use Rattle.qs_may_begin.specs.Scripts.{Fits, MayBegin}
+use Rattle.qs_plans.specs.Order.{drawn_order, seeded}
+use Rattle.qs_rounds.specs.Endings.{EndsWith, IsCutShort, IsOutOfMemory}
+use Rattle.qs_rounds.specs.Rounds.{Cast, count_of}
+use Rattle.qs_rounds.specs.Seats.{HasBegun, node_count}
+use Rattle.qs_rounds.specs.declared.rounds.Ending.{Ending}
+use Rattle.qs_statements.specs.declared.script.Script.{Script}
+use Rattle.qs_world.specs.Histories.{book_of}
+use Rattle.qs_world.specs.World.{Opening, start}
+use Rattle.rand_pcg.specs.Lcg.{Lcg}
+use Rattle.qs_single.specs.Ends.{BreaksLawful, EndsLawful, HoldsAtEnd, IsRestorable, IsStored, RefusedCoherent, first_book}
+use Rattle.qs_single.specs.OverLog.{IsOpenedOver, opening_over}
+use Rattle.qs_single.specs.Reached.{ServesAll}
+use Rattle.qs_single.specs.Rounding.{IsCastIn}
+use Rattle.qs_single.proofs.Acted.{each_history}
+use Rattle.qs_single.proofs.Entire.{begins_in, each_book, lawful_in}
+use Rattle.qs_single.proofs.LogsLeft.{each_coherent, each_logged, each_stored}
+use Rattle.qs_single.proofs.OpensOver.{each_opening}
+use Rattle.qs_single.proofs.Refused.{IsShownDisk, round_leaves}
+use Rattle.qs_single.proofs.RestoredDisk.{each_restored}
+use Rattle.qs_single.proofs.Rounded.{break_goes, round_goes, rounds_go}
+use Rattle.qs_single.proofs.SameStart.{IsOpenedAs, break_start, round_start, rounds_start}
+use Rattle.qs_single.proofs.ServedAlone.{serves_alone}
+
+module _ {D : Type 0} (may : (o : Opening) → MayBegin o) (told : Type 0) (state : D → DiskState) (own size : D → ℕ) (alloc : Global) (script : Script) (disk : D) (cast : Cast D) (t : told)
+    (begun : HasBegun told state own alloc script disk cast) (fits : Fits node_count script) (coherent : IsCoherentImage alloc (state disk).content) where
+  abbrev o : Opening
+  o = opening_over alloc script begun.started.running.host.log
+
+  opened : IsOpenedOver alloc script cast.clients begun.started.running.host.log o
+  opened = each_opening may told state own alloc script disk cast t begun fits coherent
+
+  was : IsCastIn told state (start o) cast
+  was = begins_in told state own alloc script disk cast o t begun opened.opens
+
+  serves : ServesAll (start o)
+  serves = serves_alone o opened.may_begin opened.opens.node.size
+
+  -- whatever the rounds led to
+  holds : (new : Cast D) → IsOpenedAs cast.node new.node → IsCastIn told state (start o) new → HoldsAtEnd state o new.node
+  holds new same now = record {
+    of_world = each_history told state (start o) new.node.seat.node new.node.seat.ends new.clients now.carried.shows;
+    lawful = subst (λ (b : BookValue). IsLawful b (journal_of new.node)) book_is (lawful_in told state o opened.may_begin new now);
+    logged = each_logged told state o opened.may_begin t new.node.seat.ends new.clients new.node.seat.node now.carried.shows;
+    coherent = each_coherent told state o opened.may_begin t new.node.seat.ends new.clients new.node.seat.node now.carried.shows;
+    stored = λ runs. subst (λ (b : BookValue). IsStored (book_after b (journal_of new.node)) (state (disk_of new.node.seat.node).disk)) book_is
+        (each_stored told state o opened.may_begin t new.node.seat.ends new.clients new.node.seat.node runs now.carried.shows);
+    restored = λ cause down. subst (λ (b : BookValue). IsRestorable (book_after b (journal_of new.node)) (state (disk_of new.node.seat.node).disk)) book_is
+        (each_restored told state o opened.may_begin t new.node.seat.ends new.clients new.node.seat.node cause down now.carried.shows);
+  }
+    where
+      book_is : book_of o ≡ first_book new.node
+      book_is = each_book told state own alloc script disk cast o t begun opened.opens ∙ ap (λ (x : Opened). opening (x ∷ [])) (sym same)
+
+  pub ended : (rng : Lcg) (n : ℕ) (new : Cast D) (quiet : Bool) → EndsWith told state own size rng n cast new quiet → HoldsAtEnd state o new.node
+  ended rng n new quiet ends = holds new
+      (round_start told state own size (drawn_order (count_of ends.before) ends.drawn).0 ends.before new quiet ends.last ∙ rounds_start told state own size rng (n - 1) cast ends.before ends.drawn ends.earlier)
+      (round_goes told state own size (start o) t serves (drawn_order (count_of ends.before) ends.drawn).0 ends.before new quiet ends.last
+      (rounds_go told state own size (start o) t serves rng (n - 1) cast ends.before ends.drawn ends.earlier was))
+
+  pub broken : (seed : ℕ) (new : Cast D) → IsCutShort told state own size seed cast new → HoldsAtEnd state o new.node
+  broken seed new cut = holds new
+      (break_start told state own size (drawn_order (count_of cut.before) cut.drawn).0 cut.before new cut.broken ∙ rounds_start told state own size (seeded seed) cut.rounds cast cut.before cut.drawn cut.earlier)
+      (break_goes told state own size (start o) t serves (drawn_order (count_of cut.before) cut.drawn).0 cut.before new cut.broken
+      (rounds_go told state own size (start o) t serves (seeded seed) cut.rounds cast cut.before cut.drawn cut.earlier was))
+
+  pub refused : (seed : ℕ) (new : Cast D) → IsOutOfMemory told state own size seed cast new → IsCoherentDisk (state (disk_of new.node.seat.node).disk)
+  refused seed new out = subst (λ (d : D). IsCoherentDisk (state d)) (sym left.disk) (each_coherent told state o opened.may_begin t left.ends left.clients left.shown left.in_world)
+    where
+      left : IsShownDisk told state (start o) new.node.seat.node
+      left = round_leaves told state own size (start o) t serves (drawn_order (count_of out.before) out.drawn).0 out.before new out.refused
+          (rounds_go told state own size (start o) t serves (seeded seed) out.rounds cast out.before out.drawn out.earlier was)
+
+pub each_end : {D : Type 0} → ((o : Opening) → MayBegin o) → (told : Type 0) (state : D → DiskState) (own size : D → ℕ) (alloc : Global) (script : Script) (disk : D) (cast : Cast D) (seed : ℕ) (new : Cast D) (ending : Ending)
+    → EndsLawful told state own size alloc script disk cast seed new ending
+each_end may told state own size alloc script disk cast seed new ending t begun fits coherent is =
+    ended may told state own size alloc script disk cast t begun fits coherent (seeded seed) ending.rounds new is.quiet is.ends
+
+pub each_cut_short : {D : Type 0} → ((o : Opening) → MayBegin o) → (told : Type 0) (state : D → DiskState) (own size : D → ℕ) (alloc : Global) (script : Script) (disk : D) (cast : Cast D) (seed : ℕ) (new : Cast D)
+    → BreaksLawful told state own size alloc script disk cast seed new
+each_cut_short may told state own size alloc script disk cast seed new t begun fits coherent is = broken may told state own size alloc script disk cast t begun fits coherent seed new is
+
+pub each_refused : {D : Type 0} → ((o : Opening) → MayBegin o) → (told : Type 0) (state : D → DiskState) (own size : D → ℕ) (alloc : Global) (script : Script) (disk : D) (cast : Cast D) (seed : ℕ) (new : Cast D)
+    → RefusedCoherent told state own size alloc script disk cast seed new
+each_refused may told state own size alloc script disk cast seed new t begun fits coherent out = refused may told state own size alloc script disk cast t begun fits coherent seed new out
