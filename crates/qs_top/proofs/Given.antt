@@ -9,6 +9,7 @@ use Rattle.qs_io.specs.Streams.{GivesPart}
 use Rattle.qs_journal.specs.declared.entry.Entry.{Entry}
 use Rattle.qs_machine.specs.Lawful.{IsLawful}
 use Rattle.qs_machine.specs.declared.opened.Opened.{Opened}
+use Rattle.qs_may_begin.specs.Scripts.{Fits, ScriptFits}
 use Rattle.qs_plans.specs.Plan.{setting_of}
 use Rattle.qs_plans.specs.Waiting.{waiting_of}
 use Rattle.qs_rounds.specs.Seats.{node_count, first_node}
@@ -34,6 +35,10 @@ use Rattle.qs_top.proofs.Overs.{end_or, end_logged}
 
 pub of_script : {l m : Option (List ℕ)} (script : Script) (P : Script → Type 0) → ReadWhole 1048576 l m (λ text. script_of node_count text ≡ Ok script) → P script → ReadWhole 1048576 l m (OfScript P)
 of_script script P read holds = record { text = read.text; consumed = read.consumed; whole = read.whole; holds = record { script = script; read = read.holds; holds = holds } }
+
+-- a script that was read fits
+pub fit : {l m : Option (List ℕ)} (script : Script) → ((nodes : ℕ) (text : List ℕ) (read : Script) → ScriptFits nodes text read) → ReadWhole 1048576 l m (λ text. script_of node_count text ≡ Ok script) → Fits node_count script
+fit script fits read = fits node_count read.text script (omega arith) (omega arith) read.holds
 
 pub map_both : {A B C E : Type 0} → (A → C) → (B → E) → A ⊎ B → C ⊎ E
 map_both f g (inl a) = inl (f a)
@@ -110,7 +115,7 @@ given_part faults given old new (Some other) before after bytes (inr g) is e fau
 
 -- ---- the run
 
-module _ {D K : Type 0} (told : Type 0) (state : D → DiskState) (own size : D → ℕ) (seed : ℕ) (script : Script) (shown : Bool) (faults : K → ℕ) (given : K → Option (List ℕ)) (before after : K) (made : Made) (run : Run) (disk end : D) (over : IsOver told state own size seed script shown made disk end) (gave : IsGiven faults given before after made run) where
+module _ {D K : Type 0} (told : Type 0) (state : D → DiskState) (own size : D → ℕ) (seed : ℕ) (script : Script) (shown : Bool) (faults : K → ℕ) (given : K → Option (List ℕ)) (before after : K) (made : Made) (run : Run) (disk end : D) (over : IsOver told state own size seed script shown made disk end) (gave : IsGiven faults given before after made run) (fits : Fits node_count script) where
   status_or : (run.status ≡ made.status) ⊎ ((run.status ≡ statuses.WriteFault) × ((bytes : List ℕ) × (made.output ≡ Some bytes)))
   status_or = given_status faults given before after made.output made.status run.status gave.output
 
@@ -134,6 +139,7 @@ module _ {D K : Type 0} (told : Type 0) (state : D → DiskState) (own size : D 
     is_told = w.is_told;
     status = (whole_of w).0 ∙ w.status;
     gave = (whole_of w).1;
+    lasts = w.lasts;
   })
     where
       made_ends : (run.status ≡ made.status) ⊎ ((run.status ≡ statuses.WriteFault) × ((bytes : List ℕ) × (made.output ≡ Some bytes))) → IsEnd made.status
@@ -141,7 +147,7 @@ module _ {D K : Type 0} (told : Type 0) (state : D → DiskState) (own size : D 
       made_ends (inr cut) = absurd (subst IsEnd cut.0 e)
 
       w : IsWhole told state own size seed script shown (λ status. made.status ≡ status) (IsOutput made.output) made.journal made.trace disk end
-      w = over.whole (made_ends status_or)
+      w = over.whole fits (made_ends status_or)
 
       whole_of : (v : IsWhole told state own size seed script shown (λ status. made.status ≡ status) (IsOutput made.output) made.journal made.trace disk end) → (run.status ≡ made.status) × Appends (given before) (given after) (output_of script made.journal shown v.node.opened)
       whole_of v = given_whole faults given before after made.output made.status run.status (output_of script made.journal shown v.node.opened) gave.output v.gave e
@@ -158,11 +164,12 @@ module _ {D K : Type 0} (told : Type 0) (state : D → DiskState) (own size : D 
         is_told = v.is_told;
         status = subst IsEnd v.status e;
         gave = given_part faults given before after made.output made.status run.status (output_of script made.journal shown v.node.opened) gave.output v.gave e fault;
+        lasts = v.lasts;
       }
 
       by : (run.status ≡ made.status) ⊎ ((run.status ≡ statuses.WriteFault) × ((bytes : List ℕ) × (made.output ≡ Some bytes))) → IsWhole told state own size seed script shown IsEnd (GivesPart (given before) (given after)) made.journal made.trace disk end
       by (inl same) = absurd (subst IsOfRounds (sym same ∙ fault) over.built)
-      by (inr cut) = part_of (over.whole (ends cut.1.0 cut.1.1)) (ends cut.1.0 cut.1.1)
+      by (inr cut) = part_of (over.whole fits (ends cut.1.0 cut.1.1)) (ends cut.1.0 cut.1.1)
 
   -- a status that is no fault of the sink is that of what was made
   made_status : (status : Status) → run.status ≡ status → (statuses.WriteFault ≡ status → ⊥) → made.status ≡ status
@@ -173,7 +180,7 @@ module _ {D K : Type 0} (told : Type 0) (state : D → DiskState) (own size : D 
       by (inr cut) = absurd (other (sym cut.0 ∙ is))
 
   pub given_short : (node : NodeNo) → run.status ≡ statuses.DiskFault node → IsNotBegun told state run.journal run.trace disk end ⊎ IsShort told state own size seed script run.journal run.trace disk end
-  given_short node is = map_both begun_none told_short (over.short node (made_status (statuses.DiskFault node) is (λ same. absurd (cc (same)))))
+  given_short node is = map_both begun_none told_short (over.short fits node (made_status (statuses.DiskFault node) is (λ same. absurd (cc (same)))))
     where
       begun_none : IsNotBegun told state made.journal made.trace disk end → IsNotBegun told state run.journal run.trace disk end
       begun_none not = record { nothing = record { entries = gave.entries ∙ not.nothing.entries; steps = gave.steps ∙ not.nothing.steps }; touched = not.touched }
@@ -182,7 +189,7 @@ module _ {D K : Type 0} (told : Type 0) (state : D → DiskState) (own size : D 
       told_short short = subst (λ (entries : List Entry). IsShort told state own size seed script entries run.trace disk end) (sym gave.entries) (subst (λ (steps : List Step). IsShort told state own size seed script made.journal steps disk end) (sym gave.steps) short)
 
   pub given_refused : (line clause : ℕ) → run.status ≡ statuses.Unlawful line clause → IsRefused told state own size seed script line clause disk end
-  given_refused line clause is = over.refused line clause (made_status (statuses.Unlawful line clause) is (λ same. absurd (cc (same))))
+  given_refused line clause is = over.refused fits line clause (made_status (statuses.Unlawful line clause) is (λ same. absurd (cc (same))))
 
   pub given_leaves : Leaves told state run.status disk end
   given_leaves = by status_or

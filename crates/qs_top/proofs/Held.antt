@@ -1,4 +1,4 @@
--- What the machine opens with is what the log of the disk held.
+-- What the machine opens with is what the log of the disk held, and a run of the world begins over that log.
 use Rattle.std.proofs.Common.{◌≡◌, ℕ, ◌+◌, List, [], ◌++◌, refl, sym, ap, subst, ◌∙◌, append-nil}
 use Rattle.std.specs.Global.{Global}
 use Rattle.qs_cell.specs.Restart.{inc_of, found_in}
@@ -15,7 +15,13 @@ use Rattle.qs_slot.specs.Slot.{Present}
 use Rattle.qs_statements.specs.declared.script.Script.{Script}
 use Rattle.qs_step.specs.Opening.{recovered_of}
 use Rattle.qs_world.specs.Histories.{opened_with}
+use Rattle.qs_may_begin.specs.Scripts.{opening_by}
+use Rattle.qs_single.specs.OverLog.{opening_over}
+use Rattle.qs_single.specs.Reached.{Reached}
+use Rattle.qs_world.specs.World.{start}
+use Rattle.qs_journal.specs.declared.entry.Entry.{Entry}
 use Rattle.qs_top.specs.Disks.{IsHeldIn}
+use Rattle.qs_top.specs.Run.{IsOfWorld}
 
 -- no record waits behind those of the batches
 no_more : {A : Type 0} (xs ys : List A) → ys ≡ [] → xs ++ ys ≡ xs
@@ -39,3 +45,21 @@ held_in {D} told state own alloc script disk cast begins is = record {
 
     inc : inc_of log ≡ raised.present.value.inc + 1
     inc = ap (λ (present : Present). present.value.inc) raised.raised
+
+pub world_in : {D : Type 0} (told : Type 0) (state : D → DiskState) (own : D → ℕ) (alloc : Global) (script : Script) (disk : D) (cast : Cast D) (begins : HasBegun told state own alloc script disk cast) → told → (journal : List Entry)
+    → Reached (start (opening_over alloc script begins.started.running.host.log)) (λ world. world.journal ≡ journal) → IsOfWorld script (state disk).content journal
+world_in {D} told state own alloc script disk cast begins is journal reached = record {
+  alloc = alloc;
+  present = raised.present;
+  records = log.forced;
+  used = log.used;
+  log = raised.records;
+  reached = subst (λ (inc : ℕ). Reached (start (opening_by alloc script node_count (λ n. inc) (λ n. log.forced))) (λ world. world.journal ≡ journal))
+      (ap (λ (present : Present). present.value.inc) raised.raised) reached;
+}
+  where
+    log : LogValue (FusedValue D)
+    log = begins.started.running.host.log
+
+    raised : IsRaisedLog open_limit (state disk).content log
+    raised = begins.started.raised is

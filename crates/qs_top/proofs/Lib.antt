@@ -1,3 +1,5 @@
+-- Where the log was coherent.
+pub mod Coherent
 -- What a run is once its output was given.
 mod Given
 -- What the machine opens with.

@@ -12,11 +12,15 @@ use Rattle.qs_journal.specs.declared.entry.Entry.{Entry}
 use Rattle.qs_log.specs.Image.{IsDamaged}
 use Rattle.qs_machine.specs.Lawful.{IsLawful}
 use Rattle.qs_machine.specs.declared.opened.Opened.{Opened}
+use Rattle.qs_may_begin.specs.Coherent.{IsCoherentDisk}
+use Rattle.qs_may_begin.specs.Scripts.{Fits}
 use Rattle.qs_rounds.specs.Breaks.{own_faults}
 use Rattle.qs_rounds.specs.Endings.{IsEnding, IsCutShort}
 use Rattle.qs_rounds.specs.Rounds.{Cast, IsSameStart}
-use Rattle.qs_rounds.specs.Seats.{HasBegun, first_node}
+use Rattle.qs_rounds.specs.Seats.{HasBegun, first_node, node_count}
 use Rattle.qs_rounds.specs.declared.rounds.Ending.{Ending}
+use Rattle.qs_single.specs.Ends.{HoldsAtEnd}
+use Rattle.qs_single.specs.OverLog.{opening_over}
 use Rattle.qs_statements.specs.declared.script.Script.{Script}
 use Rattle.qs_statements.specs.declared.status.Status.{Status}
 use Rattle.qs_statements.specs.declared.status.Status.TheVariants as statuses
@@ -25,13 +29,14 @@ use Rattle.qs_step.specs.declared.trace.Step.{Step}
 use Rattle.qs_plans.specs.Waiting.{waiting_of}
 use Rattle.qs_verdict.specs.Ends.{status_of}
 use Rattle.qs_verdict.specs.Verdicts.{IsRefusal}
-use Rattle.qs_top.specs.Disks.{IsHeldIn, IsFaultOver, IsLogged, Leaves}
+use Rattle.qs_top.specs.Disks.{IsHeldIn, IsFaultOver, IsLogged, Leaves, StaysCoherent}
 use Rattle.qs_top.specs.Inner.Making.{IsFailed, IsJudgedEnd, IsJudgedShort, IsNothingMade, IsPassed, IsPassedEnd, IsPassedShort}
 use Rattle.qs_top.specs.Inner.Over.{HasLawfulOver, IsOver}
-use Rattle.qs_top.specs.Run.{HasRun, HasRunShort, IsLeftBy, IsTold, machine_over, output_of}
+use Rattle.qs_top.specs.Run.{HasRun, HasRunShort, IsLasting, IsLeftBy, IsTold, machine_over, output_of}
 use Rattle.qs_top.specs.Statuses.{IsEnd, IsOfRounds, Tells}
 use Rattle.qs_top.specs.declared.whole.Made.{Made}
-use Rattle.qs_top.proofs.Held.{held_in}
+use Rattle.qs_top.proofs.Coherent.{refused_by_script}
+use Rattle.qs_top.proofs.Held.{held_in, world_in}
 
 -- ---- statuses
 
@@ -182,6 +187,22 @@ nothing_lawful told state script disk opened journal is = record {
 -- ---- all rounds were made
 
 module _ {D : Type 0} (told : Type 0) (state : D → DiskState) (own size : D → ℕ) (seed : ℕ) (script : Script) (shown : Bool) (alloc : Global) (disk after : D) (first last : Cast D) (begins : HasBegun told state own alloc script disk first) (start : IsSameStart first.node last.node) (each : told → EachImage (HasLog last.node.opened) (state after).now) (left : IsLeftBy told state last.node after) (made : Made) where
+  -- what stands at the end, where the log was coherent
+  abbrev EndHolds : Type 0
+  EndHolds = Fits node_count script → told → IsCoherentDisk (state disk) → HoldsAtEnd state (opening_over alloc script begins.started.running.host.log) last.node
+
+  stays : EndHolds → Fits node_count script → StaysCoherent told state disk after
+  stays holds fits = λ yes coherent. subst (λ (d : D). IsCoherentDisk (state d)) (sym left.disk) (holds fits yes coherent).coherent
+
+  -- and so what lasts, where this much of it is told
+  lasting : (journal : List Entry) → journal ≡ journal_of last.node → told → HoldsAtEnd state (opening_over alloc script begins.started.running.host.log) last.node → IsLasting state script disk last.node journal after
+  lasting journal entries t at_end = subst (λ (l : List Entry). IsLasting state script disk last.node l after) (sym entries)
+      (subst (λ (d : D). IsLasting state script disk last.node (journal_of last.node) d) (sym left.disk) (record {
+        of_world = world_in told state own alloc script disk first begins t (journal_of last.node) at_end.of_world;
+        stored = at_end.stored;
+        restored = at_end.restored;
+      }))
+
   held : told → IsHeldIn script (state disk).content last.node.opened
   held is = subst (IsHeldIn script (state disk).content) (sym start.opened) (held_in told state own alloc script disk first begins is)
 
@@ -205,28 +226,36 @@ module _ {D : Type 0} (told : Type 0) (state : D → DiskState) (own size : D �
   }
 
   -- the judge refused what the node made, or memory was refused
-  over_failed : (((ending : Ending) × HasRun told state own size seed script disk last.node ending) ⊎ HasRunShort told state own size seed script disk last.node) → IsFailed script last.node.opened (journal_of last.node) made
+  over_failed : EndHolds → (((ending : Ending) × HasRun told state own size seed script disk last.node ending) ⊎ HasRunShort told state own size seed script disk last.node) → IsFailed script last.node.opened (journal_of last.node) made
       → IsOver told state own size seed script shown made disk after
-  over_failed ran f = record {
+  over_failed holds ran f = record {
     lawful = nothing_lawful told state script disk last.node.opened made.journal f.nothing.nothing.entries;
     fault = λ node is. absurd (subst IsRefusal is f.refusal);
     damage = λ node at is. absurd (subst IsRefusal is f.refusal);
-    whole = λ e. absurd (end_refuses made.status e f.refusal);
-    short = λ node is. absurd (subst IsRefusal is f.refusal);
-    refused = λ line clause is. record { node = last.node; ran = ran; left = left; held = held; refused = f.refused line clause is };
+    whole = λ fits e. absurd (end_refuses made.status e f.refusal);
+    short = λ fits node is. absurd (subst IsRefusal is f.refusal);
+    refused = λ fits line clause is. record {
+      node = last.node;
+      ran = ran;
+      left = left;
+      held = held;
+      refused = f.refused line clause is;
+      by_script = λ yes coherent. refused_by_script script (machine_over last.node.opened) (journal_of last.node) line clause (holds fits yes coherent).lawful (f.refused line clause is);
+    };
     leaves = refusal_leaves told state disk after made.status f.refusal over_kept;
+    coherent = stays holds;
     silent = λ not_end. f.nothing.output;
     empty = λ untold. f.nothing.nothing;
     built = refusal_built made.status f.refusal;
   }
 
-  over_passed : (ending : Ending) → IsEnding told state own size script seed first last ending → IsPassedEnd script shown ending last.node.opened (journal_of last.node) (trace_of last.node) made
+  over_passed : EndHolds → (ending : Ending) → IsEnding told state own size script seed first last ending → IsPassedEnd script shown ending last.node.opened (journal_of last.node) (trace_of last.node) made
       → IsOver told state own size seed script shown made disk after
-  over_passed ending ends j = record {
+  over_passed holds ending ends j = record {
     lawful = told_lawful j.passed;
     fault = λ node is. absurd (subst IsEnd is end);
     damage = λ node at is. absurd (subst IsEnd is end);
-    whole = λ e. record {
+    whole = λ fits e. record {
       node = last.node;
       ending = ending;
       ran = record { alloc = alloc; first = first; last = last; begins = begins; ends = ends; node_is = refl };
@@ -234,10 +263,12 @@ module _ {D : Type 0} (told : Type 0) (state : D → DiskState) (own size : D �
       is_told = told_all made.journal made.trace j.passed.entries j.passed.steps j.passed.conforms;
       status = j.status ∙ ap (λ (entries : List Entry). status_of ending.rounds ending.settled (waiting_of script entries)) (sym j.passed.entries);
       gave = j.output ∙ ap (λ (entries : List Entry). Some (output_of script entries shown last.node.opened)) (sym j.passed.entries);
+      lasts = λ yes coherent. lasting made.journal j.passed.entries yes (holds fits yes coherent);
     };
-    short = λ node is. absurd (subst IsEnd is end);
-    refused = λ line clause is. absurd (subst IsEnd is end);
+    short = λ fits node is. absurd (subst IsEnd is end);
+    refused = λ fits line clause is. absurd (subst IsEnd is end);
     leaves = end_leaves told state disk after made.status end over_kept;
+    coherent = stays holds;
     silent = λ not_end. absurd (not_end end);
     empty = λ untold. absurd (untold (subst Tells (sym j.status) (status_tells ending.rounds ending.settled (waiting_of script (journal_of last.node)))));
     built = end_built made.status end;
@@ -246,32 +277,34 @@ module _ {D : Type 0} (told : Type 0) (state : D → DiskState) (own size : D �
       end : IsEnd made.status
       end = subst IsEnd (sym j.status) (status_ends ending.rounds ending.settled (waiting_of script (journal_of last.node)))
 
-  pub over_end : (ending : Ending) → IsEnding told state own size script seed first last ending → IsJudgedEnd script shown ending last.node.opened (journal_of last.node) (trace_of last.node) made
+  pub over_end : EndHolds → (ending : Ending) → IsEnding told state own size script seed first last ending → IsJudgedEnd script shown ending last.node.opened (journal_of last.node) (trace_of last.node) made
       → IsOver told state own size seed script shown made disk after
-  over_end ending ends (inl passed) = over_passed ending ends passed
-  over_end ending ends (inr failed) = over_failed (inl (ending, record { alloc = alloc; first = first; last = last; begins = begins; ends = ends; node_is = refl })) failed
+  over_end holds ending ends (inl passed) = over_passed holds ending ends passed
+  over_end holds ending ends (inr failed) = over_failed holds (inl (ending, record { alloc = alloc; first = first; last = last; begins = begins; ends = ends; node_is = refl })) failed
 
-  over_cut : (node : NodeNo) → node ≡ first_node → Rose (own disk) (own after) → IsCutShort told state own size seed first last → IsPassedShort script node last.node.opened (journal_of last.node) (trace_of last.node) made
+  over_cut : EndHolds → (node : NodeNo) → node ≡ first_node → Rose (own disk) (own after) → IsCutShort told state own size seed first last → IsPassedShort script node last.node.opened (journal_of last.node) (trace_of last.node) made
       → IsOver told state own size seed script shown made disk after
-  over_cut node is rose cut j = record {
+  over_cut holds node is rose cut j = record {
     lawful = told_lawful j.passed;
     fault = λ other status. record { node_is = same_node (sym status ∙ j.status) ∙ is; rose = rose };
     damage = λ other at status. absurd (subst IsFaultStatus (sym j.status ∙ status) tt);
-    whole = λ e. absurd (subst IsEnd j.status e);
-    short = λ other status. inr (record {
+    whole = λ fits e. absurd (subst IsEnd j.status e);
+    short = λ fits other status. inr (record {
       node = last.node;
       ran = record { alloc = alloc; first = first; last = last; begins = begins; ends = cut; node_is = refl };
       left = left;
       is_told = told_all made.journal made.trace j.passed.entries j.passed.steps j.passed.conforms;
+      lasts = λ yes coherent. lasting made.journal j.passed.entries yes (holds fits yes coherent);
     });
-    refused = λ line clause status. absurd (subst IsFaultStatus (sym j.status ∙ status) tt);
+    refused = λ fits line clause status. absurd (subst IsFaultStatus (sym j.status ∙ status) tt);
     leaves = subst (λ (status : Status). Leaves told state status disk after) (sym j.status) (inr over_kept);
+    coherent = stays holds;
     silent = λ not_end. j.output;
     empty = λ untold. absurd (untold (subst Tells (sym j.status) tt));
     built = subst IsOfRounds (sym j.status) tt;
   }
 
-  pub over_short : (node : NodeNo) → node ≡ first_node → Rose (own disk) (own after) → IsCutShort told state own size seed first last → IsJudgedShort script node last.node.opened (journal_of last.node) (trace_of last.node) made
+  pub over_short : EndHolds → (node : NodeNo) → node ≡ first_node → Rose (own disk) (own after) → IsCutShort told state own size seed first last → IsJudgedShort script node last.node.opened (journal_of last.node) (trace_of last.node) made
       → IsOver told state own size seed script shown made disk after
-  over_short node is rose cut (inl passed) = over_cut node is rose cut passed
-  over_short node is rose cut (inr failed) = over_failed (inr (record { alloc = alloc; first = first; last = last; begins = begins; ends = cut; node_is = refl })) failed
+  over_short holds node is rose cut (inl passed) = over_cut holds node is rose cut passed
+  over_short holds node is rose cut (inr failed) = over_failed holds (inr (record { alloc = alloc; first = first; last = last; begins = begins; ends = cut; node_is = refl })) failed

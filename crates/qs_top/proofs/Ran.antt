@@ -7,24 +7,34 @@ use Rattle.qs_base.specs.declared.memory.NoMemory.{NoMemory}
 use Rattle.qs_cell.specs.Logged.{HasLog}
 use Rattle.qs_cell.specs.Starts.{CellValue, journal_of, trace_of}
 use Rattle.qs_cell.specs.State.{LogStands, disk_of}
-use Rattle.qs_disk.specs.Disk.{DiskState, EachImage}
+use Rattle.qs_disk.specs.Disk.{DiskState, EachImage, IsImage}
 use Rattle.qs_journal.specs.declared.entry.Entry.{Entry}
 use Rattle.qs_machine.specs.declared.opened.Opened.{Opened}
-use Rattle.qs_rounds.specs.Endings.{IsEnding, IsCutShort}
+use Rattle.qs_may_begin.specs.Coherent.{IsCoherentDisk}
+use Rattle.qs_may_begin.specs.Scripts.{Fits}
+use Rattle.qs_rounds.specs.Endings.{IsEnding, IsCutShort, IsOutOfMemory}
 use Rattle.qs_rounds.specs.Rounds.{Cast, IsSameStart}
-use Rattle.qs_rounds.specs.Seats.{HasBegun, first_node}
+use Rattle.qs_rounds.specs.Seats.{HasBegun, first_node, node_count}
 use Rattle.qs_rounds.specs.declared.faults.RoundFault.{RoundFault}
 use Rattle.qs_rounds.specs.declared.faults.RoundFault.TheVariants as faults
 use Rattle.qs_rounds.specs.declared.rounds.Ending.{Ending}
+use Rattle.qs_single.specs.Ends.{BreaksLawful, EndsLawful, HoldsAtEnd, RefusedCoherent}
+use Rattle.qs_single.specs.OverLog.{opening_over}
 use Rattle.qs_statements.specs.declared.script.Script.{Script}
 use Rattle.qs_step.specs.declared.trace.Step.{Step}
-use Rattle.qs_top.specs.Disks.{IsLogged}
+use Rattle.qs_top.specs.Disks.{IsLogged, StaysCoherent}
 use Rattle.qs_top.specs.Inner.Making.{IsJudgedEnd, IsJudgedShort, IsMadeOf}
 use Rattle.qs_top.specs.Inner.Over.{IsOver}
 use Rattle.qs_top.specs.Run.{IsLeftBy}
 use Rattle.qs_top.specs.declared.whole.Made.{Made}
 use Rattle.qs_top.proofs.Overs.{over_end, over_short, over_kept}
 use Rattle.qs_top.proofs.Unopened.{over_refused}
+
+-- the laws of runs of one node, whatever they came to
+pub record RunLaws {D : Type 0} (told : Type 0) (state : D → DiskState) (own size : D → ℕ) : Type 0 where
+  pub ends : (alloc : Global) (script : Script) (disk : D) (cast : Cast D) (seed : ℕ) (new : Cast D) (ending : Ending) → EndsLawful told state own size alloc script disk cast seed new ending
+  pub cut_short : (alloc : Global) (script : Script) (disk : D) (cast : Cast D) (seed : ℕ) (new : Cast D) → BreaksLawful told state own size alloc script disk cast seed new
+  pub refused : (alloc : Global) (script : Script) (disk : D) (cast : Cast D) (seed : ℕ) (new : Cast D) → RefusedCoherent told state own size alloc script disk cast seed new
 
 -- the node as the rounds ended, and what is told of it
 pub record IsLeft {D : Type 0} (told : Type 0) (state : D → DiskState) (last : Cast D) (node : CellValue D) (journal : List Entry) (trace : List Step) (after : D) : Type 0 where
@@ -35,7 +45,7 @@ pub record IsLeft {D : Type 0} (told : Type 0) (state : D → DiskState) (last :
   pub stands : told → LogStands state node.seat.node
   pub logged : told → EachImage (HasLog node.opened) (state after).now
 
-module _ {D : Type 0} (told : Type 0) (state : D → DiskState) (own size : D → ℕ) (seed : ℕ) (script : Script) (shown : Bool) (alloc : Global) (disk after : D) (first last : Cast D) (begins : HasBegun told state own alloc script disk first) (start : IsSameStart first.node last.node) (made : Made) (node : CellValue D) (journal : List Entry) (trace : List Step) (left : IsLeft told state last node journal trace after) where
+module _ {D : Type 0} (told : Type 0) (state : D → DiskState) (own size : D → ℕ) (seed : ℕ) (script : Script) (shown : Bool) (alloc : Global) (disk after : D) (first last : Cast D) (begins : HasBegun told state own alloc script disk first) (start : IsSameStart first.node last.node) (made : Made) (node : CellValue D) (journal : List Entry) (trace : List Step) (left : IsLeft told state last node journal trace after) (laws : RunLaws told state own size) (image : told → IsImage (state disk).now (state disk).content) where
   after_is : after ≡ (disk_of last.node.seat.node).disk
   after_is = left.disk ∙ ap (λ (cell : CellValue D). (disk_of cell.seat.node).disk) left.node_is
 
@@ -54,17 +64,33 @@ module _ {D : Type 0} (told : Type 0) (state : D → DiskState) (own size : D �
   trace_is : trace ≡ trace_of last.node
   trace_is = left.steps ∙ ap (λ (cell : CellValue D). trace_of cell) left.node_is
 
+  at_end : (ending : Ending) → IsEnding told state own size script seed first last ending → Fits node_count script → told → IsCoherentDisk (state disk) → HoldsAtEnd state (opening_over alloc script begins.started.running.host.log) last.node
+  at_end ending ends fits t coherent = laws.ends alloc script disk first seed last ending t begins fits (coherent alloc (state disk).content (image t)) ends
+
+  at_cut : IsCutShort told state own size seed first last → Fits node_count script → told → IsCoherentDisk (state disk) → HoldsAtEnd state (opening_over alloc script begins.started.running.host.log) last.node
+  at_cut cut fits t coherent = laws.cut_short alloc script disk first seed last t begins fits (coherent alloc (state disk).content (image t)) cut
+
+  left_coherent : IsCoherentDisk (state (disk_of last.node.seat.node).disk) → IsCoherentDisk (state after)
+  left_coherent coherent = subst (λ (d : D). IsCoherentDisk (state d)) (sym after_is) coherent
+
+  at_refusal : IsOutOfMemory told state own size seed first last → Fits node_count script → StaysCoherent told state disk after
+  at_refusal out fits = λ yes coherent. left_coherent (laws.refused alloc script disk first seed last yes begins fits (coherent alloc (state disk).content (image yes)) out)
+
   pub over_ran : (ending : Result Ending RoundFault) (opened : Result Opened NoMemory) → IfOk ending (IsEnding told state own size script seed first last) → ((n : NodeNo) → ending ≡ Err (faults.DiskFault n) → IsCutShort told state own size seed first last)
+      → (ending ≡ Err faults.NoMemory → IsOutOfMemory told state own size seed first last)
       → ((n : NodeNo) → ending ≡ Err (faults.DiskFault n) → n ≡ first_node) → IfOk opened (λ found. found ≡ node.opened) → IsMadeOf script shown ending opened journal trace made → IsOver told state own size seed script shown made disk after
-  over_ran (Ok ending) (Ok opened) ends cut named is j = over_end told state own size seed script shown alloc disk after first last begins start logged left_by made ending ends
+  over_ran (Ok ending) (Ok opened) ends cut out named is j = over_end told state own size seed script shown alloc disk after first last begins start logged left_by made (at_end ending ends) ending ends
       (subst (λ (steps : List Step). IsJudgedEnd script shown ending last.node.opened (journal_of last.node) steps made) trace_is
       (subst (λ (entries : List Entry). IsJudgedEnd script shown ending last.node.opened entries trace made) journal_is
       (subst (λ (found : Opened). IsJudgedEnd script shown ending found journal trace made) (is ∙ ap (λ (cell : CellValue D). cell.opened) left.node_is) j)))
-  over_ran (Err (faults.DiskFault n)) (Ok opened) ends cut named is j = over_short told state own size seed script shown alloc disk after first last begins start logged left_by made n (named n refl)
+  over_ran (Err (faults.DiskFault n)) (Ok opened) ends cut out named is j = over_short told state own size seed script shown alloc disk after first last begins start logged left_by made (at_cut (cut n refl)) n (named n refl)
       (subst (λ (d : D). Rose (own disk) (own d)) (sym after_is) (subst (λ (before : ℕ). Rose before (own (disk_of last.node.seat.node).disk)) begins.faults (cut n refl).rose)) (cut n refl)
       (subst (λ (steps : List Step). IsJudgedShort script n last.node.opened (journal_of last.node) steps made) trace_is
       (subst (λ (entries : List Entry). IsJudgedShort script n last.node.opened entries trace made) journal_is
       (subst (λ (found : Opened). IsJudgedShort script n found journal trace made) (is ∙ ap (λ (cell : CellValue D). cell.opened) left.node_is) j)))
-  over_ran (Err faults.NoMemory) (Ok opened) ends cut named is j = over_refused told state own size seed script shown disk after made j.nothing (inr kept) j.status
-  over_ran (Ok ending) (Err fault) ends cut named is j = over_refused told state own size seed script shown disk after made j.nothing (inr kept) j.status
-  over_ran (Err fault) (Err other) ends cut named is j = over_refused told state own size seed script shown disk after made j.nothing (inr kept) j.status
+  over_ran (Err faults.NoMemory) (Ok opened) ends cut out named is j = over_refused told state own size seed script shown disk after made j.nothing (inr kept) (at_refusal (out refl)) j.status
+  over_ran (Ok ending) (Err fault) ends cut out named is j = over_refused told state own size seed script shown disk after made j.nothing (inr kept)
+      (λ fits yes coherent. left_coherent (at_end ending ends fits yes coherent).coherent) j.status
+  over_ran (Err (faults.DiskFault n)) (Err other) ends cut out named is j = over_refused told state own size seed script shown disk after made j.nothing (inr kept)
+      (λ fits yes coherent. left_coherent (at_cut (cut n refl) fits yes coherent).coherent) j.status
+  over_ran (Err faults.NoMemory) (Err other) ends cut out named is j = over_refused told state own size seed script shown disk after made j.nothing (inr kept) (at_refusal (out refl)) j.status

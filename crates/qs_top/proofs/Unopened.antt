@@ -3,11 +3,12 @@ use Rattle.std.proofs.Common.{◌≡◌, ◌⊎◌, inl, ℕ, ◌^◌, Bool, Res
 use Rattle.std.specs.Prelude.{⊤}
 use Rattle.qs_base.specs.Causes.{Rose}
 use Rattle.qs_base.specs.declared.identifiers.NodeNo.{NodeNo}
-use Rattle.qs_disk.specs.Disk.{DiskState}
+use Rattle.qs_disk.specs.Disk.{DiskState, IsImage}
 use Rattle.qs_log.specs.Image.{IsDamaged}
 use Rattle.qs_log.specs.declared.fault.OpenFault.{OpenFault}
 use Rattle.qs_log.specs.declared.fault.OpenFault.TheVariants as faults
 use Rattle.qs_machine.specs.declared.opened.Opened.{Opened}
+use Rattle.qs_may_begin.specs.Scripts.{Fits}
 use Rattle.qs_plans.specs.Plan.{setting_of}
 use Rattle.qs_rounds.specs.Seats.{node_count, first_node}
 use Rattle.qs_statements.specs.declared.script.Script.{Script}
@@ -15,11 +16,12 @@ use Rattle.qs_statements.specs.declared.status.Status.{Status}
 use Rattle.qs_statements.specs.declared.status.Status.TheVariants as statuses
 use Rattle.qs_step.specs.Opening.{recovered_of}
 use Rattle.qs_world.specs.Histories.{opened_with}
-use Rattle.qs_top.specs.Disks.{IsFaultOver, IsDamageOver, IsLogged, IsOnlyTouched, Leaves}
+use Rattle.qs_top.specs.Disks.{IsFaultOver, IsDamageOver, IsLogged, IsOnlyTouched, Leaves, StaysCoherent}
 use Rattle.qs_top.specs.Inner.Making.{IsNothingMade, IsOutOfMemory, not_opened}
 use Rattle.qs_top.specs.Inner.Over.{IsOver}
 use Rattle.qs_top.specs.Statuses.{IsEnd, IsOfRounds}
 use Rattle.qs_top.specs.declared.whole.Made.{Made}
+use Rattle.qs_top.proofs.Coherent.{Later, touched_coherent}
 use Rattle.qs_top.proofs.Overs.{IsFaultStatus, nothing_lawful, same_node}
 
 -- those of a log that was not opened
@@ -80,16 +82,17 @@ pub nothing_opened : Opened
 nothing_opened = opened_with (setting_of (record { seats = []; quotas = []; audit = None; faults = []; lines = []; count = 0 }) node_count first_node 1) (recovered_of [])
 
 module _ {D : Type 0} (told : Type 0) (state : D → DiskState) (own size : D → ℕ) (seed : ℕ) (script : Script) (shown : Bool) (disk after : D) (made : Made) (nothing : IsNothingMade made) where
-  over_unopened : IsUnopened made.status → Leaves told state made.status disk after → ((node : NodeNo) → made.status ≡ statuses.DiskFault node → IsOnlyTouched told state disk after) → ((node : NodeNo) → made.status ≡ statuses.DiskFault node → IsFaultOver own node disk after) → ((node : NodeNo) (at : ℕ) → made.status ≡ statuses.Damaged node at → IsDamageOver told state node at disk after)
+  over_unopened : IsUnopened made.status → Leaves told state made.status disk after → (Fits node_count script → StaysCoherent told state disk after) → ((node : NodeNo) → made.status ≡ statuses.DiskFault node → IsOnlyTouched told state disk after) → ((node : NodeNo) → made.status ≡ statuses.DiskFault node → IsFaultOver own node disk after) → ((node : NodeNo) (at : ℕ) → made.status ≡ statuses.Damaged node at → IsDamageOver told state node at disk after)
       → IsOver told state own size seed script shown made disk after
-  over_unopened unopened leaves touched fault damage = record {
+  over_unopened unopened leaves stays touched fault damage = record {
     lawful = nothing_lawful told state script disk nothing_opened made.journal nothing.nothing.entries;
     fault = fault;
     damage = damage;
-    whole = λ e. absurd (unopened_ends made.status unopened e);
-    short = λ node is. inl (record { nothing = nothing.nothing; touched = touched node is });
-    refused = λ line clause is. absurd (subst IsUnopened is unopened);
+    whole = λ fits e. absurd (unopened_ends made.status unopened e);
+    short = λ fits node is. inl (record { nothing = nothing.nothing; touched = touched node is });
+    refused = λ fits line clause is. absurd (subst IsUnopened is unopened);
     leaves = leaves;
+    coherent = stays;
     silent = λ not_end. nothing.output;
     empty = λ untold. nothing.nothing;
     built = unopened_built made.status unopened;
@@ -99,20 +102,22 @@ module _ {D : Type 0} (told : Type 0) (state : D → DiskState) (own size : D �
   leaves_as status is leaves = subst (λ (s : Status). Leaves told state s disk after) (sym is) leaves
 
   -- memory was refused
-  pub over_refused : IsOnlyTouched told state disk after ⊎ IsLogged told state disk after → made.status ≡ statuses.NoMemory → IsOver told state own size seed script shown made disk after
-  over_refused left is = over_unopened (subst IsUnopened (sym is) tt) (leaves_as statuses.NoMemory is left)
+  pub over_refused : IsOnlyTouched told state disk after ⊎ IsLogged told state disk after → (Fits node_count script → StaysCoherent told state disk after) → made.status ≡ statuses.NoMemory → IsOver told state own size seed script shown made disk after
+  over_refused left stays is = over_unopened (subst IsUnopened (sym is) tt) (leaves_as statuses.NoMemory is left) stays
       (λ node fault. absurd (subst IsRefusedMemory (sym is ∙ fault) tt))
       (λ node fault. absurd (subst IsRefusedMemory (sym is ∙ fault) tt))
       (λ node at damage. absurd (subst IsRefusedMemory (sym is ∙ damage) tt))
 
   -- the log was not opened
-  pub over_closed : (why : OpenFault) → made.status ≡ not_opened why → IsOnlyTouched told state disk after → (told → (at : ℕ) → why ≡ faults.Damaged at → IsDamaged (2 ^ 61) (state disk).content at) → (why ≡ faults.DiskFailed → Rose (own disk) (own after))
+  pub over_closed : Later → (told → IsImage (state disk).now (state disk).content) → (why : OpenFault) → made.status ≡ not_opened why → IsOnlyTouched told state disk after → (told → (at : ℕ) → why ≡ faults.Damaged at → IsDamaged (2 ^ 61) (state disk).content at) → (why ≡ faults.DiskFailed → Rose (own disk) (own after))
       → IsOver told state own size seed script shown made disk after
-  over_closed faults.NoMemory is touched damaged failed = over_refused (inl touched) is
-  over_closed faults.DiskFailed is touched damaged failed = over_unopened (subst IsUnopened (sym is) tt) (leaves_as (statuses.DiskFault first_node) is (inl touched)) (λ node fault. touched)
+  over_closed stay image faults.NoMemory is touched damaged failed = over_refused (inl touched) (λ fits yes. touched_coherent stay (state disk) (state after) (image yes) (touched yes)) is
+  over_closed stay image faults.DiskFailed is touched damaged failed = over_unopened (subst IsUnopened (sym is) tt) (leaves_as (statuses.DiskFault first_node) is (inl touched))
+      (λ fits yes. touched_coherent stay (state disk) (state after) (image yes) (touched yes)) (λ node fault. touched)
       (λ node fault. record { node_is = sym (same_node (sym is ∙ fault)); rose = failed refl })
       (λ node at damage. absurd (subst IsFaultStatus (sym is ∙ damage) tt))
-  over_closed (faults.Damaged at) is touched damaged failed = over_unopened (subst IsUnopened (sym is) tt) (leaves_as (statuses.Damaged first_node at) is touched) (λ node fault. touched)
+  over_closed stay image (faults.Damaged at) is touched damaged failed = over_unopened (subst IsUnopened (sym is) tt) (leaves_as (statuses.Damaged first_node at) is touched)
+      (λ fits yes. touched_coherent stay (state disk) (state after) (image yes) (touched yes)) (λ node fault. touched)
       (λ node fault. absurd (subst IsDamageStatus (sym is ∙ fault) tt))
       (λ node place damage. by (sym is ∙ damage))
     where

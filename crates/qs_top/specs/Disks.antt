@@ -7,6 +7,7 @@ use Rattle.qs_disk.specs.Moments.{Keeps}
 use Rattle.qs_incarnation.specs.Incarnation.{IsTouched}
 use Rattle.qs_log.specs.Image.{IsDamaged, IsLog}
 use Rattle.qs_machine.specs.declared.opened.Opened.{Opened}
+use Rattle.qs_may_begin.specs.Coherent.{IsCoherentDisk}
 use Rattle.qs_plans.specs.Plan.{setting_of}
 use Rattle.qs_record.specs.declared.record.Record.{Record}
 use Rattle.qs_rounds.specs.Seats.{node_count, first_node}
@@ -74,6 +75,10 @@ Leaves told state (statuses.Unfinished rounds waiting) disk after = IsLogged tol
 Leaves told state statuses.WriteFault disk after = IsLogged told state disk after
 Leaves told state (statuses.Unlawful line clause) disk after = IsLogged told state disk after
 Leaves told state status disk after = after ≡ disk
+
+-- where the log of each image was coherent, so is that of each image of what is left: another run may begin over it
+abbrev pub StaysCoherent : {D : Type 0} → Type 0 → (D → DiskState) → D → D → Type 0
+StaysCoherent told state disk after = told → IsCoherentDisk (state disk) → IsCoherentDisk (state after)
 
 -- the disks are as they were, but for the first of them at most
 abbrev pub AreBesides : {D : Type 0} → List D → List D → Type 0

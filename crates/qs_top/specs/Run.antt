@@ -1,26 +1,35 @@
 -- What the top call promises of a run: what its journal is, how it ended, and what was given.
-use Rattle.std.specs.Prelude.{◌≡◌, ◌⊎◌, ◌<◌, ℕ, Bool, List, [], ◌∷◌, length}
+use Rattle.std.specs.Prelude.{◌≡◌, ◌⊎◌, ◌<◌, ℕ, ◌+◌, Bool, List, [], ◌∷◌, None, Some, length}
 use Rattle.std.specs.Global.{Global}
 use Rattle.qs_cell.specs.Starts.{CellValue, journal_of, trace_of}
-use Rattle.qs_cell.specs.State.{LogStands, disk_of}
+use Rattle.qs_cell.specs.State.{LogStands, cause_of, disk_of}
 use Rattle.qs_conformance.specs.Conforming.{Conforms}
 use Rattle.qs_disk.specs.Disk.{DiskState}
+use Rattle.qs_journal.specs.declared.entry.CrashCause.{CrashCause}
 use Rattle.qs_journal.specs.declared.entry.Entry.{Entry}
+use Rattle.qs_log.specs.Image.{IsLog}
 use Rattle.qs_machine.specs.Book.{BookValue}
 use Rattle.qs_machine.specs.Lawful.{IsLawful, book_after}
 use Rattle.qs_machine.specs.Opening.{opening}
 use Rattle.qs_machine.specs.declared.opened.Opened.{Opened}
+use Rattle.qs_may_begin.specs.Coherent.{IsCoherentDisk}
+use Rattle.qs_may_begin.specs.Scripts.{opening_by}
 use Rattle.qs_plans.specs.Waiting.{waiting_of}
 use Rattle.qs_rounds.specs.Endings.{IsEnding, IsCutShort}
 use Rattle.qs_rounds.specs.Rounds.{Cast}
-use Rattle.qs_rounds.specs.Seats.{HasBegun}
+use Rattle.qs_record.specs.declared.record.Record.{Record}
+use Rattle.qs_rounds.specs.Seats.{HasBegun, node_count}
 use Rattle.qs_rounds.specs.declared.rounds.Ending.{Ending}
+use Rattle.qs_single.specs.Ends.{IsRestorable, IsStored}
+use Rattle.qs_single.specs.Reached.{Reached}
+use Rattle.qs_slot.specs.Slot.{Present}
 use Rattle.qs_statements.specs.declared.script.Script.{Script}
 use Rattle.qs_statements.specs.declared.status.Status.{Status}
 use Rattle.qs_step.specs.declared.trace.Step.{Step}
 use Rattle.qs_text.specs.Output.{out_of}
 use Rattle.qs_verdict.specs.Ends.{status_of}
-use Rattle.qs_verdict.specs.Verdicts.{IsRefusedAt}
+use Rattle.qs_verdict.specs.Verdicts.{IsRefusedAt, rule_of_script}
+use Rattle.qs_world.specs.World.{start}
 use Rattle.qs_top.specs.Disks.{OfFirst, IsHeldIn, IsOnlyTouched}
 
 -- ---- the rounds
@@ -67,6 +76,21 @@ pub record IsTold {D : Type 0} (told : Type 0) (state : D → DiskState) (script
   pub steps : trace ≡ trace_of node
   pub conforms : Conforms script (machine_over node.opened) journal
 
+-- where the log was coherent, the entries are the history of a run of the world of one node over what the log of the disk held
+pub record IsOfWorld (script : Script) (content : List ℕ) (journal : List Entry) : Type 0 where
+  pub alloc : Global
+  pub present : Present
+  pub records : List Record
+  pub used : ℕ
+  pub log : IsLog present records used content
+  pub reached : Reached (start (opening_by alloc script node_count (λ n. present.value.inc + 1) (λ n. records))) (λ world. world.journal ≡ journal)
+
+-- and what the machine has committed then is on the disk, whatever a power cut leaves of it; where the node is down, with what a restart applies of it
+pub record IsLasting {D : Type 0} (state : D → DiskState) (script : Script) (disk : D) (node : CellValue D) (journal : List Entry) (after : D) : Type 0 where
+  pub of_world : IsOfWorld script (state disk).content journal
+  pub stored : cause_of node.seat.node ≡ None → IsStored (book_after (machine_over node.opened) journal) (state after)
+  pub restored : (cause : CrashCause) → cause_of node.seat.node ≡ Some cause → IsRestorable (book_after (machine_over node.opened) journal) (state after)
+
 -- nothing is told
 pub record IsNothing (journal : List Entry) (trace : List Step) : Type 0 where
   pub entries : journal ≡ []
@@ -86,6 +110,7 @@ pub record IsWhole {D : Type 0} (told : Type 0) (state : D → DiskState) (own s
   pub is_told : IsTold told state script disk node journal trace
   pub status : Has (status_of ending.rounds ending.settled (waiting_of script journal))
   pub gave : Gave (output_of script journal shown node.opened)
+  pub lasts : told → IsCoherentDisk (state disk) → IsLasting state script disk node journal after
 
 -- with a fault of its disk
 pub record IsShort {D : Type 0} (told : Type 0) (state : D → DiskState) (own size : D → ℕ) (seed : ℕ) (script : Script) (journal : List Entry) (trace : List Step) (disk after : D) : Type 0 where
@@ -93,16 +118,19 @@ pub record IsShort {D : Type 0} (told : Type 0) (state : D → DiskState) (own s
   pub ran : HasRunShort told state own size seed script disk node
   pub left : IsLeftBy told state node after
   pub is_told : IsTold told state script disk node journal trace
+  pub lasts : told → IsCoherentDisk (state disk) → IsLasting state script disk node journal after
 
 -- the node did not begin: nothing is told
 pub record IsNotBegun {D : Type 0} (told : Type 0) (state : D → DiskState) (journal : List Entry) (trace : List Step) (disk after : D) : Type 0 where
   pub nothing : IsNothing journal trace
   pub touched : IsOnlyTouched told state disk after
 
--- the judge refused the node's journal, at this line for this clause
+-- the judge refused the node's journal, at this line for this clause. Where the log was coherent, each entry is a lawful step, and it is for a rule of the
+-- script
 pub record IsRefused {D : Type 0} (told : Type 0) (state : D → DiskState) (own size : D → ℕ) (seed : ℕ) (script : Script) (line clause : ℕ) (disk after : D) : Type 0 where
   pub node : CellValue D
   pub ran : ((ending : Ending) × HasRun told state own size seed script disk node ending) ⊎ HasRunShort told state own size seed script disk node
   pub left : IsLeftBy told state node after
   pub held : told → IsHeldIn script (state disk).content node.opened
   pub refused : IsRefusedAt script (machine_over node.opened) (journal_of node) line clause
+  pub by_script : told → IsCoherentDisk (state disk) → clause ≡ rule_of_script

@@ -11,7 +11,7 @@ ghost use Rattle.qs_script.specs.Words.{form_of};
 ghost use Rattle.qs_script.specs.declared.reading.ScriptFailed.TheVariants.{Fault};
 ghost use Rattle.qs_statements.specs.declared.status.ScriptFault.{ScriptFault};
 ghost use Rattle.qs_top.specs.Asking.{asked_by};
-ghost use Rattle.qs_top.specs.Disks.{OfFirst, IsFaultOver, IsDamageOver, Leaves, AreBesides};
+ghost use Rattle.qs_top.specs.Disks.{OfFirst, IsFaultOver, IsDamageOver, Leaves, StaysCoherent, AreBesides};
 ghost use Rattle.qs_top.specs.Inner.Giving.{IsGiven, IsGivenOf, IsNoScript};
 ghost use Rattle.qs_top.specs.Inner.Over.{IsOver};
 ghost use Rattle.qs_top.specs.Run.{HasLawful, IsNothing, IsNotBegun, IsWhole, IsShort, IsRefused};
@@ -27,6 +27,7 @@ use core::mem;
 use qs_base::{Bytes, List};
 use qs_disk::Disk;
 use qs_io::{ReadFault, Sink, Source, give_all, read_text};
+use qs_may_begin::scripts_fit;
 use qs_rounds::NODE_COUNT;
 use qs_text::{Script, ScriptFailed, Status, read_script};
 use std::alloc::Global;
@@ -176,7 +177,9 @@ fn run_source<S: Source, K: Sink, D: Disk>(
     ensures built { IsOfRun result.status }
     ensures others { AreBesides disks.old.items disks.new.items }
     ensures left { OfFirst (Leaves D.told D.state result.status) disks.old.items disks.new.items }
+    ensures coherent { OfFirst (StaysCoherent D.told D.state) disks.old.items disks.new.items }
 {
+    scripts_fit();
     let script = match script_from(alloc, source) {
         Ok(script) => script,
         Err(status) => return ended(alloc, status),
@@ -234,7 +237,8 @@ pub fn run<R: Threads + Sync, S: Source, K: Sink, D: Disk>(
 
     // A run that ended made its rounds, the journal is its node's and conforms to the script, the first disk is the one that
     // the node leaves, the status is that of the journal and of how the rounds ended, and the output was given whole; at a write
-    // fault a part of it was.
+    // fault a part of it was. Where the log was coherent and the node is up in the end, what the machine has committed is on the
+    // disk.
     ensures ended { (seed : ℕ) (shown : Bool) → asked_by (form_of words.now) ≡ Some (Asked.Serial seed shown) → IsEnd result.status
         → ReadWhole 1048576 (S.left source.old) (S.left source.new) (OfScript (λ script. OfFirst
         (IsWhole D.told D.state D.fault_count D.byte_count seed script shown (λ status. result.status ≡ status) (Appends (K.given sink.old) (K.given sink.new)) result.journal result.trace)
@@ -245,7 +249,8 @@ pub fn run<R: Threads + Sync, S: Source, K: Sink, D: Disk>(
         disks.old.items disks.new.items)) }
 
     // Where its disk failed as the node was started again, the journal is what the node had made, and conforms, and the disk is
-    // the one that the node leaves. Where the judge refuses what a node made, the line and the clause are told.
+    // the one that the node leaves. Where the judge refuses what a node made, the line and the clause are told; where the log was
+    // coherent each entry is lawful, and it is for a rule of the script.
     ensures cut_short { (seed : ℕ) (shown : Bool) → asked_by (form_of words.now) ≡ Some (Asked.Serial seed shown)
         → (node : NodeNo) → result.status ≡ Status.DiskFault node
         → OfFirst (IsNotBegun D.told D.state result.journal result.trace) disks.old.items disks.new.items
@@ -270,6 +275,9 @@ pub fn run<R: Threads + Sync, S: Source, K: Sink, D: Disk>(
     // its log held. After DiskFault and NoMemory it is one of these. The others are as they were.
     ensures others { AreBesides disks.old.items disks.new.items }
     ensures left { asked_by (form_of words.now) ≢ Some Asked.Check → OfFirst (Leaves D.told D.state result.status) disks.old.items disks.new.items }
+
+    // Runs follow one another over a disk, whatever the status: where its log was coherent, it is so again.
+    ensures coherent { OfFirst (StaysCoherent D.told D.state) disks.old.items disks.new.items }
 
     // Of a check: the text that was read is a history, and the verdict on it is what was given; no disk is opened.
     ensures unlawful { asked_by (form_of words.now) ≡ Some Asked.Check → (line clause : ℕ) → result.status ≡ Status.Unlawful line clause

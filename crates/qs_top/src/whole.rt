@@ -9,7 +9,9 @@ use qs_cell::CellOpen;
 use qs_disk::{Disk, Fused};
 use qs_journal::Entry;
 use qs_log::OpenFault;
+use qs_may_begin::logs_stay_coherent;
 use qs_rounds::{Ending, NODE, RoundFault, rounds_of, start};
+use qs_single::{refused_runs_leave_coherent_logs, runs_end_lawful};
 use qs_step::Step;
 use qs_text::{Script, Status};
 use qs_verdict::{judged, told};
@@ -49,6 +51,11 @@ pub fn run_over<D: Disk>(
 ) -> (D, Made)
     ensures over { IsOver D.told D.state D.fault_count D.byte_count seed script.now shown result.1 disk result.0 }
 {
+    runs_end_lawful::<D>();
+    refused_runs_leave_coherent_logs::<D>();
+    logs_stay_coherent();
+    // (the size tells that the content is an image)
+    disk.size();
     let mut actors = match start(alloc, script, Fused::new(disk)) {
         Ok(actors) => actors,
         Err(CellOpen { disk, why }) => {

@@ -5,9 +5,11 @@ use Rattle.qs_disk.specs.Disk.{DiskState}
 use Rattle.qs_journal.specs.declared.entry.Entry.{Entry}
 use Rattle.qs_machine.specs.Lawful.{IsLawful}
 use Rattle.qs_machine.specs.declared.opened.Opened.{Opened}
+use Rattle.qs_may_begin.specs.Scripts.{Fits}
+use Rattle.qs_rounds.specs.Seats.{node_count}
 use Rattle.qs_statements.specs.declared.script.Script.{Script}
 use Rattle.qs_statements.specs.declared.status.Status.TheVariants as statuses
-use Rattle.qs_top.specs.Disks.{IsHeldIn, IsFaultOver, IsDamageOver, Leaves}
+use Rattle.qs_top.specs.Disks.{IsHeldIn, IsFaultOver, IsDamageOver, Leaves, StaysCoherent}
 use Rattle.qs_top.specs.Run.{machine_over, IsNothing, IsNotBegun, IsWhole, IsShort, IsRefused}
 use Rattle.qs_top.specs.Statuses.{IfNot, IsEnd, Tells, IsOfRounds}
 use Rattle.qs_top.specs.declared.whole.Made.{Made}
@@ -26,10 +28,11 @@ pub record IsOver {D : Type 0} (told : Type 0) (state : D → DiskState) (own si
   pub lawful : HasLawfulOver told state script made.journal disk
   pub fault : (node : NodeNo) → made.status ≡ statuses.DiskFault node → IsFaultOver own node disk after
   pub damage : (node : NodeNo) (at : ℕ) → made.status ≡ statuses.Damaged node at → IsDamageOver told state node at disk after
-  pub whole : IsEnd made.status → IsWhole told state own size seed script shown (λ status. made.status ≡ status) (IsOutput made.output) made.journal made.trace disk after
-  pub short : (node : NodeNo) → made.status ≡ statuses.DiskFault node → IsNotBegun told state made.journal made.trace disk after ⊎ IsShort told state own size seed script made.journal made.trace disk after
-  pub refused : (line clause : ℕ) → made.status ≡ statuses.Unlawful line clause → IsRefused told state own size seed script line clause disk after
+  pub whole : Fits node_count script → IsEnd made.status → IsWhole told state own size seed script shown (λ status. made.status ≡ status) (IsOutput made.output) made.journal made.trace disk after
+  pub short : Fits node_count script → (node : NodeNo) → made.status ≡ statuses.DiskFault node → IsNotBegun told state made.journal made.trace disk after ⊎ IsShort told state own size seed script made.journal made.trace disk after
+  pub refused : Fits node_count script → (line clause : ℕ) → made.status ≡ statuses.Unlawful line clause → IsRefused told state own size seed script line clause disk after
   pub leaves : Leaves told state made.status disk after
+  pub coherent : Fits node_count script → StaysCoherent told state disk after
   pub silent : IfNot (IsEnd made.status) (made.output ≡ None)
   pub empty : IfNot (Tells made.status) (IsNothing made.journal made.trace)
   pub built : IsOfRounds made.status

@@ -1,6 +1,6 @@
 use Rattle.std.proofs.Common.{◌≡◌, ◌⊎◌, ℕ, refl, subst, sym}
 use Rattle.qs_statements.specs.declared.status.Status.{Status}
-use Rattle.qs_top.specs.Disks.{OfFirst, Leaves}
+use Rattle.qs_top.specs.Disks.{OfFirst, Leaves, StaysCoherent}
 use Rattle.qs_top.specs.Run.{IsNotBegun, IsShort, IsRefused}
 use Rattle.qs_top.specs.Texts.{ReadWhole, OfScript}
 use Rattle.qs_top.proofs.Given.{first_alone, nothing_lawful}
@@ -34,3 +34,11 @@ returns-in-None-clause-lawful g c = nothing_lawful g.D.Disk.told g.D.Disk.state 
 pub returns-in-None-clause-left : goal.returns-in-None-clause-left
 returns-in-None-clause-left g c = λ asked. first_alone (Leaves g.D.Disk.told g.D.Disk.state c.ended-in-None.result.status)
     (λ d. subst (λ (status : Status). Leaves g.D.Disk.told g.D.Disk.state status d d) (sym c.ended-in-None.ensures.status) refl) c.args.disks.now.items c.requires.disks
+
+-- src/running.rt:206:1
+pub returns-in-Some-Check-clause-coherent : goal.returns-in-Some-Check-clause-coherent
+returns-in-Some-Check-clause-coherent g c = first_alone (StaysCoherent g.D.Disk.told g.D.Disk.state) (λ d yes coherent. coherent) c.args.disks.now.items c.requires.disks
+
+-- src/running.rt:206:1
+pub returns-in-None-clause-coherent : goal.returns-in-None-clause-coherent
+returns-in-None-clause-coherent g c = first_alone (StaysCoherent g.D.Disk.told g.D.Disk.state) (λ d yes coherent. coherent) c.args.disks.now.items c.requires.disks

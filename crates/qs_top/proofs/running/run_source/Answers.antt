@@ -1,7 +1,7 @@
 use Rattle.std.proofs.Common.{subst, sym}
-use Rattle.qs_top.specs.Disks.{Leaves}
+use Rattle.qs_top.specs.Disks.{Leaves, StaysCoherent}
 use Rattle.qs_top.specs.Inner.Giving.{IsNoScript}
-use Rattle.qs_top.proofs.Given.{map_both, of_script, nothing_lawful, first_alone, unread_leaves, given_lawful, given_ended, given_cut_off, given_short, given_refused, given_leaves}
+use Rattle.qs_top.proofs.Given.{fit, map_both, of_script, nothing_lawful, first_alone, unread_leaves, given_lawful, given_ended, given_cut_off, given_short, given_refused, given_leaves}
 use Rattle.qs_top.proofs.Unopened.{nothing_opened}
 use Rattle.qs_top.proofs.running.run_source.Goals as goal
 
@@ -13,20 +13,20 @@ returns-in-Err-clause-lawful g c = nothing_lawful g.D.Disk.told g.D.Disk.state n
 pub returns-clause-lawful : goal.returns-clause-lawful
 returns-clause-lawful g c =
     let first = c.run_first-made.ensures.over in
-    given_lawful g.D.Disk.told g.D.Disk.state g.D.Disk.fault_count g.D.Disk.byte_count c.args.seed c.in-Ok.script c.args.shown g.K.Sink.faults g.K.Sink.given c.args.sink.now c.give.new.sink c.run_first-made.result c.give.result first.first first.after first.holds c.give.ensures
+    given_lawful g.D.Disk.told g.D.Disk.state g.D.Disk.fault_count g.D.Disk.byte_count c.args.seed c.in-Ok.script c.args.shown g.K.Sink.faults g.K.Sink.given c.args.sink.now c.give.new.sink c.run_first-made.result c.give.result first.first first.after first.holds c.give.ensures (fit c.in-Ok.script c.scripts_fit.ensures c.in-Ok.ensures.read)
     c.args.disks.now.items c.run_first-made.new.disks.items first.rest first.old_is first.new_is
 
 -- src/running.rt:137:1
 pub returns-clause-ended : goal.returns-clause-ended
 returns-clause-ended g c =
     let first = c.run_first-made.ensures.over in
-    λ e. of_script c.in-Ok.script _ c.in-Ok.ensures.read (record { first = first.first; after = first.after; rest = first.rest; old_is = first.old_is; new_is = first.new_is; holds = given_ended g.D.Disk.told g.D.Disk.state g.D.Disk.fault_count g.D.Disk.byte_count c.args.seed c.in-Ok.script c.args.shown g.K.Sink.faults g.K.Sink.given c.args.sink.now c.give.new.sink c.run_first-made.result c.give.result first.first first.after first.holds c.give.ensures e })
+    λ e. of_script c.in-Ok.script _ c.in-Ok.ensures.read (record { first = first.first; after = first.after; rest = first.rest; old_is = first.old_is; new_is = first.new_is; holds = given_ended g.D.Disk.told g.D.Disk.state g.D.Disk.fault_count g.D.Disk.byte_count c.args.seed c.in-Ok.script c.args.shown g.K.Sink.faults g.K.Sink.given c.args.sink.now c.give.new.sink c.run_first-made.result c.give.result first.first first.after first.holds c.give.ensures (fit c.in-Ok.script c.scripts_fit.ensures c.in-Ok.ensures.read) e })
 
 -- src/running.rt:137:1
 pub returns-clause-cut_off : goal.returns-clause-cut_off
 returns-clause-cut_off g c =
     let first = c.run_first-made.ensures.over in
-    λ fault. of_script c.in-Ok.script _ c.in-Ok.ensures.read (record { first = first.first; after = first.after; rest = first.rest; old_is = first.old_is; new_is = first.new_is; holds = given_cut_off g.D.Disk.told g.D.Disk.state g.D.Disk.fault_count g.D.Disk.byte_count c.args.seed c.in-Ok.script c.args.shown g.K.Sink.faults g.K.Sink.given c.args.sink.now c.give.new.sink c.run_first-made.result c.give.result first.first first.after first.holds c.give.ensures fault })
+    λ fault. of_script c.in-Ok.script _ c.in-Ok.ensures.read (record { first = first.first; after = first.after; rest = first.rest; old_is = first.old_is; new_is = first.new_is; holds = given_cut_off g.D.Disk.told g.D.Disk.state g.D.Disk.fault_count g.D.Disk.byte_count c.args.seed c.in-Ok.script c.args.shown g.K.Sink.faults g.K.Sink.given c.args.sink.now c.give.new.sink c.run_first-made.result c.give.result first.first first.after first.holds c.give.ensures (fit c.in-Ok.script c.scripts_fit.ensures c.in-Ok.ensures.read) fault })
 
 -- src/running.rt:137:1
 pub returns-clause-cut_short : goal.returns-clause-cut_short
@@ -35,13 +35,13 @@ returns-clause-cut_short g c =
     λ node is. map_both
     (λ not. record { first = first.first; after = first.after; rest = first.rest; old_is = first.old_is; new_is = first.new_is; holds = not })
     (λ short. of_script c.in-Ok.script _ c.in-Ok.ensures.read (record { first = first.first; after = first.after; rest = first.rest; old_is = first.old_is; new_is = first.new_is; holds = short }))
-    (given_short g.D.Disk.told g.D.Disk.state g.D.Disk.fault_count g.D.Disk.byte_count c.args.seed c.in-Ok.script c.args.shown g.K.Sink.faults g.K.Sink.given c.args.sink.now c.give.new.sink c.run_first-made.result c.give.result first.first first.after first.holds c.give.ensures node is)
+    (given_short g.D.Disk.told g.D.Disk.state g.D.Disk.fault_count g.D.Disk.byte_count c.args.seed c.in-Ok.script c.args.shown g.K.Sink.faults g.K.Sink.given c.args.sink.now c.give.new.sink c.run_first-made.result c.give.result first.first first.after first.holds c.give.ensures (fit c.in-Ok.script c.scripts_fit.ensures c.in-Ok.ensures.read) node is)
 
 -- src/running.rt:137:1
 pub returns-clause-refused : goal.returns-clause-refused
 returns-clause-refused g c =
     let first = c.run_first-made.ensures.over in
-    λ line clause is. of_script c.in-Ok.script _ c.in-Ok.ensures.read (record { first = first.first; after = first.after; rest = first.rest; old_is = first.old_is; new_is = first.new_is; holds = given_refused g.D.Disk.told g.D.Disk.state g.D.Disk.fault_count g.D.Disk.byte_count c.args.seed c.in-Ok.script c.args.shown g.K.Sink.faults g.K.Sink.given c.args.sink.now c.give.new.sink c.run_first-made.result c.give.result first.first first.after first.holds c.give.ensures line clause is })
+    λ line clause is. of_script c.in-Ok.script _ c.in-Ok.ensures.read (record { first = first.first; after = first.after; rest = first.rest; old_is = first.old_is; new_is = first.new_is; holds = given_refused g.D.Disk.told g.D.Disk.state g.D.Disk.fault_count g.D.Disk.byte_count c.args.seed c.in-Ok.script c.args.shown g.K.Sink.faults g.K.Sink.given c.args.sink.now c.give.new.sink c.run_first-made.result c.give.result first.first first.after first.holds c.give.ensures (fit c.in-Ok.script c.scripts_fit.ensures c.in-Ok.ensures.read) line clause is })
 
 -- src/running.rt:183:24
 pub returns-in-Err-clause-left : goal.returns-in-Err-clause-left
@@ -52,4 +52,14 @@ returns-in-Err-clause-left g c = first_alone (Leaves g.D.Disk.told g.D.Disk.stat
 pub returns-clause-left : goal.returns-clause-left
 returns-clause-left g c =
     let first = c.run_first-made.ensures.over in
-    record { first = first.first; after = first.after; rest = first.rest; old_is = first.old_is; new_is = first.new_is; holds = given_leaves g.D.Disk.told g.D.Disk.state g.D.Disk.fault_count g.D.Disk.byte_count c.args.seed c.in-Ok.script c.args.shown g.K.Sink.faults g.K.Sink.given c.args.sink.now c.give.new.sink c.run_first-made.result c.give.result first.first first.after first.holds c.give.ensures }
+    record { first = first.first; after = first.after; rest = first.rest; old_is = first.old_is; new_is = first.new_is; holds = given_leaves g.D.Disk.told g.D.Disk.state g.D.Disk.fault_count g.D.Disk.byte_count c.args.seed c.in-Ok.script c.args.shown g.K.Sink.faults g.K.Sink.given c.args.sink.now c.give.new.sink c.run_first-made.result c.give.result first.first first.after first.holds c.give.ensures (fit c.in-Ok.script c.scripts_fit.ensures c.in-Ok.ensures.read) }
+
+-- src/running.rt:183:24
+pub returns-in-Err-clause-coherent : goal.returns-in-Err-clause-coherent
+returns-in-Err-clause-coherent g c = first_alone (StaysCoherent g.D.Disk.told g.D.Disk.state) (λ d yes coherent. coherent) c.args.disks.now.items c.requires.disks
+
+-- src/running.rt:137:1
+pub returns-clause-coherent : goal.returns-clause-coherent
+returns-clause-coherent g c =
+    let first = c.run_first-made.ensures.over in
+    record { first = first.first; after = first.after; rest = first.rest; old_is = first.old_is; new_is = first.new_is; holds = first.holds.coherent (fit c.in-Ok.script c.scripts_fit.ensures c.in-Ok.ensures.read) }

@@ -1,0 +1,92 @@
+-- Where the log of a disk was coherent it is so where a run did not begin, and what the judge refuses of a lawful journal is for a rule of the script.
+use Rattle.std.proofs.Common.{◌≡◌, ◌∙◌, ◌≤◌, ◌⊎◌, inl, inr, ℕ, ◌<◌, ◌+◌, List, [], ◌∷◌, Option, Some, None, Result, Ok, ap, subst, sym, arith}
+use Rattle.std.specs.Global.{Global}
+use Rattle.qs_conformance.specs.Begun.{at_start}
+use Rattle.qs_conformance.specs.Conforming.{fault_from, fault_of, first_misfit_from}
+use Rattle.qs_conformance.specs.Course.{CourseValue}
+use Rattle.qs_conformance.specs.Effects.{course_after}
+use Rattle.qs_conformance.specs.Rules.{broken_rule}
+use Rattle.qs_conformance.specs.declared.fault.Fault.{Fault}
+use Rattle.qs_conformance.specs.declared.fault.Misfit.{Misfit}
+use Rattle.qs_conformance.specs.declared.fault.Rule.{Rule}
+use Rattle.qs_disk.specs.Disk.{DiskState, IsImage}
+use Rattle.qs_disk.specs.Moments.{Keeps}
+use Rattle.qs_incarnation.proofs.Beginning.{one_log}
+use Rattle.qs_incarnation.specs.Incarnation.{IsOldOrRaised, IsTouched}
+use Rattle.qs_journal.specs.declared.entry.Entry.{Entry}
+use Rattle.qs_log.specs.Image.{IsLog}
+use Rattle.qs_log.specs.Log.{raised_of}
+use Rattle.qs_machine.specs.Book.{BookValue}
+use Rattle.qs_machine.specs.Lawful.{IsLawful, broken}
+use Rattle.qs_may_begin.specs.Coherent.{AreCoherentLogs, IsCoherentDisk, IsCoherentImage}
+use Rattle.qs_may_begin.specs.Scripts.{StayCoherent}
+use Rattle.qs_record.specs.declared.record.Record.{Record}
+use Rattle.qs_slot.specs.Slot.{Present}
+use Rattle.qs_statements.specs.declared.script.Script.{Script}
+use Rattle.qs_verdict.specs.Verdicts.{IsRefusedAt, TellsMisfit, rule_of_script}
+
+-- ---- a log that was raised at most
+
+-- logs stay coherent as incarnations grow
+abbrev pub Later : Type 0
+Later = (alloc : Global) (size : ℕ) (incs later : ℕ → ℕ) (logs : ℕ → List Record) → StayCoherent alloc size incs later logs
+
+one_present : (p q : Present) (a b : List Record) (m n : ℕ) (image : List ℕ) → IsLog p a m image → IsLog q b n image → p ≡ q
+one_present p q a b m n image first other = ok_one (sym first.slots ∙ other.slots)
+  where
+    ok_one : ◌≡◌ {A = Result Present ℕ} (Ok p) (Ok q) → p ≡ q
+    ok_one same = cc (same)
+
+raised_coherent : Later → (alloc : Global) (content c : List ℕ) → IsOldOrRaised content c → IsCoherentImage alloc content → IsCoherentImage alloc c
+raised_coherent stay alloc content c old coherent = λ p records used other. by p records used other old.says
+  where
+    was : AreCoherentLogs alloc 1 (λ n. old.present.value.inc + 1) (λ n. old.records)
+    was = coherent old.present old.records old.used old.log
+
+    at : (p : Present) (records : List Record) → old.records ≡ records → old.present.value.inc ≤ p.value.inc → AreCoherentLogs alloc 1 (λ n. p.value.inc + 1) (λ n. records)
+    at p records same least = subst (λ (l : List Record). AreCoherentLogs alloc 1 (λ n. p.value.inc + 1) (λ n. l)) same
+        (stay alloc 1 (λ n. old.present.value.inc + 1) (λ n. p.value.inc + 1) (λ n. old.records) (λ n less. omega (arith, least)) was)
+
+    least_of : (inc : ℕ) (p : Present) → inc ≡ p.value.inc → old.present.value.inc ≤ inc → old.present.value.inc ≤ p.value.inc
+    least_of inc p is least = omega (arith, is, least)
+
+    by : (p : Present) (records : List Record) (used : ℕ) → IsLog p records used c → IsLog old.present old.records old.used c ⊎ IsLog (raised_of old.present) old.records old.used c
+        → AreCoherentLogs alloc 1 (λ n. p.value.inc + 1) (λ n. records)
+    by p records used other (inl log) = at p records (one_log old.present p old.records records old.used used c log other)
+        (least_of old.present.value.inc p (ap (λ (q : Present). q.value.inc) (one_present old.present p old.records records old.used used c log other)) (omega arith))
+    by p records used other (inr log) = at p records (one_log (raised_of old.present) p old.records records old.used used c log other)
+        (least_of (old.present.value.inc + 1) p (ap (λ (q : Present). q.value.inc) (one_present (raised_of old.present) p old.records records old.used used c log other)) (omega arith))
+
+-- the content is an image
+pub touched_coherent : Later → (old new : DiskState) → IsImage old.now old.content → Keeps (IsTouched old) old new → IsCoherentDisk old → IsCoherentDisk new
+touched_coherent stay old new image keeps coherent = λ alloc c left. by alloc c (keeps.here c left)
+  where
+    by : (alloc : Global) (c : List ℕ) → IsTouched old c → IsCoherentImage alloc c
+    by alloc c (inl was) = coherent alloc c was
+    by alloc c (inr (inl same)) = subst (IsCoherentImage alloc) (sym same) (coherent alloc old.content image)
+    by alloc c (inr (inr raised)) = raised_coherent stay alloc old.content c raised (coherent alloc old.content image)
+
+-- ---- what is refused of a lawful journal
+
+-- the first misfit, by what is wrong with the first entry
+abbrev after_fault : ℕ → CourseValue → Entry → List Entry → Option Fault → Option Misfit
+after_fault place old entry more given = elim given [
+  | Some fault ↦ Some (record { place = place; fault = fault })
+  | None ↦ first_misfit_from (place + 1) (course_after old entry) more
+]
+
+by_fault : (place : ℕ) (course : CourseValue) (entry : Entry) (entries : List Entry) (line clause : ℕ) (found : Option ℕ) (rule : Option Rule) → found ≡ None
+    → (TellsMisfit (first_misfit_from (place + 1) (course_after course entry) entries) line clause → clause ≡ rule_of_script)
+    → TellsMisfit (after_fault place course entry entries (fault_from found rule)) line clause → clause ≡ rule_of_script
+by_fault place course entry entries line clause (Some other) rule none next tells = absurd (cc (none))
+by_fault place course entry entries line clause None (Some rule) none next tells = tells.1
+by_fault place course entry entries line clause None None none next tells = next tells
+
+misfit_by_script : (place : ℕ) (course : CourseValue) (entries : List Entry) (line clause : ℕ) → IsLawful course.book entries → TellsMisfit (first_misfit_from place course entries) line clause → clause ≡ rule_of_script
+misfit_by_script place course [] line clause lawful tells = absurd tells
+misfit_by_script place course (entry ∷ entries) line clause lawful tells =
+    by_fault place course entry entries line clause (broken course.book entry) (broken_rule course entry) lawful.0
+    (misfit_by_script (place + 1) (course_after course entry) entries line clause lawful.1) tells
+
+pub refused_by_script : (script : Script) (book : BookValue) (journal : List Entry) (line clause : ℕ) → IsLawful book journal → IsRefusedAt script book journal line clause → clause ≡ rule_of_script
+refused_by_script script book journal line clause lawful refused = misfit_by_script 0 (at_start script book) journal line clause lawful refused
