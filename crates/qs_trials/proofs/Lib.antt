@@ -1,0 +1,3 @@
+pub mod SmallRunsShown
+pub mod TriedAlongRuns
+pub mod TriedJoinedRuns

@@ -1,0 +1,10 @@
+pub mod Broken
+pub mod CountTests
+pub mod MachineTests
+pub mod RecordTests
+pub mod Runs
+pub mod SmallRuns
+pub mod TriedAlong
+pub mod TriedJoined
+pub mod Walks
+pub mod WorldTests
