@@ -19,7 +19,7 @@ use Rattle.qs_contents.proofs.Pieces.{linked-none}
 use Rattle.qs_contents.proofs.Steps.{text-finished, edit-finished, readers-finished, sorted-finished, reader-unread}
 use Rattle.qs_base.proofs.TidOrder.{tid_total, tid_exact}
 
-here_tid : {X : Type 0} (tid : Tid) (x y : X) → (if same_tid tid tid then x else y) ≡ x
+pub here_tid : {X : Type 0} (tid : Tid) (x y : X) → (if same_tid tid tid then x else y) ≡ x
 here_tid tid x y = ap (λ (b : Bool). if b then x else y) (same_tid-self tid)
 
 there_tid : {X : Type 0} (tid t : Tid) (x y : X) → same_tid tid t ≡ false → (if same_tid tid t then x else y) ≡ y
@@ -34,7 +34,7 @@ ending tid commits slot a = finished tid commits slot
 abbrev pub text_after : Tid → Bool → Slot → Option Pieces
 text_after tid commits slot = if commits then edited (edit_at slot.edits tid) slot.text else slot.text
 
-done_again : (commits : Bool) (slot : Slot) (tid : Tid) → edit_at slot.edits tid ≡ no_edit → text_after tid commits slot ≡ slot.text
+pub done_again : (commits : Bool) (slot : Slot) (tid : Tid) → edit_at slot.edits tid ≡ no_edit → text_after tid commits slot ≡ slot.text
 done_again true slot tid none = ap (λ (e : Edit). edited e slot.text) none ∙ linked-none slot.text
 done_again false slot tid none = refl
 
@@ -43,7 +43,7 @@ pub record IsDone (tid : Tid) (old new : Slot) : Type 0 where
   pub readers : new.readers ≡ old.readers
   pub sorted : IsStrictlySortedBy tid_cmp (keys_of new.edits)
 
-done-finished : (tid : Tid) (commits : Bool) (old slot : Slot) → IsDone tid old slot → IsDone tid old (finished tid commits slot)
+pub done-finished : (tid : Tid) (commits : Bool) (old slot : Slot) → IsDone tid old slot → IsDone tid old (finished tid commits slot)
 done-finished tid commits old slot d = record {
   others = λ t apart. edit-finished tid t commits slot ∙ there_tid tid t no_edit (edit_at slot.edits t) apart ∙ d.others t apart;
   readers = readers-finished tid commits slot ∙ d.readers;

@@ -11,7 +11,7 @@ use Rattle.qs_ops.specs.Table.{is_change_of}
 use Rattle.qs_ops.specs.declared.operation.Op.{Op}
 use Rattle.qs_ops.specs.declared.operation.Op.TheVariants.{Put, Append, Del, Bind, Window, Keep}
 use Rattle.qs_contents.specs.Edits.{changed, changed_under, changed_name}
-use Rattle.qs_contents.specs.Slots.{Entries, slot_or_new, new_slot, edit_at, placed, slot_changed, finished, tidied, slot_unread, at_slot, swept, place_for, change_by, at_change, tidy_change, unread_name}
+use Rattle.qs_contents.specs.Slots.{Entries, slot_or_new, new_slot, edit_at, placed, slot_changed, finished, tidied, ended, slot_unread, at_slot, swept, place_for, change_by, at_change, tidy_change, end_change, unread_name}
 use Rattle.qs_contents.specs.declared.edit.Edit.{Edit}
 use Rattle.qs_contents.specs.declared.prepared.Prepared.{Prepared}
 use Rattle.qs_contents.specs.declared.slot.Slot.{Slot}
@@ -71,12 +71,18 @@ sorted-change tid slots p sorted = sorted-at_slot (slot_changed tid p.change) p.
 pub sorted-at_change : (f : Slot → Slot) (slots : Entries) (op : Op) → AreSorted slots → AreSorted (at_change f slots op)
 sorted-at_change f slots op sorted = elim (changed_name op) as (λ o. AreSorted (elim o [ None ↦ slots | Some name ↦ at_slot f name slots ])) [ None ↦ sorted | Some name ↦ sorted-at_slot f name slots sorted ]
 
-pub sorted-tidy : (tid : Tid) (slots : Entries) (op : Op) → AreSorted slots → AreSorted (tidy_change tid slots op)
-sorted-tidy tid slots op sorted =
-    elim (changed_name op) as (λ o. AreSorted (elim o [ None ↦ slots | Some name ↦ swept name (at_slot (tidied tid) name slots) ])) [
+sorted-swept_change : (f : Slot → Slot) (slots : Entries) (op : Op) → AreSorted slots → AreSorted (elim (changed_name op) [ None ↦ slots | Some name ↦ swept name (at_slot f name slots) ])
+sorted-swept_change f slots op sorted =
+    elim (changed_name op) as (λ o. AreSorted (elim o [ None ↦ slots | Some name ↦ swept name (at_slot f name slots) ])) [
       | None ↦ sorted
-      | Some name ↦ sorted-swept name (at_slot (tidied tid) name slots) (sorted-at_slot (tidied tid) name slots sorted)
+      | Some name ↦ sorted-swept name (at_slot f name slots) (sorted-at_slot f name slots sorted)
     ]
+
+pub sorted-tidy : (tid : Tid) (slots : Entries) (op : Op) → AreSorted slots → AreSorted (tidy_change tid slots op)
+sorted-tidy tid slots op sorted = sorted-swept_change (tidied tid) slots op sorted
+
+pub sorted-end : (tid : Tid) (commits : Bool) (slots : Entries) (op : Op) → AreSorted slots → AreSorted (end_change tid commits slots op)
+sorted-end tid commits slots op sorted = sorted-swept_change (ended tid commits) slots op sorted
 
 pub sorted-unread : (tid : Tid) (slots : Entries) (name : List ℕ) → AreSorted slots → AreSorted (unread_name tid slots name)
 sorted-unread tid slots name sorted = sorted-swept name (at_slot (slot_unread tid) name slots) (sorted-at_slot (slot_unread tid) name slots sorted)
@@ -99,13 +105,14 @@ slot-at_change f q none slots op =
     ]
     ∙ by_name f (slot_or_new slots q) op q
 
-slot-tidy : (tid : Tid) (q : List ℕ) (slots : Entries) (op : Op) → AreSorted slots → slot_or_new (tidy_change tid slots op) q ≡ when (is_change_of q) (on_op (tidied tid)) (slot_or_new slots q) op
-slot-tidy tid q slots op sorted =
-    elim (changed_name op) as (λ o. slot_or_new (elim o [ None ↦ slots | Some name ↦ swept name (at_slot (tidied tid) name slots) ]) q ≡ (elim o [ None ↦ slot_or_new slots q | Some name ↦ if same_bytes name q then tidied tid (slot_or_new slots q) else slot_or_new slots q ])) [
+slot-swept_change : (f : Slot → Slot) (q : List ℕ) → f new_slot ≡ new_slot → (slots : Entries) (op : Op) → AreSorted slots
+    → slot_or_new (elim (changed_name op) [ None ↦ slots | Some name ↦ swept name (at_slot f name slots) ]) q ≡ when (is_change_of q) (on_op f) (slot_or_new slots q) op
+slot-swept_change f q none slots op sorted =
+    elim (changed_name op) as (λ o. slot_or_new (elim o [ None ↦ slots | Some name ↦ swept name (at_slot f name slots) ]) q ≡ (elim o [ None ↦ slot_or_new slots q | Some name ↦ if same_bytes name q then f (slot_or_new slots q) else slot_or_new slots q ])) [
       | None ↦ refl
-      | Some name ↦ slot-swept name (at_slot (tidied tid) name slots) q (sorted-at_slot (tidied tid) name slots sorted) ∙ slot-at (tidied tid) name slots q refl
+      | Some name ↦ slot-swept name (at_slot f name slots) q (sorted-at_slot f name slots sorted) ∙ slot-at f name slots q none
     ]
-    ∙ by_name (tidied tid) (slot_or_new slots q) op q
+    ∙ by_name f (slot_or_new slots q) op q
 
 module _ (tid : Tid) (q : List ℕ) where
   pub slot-places : (ps : List Prepared) (slots : Entries) → AreSorted slots → slot_or_new (fold (place_for tid) slots ps) q ≡ fold (when (is_named q) (placing tid)) (slot_or_new slots q) ps
@@ -118,7 +125,10 @@ module _ (tid : Tid) (q : List ℕ) where
   slot-finishes commits ops slots sorted = fold-named (at_change (finished tid commits)) (sorted-at_change (finished tid commits)) (when (is_change_of q) (on_op (finished tid commits))) q (λ es op s. slot-at_change (finished tid commits) q refl es op) ops slots sorted
 
   pub slot-tidies : (ops : List Op) (slots : Entries) → AreSorted slots → slot_or_new (fold (tidy_change tid) slots ops) q ≡ fold (when (is_change_of q) (on_op (tidied tid))) (slot_or_new slots q) ops
-  slot-tidies ops slots sorted = fold-named (tidy_change tid) (sorted-tidy tid) (when (is_change_of q) (on_op (tidied tid))) q (λ es op s. slot-tidy tid q es op s) ops slots sorted
+  slot-tidies ops slots sorted = fold-named (tidy_change tid) (sorted-tidy tid) (when (is_change_of q) (on_op (tidied tid))) q (λ es op s. slot-swept_change (tidied tid) q refl es op s) ops slots sorted
+
+  pub slot-ends : (commits : Bool) (ops : List Op) (slots : Entries) → AreSorted slots → slot_or_new (fold (end_change tid commits) slots ops) q ≡ fold (when (is_change_of q) (on_op (ended tid commits))) (slot_or_new slots q) ops
+  slot-ends commits ops slots sorted = fold-named (end_change tid commits) (sorted-end tid commits) (when (is_change_of q) (on_op (ended tid commits))) q (λ es op s. slot-swept_change (ended tid commits) q refl es op s) ops slots sorted
 
   slot-unread_name : (slots : Entries) (name : List ℕ) → AreSorted slots → slot_or_new (unread_name tid slots name) q ≡ when (is_name q) (unreading tid) (slot_or_new slots q) name
   slot-unread_name slots name sorted = slot-swept name (at_slot (slot_unread tid) name slots) q (sorted-at_slot (slot_unread tid) name slots sorted) ∙ slot-at (slot_unread tid) name slots q refl

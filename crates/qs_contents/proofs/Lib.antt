@@ -1,4 +1,5 @@
 pub mod Added
+pub mod AtOnce
 pub mod Counted
 pub mod Ends
 pub mod Folds

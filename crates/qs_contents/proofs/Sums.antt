@@ -99,6 +99,13 @@ module _ (tid : Tid) (name : List ℕ) (old new : Entries) (bytes : Option ℕ) 
   pub told_tidied : new ≡ swept name (at_slot (tidied tid) name old) → IsCommitted new bytes
   told_tidied is = keeps old new bytes (ap (λ (es : Entries). committed_bytes es) is ∙ sum-swept name (at_slot (tidied tid) name old) ∙ sum-at (tidied tid) name old (λ s. text-tidied tid s)) told
 
+  pub told_removed : is_empty_slot (slot_or_new old name) ≡ true → new ≡ remove_entry (is_at (bytes_cmp name)) old → IsCommitted new bytes
+  told_removed empty is =
+      let sum = sum-out (is_at (bytes_cmp name)) old in
+      let none : bytes_in (slot_or_new old name) ≡ 0 = ap bytes_in (empty_is_new (slot_or_new old name) empty) in
+      let all : committed_bytes new ≡ committed_bytes (remove_entry (is_at (bytes_cmp name)) old) = ap (λ (es : Entries). committed_bytes es) is in
+      keeps old new bytes (omega (arith, sum, none, all)) told
+
   pub told_unread : new ≡ unread_name tid old name → IsCommitted new bytes
   told_unread is = keeps old new bytes (ap (λ (es : Entries). committed_bytes es) is ∙ sum-swept name (at_slot (slot_unread tid) name old) ∙ sum-at (slot_unread tid) name old (λ s. refl)) told
 

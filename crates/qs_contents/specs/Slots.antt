@@ -12,6 +12,8 @@ use Rattle.qs_contents.specs.Texts.{Pieces, flat, joined, text_bytes}
 use Rattle.qs_contents.specs.declared.edit.Edit.{Edit}
 use Rattle.qs_contents.specs.declared.edit.Change.{Change}
 use Rattle.qs_contents.specs.declared.prepared.Prepared.{Prepared}
+use Rattle.qs_contents.specs.declared.slot.Look.{Look}
+use Rattle.qs_contents.specs.declared.slot.Look.TheVariants as looks
 use Rattle.qs_contents.specs.declared.slot.Slot.{Slot}
 
 -- ---- under one name
@@ -60,6 +62,10 @@ finished tid commits slot = elim (lookup (is_at (tid_cmp tid)) slot.edits) [
 abbrev pub tidied : Tid → Slot → Slot
 tidied tid slot = if is_no_edit (edit_at slot.edits tid) then record slot { edits = remove_entry (is_at (tid_cmp tid)) slot.edits } else slot
 
+-- the transaction is at its end: it changes nothing any more, and its room is given back
+abbrev pub ended : Tid → Bool → Slot → Slot
+ended tid commits slot = tidied tid (finished tid commits slot)
+
 abbrev pub slot_read : Tid → Slot → Slot
 slot_read tid slot = record slot { readers = insert_entry tid_cmp slot.readers tid true }
 
@@ -76,6 +82,10 @@ is_edit edit = not (is_no_edit edit)
 
 abbrev pub is_read : Bool → Bool
 is_read read = read
+
+-- what a transaction that looks at the text finds: the least other that is about to change it, else the text as it sees it
+abbrev pub look_at : Slot → Tid → Look
+look_at slot tid = elim (first_other is_edit tid slot.edits) [ Some other ↦ looks.Held other | None ↦ looks.Free (seen_at slot tid) ]
 
 -- ---- under all names
 
@@ -114,6 +124,9 @@ at_change f slots op = elim (changed_name op) [ None ↦ slots | Some name ↦ a
 
 abbrev pub tidy_change : Tid → Entries → Op → Entries
 tidy_change tid slots op = elim (changed_name op) [ None ↦ slots | Some name ↦ swept name (at_slot (tidied tid) name slots) ]
+
+abbrev pub end_change : Tid → Bool → Entries → Op → Entries
+end_change tid commits slots op = elim (changed_name op) [ None ↦ slots | Some name ↦ swept name (at_slot (ended tid commits) name slots) ]
 
 abbrev pub unread_name : Tid → Entries → List ℕ → Entries
 unread_name tid slots name = swept name (at_slot (slot_unread tid) name slots)

@@ -12,6 +12,6 @@ mod writing;
 
 pub use edit::{Change, Edit};
 pub use prepared::{Prepared, prepare};
-pub use slot::Slot;
+pub use slot::{Look, Slot};
 pub use slots::Slots;
 pub use text::Text;

@@ -3,13 +3,22 @@ ghost use Rattle.std.specs.Prelude.{◌≡◌, IfOk, IfSome, OnOk, OnErr, is_som
 ghost use Rattle.std.specs.Option.{option_copied};
 ghost use Rattle.qs_contents.specs.Texts.{flat, joined, text_bytes};
 ghost use Rattle.qs_ops.specs.Files.{or_else};
-ghost use Rattle.qs_contents.specs.Slots.{new_slot, is_empty_slot, placed, slot_changed, finished, tidied, slot_read, slot_unread, reader_at, edit_at, first_other, is_edit, is_read, seen_at, kept_at, text_at};
+ghost use Rattle.qs_contents.specs.Slots.{new_slot, is_empty_slot, placed, slot_changed, finished, tidied, ended, slot_read, slot_unread, reader_at, edit_at, first_other, is_edit, is_read, look_at, seen_at, kept_at, text_at};
 
 use crate::edit::{Change, Edit};
 use crate::text::{Text, bytes_of, length, written};
 use qs_base::{Bytes, NoMemory, Tid};
 use qs_map::Map;
 use std::alloc::Global;
+
+/// What a transaction finds that looks at a text.
+#[derive(Drop)]
+pub enum Look {
+    /// Another is about to change the text; this is the least of these.
+    Held { by: Tid },
+    /// Nobody else is, and it sees this text.
+    Free { text: Option<Bytes> },
+}
 
 /// What stands under a name: the committed text, what each transaction is about to make of it, and
 /// which transactions read it.
@@ -112,6 +121,18 @@ impl Slot {
         None
     }
 
+    /// What the transaction finds that looks at the text.
+    pub fn look(&self, alloc: Global, tid: Tid) -> Result<Look, NoMemory>
+        ensures { IfOk result (λ look. look ≡ look_at self.now tid) }
+    {
+        match self.other_changer(tid) {
+            Some(by) => Ok(Look::Held { by }),
+            None => Ok(Look::Free {
+                text: self.seen(alloc, tid)?,
+            }),
+        }
+    }
+
     /// The least transaction but this one that read the text.
     fn other_reader(&self, me: Tid) -> Option<Tid>
         ensures { result ≡ first_other is_read me self.now.readers }
@@ -182,6 +203,14 @@ impl Slot {
         }
     }
 
+    /// The transaction changes nothing any more, and its room is given back. It takes no memory.
+    pub fn end(&mut self, tid: Tid, commits: bool)
+        ensures { self.new ≡ ended tid commits self.old }
+    {
+        self.finish(tid, commits);
+        self.tidy(tid);
+    }
+
     /// Whether the transaction read the text.
     pub fn is_reader(&self, tid: Tid) -> bool
         ensures { result ≡ reader_at self.now.readers tid }
@@ -192,12 +221,16 @@ impl Slot {
         }
     }
 
-    /// The transaction read the text. After a refusal all is as it was.
-    pub fn read(&mut self, tid: Tid) -> Result<(), NoMemory>
+    /// The transaction read the text. Whether it had read it before comes back. After a refusal all is as
+    /// it was.
+    pub fn read(&mut self, tid: Tid) -> Result<bool, NoMemory>
         ensures ok { OnOk result (self.new ≡ slot_read tid self.old) }
         ensures err { OnErr result (self.new ≡ self.old) }
+        ensures before { IfOk result (λ before. before ≡ reader_at self.old.readers tid) }
     {
-        self.readers.put(tid, true)
+        let before = self.is_reader(tid);
+        self.readers.put(tid, true)?;
+        Ok(before)
     }
 
     /// The transaction did not read the text any more. It takes no memory.

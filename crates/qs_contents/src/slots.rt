@@ -8,12 +8,12 @@ ghost use Rattle.qs_ops.specs.Files.{or_else};
 ghost use Rattle.qs_ops.specs.Server.{AreFilesWritten};
 ghost use Rattle.qs_contents.specs.Written.{AddsFiles};
 ghost use Rattle.qs_contents.specs.Texts.{text_bytes};
-ghost use Rattle.qs_contents.specs.Slots.{slot_or_new, seen_at, first_other, is_edit, is_read, reader_at, placed, slot_changed, finished, tidied, slot_read, slot_unread, at_slot, put_slot, swept, place_for, SomePlaced, change_by, at_change, tidy_change, unread_name, add_name, add_entry, files_in};
+ghost use Rattle.qs_contents.specs.Slots.{slot_or_new, seen_at, first_other, is_edit, is_read, look_at, reader_at, placed, slot_changed, finished, tidied, ended, slot_read, slot_unread, at_slot, put_slot, swept, place_for, SomePlaced, change_by, at_change, tidy_change, end_change, unread_name, add_name, add_entry, files_in};
 ghost use Rattle.qs_contents.specs.Sums.{ChangesAlone};
 
 use crate::counting::count_seen;
 use crate::prepared::{Prepared, changed_name};
-use crate::slot::Slot;
+use crate::slot::{Look, Slot};
 use crate::under;
 use crate::writing::add_file;
 use qs_base::{Bytes, Copied, List, NoMemory, Tid};
@@ -55,17 +55,17 @@ impl Slots {
         }
     }
 
-    /// The text under a name as the transaction sees it.
-    pub fn seen(&self, name: &Bytes, tid: Tid) -> Result<Option<Bytes>, NoMemory>
-        ensures { IfOk result (λ text. text ≡ seen_at (slot_or_new self.now name.now) tid) }
+    /// What the transaction finds that looks at the text under a name.
+    pub fn look(&self, name: &Bytes, tid: Tid) -> Result<Look, NoMemory>
+        ensures { IfOk result (λ look. look ≡ look_at (slot_or_new self.now name.now) tid) }
     {
         match self.names.get(name) {
-            Some(slot) => slot.seen(self.alloc, tid),
-            None => Ok(None),
+            Some(slot) => slot.look(self.alloc, tid),
+            None => Ok(Look::Free { text: None }),
         }
     }
 
-    /// How many bytes it has; `None` only where they are more than a `usize` can tell.
+    /// How many bytes the text under a name has that the transaction sees; `None` only where they are more than a `usize` can tell.
     pub fn length(&self, name: &Bytes, tid: Tid) -> Option<usize>
         ensures { IfSome result (λ n. n ≡ text_bytes (seen_at (slot_or_new self.now name.now) tid)) }
     {
@@ -85,16 +85,6 @@ impl Slots {
         }
     }
 
-    /// The least transaction but this one that is about to change the text under the name.
-    pub fn other_changer(&self, name: &Bytes, me: Tid) -> Option<Tid>
-        ensures { result ≡ first_other is_edit me (slot_or_new self.now name.now).edits }
-    {
-        match self.names.get(name) {
-            Some(slot) => slot.other_changer(me),
-            None => None,
-        }
-    }
-
     /// Who keeps a change by the transaction to the text under the name back: the least other that is about to
     /// change it, else the least other that read it.
     pub fn holder(&self, name: &Bytes, me: Tid) -> Option<Tid>
@@ -103,16 +93,6 @@ impl Slots {
         match self.names.get(name) {
             Some(slot) => slot.holder(me),
             None => None,
-        }
-    }
-
-    /// Whether the transaction read the text under the name.
-    pub fn is_reader(&self, name: &Bytes, tid: Tid) -> bool
-        ensures { result ≡ reader_at (slot_or_new self.now name.now).readers tid }
-    {
-        match self.names.get(name) {
-            Some(slot) => slot.is_reader(tid),
-            None => false,
         }
     }
 
@@ -201,10 +181,37 @@ impl Slots {
         }
     }
 
-    /// The transaction read the text under the name. After a refusal all is as it was.
-    pub fn read(&mut self, name: &Bytes, tid: Tid) -> Result<(), NoMemory>
+    /// The transaction does not change the text under the name any more, and its room is given back; where
+    /// it commits, what it was about to make of the text is committed. It takes no memory.
+    fn end(&mut self, name: &Bytes, tid: Tid, commits: bool)
+        ensures { self.new ≡ swept name.now (at_slot (ended tid commits) name.now self.old) }
+    {
+        self.committed = under::end(&mut self.names, self.committed, name, tid, commits);
+    }
+
+    /// The same for the names of these changes, one after the other.
+    pub fn end_all(&mut self, changes: &[Op], tid: Tid, commits: bool)
+        ensures { self.new ≡ fold (end_change tid commits) self.old changes.now }
+    {
+        for change in changes {
+            self.end_change(change, tid, commits);
+        }
+    }
+
+    fn end_change(&mut self, change: &Op, tid: Tid, commits: bool)
+        ensures { self.new ≡ end_change tid commits self.old change.now }
+    {
+        if let Some(name) = changed_name(change) {
+            self.end(name, tid, commits);
+        }
+    }
+
+    /// The transaction read the text under the name. Whether it had read it before comes back. After a
+    /// refusal all is as it was.
+    pub fn read(&mut self, name: &Bytes, tid: Tid) -> Result<bool, NoMemory>
         ensures ok { OnOk result (self.new ≡ put_slot (slot_read tid) name.now self.old) }
         ensures err { OnErr result (self.new ≡ self.old) }
+        ensures before { IfOk result (λ before. before ≡ reader_at (slot_or_new self.old name.now).readers tid) }
     {
         under::read(self.alloc, &mut self.names, name, tid)
     }

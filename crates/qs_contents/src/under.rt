@@ -1,6 +1,6 @@
 //! What stands under one name of a map, made, changed or taken out.
-ghost use Rattle.std.specs.Prelude.{◌≡◌, OnOk, OnErr};
-ghost use Rattle.qs_contents.specs.Slots.{placed, finished, tidied, slot_read, slot_unread, at_slot, put_slot, slot_or_new, is_empty_slot, swept, change_by, unread_name};
+ghost use Rattle.std.specs.Prelude.{◌≡◌, IfOk, OnOk, OnErr};
+ghost use Rattle.qs_contents.specs.Slots.{placed, finished, tidied, ended, reader_at, slot_read, slot_unread, at_slot, put_slot, slot_or_new, is_empty_slot, swept, change_by, unread_name};
 ghost use Rattle.qs_contents.specs.Sums.{IsCommitted};
 
 use crate::counting::replaced;
@@ -83,18 +83,63 @@ fn tidy_slot(names: &mut Names, name: &Bytes, tid: Tid) -> bool
     }
 }
 
-/// The transaction read the text. After a refusal all is as it was.
+/// The transaction does not change the text any more, and its room is given back: `finish` and `tidy`
+/// with one search. It takes no memory.
+pub fn end(
+    names: &mut Names,
+    committed: Option<usize>,
+    name: &Bytes,
+    tid: Tid,
+    commits: bool,
+) -> Option<usize>
+    ensures names { names.new ≡ swept name.now (at_slot (ended tid commits) name.now names.old) }
+    ensures committed { IsCommitted names.old committed → IsCommitted names.new result }
+{
+    let mut after = committed;
+    if end_slot(names, &mut after, name, tid, commits) {
+        names.remove(name);
+    }
+    after
+}
+
+/// The same with the slot left, and whether nothing stands there then.
+fn end_slot(
+    names: &mut Names,
+    committed: &mut Option<usize>,
+    name: &Bytes,
+    tid: Tid,
+    commits: bool,
+) -> bool
+    ensures names { names.new ≡ at_slot (ended tid commits) name.now names.old }
+    ensures committed { IsCommitted names.old committed.old → IsCommitted names.new committed.new }
+    ensures empty { result ≡ is_empty_slot (slot_or_new names.new name.now) }
+{
+    match names.get_mut(name) {
+        Some(slot) => {
+            let before = slot.committed_length();
+            slot.end(tid, commits);
+            *committed = replaced(*committed, before, slot.committed_length());
+            slot.is_empty()
+        }
+        None => true,
+    }
+}
+
+/// The transaction read the text. Whether it had read it before comes back. After a refusal all is as it
+/// was.
 #[tactic(auto, using(std::proofs::lemmas::Map::Steps::set_value_same))]
-pub fn read(alloc: Global, names: &mut Names, name: &Bytes, tid: Tid) -> Result<(), NoMemory>
+pub fn read(alloc: Global, names: &mut Names, name: &Bytes, tid: Tid) -> Result<bool, NoMemory>
     ensures ok { OnOk result (names.new ≡ put_slot (slot_read tid) name.now names.old) }
     ensures err { OnErr result (names.new ≡ names.old) }
+    ensures before { IfOk result (λ before. before ≡ reader_at (slot_or_new names.old name.now).readers tid) }
 {
     match names.get_mut(name) {
         Some(slot) => slot.read(tid),
         None => {
             let mut slot = Slot::new(alloc);
             slot.read(tid)?;
-            names.put(name.copy()?, slot)
+            names.put(name.copy()?, slot)?;
+            Ok(false)
         }
     }
 }

@@ -4,28 +4,28 @@ use Rattle.std.specs.Prelude.{Bool, true, false, if◌then◌else◌}
 use Rattle.std.specs.List.{fold}
 use Rattle.qs_base.specs.Order.{same_bytes}
 use Rattle.qs_base.specs.declared.identifiers.Tid.{Tid}
-use Rattle.qs_ops.specs.Table.{apply_change, is_change_of, nothing_held}
+use Rattle.qs_ops.specs.Table.{apply_change, nothing_held}
 use Rattle.qs_ops.specs.declared.operation.Op.{Op}
 use Rattle.qs_ops.specs.declared.share.Share.{Share}
 use Rattle.qs_shares.specs.Shares.{share_in, IsHeld, IsReplaced, change_count}
-use Rattle.qs_contents.specs.Slots.{Entries, slot_or_new, finished, tidied, at_change, tidy_change, unread_name, files_in}
+use Rattle.qs_contents.specs.Slots.{Entries, slot_or_new, end_change, unread_name, files_in}
 use Rattle.qs_contents.specs.declared.slot.Slot.{Slot}
 use Rattle.qs_contents.proofs.Ends.{unreads}
-use Rattle.qs_contents.proofs.Folds.{AreSorted, when, on_op, fold-sorted, sorted-at_change, sorted-tidy, sorted-unread, slot-finishes, slot-tidies, slot-unreads}
+use Rattle.qs_contents.proofs.Folds.{AreSorted, when, fold-sorted, sorted-end, sorted-unread, slot-ends, slot-unreads}
 use Rattle.qs_files.specs.Held.{Follows, AreCounted}
 use Rattle.qs_files.proofs.Following.{IsEnded, is_ended, ended_slot, follows-now, now-ended}
 use Rattle.qs_files.proofs.Seen.{files-committed, files-released}
 
 abbrev pub ended_slots : Tid → Bool → List Op → List (List ℕ) → Entries → Entries
-ended_slots tid commits changes reads slots = fold (unread_name tid) (fold (tidy_change tid) (fold (at_change (finished tid commits)) slots changes) changes) reads
+ended_slots tid commits changes reads slots = fold (unread_name tid) (fold (end_change tid commits) slots changes) reads
 
-pub steps_are : (old first second third : Entries) (tid : Tid) (commits : Bool) (changes own : List Op) (names reads : List (List ℕ)) → first ≡ fold (at_change (finished tid commits)) old changes → second ≡ fold (tidy_change tid) first changes
-    → third ≡ fold (unread_name tid) second names → changes ≡ own → names ≡ reads → third ≡ ended_slots tid commits own reads old
-steps_are old first second third tid commits changes own names reads a b c d e =
-    c
-    ∙ ap (λ (x : Entries). fold (unread_name tid) x names) (b ∙ ap (λ (x : Entries). fold (tidy_change tid) x changes) a)
-    ∙ ap (λ (xs : List Op). fold (unread_name tid) (fold (tidy_change tid) (fold (at_change (finished tid commits)) old xs) xs) names) d
-    ∙ ap (λ (xs : List (List ℕ)). fold (unread_name tid) (fold (tidy_change tid) (fold (at_change (finished tid commits)) old own) own) xs) e
+pub steps_are : (old first second : Entries) (tid : Tid) (commits : Bool) (changes own : List Op) (names reads : List (List ℕ)) → first ≡ fold (end_change tid commits) old changes → second ≡ fold (unread_name tid) first names
+    → changes ≡ own → names ≡ reads → second ≡ ended_slots tid commits own reads old
+steps_are old first second tid commits changes own names reads a b d e =
+    b
+    ∙ ap (λ (x : Entries). fold (unread_name tid) x names) a
+    ∙ ap (λ (xs : List Op). fold (unread_name tid) (fold (end_change tid commits) old xs) names) d
+    ∙ ap (λ (xs : List (List ℕ)). fold (unread_name tid) (fold (end_change tid commits) old own) xs) e
 
 module _ (old new : Entries) (shares : List (Tid × Share)) (tid : Tid) (commits : Bool) (n : ℕ) (f : Follows old shares n)
     (is : new ≡ ended_slots tid commits (share_in shares tid).changes (share_in shares tid).reads old) where
@@ -33,26 +33,19 @@ module _ (old new : Entries) (shares : List (Tid × Share)) (tid : Tid) (commits
   own = share_in shares tid
 
   abbrev first : Entries
-  first = fold (at_change (finished tid commits)) old own.changes
-
-  abbrev second : Entries
-  second = fold (tidy_change tid) first own.changes
+  first = fold (end_change tid commits) old own.changes
 
   sorted_first : AreSorted first
-  sorted_first = fold-sorted (at_change (finished tid commits)) (sorted-at_change (finished tid commits)) own.changes old f.names
-
-  sorted_second : AreSorted second
-  sorted_second = fold-sorted (tidy_change tid) (sorted-tidy tid) own.changes first sorted_first
+  sorted_first = fold-sorted (end_change tid commits) (sorted-end tid commits) own.changes old f.names
 
   pub sorted_new : AreSorted new
-  sorted_new = subst (λ (x : Entries). AreSorted x) (sym is) (fold-sorted (unread_name tid) (sorted-unread tid) own.reads second sorted_second)
+  sorted_new = subst (λ (x : Entries). AreSorted x) (sym is) (fold-sorted (unread_name tid) (sorted-unread tid) own.reads first sorted_first)
 
   at : (q : List ℕ) → slot_or_new new q ≡ ended_slot tid commits own.changes own.reads q (slot_or_new old q)
   at q =
       ap (λ (x : Entries). slot_or_new x q) is
-      ∙ slot-unreads tid q own.reads second sorted_second
-      ∙ ap (λ (s : Slot). fold (when (λ x. same_bytes x q) (unreads tid)) s own.reads)
-      (slot-tidies tid q own.changes first sorted_first ∙ ap (λ (s : Slot). fold (when (is_change_of q) (on_op (tidied tid))) s own.changes) (slot-finishes tid q commits own.changes old f.names))
+      ∙ slot-unreads tid q own.reads first sorted_first
+      ∙ ap (λ (s : Slot). fold (when (λ x. same_bytes x q) (unreads tid)) s own.reads) (slot-ends tid q commits own.changes old f.names)
 
   ended : (q : List ℕ) → IsEnded tid commits own.changes own.reads q (slot_or_new old q) (slot_or_new new q)
   ended q = subst (λ (s : Slot). IsEnded tid commits own.changes own.reads q (slot_or_new old q) s) (sym (at q)) (is_ended tid commits own.changes own.reads q (slot_or_new old q) (f.changers q) (f.readers q))

@@ -14,12 +14,13 @@ use Rattle.qs_ops.specs.declared.share.Share.{Share}
 use Rattle.qs_shares.specs.Shares.{share_in, IsHeld}
 use Rattle.qs_shelf.specs.Changed.{changed_at}
 use Rattle.qs_contents.specs.Edits.{no_edit, seen_by}
-use Rattle.qs_contents.specs.Slots.{Entries, slot_or_new, edit_at, reader_at, finished, tidied}
+use Rattle.qs_contents.specs.Slots.{Entries, slot_or_new, edit_at, reader_at, ended}
 use Rattle.qs_contents.specs.Texts.{Pieces, piece_count}
 use Rattle.qs_contents.specs.declared.edit.Edit.{Edit}
 use Rattle.qs_contents.specs.declared.slot.Slot.{Slot}
-use Rattle.qs_contents.proofs.Ends.{unreads, text_after, IsDone, IsUnread, done-finishes, edit-finishes, text-finishes, unread-unreads, reader-unreads}
-use Rattle.qs_contents.proofs.Folds.{when, on_op, Like, like_itself, like-tidies}
+use Rattle.qs_contents.proofs.AtOnce.{done-ends, edit-ends, text-ends}
+use Rattle.qs_contents.proofs.Ends.{unreads, text_after, IsDone, IsUnread, unread-unreads, reader-unreads}
+use Rattle.qs_contents.proofs.Folds.{when, on_op}
 use Rattle.qs_contents.proofs.Pieces.{joined-none}
 use Rattle.qs_files.specs.Held.{Follows}
 use Rattle.qs_files.proofs.Prepares.{count-edited}
@@ -103,28 +104,24 @@ pub record IsEnded (tid : Tid) (commits : Bool) (changes : List Op) (reads : Lis
   pub readers : IsStrictlySortedBy tid_cmp (keys_of new.readers)
 
 abbrev pub ended_slot : Tid → Bool → List Op → List (List ℕ) → List ℕ → Slot → Slot
-ended_slot tid commits changes reads q slot =
-    fold (when (λ x. same_bytes x q) (unreads tid)) (fold (when (is_change_of q) (on_op (tidied tid))) (fold (when (is_change_of q) (on_op (finished tid commits))) slot changes) changes) reads
+ended_slot tid commits changes reads q slot = fold (when (λ x. same_bytes x q) (unreads tid)) (fold (when (is_change_of q) (on_op (ended tid commits))) slot changes) reads
 
 pub is_ended : (tid : Tid) (commits : Bool) (changes : List Op) (reads : List (List ℕ)) (q : List ℕ) (slot : Slot) → IsStrictlySortedBy tid_cmp (keys_of slot.edits) → IsStrictlySortedBy tid_cmp (keys_of slot.readers)
     → IsEnded tid commits changes reads q slot (ended_slot tid commits changes reads q slot)
 is_ended tid commits changes reads q slot changers readers =
-    let done_slot = fold (when (is_change_of q) (on_op (finished tid commits))) slot changes in
-    let tidy_slot = fold (when (is_change_of q) (on_op (tidied tid))) done_slot changes in
-    let done : IsDone tid slot done_slot = done-finishes tid commits (is_change_of q) changes slot changers in
-    let like : Like done_slot tidy_slot = like-tidies tid (is_change_of q) changes done_slot done_slot (like_itself done_slot done.sorted) in
-    let same_readers : tidy_slot.readers ≡ slot.readers = like.readers ∙ done.readers in
-    let sorted : IsStrictlySortedBy tid_cmp (keys_of tidy_slot.readers) = subst (λ (rs : List (Tid × Bool)). IsStrictlySortedBy tid_cmp (keys_of rs)) (sym same_readers) readers in
-    let un : IsUnread tid tidy_slot (fold (when (λ x. same_bytes x q) (unreads tid)) tidy_slot reads) = unread-unreads tid (λ x. same_bytes x q) reads tidy_slot sorted in
+    let done_slot = fold (when (is_change_of q) (on_op (ended tid commits))) slot changes in
+    let done : IsDone tid slot done_slot = done-ends tid commits (is_change_of q) changes slot changers in
+    let sorted : IsStrictlySortedBy tid_cmp (keys_of done_slot.readers) = subst (λ (rs : List (Tid × Bool)). IsStrictlySortedBy tid_cmp (keys_of rs)) (sym done.readers) readers in
+    let un : IsUnread tid done_slot (fold (when (λ x. same_bytes x q) (unreads tid)) done_slot reads) = unread-unreads tid (λ x. same_bytes x q) reads done_slot sorted in
     record {
-      text = un.text ∙ like.text ∙ text-finishes tid commits (is_change_of q) changes slot;
-      edit = ap (λ (es : List (Tid × Edit)). edit_at es tid) un.edits ∙ like.edits tid ∙ edit-finishes tid commits (is_change_of q) changes slot;
-      edits = λ t apart. ap (λ (es : List (Tid × Edit)). edit_at es t) un.edits ∙ like.edits t ∙ done.others t apart;
-      reader = reader-unreads tid (λ x. same_bytes x q) reads tidy_slot sorted
-          ∙ ap (λ (b : Bool). if b then false else reader_at tidy_slot.readers tid) (any_name q reads)
-          ∙ ap (λ (rs : List (Tid × Bool)). if list_any (same_bytes q) reads then false else reader_at rs tid) same_readers;
-      others = λ t apart. un.others t apart ∙ ap (λ (rs : List (Tid × Bool)). reader_at rs t) same_readers;
-      changers = subst (λ (es : List (Tid × Edit)). IsStrictlySortedBy tid_cmp (keys_of es)) (sym un.edits) like.sorted;
+      text = un.text ∙ text-ends tid commits (is_change_of q) changes slot changers;
+      edit = ap (λ (es : List (Tid × Edit)). edit_at es tid) un.edits ∙ edit-ends tid commits (is_change_of q) changes slot changers;
+      edits = λ t apart. ap (λ (es : List (Tid × Edit)). edit_at es t) un.edits ∙ done.others t apart;
+      reader = reader-unreads tid (λ x. same_bytes x q) reads done_slot sorted
+          ∙ ap (λ (b : Bool). if b then false else reader_at done_slot.readers tid) (any_name q reads)
+          ∙ ap (λ (rs : List (Tid × Bool)). if list_any (same_bytes q) reads then false else reader_at rs tid) done.readers;
+      others = λ t apart. un.others t apart ∙ ap (λ (rs : List (Tid × Bool)). reader_at rs t) done.readers;
+      changers = subst (λ (es : List (Tid × Edit)). IsStrictlySortedBy tid_cmp (keys_of es)) (sym un.edits) done.sorted;
       readers = un.sorted;
     }
 

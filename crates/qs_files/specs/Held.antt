@@ -5,7 +5,7 @@ use Rattle.std.specs.List.Sorted.{IsStrictlySortedBy}
 use Rattle.std.specs.Map.{keys_of}
 use Rattle.qs_base.specs.Order.{bytes_cmp, tid_cmp}
 use Rattle.qs_base.specs.declared.identifiers.Tid.{Tid}
-use Rattle.qs_ops.specs.Table.{reads_name}
+use Rattle.qs_ops.specs.Table.{TableValue, changes_name, least_other, reads_name, text_at}
 use Rattle.qs_ops.specs.declared.operation.Op.{Op}
 use Rattle.qs_ops.specs.declared.operation.Op.TheVariants.{Put, Append, Del, Get, Listing}
 use Rattle.qs_ops.specs.declared.reply.Reply.{Reply}
@@ -16,6 +16,8 @@ use Rattle.qs_shelf.specs.Changed.{changed_at}
 use Rattle.qs_contents.specs.Edits.{seen_by}
 use Rattle.qs_contents.specs.Slots.{Entries, slot_or_new, edit_at, reader_at}
 use Rattle.qs_contents.specs.Texts.{piece_count}
+use Rattle.qs_contents.specs.declared.slot.Look.{Look}
+use Rattle.qs_contents.specs.declared.slot.Look.TheVariants as looks
 use Rattle.qs_files.specs.Noted.{AreNoted}
 
 -- what stands under each name follows what the transactions hold
@@ -56,6 +58,14 @@ is_file_op (Del name) = true
 is_file_op (Get name) = true
 is_file_op Listing = true
 is_file_op _ = false
+
+abbrev pub is_get : Op → Bool
+is_get (Get name) = true
+is_get _ = false
+
+-- what a transaction that looks at a file finds
+abbrev pub look_in : TableValue → Tid → List ℕ → Look
+look_in table tid name = elim (least_other (changes_name name) tid table.shares) [ Some other ↦ looks.Held other | None ↦ looks.Free (text_at table tid name) ]
 
 -- what a file server keeps
 pub record IsKept (slots : Entries) (shares : List (Tid × Share)) (pending committed waiting notes capacity : ℕ) : Type 0 where

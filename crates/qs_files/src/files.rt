@@ -1,15 +1,17 @@
 //! The file server.
-ghost use Rattle.std.specs.Prelude.{◌≡◌, ◌++◌, true, Some, IfOk, nat_lt, if◌then◌else◌};
+ghost use Rattle.std.specs.Prelude.{◌≡◌, ◌++◌, true, false, Some, IfOk, nat_le, nat_lt, if◌then◌else◌};
 ghost use Rattle.qs_ops.specs.Files.{text_reply};
 ghost use Rattle.qs_ops.specs.Server.{files_vote};
-ghost use Rattle.qs_ops.specs.Table.{no_table, holder, free_reply, reply_to, size_reply, del_reply, text_at, text_or_empty, view_contents};
+ghost use Rattle.qs_ops.specs.Table.{no_table, holder, free_reply, share_of, reply_to, size_reply, del_reply, text_at, text_or_empty, view_contents};
 ghost use Rattle.qs_ops.specs.Timers.{no_timers};
 ghost use Rattle.qs_ops.specs.declared.reply.Reply.TheVariants as replies;
 ghost use Rattle.qs_ops.specs.declared.server.Kind.TheVariants as kinds;
-ghost use Rattle.qs_files.specs.Held.{is_file_op};
+ghost use Rattle.qs_ops.specs.declared.operation.Op.TheVariants as ops;
+ghost use Rattle.qs_files.specs.Held.{is_file_op, is_get};
 
 use crate::holdings::Holdings;
 use qs_base::{Bytes, Class, NoMemory, Tid};
+use qs_contents::Look;
 use qs_ops::{Changes, Notice, Op, Reason, Reply, Server, Vote};
 use std::alloc::Global;
 
@@ -37,15 +39,15 @@ impl Files {
         }
     }
 
-    /// Who keeps the transaction from the operation.
+    /// Who keeps the transaction from an operation that looks at no file.
     fn holder(&self, tid: Tid, op: &Op) -> Option<Tid>
+        requires { is_get op.now ≡ false }
         ensures { result ≡ holder self.now.holdings tid op.now }
     {
         match op {
             Op::Put { name, .. } | Op::Append { name, .. } | Op::Del { name } => {
                 self.holdings.holder(tid, name)
             }
-            Op::Get { name } => self.holdings.other_changer(tid, name),
             _ => None,
         }
     }
@@ -58,22 +60,36 @@ impl Files {
         if self.holdings.is_full(tid) {
             return Ok(Reply::TooMany);
         }
+        if let Op::Get { name } = op {
+            return self.get_reply(tid, name);
+        }
         if let Some(holder) = self.holder(tid, op) {
             return Ok(Reply::Busy { holder });
         }
         self.free_reply(tid, op)
     }
 
-    /// The reply where nothing refuses the operation.
+    /// The reply to a look at a file, where as many operations were not served yet as may be.
+    fn get_reply(&self, tid: Tid, name: &Bytes) -> Result<Reply, NoMemory>
+        requires { nat_le 1024 (share_of self.now.holdings tid).operations ≡ false }
+        ensures { IfOk result (λ reply. reply_to self.now.holdings tid (ops.Get name.now) ≡ Some reply) }
+    {
+        match self.holdings.look(tid, name)? {
+            Look::Held { by } => Ok(Reply::Busy { holder: by }),
+            Look::Free { text } => Ok(text_reply(text)),
+        }
+    }
+
+    /// The reply where nothing refuses an operation that looks at no file.
     fn free_reply(&self, tid: Tid, op: &Op) -> Result<Reply, NoMemory>
-        requires { is_file_op op.now ≡ true }
+        requires own { is_file_op op.now ≡ true }
+        requires other { is_get op.now ≡ false }
         ensures { IfOk result (λ reply. free_reply self.now.holdings tid op.now ≡ Some reply) }
     {
         match op {
             Op::Put { text, .. } => Ok(size_reply(text.len())),
             Op::Append { name, text } => self.append_reply(tid, name, text),
             Op::Del { name } => Ok(self.del_reply(tid, name)),
-            Op::Get { name } => Ok(text_reply(self.holdings.text(tid, name)?)),
             _ => Ok(Reply::Names {
                 list: self.holdings.names(tid)?,
             }),

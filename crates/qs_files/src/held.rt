@@ -60,8 +60,7 @@ pub fn end(
 {
     let share = shares.release(tid);
     let changes = share.changes.as_slice();
-    slots.finish_all(changes, tid, commits);
-    slots.tidy_all(changes, tid);
+    slots.end_all(changes, tid, commits);
     slots.unread_all(share.reads.as_slice(), tid);
     counts.pending -= changes.len();
     if commits {
@@ -163,8 +162,7 @@ fn serve_read(
     ensures counted { AreCounted shares.new counts.now.pending counts.now.committed }
 {
     let _ = counts;
-    let before = slots.is_reader(name, tid);
-    slots.read(name, tid)?;
+    let before = slots.read(name, tid)?;
     match shares.serve(tid, op, reply) {
         Ok(()) => Ok(()),
         Err(refused) => {

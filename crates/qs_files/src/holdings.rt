@@ -1,13 +1,13 @@
 //! What a file server holds.
 ghost use Rattle.std.specs.Prelude.{◌≡◌, true, is_some, length, map, nat_le, IfOk, IfSome, OnOk, OnErr};
-ghost use Rattle.qs_ops.specs.Table.{no_table, text_at, view_contents, view_bytes, holder_of_name, changes_name, least_other, share_of, has_changes, served, with_vote, released, committed, kept, text_or_empty};
+ghost use Rattle.qs_ops.specs.Table.{no_table, text_at, view_contents, view_bytes, holder_of_name, share_of, has_changes, served, with_vote, released, committed, kept, text_or_empty};
 ghost use Rattle.qs_ops.specs.Server.{vote_in_room, AreFilesWritten};
-ghost use Rattle.qs_files.specs.Held.{is_file_op};
+ghost use Rattle.qs_files.specs.Held.{is_file_op, look_in};
 
 use crate::held::{Before, Counts, end, keep, serve, set_vote};
 use crate::notes::{add_notes, count_notes};
 use qs_base::{Bytes, List, NoMemory, Tid, copy_list};
-use qs_contents::Slots;
+use qs_contents::{Look, Slots};
 use qs_ops::{Changes, Op, Reply, Vote};
 use qs_shares::Shares;
 use std::alloc::Global;
@@ -58,14 +58,15 @@ impl Holdings {
         }
     }
 
-    /// The text under the name as the transaction sees it.
-    pub fn text(&self, tid: Tid, name: &Bytes) -> Result<Option<Bytes>, NoMemory>
-        ensures { IfOk result (λ text. text ≡ text_at self.now tid name.now) }
+    /// What the transaction finds that looks at the file of that name.
+    pub fn look(&self, tid: Tid, name: &Bytes) -> Result<Look, NoMemory>
+        ensures { IfOk result (λ look. look ≡ look_in self.now tid name.now) }
     {
-        self.slots.seen(name, tid)
+        self.shares.in_order();
+        self.slots.look(name, tid)
     }
 
-    /// How many bytes it has; `None` only where they are more than a `usize` can tell.
+    /// How many bytes the file of that name has that the transaction sees; `None` only where they are more than a `usize` can tell.
     pub fn length(&self, tid: Tid, name: &Bytes) -> Option<usize>
         ensures { IfSome result (λ n. n ≡ length (text_or_empty (view_contents self.now tid) name.now)) }
     {
@@ -91,14 +92,6 @@ impl Holdings {
         ensures { IfOk result (λ bytes. bytes ≡ view_bytes self.now tid) }
     {
         self.slots.bytes(tid, self.shares.changes(tid))
-    }
-
-    /// The least other transaction with a pending change to the name.
-    pub fn other_changer(&self, tid: Tid, name: &Bytes) -> Option<Tid>
-        ensures { result ≡ least_other (changes_name name.now) tid self.now.shares }
-    {
-        self.shares.in_order();
-        self.slots.other_changer(name, tid)
     }
 
     /// Who keeps a change to the name back: the least other transaction with a pending change to

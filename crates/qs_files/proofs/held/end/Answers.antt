@@ -7,7 +7,7 @@ pub returns-then-commits-clause-files : goal.returns-then-commits-clause-files
 returns-then-commits-clause-files c =
     let old = c.args.slots.now in
     files-ended old c.unread_all.new.self c.args.shares.now c.args.tid c.args.commits c.args.counts.now.committed c.requires.follows
-    (steps_are old c.finish_all.new.self c.tidy_all.new.self c.unread_all.new.self c.args.tid c.args.commits _ _ _ _ c.finish_all.ensures c.tidy_all.ensures c.unread_all.ensures
+    (steps_are old c.end_all.new.self c.unread_all.new.self c.args.tid c.args.commits _ _ _ _ c.end_all.ensures c.unread_all.ensures
     (c.as_slice-changes.ensures ∙ ap (λ (s : Share). s.changes) c.release-share.ensures.value) (c.as_slice.ensures ∙ ap (λ (s : Share). s.reads) c.release-share.ensures.value))
     (own_counted c.args.shares.now c.release-share.new.self c.args.tid c.args.counts.now.pending c.args.counts.now.committed c.requires.counted c.release-share.ensures.sums)
 
@@ -15,7 +15,7 @@ pub returns-else-commits-clause-files : goal.returns-else-commits-clause-files
 returns-else-commits-clause-files c =
     let old = c.args.slots.now in
     files-ended old c.unread_all.new.self c.args.shares.now c.args.tid c.args.commits c.args.counts.now.committed c.requires.follows
-    (steps_are old c.finish_all.new.self c.tidy_all.new.self c.unread_all.new.self c.args.tid c.args.commits _ _ _ _ c.finish_all.ensures c.tidy_all.ensures c.unread_all.ensures
+    (steps_are old c.end_all.new.self c.unread_all.new.self c.args.tid c.args.commits _ _ _ _ c.end_all.ensures c.unread_all.ensures
     (c.as_slice-changes.ensures ∙ ap (λ (s : Share). s.changes) c.release-share.ensures.value) (c.as_slice.ensures ∙ ap (λ (s : Share). s.reads) c.release-share.ensures.value))
     (own_counted c.args.shares.now c.release-share.new.self c.args.tid c.args.counts.now.pending c.args.counts.now.committed c.requires.counted c.release-share.ensures.sums)
 
@@ -25,7 +25,7 @@ returns-then-commits-clause-follows c =
     let same = c.as_slice-changes.ensures ∙ ap (λ (s : Share). s.changes) c.release-share.ensures.value in
     let count = ap length same in
     follows-ended old c.unread_all.new.self c.args.shares.now c.args.tid c.args.commits c.args.counts.now.committed c.requires.follows
-    (steps_are old c.finish_all.new.self c.tidy_all.new.self c.unread_all.new.self c.args.tid c.args.commits _ _ _ _ c.finish_all.ensures c.tidy_all.ensures c.unread_all.ensures
+    (steps_are old c.end_all.new.self c.unread_all.new.self c.args.tid c.args.commits _ _ _ _ c.end_all.ensures c.unread_all.ensures
     same (c.as_slice.ensures ∙ ap (λ (s : Share). s.reads) c.release-share.ensures.value))
     c.release-share.new.self (c.args.counts.now.committed + length c.as_slice-changes.result.now) c.release-share.ensures.held (omega (arith)) (λ commits. omega (arith, count))
 
@@ -33,6 +33,6 @@ pub returns-else-commits-clause-follows : goal.returns-else-commits-clause-follo
 returns-else-commits-clause-follows c =
     let old = c.args.slots.now in
     follows-ended old c.unread_all.new.self c.args.shares.now c.args.tid c.args.commits c.args.counts.now.committed c.requires.follows
-    (steps_are old c.finish_all.new.self c.tidy_all.new.self c.unread_all.new.self c.args.tid c.args.commits _ _ _ _ c.finish_all.ensures c.tidy_all.ensures c.unread_all.ensures
+    (steps_are old c.end_all.new.self c.unread_all.new.self c.args.tid c.args.commits _ _ _ _ c.end_all.ensures c.unread_all.ensures
     (c.as_slice-changes.ensures ∙ ap (λ (s : Share). s.changes) c.release-share.ensures.value) (c.as_slice.ensures ∙ ap (λ (s : Share). s.reads) c.release-share.ensures.value))
     c.release-share.new.self c.args.counts.now.committed c.release-share.ensures.held (omega (arith)) (λ commits. let no = c.if-commits.false in absurd (cc))

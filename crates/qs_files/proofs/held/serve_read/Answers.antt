@@ -12,8 +12,8 @@ returns-in-Ok-clause-files c =
     let old = c.args.slots.now in
     let new = c.read.new.self in
     let f = c.requires.follows in
-    files-same old new f.names (sorted-read old new c.args.shares.now c.args.tid _ c.args.name.now f c.in_ok-read.ensures.ok)
-    (text-read old new c.args.shares.now c.args.tid _ c.args.name.now f c.in_ok-read.ensures.ok)
+    files-same old new f.names (sorted-read old new c.args.shares.now c.args.tid _ c.args.name.now f c.in_ok-before.ensures.ok)
+    (text-read old new c.args.shares.now c.args.tid _ c.args.name.now f c.in_ok-before.ensures.ok)
 
 pub returns-in-Ok-clause-follows : goal.returns-in-Ok-clause-follows
 returns-in-Ok-clause-follows c =
@@ -21,33 +21,33 @@ returns-in-Ok-clause-follows c =
     let new = c.read.new.self in
     let f = c.requires.follows in
     let share = share_in c.args.shares.now c.args.tid in
-    follows-read old new c.args.shares.now c.args.tid _ c.args.name.now f c.in_ok-read.ensures.ok c.serve.new.self (after_serve share c.args.op.now c.args.reply.now) c.in-Ok.ensures.held
+    follows-read old new c.args.shares.now c.args.tid _ c.args.name.now f c.in_ok-before.ensures.ok c.serve.new.self (after_serve share c.args.op.now c.args.reply.now) c.in-Ok.ensures.held
     (reading-changes share c.args.op.now c.args.reply.now c.args.name.now c.requires.reads) (reading-reads share c.args.op.now c.args.reply.now c.args.name.now c.requires.reads)
 
 pub returns-then-not-before-clause-files : goal.returns-then-not-before-clause-files
 returns-then-not-before-clause-files c =
     let old = c.args.slots.now in
     let f = c.requires.follows in
-    files-same old c.unread.new.self f.names (sorted-back old c.read.new.self c.args.shares.now c.args.tid _ c.args.name.now f c.in_ok-read.ensures.ok c.unread.new.self c.unread.ensures)
-    (text-back old c.read.new.self c.args.shares.now c.args.tid _ c.args.name.now f c.in_ok-read.ensures.ok c.unread.new.self c.unread.ensures)
+    files-same old c.unread.new.self f.names (sorted-back old c.read.new.self c.args.shares.now c.args.tid _ c.args.name.now f c.in_ok-before.ensures.ok c.unread.new.self c.unread.ensures)
+    (text-back old c.read.new.self c.args.shares.now c.args.tid _ c.args.name.now f c.in_ok-before.ensures.ok c.unread.new.self c.unread.ensures)
 
 pub returns-then-not-before-clause-follows : goal.returns-then-not-before-clause-follows
 returns-then-not-before-clause-follows c =
     let old = c.args.slots.now in
     let f = c.requires.follows in
     subst (λ shares. Follows c.unread.new.self shares c.args.counts.now.committed) (sym c.in-Err.ensures.err)
-    (follows-back old c.read.new.self c.args.shares.now c.args.tid _ c.args.name.now f c.in_ok-read.ensures.ok c.unread.new.self c.unread.ensures (sym c.is_reader-before.ensures ∙ c.if-not-before.true))
+    (follows-back old c.read.new.self c.args.shares.now c.args.tid _ c.args.name.now f c.in_ok-before.ensures.ok c.unread.new.self c.unread.ensures (sym c.in_ok-before.ensures.before ∙ c.if-not-before.true))
 
 pub returns-else-not-before-clause-files : goal.returns-else-not-before-clause-files
 returns-else-not-before-clause-files c =
     let old = c.args.slots.now in
     let f = c.requires.follows in
-    files-same old c.read.new.self f.names (sorted-read old c.read.new.self c.args.shares.now c.args.tid _ c.args.name.now f c.in_ok-read.ensures.ok)
-    (text-read old c.read.new.self c.args.shares.now c.args.tid _ c.args.name.now f c.in_ok-read.ensures.ok)
+    files-same old c.read.new.self f.names (sorted-read old c.read.new.self c.args.shares.now c.args.tid _ c.args.name.now f c.in_ok-before.ensures.ok)
+    (text-read old c.read.new.self c.args.shares.now c.args.tid _ c.args.name.now f c.in_ok-before.ensures.ok)
 
 pub returns-else-not-before-clause-follows : goal.returns-else-not-before-clause-follows
 returns-else-not-before-clause-follows c =
     let old = c.args.slots.now in
     let f = c.requires.follows in
     subst (λ shares. Follows c.read.new.self shares c.args.counts.now.committed) (sym c.in-Err.ensures.err)
-    (follows-again old c.read.new.self c.args.shares.now c.args.tid _ c.args.name.now f c.in_ok-read.ensures.ok (sym c.is_reader-before.ensures ∙ c.if-not-before.false))
+    (follows-again old c.read.new.self c.args.shares.now c.args.tid _ c.args.name.now f c.in_ok-before.ensures.ok (sym c.in_ok-before.ensures.before ∙ c.if-not-before.false))
