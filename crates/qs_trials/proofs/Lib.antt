@@ -1,3 +1,9 @@
+pub mod ShownAbort
+pub mod ShownBoth
+pub mod ShownDoubt
+pub mod ShownOpens
+pub mod ShownThree
 pub mod SmallRunsShown
 pub mod TriedAlongRuns
 pub mod TriedJoinedRuns
+pub mod TriedShownRuns

@@ -1,5 +1,5 @@
 -- Worlds that no run leads to: each test is to fail in one of them.
-use Rattle.std.specs.Prelude.{◌+◌, suc, Bool, true, false, not, [], map}
+use Rattle.std.specs.Prelude.{◌+◌, suc, Bool, true, false, not, [], ◌∷◌, map}
 use Rattle.std.specs.List.{filter}
 use Rattle.qs_base.specs.declared.identifiers.Tid.{Tid}
 use Rattle.qs_journal.specs.declared.entry.Act.{Act}
@@ -44,6 +44,14 @@ covers_more rec = rec
 
 abbrev pub with_more_covers : World → World
 with_more_covers world = each_host (λ host. record host { log = map covers_more host.log; waiting = map covers_more host.waiting }) world
+
+-- and each Commit names its home
+abbrev names_home : Record → Record
+names_home (records.Commit tid told) = records.Commit tid (tid.home ∷ told)
+names_home rec = rec
+
+abbrev pub with_strange_commits : World → World
+with_strange_commits world = each_host (λ host. record host { log = map names_home host.log; waiting = map names_home host.waiting }) world
 
 abbrev pub without_messages : World → World
 without_messages world = record world { channels = record world.channels { waits = λ n m. []; posted = λ n m i j. []; handed = λ n m i j. [] } }

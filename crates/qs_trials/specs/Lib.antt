@@ -3,8 +3,12 @@ pub mod CountTests
 pub mod MachineTests
 pub mod RecordTests
 pub mod Runs
+pub mod ShownRuns
+pub mod ShownTests
 pub mod SmallRuns
+pub mod SteadyTests
 pub mod TriedAlong
 pub mod TriedJoined
+pub mod TriedShown
 pub mod Walks
 pub mod WorldTests

@@ -3,8 +3,10 @@
 
 mod along;
 mod joined;
+mod shown;
 mod small;
 
 pub use along::{along_held_in_runs, along_may_fail};
 pub use joined::{joined_held_in_runs, joined_may_fail};
+pub use shown::{shown_held_in_runs, shown_may_fail};
 pub use small::small_runs_are_lawful;
