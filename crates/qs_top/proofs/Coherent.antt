@@ -1,5 +1,5 @@
 -- Where the log of a disk was coherent it is so where a run did not begin, and what the judge refuses of a lawful journal is for a rule of the script.
-use Rattle.std.proofs.Common.{◌≡◌, ◌∙◌, ◌≤◌, ◌⊎◌, inl, inr, ℕ, ◌<◌, ◌+◌, List, [], ◌∷◌, Option, Some, None, Result, Ok, ap, subst, sym, arith}
+use Rattle.std.proofs.Common.{◌≡◌, ◌∙◌, ◌≤◌, ◌⊎◌, inl, inr, ℕ, ◌<◌, ◌+◌, List, [], ◌∷◌, Option, Some, None, ap, subst, sym, arith}
 use Rattle.std.specs.Global.{Global}
 use Rattle.qs_conformance.specs.Begun.{at_start}
 use Rattle.qs_conformance.specs.Conforming.{fault_from, fault_of, first_misfit_from}
@@ -21,6 +21,7 @@ use Rattle.qs_machine.specs.Lawful.{IsLawful, broken}
 use Rattle.qs_may_begin.specs.Coherent.{AreCoherentLogs, IsCoherentDisk, IsCoherentImage}
 use Rattle.qs_may_begin.specs.Scripts.{StayCoherent}
 use Rattle.qs_record.specs.declared.record.Record.{Record}
+use Rattle.qs_single.proofs.Reaching.{same_present}
 use Rattle.qs_slot.specs.Slot.{Present}
 use Rattle.qs_statements.specs.declared.script.Script.{Script}
 use Rattle.qs_verdict.specs.Verdicts.{IsRefusedAt, TellsMisfit, rule_of_script}
@@ -32,10 +33,7 @@ abbrev pub Later : Type 0
 Later = (alloc : Global) (size : ℕ) (incs later : ℕ → ℕ) (logs : ℕ → List Record) → StayCoherent alloc size incs later logs
 
 one_present : (p q : Present) (a b : List Record) (m n : ℕ) (image : List ℕ) → IsLog p a m image → IsLog q b n image → p ≡ q
-one_present p q a b m n image first other = ok_one (sym first.slots ∙ other.slots)
-  where
-    ok_one : ◌≡◌ {A = Result Present ℕ} (Ok p) (Ok q) → p ≡ q
-    ok_one same = cc (same)
+one_present p q a b m n image first other = same_present (sym first.slots ∙ other.slots)
 
 raised_coherent : Later → (alloc : Global) (content c : List ℕ) → IsOldOrRaised content c → IsCoherentImage alloc content → IsCoherentImage alloc c
 raised_coherent stay alloc content c old coherent = λ p records used other. by p records used other old.says

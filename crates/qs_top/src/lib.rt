@@ -5,8 +5,6 @@ mod asking;
 mod checking;
 mod outcome;
 mod running;
-#[cfg(test)]
-mod tests;
 mod whole;
 
 pub use outcome::Run;

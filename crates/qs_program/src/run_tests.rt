@@ -1,10 +1,10 @@
 //! Whole runs: words and a script go in, a status and an output come out.
 ghost use Rattle.std.specs.Prelude.{◌≡◌, length, IfOk};
 
-use crate::run;
 use qs_base::NoMemory;
 use qs_disk::{MemDisk, is_size};
 use qs_io::{MemSink, MemSource};
+use qs_top::run;
 use std::alloc::Global;
 use std::test::Fail;
 use std::thread::Threads;
