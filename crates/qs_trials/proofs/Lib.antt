@@ -6,4 +6,5 @@ pub mod ShownThree
 pub mod SmallRunsShown
 pub mod TriedAlongRuns
 pub mod TriedJoinedRuns
+pub mod TriedScriptRuns
 pub mod TriedShownRuns

@@ -3,12 +3,14 @@ pub mod CountTests
 pub mod MachineTests
 pub mod RecordTests
 pub mod Runs
+pub mod ScriptTests
 pub mod ShownRuns
 pub mod ShownTests
 pub mod SmallRuns
 pub mod SteadyTests
 pub mod TriedAlong
 pub mod TriedJoined
+pub mod TriedScripts
 pub mod TriedShown
 pub mod Walks
 pub mod WorldTests

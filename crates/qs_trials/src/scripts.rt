@@ -1,0 +1,14 @@
+//! That histories keep to the scripts of their clients, tried.
+ghost use Rattle.std.specs.Global.{Global};
+ghost use Rattle.qs_trials.specs.TriedScripts.{FailsScripts, TriedScripts};
+
+/// The history of each of these runs of one, two and three nodes keeps to the scripts of its clients: with late loans, names that two bind, audit notes, transactions that
+/// conflict, a step that is cut off at each of ninety moments with its batch kept or lost, and nodes that restart in doubt.
+pub fn journals_keep_to_scripts()
+    ensures shown { (alloc : Global) → TriedScripts alloc }
+{}
+
+/// It does not keep to scripts with a line less, with a client at another node, or without a client.
+pub fn scripts_may_be_broken()
+    ensures shown { (alloc : Global) → FailsScripts alloc }
+{}
