@@ -5,6 +5,7 @@ pub mod ShownOpens
 pub mod ShownThree
 pub mod SmallRunsShown
 pub mod TriedAlongRuns
+pub mod TriedCourseRuns
 pub mod TriedJoinedRuns
 pub mod TriedScriptRuns
 pub mod TriedShownRuns

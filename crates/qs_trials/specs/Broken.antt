@@ -1,6 +1,7 @@
 -- Worlds that no run leads to: each test is to fail in one of them.
-use Rattle.std.specs.Prelude.{◌+◌, suc, Bool, true, false, not, [], ◌∷◌, map}
+use Rattle.std.specs.Prelude.{◌+◌, suc, Bool, true, false, not, [], ◌∷◌, None, drop, map}
 use Rattle.std.specs.List.{filter}
+use Rattle.qs_base.specs.declared.identifiers.ClientNo.{ClientNo}
 use Rattle.qs_base.specs.declared.identifiers.Tid.{Tid}
 use Rattle.qs_journal.specs.declared.entry.Act.{Act}
 use Rattle.qs_journal.specs.declared.entry.Act.TheVariants as acts
@@ -10,6 +11,7 @@ use Rattle.qs_ops.specs.declared.share.Share.{Share}
 use Rattle.qs_record.specs.declared.record.Record.{Record}
 use Rattle.qs_record.specs.declared.record.Record.TheVariants as records
 use Rattle.qs_step.specs.State.{NodeValue}
+use Rattle.qs_step.specs.declared.state.OpenCommand.{OpenCommand}
 use Rattle.qs_tm.specs.declared.manager.Manager.{Manager}
 use Rattle.qs_world.specs.World.{Client, Host, World}
 
@@ -101,3 +103,17 @@ moved_client client = record client { at = suc client.at }
 
 abbrev pub with_moved_clients : World → World
 with_moved_clients world = record world { clients = λ k. moved_client (world.clients k) }
+
+abbrev without_line : Client → Client
+without_line client = record client { lines = drop 1 client.lines }
+
+-- each client has one line less
+abbrev pub with_fewer_lines : World → World
+with_fewer_lines world = record world { clients = λ k. without_line (world.clients k) }
+
+abbrev not_issued : ClientNo × OpenCommand → ClientNo × OpenCommand
+not_issued entry = (entry.0, record entry.1 { issued = None })
+
+-- no open command has issued a request
+abbrev pub with_nothing_issued : World → World
+with_nothing_issued world = of_node (λ node. record node { commands = map not_issued node.commands }) world

@@ -1,5 +1,6 @@
 pub mod Broken
 pub mod CountTests
+pub mod CourseTests
 pub mod MachineTests
 pub mod RecordTests
 pub mod Runs
@@ -9,6 +10,7 @@ pub mod ShownTests
 pub mod SmallRuns
 pub mod SteadyTests
 pub mod TriedAlong
+pub mod TriedCourse
 pub mod TriedJoined
 pub mod TriedScripts
 pub mod TriedShown

@@ -22,7 +22,7 @@ abbrev stop_line : ℕ → FaultLine
 stop_line n = record { line = 0; fault = plans.Crash (node_no n) 1 }
 
 -- so many clients, and a line for one stop of each node
-abbrev script_of : Opening → ℕ → Script
+abbrev pub script_of : Opening → ℕ → Script
 script_of o clients = record {
   seats = map (seat_of o) (up_to clients);
   quotas = [];
