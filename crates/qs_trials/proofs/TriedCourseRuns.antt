@@ -5,7 +5,7 @@ use Rattle.std.specs.Global.{Global}
 use Rattle.qs_engage.specs.Nodes.{all_nodes}
 use Rattle.qs_lawful.specs.Tried.{rich}
 use Rattle.qs_tm.specs.Members.{all_servers}
-use Rattle.qs_trials.specs.Broken.{with_fewer_lines, with_moved_clients, with_nothing_issued, without_loans}
+use Rattle.qs_trials.specs.Broken.{with_fewer_lines, with_moved_clients, with_nothing_issued, without_audit, without_loans, without_serves}
 use Rattle.qs_trials.specs.CourseTests.{is_on_course}
 use Rattle.qs_trials.specs.SmallRuns.{borrowed_again, in_doubt, opens_as, told_one}
 use Rattle.qs_trials.specs.Walks.{all_after, all_along, all_in, changed}
@@ -63,3 +63,11 @@ made_fails alloc = refl
 pub loans_fails : (alloc : Global) → all_in (changed (is_on_course 2) without_loans) (late alloc) 2 0 150 ≡ false
 unfolding all_nodes all_servers digits
 loans_fails alloc = refl
+
+pub replies_fails : (alloc : Global) → all_in (changed (is_on_course 1) without_serves) (both alloc) 1 0 99 ≡ false
+unfolding all_nodes all_servers digits
+replies_fails alloc = refl
+
+pub audit_fails : (alloc : Global) → all_in (changed (is_on_course 3) without_audit) (rich alloc) 3 0 20 ≡ false
+unfolding all_nodes all_servers digits
+audit_fails alloc = refl

@@ -117,3 +117,7 @@ not_issued entry = (entry.0, record entry.1 { issued = None })
 -- no open command has issued a request
 abbrev pub with_nothing_issued : World → World
 with_nothing_issued world = of_node (λ node. record node { commands = map not_issued node.commands }) world
+
+-- the audit notes go nowhere
+abbrev pub without_audit : World → World
+without_audit world = of_node (λ node. record node { setting = record node.setting { audit = None } }) world

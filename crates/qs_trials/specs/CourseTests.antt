@@ -1,29 +1,39 @@
 -- What the course of a run, as its entries so far tell it, has in common with the world: the lines that each client has left, what the first of them has made, its loans,
--- and the quotas, as a test.
-use Rattle.std.specs.Prelude.{ℕ, ◌==◌, Bool, true, false, not, ◌&&◌, ◌||◌, List, Option, Some, None, fold, length, slice_get}
+-- replies on their way, the audit node and the quotas, as a test.
+use Rattle.std.specs.Prelude.{ℕ, ◌==◌, Bool, true, false, not, ◌&&◌, ◌||◌, List, Option, Some, None, fold, is_none, length, slice_get}
 use Rattle.std.specs.Cmp.Lexicographic.{pointwise}
-use Rattle.std.specs.List.{filter, find, list_all}
+use Rattle.std.specs.BTreeMap.{is_at}
+use Rattle.std.specs.List.{filter, find, list_all, list_any}
+use Rattle.std.specs.Map.{lookup}
 use Rattle.qs_base.specs.Order.{same_member, same_tid}
 use Rattle.qs_base.specs.declared.identifiers.ClientNo.{ClientNo}
 use Rattle.qs_base.specs.declared.identifiers.Tid.{Tid}
+use Rattle.qs_conformance.specs.Alike.{is_answer_of}
 use Rattle.qs_conformance.specs.Begun.{at_start}
 use Rattle.qs_conformance.specs.Commands.{is_commit}
-use Rattle.qs_conformance.specs.Course.{BorrowingValue, ClientValue, CourseValue, borrowing_of, is_seat}
+use Rattle.qs_conformance.specs.Course.{BorrowingValue, ClientValue, CourseValue, borrowing_of, is_seat, sought_cmp}
 use Rattle.qs_conformance.specs.Effects.{course_after}
 use Rattle.qs_conformance.specs.declared.values.Loan.{Loan}
 use Rattle.qs_conformance.specs.declared.values.Made.{Made}
 use Rattle.qs_conformance.specs.declared.values.Made.TheVariants as makes
+use Rattle.qs_conformance.specs.declared.values.Sought.{Sought}
+use Rattle.qs_engage.specs.Nodes.{same_node}
 use Rattle.qs_journal.specs.declared.script_line.ScriptLine.{ScriptLine}
 use Rattle.qs_kept.specs.Loans.{is_loan_of}
 use Rattle.qs_kept.specs.declared.kept.Lent.{Lent}
 use Rattle.qs_machine.specs.Book.{BookValue}
+use Rattle.qs_lawful.specs.Parcels.{on_its_way}
+use Rattle.qs_ops.specs.Operations.{answer_of}
+use Rattle.qs_ops.specs.declared.reply.Reply.{Reply}
 use Rattle.qs_ops.specs.declared.server.Kind.{Kind}
 use Rattle.qs_ops.specs.declared.server.Kind.TheVariants as kinds
+use Rattle.qs_packet.specs.declared.message.Message.TheVariants as messages
 use Rattle.qs_step.specs.declared.state.Issued.{Issued}
 use Rattle.qs_step.specs.declared.state.OpenCommand.{OpenCommand}
 use Rattle.qs_world.specs.Driven.{up_to}
 use Rattle.qs_world.specs.Histories.{book_of}
-use Rattle.qs_world.specs.World.{Host, Opening, World}
+use Rattle.qs_world.specs.Moves.{node_no}
+use Rattle.qs_world.specs.World.{Host, Opening, Parcel, World}
 use Rattle.qs_trials.specs.ScriptTests.{script_of}
 
 abbrev pub course_of : Opening → ℕ → World → CourseValue
@@ -78,7 +88,38 @@ abbrev has_loans : World → ℕ → ClientValue → Bool
 has_loans world k state =
     not (is_up world k) || (list_all (is_lent_so world k state) state.borrowed && list_all (is_known_loan k state) (host_of world k).node.kept.now.loans)
 
--- ---- quotas
+-- ---- replies: one that is on its way to a node was given since a client there issued its request
+
+abbrev is_reply_in : List Reply → Reply → Bool
+is_reply_in replies reply = list_any (is_answer_of (answer_of reply)) replies
+
+abbrev is_given : CourseValue → Sought → Reply → Bool
+is_given course sought reply = elim (lookup (is_at (sought_cmp sought)) course.replies) [ None ↦ true | Some replies ↦ is_reply_in replies reply ]
+
+abbrev is_true_reply : CourseValue → ℕ → Parcel → Bool
+is_true_reply course m parcel = elim parcel.message [
+  | messages.Answered tid member number reply ↦ is_given course (record { tid = tid; member = member; from = node_no m; number = number }) reply
+  | messages.Hello ↦ true
+  | messages.Request tid label member number issuer op ↦ true
+  | messages.AskVote tid ↦ true
+  | messages.Covered tid up_to ↦ true
+  | messages.VotedYes tid up_to told ↦ true
+  | messages.VotedAbort tid cause ↦ true
+  | messages.Tell tid outcome ↦ true
+  | messages.Told tid further ↦ true
+  | messages.Inquire tid ↦ true
+]
+
+abbrev has_replies : CourseValue → World → ℕ → Bool
+has_replies course world m = list_all (λ (n : ℕ). list_all (is_true_reply course m) (on_its_way world.channels n m)) (up_to world.size)
+
+-- ---- the audit node, and quotas
+
+abbrev has_audit : CourseValue → World → ℕ → Bool
+has_audit course world n = elim (world.hosts n).node.setting.audit [
+  | None ↦ is_none course.audit
+  | Some node ↦ elim course.audit [ None ↦ false | Some other ↦ same_node node other ]
+]
 
 abbrev quota_of : Kind → Option ℕ
 quota_of (kinds.Files quota) = Some quota
@@ -98,8 +139,11 @@ is_client_so course world k = elim (slice_get course.clients k) [
   | Some state ↦ has_left world k state && (has_made world k state && has_loans world k state)
 ]
 
+abbrev is_node_so : CourseValue → World → ℕ → Bool
+is_node_so course world n = has_quota course world n && (has_audit course world n && has_replies course world n)
+
 abbrev is_course_so : World → ℕ → CourseValue → Bool
-is_course_so world clients course = list_all (is_client_so course world) (up_to clients) && list_all (has_quota course world) (up_to world.size)
+is_course_so world clients course = list_all (is_client_so course world) (up_to clients) && list_all (is_node_so course world) (up_to world.size)
 
 abbrev pub is_on_course : ℕ → Opening → BookValue → World → Bool
 is_on_course clients o book world = is_course_so world clients (course_of o clients world)

@@ -4,7 +4,7 @@ use Rattle.std.specs.Global.{Global}
 use Rattle.qs_world.specs.DrivenRuns.{late, taken}
 use Rattle.qs_world.specs.Faults.{both}
 use Rattle.qs_lawful.specs.Tried.{rich}
-use Rattle.qs_trials.specs.Broken.{with_fewer_lines, with_moved_clients, with_nothing_issued, without_loans}
+use Rattle.qs_trials.specs.Broken.{with_fewer_lines, with_moved_clients, with_nothing_issued, without_audit, without_loans, without_serves}
 use Rattle.qs_trials.specs.CourseTests.{is_on_course}
 use Rattle.qs_trials.specs.SmallRuns.{borrowed_again, in_doubt, opens_as, told_one}
 use Rattle.qs_trials.specs.Walks.{all_after, all_along, all_in, changed}
@@ -26,3 +26,5 @@ pub record FailsCourse (alloc : Global) : Type 0 where
   pub seats : all_in (changed (is_on_course 1) with_moved_clients) (both alloc) 1 0 99 ≡ false
   pub made : all_in (changed (is_on_course 1) with_nothing_issued) (both alloc) 1 0 99 ≡ false
   pub loans : all_in (changed (is_on_course 2) without_loans) (late alloc) 2 0 150 ≡ false
+  pub replies : all_in (changed (is_on_course 1) without_serves) (both alloc) 1 0 99 ≡ false
+  pub audit : all_in (changed (is_on_course 3) without_audit) (rich alloc) 3 0 20 ≡ false

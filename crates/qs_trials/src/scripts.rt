@@ -15,7 +15,7 @@ pub fn scripts_may_be_broken()
 {}
 
 /// In each world of these runs the course that the scripts and the entries so far tell is that of the world: each client's lines that are left are those that it has, what the
-/// first of them has made is what its node knows of its open command, its loans are those that its node keeps, and quotas are those of the files.
+/// first of them has made is what its node knows of its open command, its loans are those that its node keeps, a reply that is on its way was given, and the audit node and quotas are those of the nodes.
 pub fn courses_go_with_worlds()
     ensures shown { (alloc : Global) → TriedCourse alloc }
 {}
