@@ -1,5 +1,5 @@
 -- The agreement machine beside a run in which a node is cut off as it serves and the home aborts, step by step.
-use Rattle.std.proofs.Common.{◌≡◌, ◌+◌, ◌==◌, true, false, refl, arith, if◌then◌else◌, drop}
+use Rattle.std.proofs.Common.{◌+◌, ◌==◌, true, false, refl, arith, if◌then◌else◌, drop}
 use Rattle.std.proofs.lemmas.Bool.Decides.{nat_tests}
 use Rattle.std.specs.Fmt.{digits}
 use Rattle.std.specs.Global.{Global}

@@ -1,5 +1,5 @@
 -- The agreement machine may begin so.
-use Rattle.std.proofs.Common.{◌≡◌, true, false, refl, arith}
+use Rattle.std.proofs.Common.{refl, arith}
 use Rattle.std.proofs.lemmas.Bool.Decides.{nat_tests}
 use Rattle.qs_agree.specs.World.{IsOpening}
 use Rattle.qs_trials.specs.ShownRuns.{met_nodes, three_nodes, two_nodes}

@@ -1,5 +1,5 @@
 -- The agreement machine beside a run in which two nodes are told a commit, and one of them does not take it in, step by step.
-use Rattle.std.proofs.Common.{◌≡◌, ◌+◌, ◌==◌, max, true, false, refl, arith, if◌then◌else◌, drop}
+use Rattle.std.proofs.Common.{◌+◌, ◌==◌, max, true, false, refl, arith, if◌then◌else◌, drop}
 use Rattle.std.proofs.lemmas.Bool.Decides.{nat_tests}
 use Rattle.std.specs.Fmt.{digits}
 use Rattle.std.specs.Global.{Global}

@@ -5,8 +5,8 @@ use Rattle.std.specs.Global.{Global}
 use Rattle.qs_engage.specs.Nodes.{all_nodes}
 use Rattle.qs_lawful.specs.Tried.{rich}
 use Rattle.qs_tm.specs.Members.{all_servers}
-use Rattle.qs_trials.specs.Broken.{with_fewer_lines, with_moved_clients, with_nothing_issued, without_audit, without_loans, without_serves}
-use Rattle.qs_trials.specs.CourseTests.{is_on_course}
+use Rattle.qs_trials.specs.Broken.{with_fewer_lines, with_moved_clients, with_nothing_issued, without_audit, without_loans, without_quotas, without_serves}
+use Rattle.qs_trials.specs.CourseTests.{audit_so, is_on_course, left_so, loans_so, made_so, quotas_so, replies_so}
 use Rattle.qs_trials.specs.SmallRuns.{borrowed_again, in_doubt, opens_as, told_one}
 use Rattle.qs_trials.specs.Walks.{all_after, all_along, all_in, changed}
 use Rattle.qs_world.specs.DrivenRuns.{late, taken}
@@ -48,26 +48,30 @@ pub doubt_goes : (alloc : Global) → all_along (is_on_course 3) (opens_as alloc
 unfolding all_nodes all_servers digits
 doubt_goes alloc = refl
 
-pub lines_fails : (alloc : Global) → all_in (changed (is_on_course 1) with_fewer_lines) (both alloc) 1 0 99 ≡ false
+pub lines_fails : (alloc : Global) → all_in (changed (left_so 1) with_fewer_lines) (both alloc) 1 0 99 ≡ false
 unfolding all_nodes all_servers digits
 lines_fails alloc = refl
 
-pub seats_fails : (alloc : Global) → all_in (changed (is_on_course 1) with_moved_clients) (both alloc) 1 0 99 ≡ false
+pub seats_fails : (alloc : Global) → all_in (changed (left_so 1) with_moved_clients) (both alloc) 1 0 99 ≡ false
 unfolding all_nodes all_servers digits
 seats_fails alloc = refl
 
-pub made_fails : (alloc : Global) → all_in (changed (is_on_course 1) with_nothing_issued) (both alloc) 1 0 99 ≡ false
+pub made_fails : (alloc : Global) → all_in (changed (made_so 1) with_nothing_issued) (both alloc) 1 0 99 ≡ false
 unfolding all_nodes all_servers digits
 made_fails alloc = refl
 
-pub loans_fails : (alloc : Global) → all_in (changed (is_on_course 2) without_loans) (late alloc) 2 0 150 ≡ false
+pub loans_fails : (alloc : Global) → all_in (changed (loans_so 2) without_loans) (late alloc) 2 0 150 ≡ false
 unfolding all_nodes all_servers digits
 loans_fails alloc = refl
 
-pub replies_fails : (alloc : Global) → all_in (changed (is_on_course 1) without_serves) (both alloc) 1 0 99 ≡ false
+pub replies_fails : (alloc : Global) → all_in (changed (replies_so 1) without_serves) (both alloc) 1 0 99 ≡ false
 unfolding all_nodes all_servers digits
 replies_fails alloc = refl
 
-pub audit_fails : (alloc : Global) → all_in (changed (is_on_course 3) without_audit) (rich alloc) 3 0 20 ≡ false
+pub audit_fails : (alloc : Global) → all_in (changed (audit_so 3) without_audit) (rich alloc) 3 0 20 ≡ false
 unfolding all_nodes all_servers digits
 audit_fails alloc = refl
+
+pub quotas_fails : (alloc : Global) → all_in (changed (quotas_so 1) without_quotas) (both alloc) 1 0 20 ≡ false
+unfolding all_nodes all_servers digits
+quotas_fails alloc = refl

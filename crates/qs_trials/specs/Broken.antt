@@ -7,6 +7,8 @@ use Rattle.qs_journal.specs.declared.entry.Act.{Act}
 use Rattle.qs_journal.specs.declared.entry.Act.TheVariants as acts
 use Rattle.qs_journal.specs.declared.entry.Entry.{Entry}
 use Rattle.qs_ops.specs.Table.{TableValue}
+use Rattle.qs_ops.specs.declared.server.Kind.{Kind}
+use Rattle.qs_ops.specs.declared.server.Kind.TheVariants as kinds
 use Rattle.qs_ops.specs.declared.share.Share.{Share}
 use Rattle.qs_record.specs.declared.record.Record.{Record}
 use Rattle.qs_record.specs.declared.record.Record.TheVariants as records
@@ -121,3 +123,11 @@ with_nothing_issued world = of_node (λ node. record node { commands = map not_i
 -- the audit notes go nowhere
 abbrev pub without_audit : World → World
 without_audit world = of_node (λ node. record node { setting = record node.setting { audit = None } }) world
+
+-- files may have no bytes
+abbrev no_quota : Kind → Kind
+no_quota (kinds.Files quota) = kinds.Files 0
+no_quota kind = kind
+
+abbrev pub without_quotas : World → World
+without_quotas world = of_node (λ node. record node { servers = record node.servers { files = record node.servers.files { kind = no_quota node.servers.files.kind } } }) world

@@ -25,7 +25,7 @@ rises (e ∷ []) = true
 rises (e ∷ f ∷ es) = is_lt (tid_cmp e.0 f.0) && rises (f ∷ es)
 
 -- servers of the node, and clients
-abbrev servers : List ℕ
+abbrev pub servers : List ℕ
 servers = up_to 7 ++ (32 ∷ 33 ∷ 34 ∷ [])
 
 abbrev is_tallied : Tally → Tid → Bool

@@ -1,6 +1,6 @@
 -- What the course of a run, as its entries so far tell it, has in common with the world: the lines that each client has left, what the first of them has made, its loans,
 -- replies on their way, the audit node and the quotas, as a test.
-use Rattle.std.specs.Prelude.{ℕ, ◌==◌, Bool, true, false, not, ◌&&◌, ◌||◌, List, Option, Some, None, fold, is_none, length, slice_get}
+use Rattle.std.specs.Prelude.{ℕ, ◌==◌, Bool, true, false, not, ◌&&◌, List, Option, Some, None, fold, is_none, length, nat_lt, slice_get}
 use Rattle.std.specs.Cmp.Lexicographic.{pointwise}
 use Rattle.std.specs.BTreeMap.{is_at}
 use Rattle.std.specs.List.{filter, find, list_all, list_any}
@@ -18,7 +18,6 @@ use Rattle.qs_conformance.specs.declared.values.Made.{Made}
 use Rattle.qs_conformance.specs.declared.values.Made.TheVariants as makes
 use Rattle.qs_conformance.specs.declared.values.Sought.{Sought}
 use Rattle.qs_engage.specs.Nodes.{same_node}
-use Rattle.qs_journal.specs.declared.script_line.ScriptLine.{ScriptLine}
 use Rattle.qs_kept.specs.Loans.{is_loan_of}
 use Rattle.qs_kept.specs.declared.kept.Lent.{Lent}
 use Rattle.qs_machine.specs.Book.{BookValue}
@@ -34,7 +33,9 @@ use Rattle.qs_world.specs.Driven.{up_to}
 use Rattle.qs_world.specs.Histories.{book_of}
 use Rattle.qs_world.specs.Moves.{node_no}
 use Rattle.qs_world.specs.World.{Host, Opening, Parcel, World}
+use Rattle.qs_refine.specs.Sound.{same_flag, where_so}
 use Rattle.qs_trials.specs.ScriptTests.{script_of}
+use Rattle.qs_trials.specs.WorldTests.{each_node, same_line}
 
 abbrev pub course_of : Opening → ℕ → World → CourseValue
 course_of o clients world = fold course_after (at_start (script_of o clients) (book_of o)) world.journal
@@ -47,9 +48,6 @@ is_up world k = world.channels.up (world.clients k).at
 
 -- ---- lines
 
-abbrev same_line : ScriptLine → ScriptLine → Bool
-same_line line other = line.line == other.line
-
 abbrev has_left : World → ℕ → ClientValue → Bool
 has_left world k state = is_seat state.seat (world.clients k).at && pointwise same_line state.left (world.clients k).lines
 
@@ -58,22 +56,24 @@ has_left world k state = is_seat state.seat (world.clients k).at && pointwise sa
 abbrev is_own : ℕ → ClientNo × OpenCommand → Bool
 is_own k entry = entry.0.0 == k
 
-abbrev is_issued_as : Made → Issued → Bool
-is_issued_as (makes.Issued sought) issued = same_tid issued.tid sought.tid && (same_member issued.member sought.member && (issued.number == sought.number))
-is_issued_as _ issued = false
+abbrev is_sought_as : Sought → Issued → Bool
+is_sought_as sought issued = same_tid issued.tid sought.tid && (same_member issued.member sought.member && (issued.number == sought.number))
 
 abbrev is_made_by : Made → OpenCommand → Bool
+is_made_by makes.Nothing command = is_none command.issued
 is_made_by makes.Asked command = is_commit command.line.command
-is_made_by made command = elim command.issued [ None ↦ elim made [ makes.Nothing ↦ true | makes.Begun ↦ false | makes.Asked ↦ true | makes.Aborted ↦ false | makes.GaveBack ↦ false | makes.Issued sought ↦ false ] | Some issued ↦ is_issued_as made issued ]
+is_made_by (makes.Issued sought) command = elim command.issued [ None ↦ false | Some issued ↦ is_sought_as sought issued ]
+is_made_by _ command = false
 
+-- where the node has no open command of the client, its line is not handed to the node: it may have made something before a restart
 abbrev has_made : World → ℕ → ClientValue → Bool
 has_made world k state =
-    not (is_up world k) || elim (find (is_own k) (host_of world k).node.commands) [ None ↦ true | Some entry ↦ is_made_by state.made entry.1 ]
+    where_so (is_up world k) (elim (find (is_own k) (host_of world k).node.commands) [ None ↦ not (world.clients k).is_handed | Some entry ↦ is_made_by state.made entry.1 ])
 
 -- ---- loans
 
 abbrev same_loan : Lent → Loan → Bool
-same_loan lent loan = (lent.inc == loan.inc) && ((lent.yielded && loan.given_back) || not (lent.yielded || loan.given_back))
+same_loan lent loan = (lent.inc == loan.inc) && same_flag lent.yielded loan.given_back
 
 abbrev has_borrowed : List Lent → BorrowingValue → Bool
 has_borrowed loans borrowing = pointwise same_loan loans borrowing.loans && (length (filter (λ (loan : Lent). loan.taken) loans) == borrowing.taken)
@@ -82,13 +82,13 @@ abbrev is_lent_so : World → ℕ → ClientValue → Tid × BorrowingValue → 
 is_lent_so world k state entry = has_borrowed (filter (is_loan_of (record { 0 = k }) entry.0) (host_of world k).node.kept.now.loans) entry.1
 
 abbrev is_known_loan : ℕ → ClientValue → Lent → Bool
-is_known_loan k state loan = not (loan.client.0 == k) || not (length (borrowing_of state loan.tid).loans == 0)
+is_known_loan k state loan = where_so (loan.client.0 == k) (nat_lt 0 (length (borrowing_of state loan.tid).loans))
 
 abbrev has_loans : World → ℕ → ClientValue → Bool
 has_loans world k state =
-    not (is_up world k) || (list_all (is_lent_so world k state) state.borrowed && list_all (is_known_loan k state) (host_of world k).node.kept.now.loans)
+    where_so (is_up world k) (list_all (is_lent_so world k state) state.borrowed && list_all (is_known_loan k state) (host_of world k).node.kept.now.loans)
 
--- ---- replies: one that is on its way to a node was given since a client there issued its request
+-- ---- replies: one that is on its way to a node, to a request of a client there, was given since that was issued; a request of files is none of the script
 
 abbrev is_reply_in : List Reply → Reply → Bool
 is_reply_in replies reply = list_any (is_answer_of (answer_of reply)) replies
@@ -131,19 +131,34 @@ has_quota course world n = elim (slice_get course.nodes n) [
   | Some state ↦ elim (quota_of (world.hosts n).node.servers.files.kind) [ None ↦ false | Some quota ↦ quota == state.quota ]
 ]
 
--- ---- all of it
+-- ---- each part, and all of it
 
-abbrev is_client_so : CourseValue → World → ℕ → Bool
-is_client_so course world k = elim (slice_get course.clients k) [
-  | None ↦ false
-  | Some state ↦ has_left world k state && (has_made world k state && has_loans world k state)
-]
+abbrev each_client : (World → ℕ → ClientValue → Bool) → ℕ → Opening → BookValue → World → Bool
+each_client test clients o book world =
+    list_all (λ (k : ℕ). elim (slice_get (course_of o clients world).clients k) [ None ↦ false | Some state ↦ test world k state ]) (up_to clients)
 
-abbrev is_node_so : CourseValue → World → ℕ → Bool
-is_node_so course world n = has_quota course world n && (has_audit course world n && has_replies course world n)
+abbrev each_node_so : (CourseValue → World → ℕ → Bool) → ℕ → Opening → BookValue → World → Bool
+each_node_so test clients o book world = each_node (test (course_of o clients world) world) world
 
-abbrev is_course_so : World → ℕ → CourseValue → Bool
-is_course_so world clients course = list_all (is_client_so course world) (up_to clients) && list_all (is_node_so course world) (up_to world.size)
+abbrev pub left_so : ℕ → Opening → BookValue → World → Bool
+left_so = each_client has_left
+
+abbrev pub made_so : ℕ → Opening → BookValue → World → Bool
+made_so = each_client has_made
+
+abbrev pub loans_so : ℕ → Opening → BookValue → World → Bool
+loans_so = each_client has_loans
+
+abbrev pub replies_so : ℕ → Opening → BookValue → World → Bool
+replies_so = each_node_so has_replies
+
+abbrev pub audit_so : ℕ → Opening → BookValue → World → Bool
+audit_so = each_node_so has_audit
+
+abbrev pub quotas_so : ℕ → Opening → BookValue → World → Bool
+quotas_so = each_node_so has_quota
 
 abbrev pub is_on_course : ℕ → Opening → BookValue → World → Bool
-is_on_course clients o book world = is_course_so world clients (course_of o clients world)
+is_on_course clients o book world =
+    (left_so clients o book world && (made_so clients o book world && loans_so clients o book world))
+    && (replies_so clients o book world && (audit_so clients o book world && quotas_so clients o book world))

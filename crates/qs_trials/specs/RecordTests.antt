@@ -30,7 +30,7 @@ use Rattle.qs_lawful.specs.Parcels.{way_between}
 abbrev pub each_running : (ℕ → Bool) → World → Bool
 each_running test world = list_all (λ (n : ℕ). not (world.channels.up n) || test n) (up_to world.size)
 
-abbrev said_by : Host → Recovery
+abbrev pub said_by : Host → Recovery
 said_by host = recovery (host.log ++ host.waiting)
 
 -- ---- records

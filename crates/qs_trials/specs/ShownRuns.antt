@@ -10,7 +10,7 @@ use Rattle.qs_agree.specs.Step.{Abort, Answer_running, Ask, Commit, Count, Crash
 use Rattle.qs_agree.specs.World as machine
 use Rattle.qs_refine.specs.Places.{class_in, place}
 use Rattle.qs_trials.specs.ShownTests.{is_shown}
-use Rattle.qs_trials.specs.SmallRuns.{SmallRun, cut_as_served, in_doubt, told_one}
+use Rattle.qs_trials.specs.SmallRuns.{SmallRun}
 use Rattle.qs_trials.specs.Walks.{Doing, done, made}
 
 -- what the machine does with the next thing that nodes do; so many things are done until it does something again

@@ -14,7 +14,6 @@ use Rattle.qs_record.specs.declared.record.Record.TheVariants as records
 use Rattle.qs_restart.specs.Recovery.{Recovery, is_untold_of, names_transaction}
 use Rattle.qs_step.specs.Answering.{is_kept_commit, was_committed}
 use Rattle.qs_tm.specs.Manager as tm
-use Rattle.qs_tm.specs.declared.participant.Participant.{Participant}
 use Rattle.qs_world.specs.Driven.{up_to}
 use Rattle.qs_world.specs.World.{World}
 use Rattle.qs_agree.specs.World as machine
@@ -24,6 +23,7 @@ use Rattle.qs_refine.specs.Places.{class_in, home_place, known_place, place}
 use Rattle.qs_refine.specs.Shows.{scene_of, sight}
 use Rattle.qs_refine.specs.Sights.{Sight, is_in_doubt, list_of}
 use Rattle.qs_refine.specs.Sound.{same_flag, where_so}
+use Rattle.qs_trials.specs.CountTests.{servers}
 
 -- numbers that a run has: of its nodes, of servers and of clients
 abbrev each_node : Sight → (ℕ → Bool) → Bool
@@ -33,7 +33,7 @@ abbrev each_running : Sight → (ℕ → Bool) → Bool
 each_running x test = each_node x (λ (n : ℕ). where_so (x.up n) (test n))
 
 abbrev each_server : (ℕ → Bool) → Bool
-each_server test = list_all test (up_to 7) && list_all test (32 ∷ 33 ∷ 34 ∷ 35 ∷ [])
+each_server test = list_all test servers
 
 abbrev same_outcome : machine.Outcome → machine.Outcome → Bool
 same_outcome machine.Open machine.Open = true

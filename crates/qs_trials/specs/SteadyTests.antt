@@ -1,12 +1,11 @@
 -- What the law of each move asks of nodes, logs and channels alone, as tests: nodes are sound over their logs, between incarnations that were born goes what fits, and
 -- a restart can take up each log whole.
-use Rattle.std.specs.Prelude.{ℕ, ◌+◌, ◌==◌, Bool, true, false, not, ◌&&◌, ◌||◌, List, ◌++◌, length, Option, Some, None, is_none, is_some, nat_le, nat_lt, map}
+use Rattle.std.specs.Prelude.{ℕ, ◌+◌, ◌==◌, Bool, false, not, ◌&&◌, ◌||◌, List, ◌++◌, length, Some, None, is_none, is_some, nat_le, nat_lt, map}
 use Rattle.std.specs.List.{list_all, list_any}
 use Rattle.std.specs.Cmp.Lexicographic.{pointwise}
 use Rattle.qs_base.specs.Order.{same_bytes, same_tid}
-use Rattle.qs_base.specs.declared.identifiers.ClientNo.{ClientNo}
 use Rattle.qs_base.specs.declared.identifiers.Tid.{Tid}
-use Rattle.qs_engage.specs.Engage.{new_engage, peer_of}
+use Rattle.qs_engage.specs.Engage.{peer_of}
 use Rattle.qs_engage.specs.Nodes.{all_nodes, has_node, joined, no_nodes, same_node}
 use Rattle.qs_engage.specs.declared.engage.Engage.{Engage}
 use Rattle.qs_kept.specs.declared.kept.Begun.{Begun}
@@ -14,7 +13,6 @@ use Rattle.qs_kept.specs.declared.kept.Decided.{Decided}
 use Rattle.qs_kept.specs.declared.kept.Lent.{Lent}
 use Rattle.qs_machine.specs.Book.{BookValue}
 use Rattle.qs_ops.specs.Server.{number_of}
-use Rattle.qs_record.specs.declared.record.Record.{Record}
 use Rattle.qs_restart.specs.Recovery.{Recovery, recovery}
 use Rattle.qs_servers.specs.Servers.{server_at}
 use Rattle.qs_step.specs.Answering.{kept_outcome, was_committed}
@@ -27,7 +25,6 @@ use Rattle.qs_world.specs.Driven.{up_to}
 use Rattle.qs_world.specs.Moves.{client_count, node_no}
 use Rattle.qs_world.specs.Openings.{is_whole_log}
 use Rattle.qs_world.specs.World.{Host, Opening, World}
-use Rattle.qs_refine.specs.Begun.{may_command}
 use Rattle.qs_refine.specs.Links.{names_node}
 use Rattle.qs_refine.specs.Listed.{is_past_record}
 use Rattle.qs_refine.specs.Lists.{last_list, tell_at}
@@ -37,6 +34,7 @@ use Rattle.qs_refine.specs.Sights.{list_of, server_no}
 use Rattle.qs_refine.specs.Sound.{in_order, is_sound, keeps_owned, same_flag, where_so}
 use Rattle.qs_refine.specs.Steadies.{are_two, is_steady_line, is_steady_parcel, is_steady_record, stage_of}
 use Rattle.qs_refine.specs.Tidy.{Stage, are_servers_apart, is_begun_queue, is_settled, is_tidy_command, is_tidy_label, is_tidy_loan, is_tidy_outcome, is_tidy_part, is_tidy_record}
+use Rattle.qs_trials.specs.RecordTests.{said_by}
 use Rattle.qs_trials.specs.WorldTests.{each_node}
 
 -- ---- seats, and channels between incarnations that were born
@@ -165,9 +163,6 @@ is_steady o book world =
     && ((each_node (is_steady_host world) world && pairs (is_steady_way world) world) && list_all (is_steady_script world) (up_to client_count))
 
 -- ---- whom Commits name
-
-abbrev said_by : Host → Recovery
-said_by host = recovery (host.log ++ host.waiting)
 
 abbrev are_taken_of : Recovery → Tid → ℕ → Bool
 are_taken_of said tid m = where_so (names_node (list_of tid said) (node_no m)) (has_node (joined no_nodes (last_list tid said)) (node_no m))

@@ -1,5 +1,5 @@
--- That nodes, logs and channels are as the law of each move asks, and that the agreement machine shows each transaction, in each world of whole runs.
-use Rattle.std.specs.Prelude.{◌≡◌, ℕ, Bool, true, false, ◌&&◌, List, drop, fold, take}
+-- That nodes, logs and channels are as the law of each move asks in each world of runs, and that beside four runs the agreement machine shows the first transaction.
+use Rattle.std.specs.Prelude.{◌≡◌, Bool, true, false, ◌&&◌, List, drop, fold, take}
 use Rattle.std.specs.Global.{Global}
 use Rattle.qs_machine.specs.Book.{BookValue}
 use Rattle.qs_world.specs.DrivenRuns.{late}
@@ -42,7 +42,7 @@ pub record TriedShown (alloc : Global) : Type 0 where
   pub doubt : IsShownAlong (begun_in alloc in_doubt) (drop begun_at in_doubt.doings) met_nodes doubt_legs
   pub aborted : IsShownAlong (begun_in alloc cut_as_served) (drop begun_at (abort_doings cut_as_served)) met_nodes abort_legs
 
--- each of them fails where it should
+-- each of both tests fails where it should, for several reasons
 pub record FailsShown (alloc : Global) : Type 0 where
   pub sound : all_in (changed is_steady without_transactions) (both alloc) 1 0 200 ≡ false
   pub tidy : all_in (changed is_steady with_later_managers) (both alloc) 1 0 200 ≡ false

@@ -101,7 +101,7 @@ has_room o book world = each_node (λ (n : ℕ). has_room_at o (world.hosts n)) 
 abbrev is_own : World → ℕ → ClientNo × OpenCommand → Bool
 is_own world n entry = nat_lt entry.0.0 client_count && ((world.clients entry.0.0).at == n)
 
-abbrev same_line : ScriptLine → ScriptLine → Bool
+abbrev pub same_line : ScriptLine → ScriptLine → Bool
 same_line line other = line.line == other.line
 
 abbrev is_rest : List ScriptLine → List ScriptLine → Bool
