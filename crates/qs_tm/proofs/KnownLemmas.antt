@@ -1,6 +1,7 @@
 -- All to which something may be due stay in the span as entries are put, written and removed, and are found in it.
-use Rattle.std.proofs.Common.{◌≡◌, ◌∙◌, refl, ap, sym, subst, true≢false}
-use Rattle.std.specs.Prelude.{Bool, true, false, not, ◌&&◌, ◌||◌, List, [], ◌∷◌, ◌++◌, Option, Some, None, Result, Ok, Err, OnOk, OnErr, fold, cond, if◌then◌else◌}
+use Rattle.std.proofs.Common.{◌≡◌, ◌∙◌, arith, refl, ap, sym, subst, true≢false}
+use Rattle.std.proofs.lemmas.Bool.Decides.{nat_tests}
+use Rattle.std.specs.Prelude.{Bool, true, false, not, ◌&&◌, ◌||◌, ◌==◌, length, List, [], ◌∷◌, ◌++◌, Option, Some, None, Result, Ok, Err, OnOk, OnErr, fold, cond, if◌then◌else◌}
 use Rattle.std.specs.List.{list_any}
 use Rattle.std.specs.Map.{set_value, remove_entry}
 use Rattle.std.specs.BTreeMap.{insert_entry, is_at}
@@ -125,6 +126,38 @@ nothing_due tids [] a = refl
 nothing_due tids (e ∷ es) a =
     ap (λ (w : List Tid). fold (put_tid whiches.Due) w es) (skipped tids e (not_so (may_be_due e.1) false a.0 refl))
     ∙ nothing_due tids es a.1
+
+abbrev is_nil : List Tid → Bool
+is_nil [] = true
+is_nil (t ∷ ts) = false
+
+nonempty : (t : Tid) (ts : List Tid) → t ∷ ts ≡ [] → ⊥
+nonempty t ts e = true≢false (sym (ap is_nil e))
+
+listed_stay : (e : Tid × Participant) (b : Bool) (tids : List Tid) → (if b then tids ++ e.0 ∷ [] else tids) ≡ [] → tids ≡ []
+listed_stay e true [] n = refl
+listed_stay e true (t ∷ ts) n = absurd (nonempty t (ts ++ e.0 ∷ []) n)
+listed_stay e false tids n = n
+
+none_before : (tids : List Tid) (entries : List (Tid × Participant)) → fold (put_tid whiches.Due) tids entries ≡ [] → tids ≡ []
+none_before tids [] n = n
+none_before tids (e ∷ es) n = listed_stay e (may_be_due e.1) tids (none_before (put_tid whiches.Due tids e) es n)
+
+one_listed : (e : Tid × Participant) (b : Bool) → (if b then e.0 ∷ [] else []) ≡ [] → b ≡ true → ⊥
+one_listed e true n d = nonempty e.0 [] n
+one_listed e false n d = true≢false (sym d)
+
+-- where none is listed, none is due
+pub none_listed : (entries : List (Tid × Participant)) → fold (put_tid whiches.Due) [] entries ≡ [] → AreInSpan None entries
+none_listed [] n = tt
+none_listed (e ∷ es) n =
+    let first : put_tid whiches.Due [] e ≡ [] = none_before (put_tid whiches.Due [] e) es n in
+    ((λ d. absurd (one_listed e (may_be_due e.1) first d)), none_listed es (ap (λ (w : List Tid). fold (put_tid whiches.Due) w es) (sym first) ∙ n))
+
+pub none_left : (tids : List Tid) (entries : List (Tid × Participant)) → tids ≡ fold (put_tid whiches.Due) [] entries
+    → true ≡ (length tids == 0) → AreInSpan None entries
+none_left [] entries is e = none_listed entries (sym is)
+none_left (t ∷ ts) entries is e = absurd (grind (arith, nat_tests, e))
 
 -- those that are due are those of the span
 pub due_between : (span : Tid × Tid) (tids : List Tid) (entries : List (Tid × Participant)) → AreInSpan (Some span) entries

@@ -11,7 +11,6 @@ use Rattle.qs_base.specs.declared.identifiers.Outcome.{Outcome}
 use Rattle.qs_base.specs.declared.identifiers.Outcome.TheVariants as outcomes
 use Rattle.qs_base.specs.declared.identifiers.ServerNo.{ServerNo}
 use Rattle.qs_base.specs.declared.identifiers.Tid.{Tid}
-use Rattle.qs_engage.specs.Engage as engage
 use Rattle.qs_engage.specs.Engage.{engaged, next_sent, release_of, last_number, is_idle_with}
 use Rattle.qs_engage.specs.Nodes.{no_nodes, has_node, listed, same_node}
 use Rattle.qs_engage.specs.declared.engage.Engaged.{Engaged}

@@ -24,7 +24,7 @@ use std::marker::Model;
 
 /// What is kept of each transaction, by their identifiers. All to which something may be due stand in a span of
 /// identifiers, so that these are found without going over all that are known: the span takes in each one that is put or
-/// lent, and goes to that one alone where nothing is due in it.
+/// lent, and goes to that one alone, or to none, where nothing is due in it.
 #[derive(Debug, Drop)]
 pub struct Known {
     parts: Map<Tid, Participant>,
@@ -107,8 +107,20 @@ impl Known {
         self.parts.remove(tid);
     }
 
+    /// Those to which something may be due, in order. Where there are none, nothing is searched until one is put or lent.
+    pub fn due(&mut self, alloc: Global) -> Result<List<Tid>, NoMemory>
+        ensures due { IfOk result (λ tids. tids ≡ fold (put_tid whiches.Due) [] self.old) }
+        ensures known { self.new ≡ self.old }
+    {
+        let tids = self.due_of_span(alloc)?;
+        if tids.is_empty() {
+            self.span = None;
+        }
+        Ok(tids)
+    }
+
     /// Those to which something may be due, in order.
-    pub fn due(&self, alloc: Global) -> Result<List<Tid>, NoMemory>
+    fn due_of_span(&self, alloc: Global) -> Result<List<Tid>, NoMemory>
         ensures { IfOk result (λ tids. tids ≡ fold (put_tid whiches.Due) [] self.now) }
     {
         match self.span {

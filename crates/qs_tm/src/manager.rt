@@ -576,8 +576,9 @@ impl Manager {
 
     /// Of these, those to which something may be due at the end of a step: they are asked, or can't be
     /// committed any more.
-    pub fn due(&self) -> Result<List<Tid>, NoMemory>
-        ensures { IfOk result (λ tids. tids ≡ due self.now) }
+    pub fn due(&mut self) -> Result<List<Tid>, NoMemory>
+        ensures due { IfOk result (λ tids. tids ≡ due self.old) }
+        ensures same { self.new ≡ self.old }
     {
         self.known.due(self.alloc)
     }

@@ -1,20 +1,17 @@
-use Rattle.std.proofs.Common.{◌≡◌, ◌∙◌, ap, sym, subst}
-use Rattle.std.specs.Prelude.{List, [], Option, None, Some, fold, IfOk}
+-- Where none is listed, the span may be given up.
+use Rattle.std.proofs.Common.{◌∙◌, ap, sym, [], fold}
+use Rattle.std.specs.Prelude.{List}
 use Rattle.qs_base.specs.declared.identifiers.Tid.{Tid}
-use Rattle.qs_tm.specs.Known.{AreInSpan}
 use Rattle.qs_tm.specs.Manager.{put_tid}
 use Rattle.qs_tm.specs.declared.manager.Which.TheVariants as whiches
-use Rattle.qs_tm.proofs.KnownLemmas.{due_between, nothing_due}
+use Rattle.qs_tm.specs.declared.participant.Participant.{Participant}
+use Rattle.qs_tm.proofs.KnownLemmas.{none_left}
 use Rattle.qs_tm.proofs.known.Known.due.Goals as goal
 
-pub returns-in-Some : goal.returns-in-Some
-returns-in-Some c =
-    let due : AreInSpan (Some c.in-Some.span) c.self.inside.parts = subst (λ (s : Option (Tid × Tid)). AreInSpan s c.self.inside.parts) c.in-Some.is c.self.invariant.due in
-    subst (λ (all : List Tid). IfOk c.due_in.result (λ tids. tids ≡ all))
-    (due_between c.in-Some.span [] c.self.inside.parts due ∙ ap (fold (put_tid whiches.Due) []) c.self.view_is)
-    c.due_in.ensures
-
-pub returns-in-None : goal.returns-in-None
-returns-in-None c =
-    let due : AreInSpan None c.self.inside.parts = subst (λ (s : Option (Tid × Tid)). AreInSpan s c.self.inside.parts) c.in-None.is c.self.invariant.due in
-    c.new.ensures ∙ sym (nothing_due [] c.self.inside.parts due) ∙ ap (fold (put_tid whiches.Due) []) c.self.view_is
+pub invariant_of-self : goal.invariant_of-self
+invariant_of-self c = record {
+  forward = tt;
+  due = none_left c.in_ok-tids.tids c.self.inside.parts
+      (c.in_ok-tids.ensures ∙ ap (λ (all : List (Tid × Participant)). fold (put_tid whiches.Due) [] all) (sym c.self.view_is))
+      c.if-is_empty.ensures;
+}
