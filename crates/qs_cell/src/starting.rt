@@ -119,7 +119,7 @@ fn read<D: Disk>(
             inc: log.inc(),
             ..setting
         },
-        chronicle: Chronicle::new(alloc, setting.node),
+        chronicle: Chronicle::new(alloc, setting.node)?,
         commands: Map::new(alloc),
         crashes,
         points: watch(alloc, points)?,

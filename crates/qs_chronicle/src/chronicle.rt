@@ -15,6 +15,13 @@ pub const LAST_STAMP: Stamp = (1 << 62) - 1;
 /// The journal and the trace of a node, and what it counts. A crash ends none of it.
 #[derive(Drop)]
 pub struct Chronicle {
+    // In a box, since what carries it is handed on by value many times in each event.
+    pages: Box<Pages>,
+}
+
+/// What a chronicle holds.
+#[derive(Drop)]
+struct Pages {
     alloc: Global,
     node: NodeNo,
     stamp: Stamp,
@@ -31,18 +38,18 @@ impl Model for Chronicle {
     ghost Value = { ChronicleValue };
 
     ghost view = { λ c. record {
-      told = record { node = c.node; stamp = c.stamp; acts = c.acts; rounds = c.rounds; events = c.events; journal = c.journal.items; trace = c.trace.items };
-      entries = c.journal.spare;
-      steps = c.trace.spare;
+      told = record { node = c.pages.value.node; stamp = c.pages.value.stamp; acts = c.pages.value.acts; rounds = c.pages.value.rounds; events = c.pages.value.events; journal = c.pages.value.journal.items; trace = c.pages.value.trace.items };
+      entries = c.pages.value.journal.spare;
+      steps = c.pages.value.trace.spare;
     } };
 }
 
 impl Chronicle {
-    /// Nothing has happened. It takes no memory.
-    pub fn new(alloc: Global, node: NodeNo) -> Chronicle
-        ensures { result.told ≡ new_told node }
+    /// Nothing has happened. The only error is a refusal of memory.
+    pub fn new(alloc: Global, node: NodeNo) -> Result<Chronicle, NoMemory>
+        ensures { IfOk result (λ chronicle. chronicle.told ≡ new_told node) }
     {
-        Chronicle {
+        let pages = Pages {
             alloc,
             node,
             stamp: 0,
@@ -51,6 +58,10 @@ impl Chronicle {
             events: 0,
             journal: Tape::new(alloc),
             trace: Tape::new(alloc),
+        };
+        match Box::new(alloc, pages) {
+            Ok(pages) => Ok(Chronicle { pages }),
+            Err(_) => Err(NoMemory),
         }
     }
 
@@ -60,15 +71,15 @@ impl Chronicle {
         ensures ok { OnOk result (HasRoom entries steps self.new) }
         ensures kept { HasRoom self.old.entries self.old.steps self.new }
     {
-        self.journal.make_room(entries)?;
-        self.trace.make_room(steps)
+        self.pages.journal.make_room(entries)?;
+        self.pages.trace.make_room(steps)
     }
 
     /// Whether the stamp stands at its last value.
     pub fn is_last(&self) -> bool
         ensures { result ≡ is_last self.now.told }
     {
-        self.stamp >= LAST_STAMP
+        self.pages.stamp >= LAST_STAMP
     }
 
     /// The next step's stamp: one more, unless it stands at its last value.
@@ -76,8 +87,8 @@ impl Chronicle {
         ensures told { self.new.told ≡ stamped self.old.told }
         ensures room { HasRoom self.old.entries self.old.steps self.new }
     {
-        if self.stamp < LAST_STAMP {
-            self.stamp += 1;
+        if self.pages.stamp < LAST_STAMP {
+            self.pages.stamp += 1;
         }
     }
 
@@ -87,8 +98,8 @@ impl Chronicle {
         ensures number { result ≡ self.new.told.events }
         ensures room { HasRoom self.old.entries self.old.steps self.new }
     {
-        self.events = self.events.saturating_add(1);
-        self.events
+        self.pages.events = self.pages.events.saturating_add(1);
+        self.pages.events
     }
 
     /// One more visit or restart.
@@ -96,14 +107,14 @@ impl Chronicle {
         ensures told { self.new.told ≡ in_round self.old.told }
         ensures room { HasRoom self.old.entries self.old.steps self.new }
     {
-        self.rounds = self.rounds.saturating_add(1);
+        self.pages.rounds = self.pages.rounds.saturating_add(1);
     }
 
     /// Entries of these acts, with the node and the stamp that stands. `NoMemory` comes where memory was refused.
     pub fn entries_of(&self, acts: &[Act]) -> Result<List<Entry>, NoMemory>
         ensures { IfOk result (λ entries. entries ≡ map (entry_of self.now.told.node self.now.told.stamp) acts.now) }
     {
-        entries_of(self.alloc, self.node, self.stamp, acts)
+        entries_of(self.pages.alloc, self.pages.node, self.pages.stamp, acts)
     }
 
     /// A step with these entries, for which there is room. It takes no memory.
@@ -113,7 +124,7 @@ impl Chronicle {
         ensures entries { self.old.entries ≤ self.new.entries + length entries }
         ensures steps { self.old.steps ≤ self.new.steps + 1 }
     {
-        self.journal.append(entries);
+        self.pages.journal.append(entries);
         self.add_step(did, None);
     }
 
@@ -141,11 +152,12 @@ impl Chronicle {
         ensures told { self.new.told ≡ record self.old.told { journal = self.old.told.journal ++ entry_of self.old.told.node self.old.told.stamp act ∷ [] } }
         ensures steps { self.new.steps ≡ self.old.steps }
     {
-        self.journal.push(Entry {
-            stamp: self.stamp,
-            node: self.node,
+        let entry = Entry {
+            stamp: self.pages.stamp,
+            node: self.pages.node,
             act,
-        });
+        };
+        self.pages.journal.push(entry);
     }
 
     /// A step, without its entries.
@@ -155,29 +167,30 @@ impl Chronicle {
         ensures entries { self.new.entries ≡ self.old.entries }
         ensures steps { self.old.steps ≤ self.new.steps + 1 }
     {
-        self.trace.push(Step {
-            stamp: self.stamp,
-            node: self.node,
-            acts: self.acts,
-            rounds: self.rounds,
+        let step = Step {
+            stamp: self.pages.stamp,
+            node: self.pages.node,
+            acts: self.pages.acts,
+            rounds: self.pages.rounds,
             did,
-            put: List::new(self.alloc),
+            put: List::new(self.pages.alloc),
             crash,
-        });
+        };
+        self.pages.trace.push(step);
     }
 
     /// The entries so far, in order.
     pub fn journal(&self) -> &[Entry]
         ensures { result.now ≡ self.now.told.journal }
     {
-        self.journal.items()
+        self.pages.journal.items()
     }
 
     /// The steps so far, in order.
     pub fn trace(&self) -> &[Step]
         ensures { result.now ≡ self.now.told.trace }
     {
-        self.trace.items()
+        self.pages.trace.items()
     }
 
     /// The entries and the steps, in order, by value. It takes no memory.
@@ -185,21 +198,22 @@ impl Chronicle {
         ensures journal { result.0 ≡ self.told.journal }
         ensures trace { result.1 ≡ self.told.trace }
     {
-        (self.journal.into_list(), self.trace.into_list())
+        let Pages { journal, trace, .. } = Box::into_inner(self.pages);
+        (journal.into_list(), trace.into_list())
     }
 
     /// How many acts it made in bursts.
     pub fn acts(&self) -> u64
         ensures { result ≡ self.now.told.acts }
     {
-        self.acts
+        self.pages.acts
     }
 
     /// How often it was visited or restarted.
     pub fn rounds(&self) -> u64
         ensures { result ≡ self.now.told.rounds }
     {
-        self.rounds
+        self.pages.rounds
     }
 }
 
