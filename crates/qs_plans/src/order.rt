@@ -41,7 +41,7 @@ fn places(alloc: Global, count: usize) -> Result<Vec<usize>, NoMemory>
     ensures places { IfOk result (λ places. places.items ≡ places_below count) }
     ensures count { IfOk result (λ places. length places.items ≡ count) }
 {
-    let mut places = Vec::new(alloc);
+    let mut places = Vec::with_capacity(alloc, count)?;
     for place in 0..count {
         places.push(place)?;
     }

@@ -1,10 +1,12 @@
 //! Which clients have commands that are not answered.
-ghost use Rattle.std.specs.Prelude.{◌≡◌, ◌++◌, IfOk, OnOk};
+ghost use Rattle.std.specs.Prelude.{◌≡◌, ◌<◌, [], ◌++◌, IfOk, OnOk, slice_get};
+ghost use Rattle.std.specs.Option.{option_copied};
+ghost use Rattle.qs_base.specs.declared.identifiers.ClientNo.{ClientNo};
+ghost use Rattle.qs_plans.specs.Plan.{commands_of};
 ghost use Rattle.qs_plans.specs.Waiting.{is_answer_to, answers, answered_of, waiting_in, waiting_of};
 
-use crate::plan::commands_of;
 use qs_base::{ClientNo, List, NoMemory};
-use qs_journal::{Act, Entry};
+use qs_journal::{Act, Entry, ScriptLine};
 use qs_statements::{Script, Waiting};
 use std::alloc::Global;
 
@@ -21,15 +23,28 @@ pub fn waiting_of(
     ensures { IfOk result (λ waiting. waiting ≡ waiting_of script.now journal.now) }
 {
     let mut waiting = List::new(alloc);
+    let highest = highest_client(script.lines.as_slice());
     for number in 0..CLIENT_COUNT {
-        put_waiting(alloc, script, journal, ClientNo(number), &mut waiting)?;
+        if number <= highest {
+            put_waiting(script, journal, ClientNo(number), &mut waiting)?;
+        }
     }
     Ok(waiting)
 }
 
+/// No client above this number has a command.
+fn highest_client(lines: &[ScriptLine]) -> u8
+    ensures { (client : ClientNo) → result < client.0 → commands_of client lines.now ≡ [] }
+{
+    let mut highest = 0;
+    for line in lines {
+        highest = highest.max(line.client.0);
+    }
+    highest
+}
+
 /// Adds the client, where a command of it is not answered.
 fn put_waiting(
-    alloc: Global,
     script: &Script,
     journal: &[Entry],
     client: ClientNo,
@@ -37,14 +52,41 @@ fn put_waiting(
 ) -> Result<(), NoMemory>
     ensures { OnOk result (waiting.new ≡ waiting.old ++ waiting_in client script.now journal.now) }
 {
-    let commands = commands_of(alloc, script.lines.as_slice(), client)?;
-    match commands.get(answered_of(client, journal)) {
+    match unanswered(client, script.lines.as_slice(), journal) {
         None => Ok(()),
         Some(line) => waiting.push(Waiting {
             client,
             line: line.line,
         }),
     }
+}
+
+/// The first command of the client that is not answered. The journal is not read for a client that has none.
+fn unanswered<'a>(
+    client: ClientNo,
+    lines: &'a [ScriptLine],
+    journal: &[Entry],
+) -> Option<&'a ScriptLine>
+    ensures { option_copied result ≡ slice_get (commands_of client lines.now) (answered_of client journal.now) }
+{
+    command_at(client, lines, 0)?;
+    command_at(client, lines, answered_of(client, journal))
+}
+
+/// The command of the client before which so many of it stand.
+fn command_at(client: ClientNo, lines: &[ScriptLine], place: usize) -> Option<&ScriptLine>
+    ensures { option_copied result ≡ slice_get (commands_of client lines.now) place }
+{
+    let mut before = place;
+    for line in lines {
+        if line.client == client {
+            if before == 0 {
+                return Some(line);
+            }
+            before -= 1;
+        }
+    }
+    None
 }
 
 /// How many commands of the client were answered.
