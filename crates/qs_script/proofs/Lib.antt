@@ -1,3 +1,4 @@
 pub mod LabelLemmas
 pub mod OpenLemmas
 pub mod ReadingLemmas
+pub mod UserLemmas

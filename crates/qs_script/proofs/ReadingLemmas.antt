@@ -1,29 +1,25 @@
 -- Facts about the commands that were read, and about the script that a text is.
 use Rattle.std.proofs.Common.{◌≡◌, ◌<◌, ◌≤◌, ℕ, ◌+◌, Bool, true, false, ◌||◌, List, [], ◌∷◌, ◌++◌, length, Some, None, Result, Ok, Err, refl, sym, ◌∙◌, ap, subst}
-use Rattle.std.specs.Prelude.{IsErrOf, OnOk}
+use Rattle.std.specs.Prelude.{IsErrOf}
 use Rattle.std.specs.List.{list_any}
 use Rattle.std.proofs.lemmas.Bool.{lt-ltb, le-ltb}
 use Rattle.std.proofs.lemmas.List.Folds.{list_any-append}
-use Rattle.qs_base.specs.Order.{same_bytes}
-use Rattle.qs_journal.specs.declared.script_line.Command.TheVariants.{Begin}
 use Rattle.qs_journal.specs.declared.script_line.ScriptLine.{ScriptLine}
 use Rattle.qs_script.specs.Indexes.{IsIndexed}
-use Rattle.qs_script.specs.Labels.{has_label}
 use Rattle.qs_statements.specs.Lines.{lines_of}
 use Rattle.qs_script.specs.Rules.{begins_line, owns_line, takes_line, fault_of, with_line, empty_script}
 use Rattle.qs_script.specs.Script.{left_open, after_fault, read_from, unless_open, closed_script, line_past_limit, script_of}
 use Rattle.qs_statements.specs.Statements.{line_states}
+use Rattle.qs_script.specs.Users.{has_client, is_begun_by, users_after, users_of}
 use Rattle.qs_script.specs.declared.gathering.Gathered.{Gathered}
+use Rattle.qs_script.specs.declared.label_index.Users.{Users}
+use Rattle.qs_script.proofs.UserLemmas.{begun_by_line, owned_by_line, taken_by_line}
 use Rattle.qs_script.specs.declared.reading.ScriptFailed.{ScriptFailed}
 use Rattle.qs_script.specs.declared.reading.ScriptFailed.TheVariants.{Fault}
 use Rattle.qs_statements.specs.declared.script.Script.{Script}
 use Rattle.qs_statements.specs.declared.statement.Statement.{Statement}
 use Rattle.qs_statements.specs.declared.status.ScriptFault.{ScriptFault}
 use Rattle.qs_statements.specs.declared.status.ScriptFault.TheVariants.{TooLarge, Open}
-
-pub on_ok_more : {T E A B : Type 0} (result : Result T E) → (A → B) → OnOk result A → OnOk result B
-on_ok_more (Ok value) more a = more a
-on_ok_more (Err failed) more a = tt
 
 -- ---- one more command
 
@@ -37,19 +33,13 @@ pub any_more : (test : ScriptLine → Bool) (before : List ScriptLine) (line : S
 any_more test before line old new was is = is ∙ (or_nothing old (test line) ∙ rw (list_any-append test before (line ∷ []), ← was) refl)
 
 pub indexed_more : (old new : Gathered) (line : ScriptLine) → IsIndexed old → new.script.lines ≡ old.script.lines ++ line ∷ []
-    → ((label : List ℕ) → has_label label new.begun ≡ (has_label label old.begun || begins_line label line))
-    → ((client : ℕ) (label : List ℕ) → has_label (client ∷ label) new.owned ≡ (has_label (client ∷ label) old.owned || owns_line client label line))
-    → ((client : ℕ) (label : List ℕ) → has_label (client ∷ label) new.taken ≡ (has_label (client ∷ label) old.taken || takes_line client label line))
+    → ((label : List ℕ) → users_of label new.labels.users.entries ≡ users_after label line (users_of label old.labels.users.entries))
     → IsIndexed new
-indexed_more old new line i lines begun owned taken = record {
-  begun = λ label. any_more (begins_line label) old.script.lines line _ _ (i.begun label) (begun label) ∙ ap (list_any (begins_line label)) (sym lines);
-  owned = λ client label. any_more (owns_line client label) old.script.lines line _ _ (i.owned client label) (owned client label) ∙ ap (list_any (owns_line client label)) (sym lines);
-  taken = λ client label. any_more (takes_line client label) old.script.lines line _ _ (i.taken client label) (taken client label) ∙ ap (list_any (takes_line client label)) (sym lines);
+indexed_more old new line i lines users = record {
+  begun = λ label. any_more (begins_line label) old.script.lines line _ _ (i.begun label) (ap is_begun_by (users label) ∙ begun_by_line label line (users_of label old.labels.users.entries)) ∙ ap (list_any (begins_line label)) (sym lines);
+  owned = λ client label. any_more (owns_line client label) old.script.lines line _ _ (i.owned client label) (ap (λ (u : Users). has_client client u.owners) (users label) ∙ owned_by_line client label line (users_of label old.labels.users.entries)) ∙ ap (list_any (owns_line client label)) (sym lines);
+  taken = λ client label. any_more (takes_line client label) old.script.lines line _ _ (i.taken client label) (ap (λ (u : Users). has_client client u.takers) (users label) ∙ taken_by_line client label line (users_of label old.labels.users.entries)) ∙ ap (list_any (takes_line client label)) (sym lines);
 }
-
-pub owned_more : (client : ℕ) (label key : List ℕ) (line : ScriptLine) (old new : Bool) → key ≡ line.client.0 ∷ line.label → line.command ≡ Begin
-    → new ≡ (old || same_bytes key (client ∷ label)) → new ≡ (old || owns_line client label line)
-owned_more client label key line old new is_key is_command e = e ∙ rw (is_key, is_command) refl
 
 -- ---- one more line
 

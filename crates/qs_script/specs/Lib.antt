@@ -6,4 +6,5 @@ pub mod Labels
 pub mod Rules
 pub mod Script
 pub mod StatusLine
+pub mod Users
 pub mod Words

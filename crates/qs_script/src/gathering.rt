@@ -1,17 +1,17 @@
 //! The script that the lines read so far make, and whether a line may follow them.
-ghost use Rattle.std.specs.Prelude.{◌≡◌, ◌∷◌, [], ◌++◌, ◌+◌, ◌^◌, ◌<◌, ◌||◌, List, ℕ, find, IfOk, OnOk};
+ghost use Rattle.std.specs.Prelude.{◌≡◌, ◌∷◌, [], ◌++◌, ◌+◌, ◌^◌, ◌<◌, List, ℕ, find, OnOk};
 ghost use Rattle.std.specs.List.{list_any};
 ghost use Rattle.std.specs.Option.{option_copied};
 ghost use Rattle.qs_ops.specs.Operations.{server_of};
 ghost use Rattle.qs_ops.specs.declared.operation.Op.TheVariants as ops;
 ghost use Rattle.qs_script.specs.Clashes.{clashes_with};
 ghost use Rattle.qs_script.specs.Indexes.{IsIndexed};
-ghost use Rattle.qs_script.specs.Labels.{has_label};
-ghost use Rattle.qs_script.specs.Rules.{sits, is_client, begins_line, owns_line, takes_line, is_begun, is_owner, is_taker, may_use, is_node, is_link, names_point, names_fault, may_take, names_request, names_order, names_command, may_borrow, names_loan, loan_line, is_known, is_limited, is_again, fits, broken_rule, fault_of, empty_script, with_line};
+ghost use Rattle.qs_script.specs.Rules.{sits, is_client, is_begun, is_owner, is_taker, may_use, is_node, is_link, names_point, names_fault, may_take, names_request, names_order, names_command, may_borrow, names_loan, loan_line, is_known, is_limited, is_again, fits, broken_rule, fault_of, empty_script, with_line};
+ghost use Rattle.qs_script.specs.Users.{users_after, users_of};
 
 use crate::clashing::clashes;
 use crate::command::is_begin;
-use crate::label_set::LabelSet;
+use crate::label_index::LabelIndex;
 use crate::limits::fits;
 use qs_base::{Bytes, ClientNo, List, Member, NoMemory, NodeNo};
 use qs_journal::{Command, ScriptLine};
@@ -19,26 +19,13 @@ use qs_ops::{Op, server_of};
 use qs_statements::{FaultLine, Planned, Quota, Script, ScriptFault, Seat, Statement};
 use std::alloc::Global;
 
-/// A script, line by line. A set holds labels as they are, or behind the number of a client.
+/// A script, line by line.
 #[derive(Drop)]
 pub struct Gathered {
     /// The script of the lines so far.
     pub script: Script,
-    /// The labels that were begun.
-    pub begun: LabelSet,
-    /// The labels that each client began.
-    pub owned: LabelSet,
-    /// The labels that each client took.
-    pub taken: LabelSet,
-}
-
-/// A label behind the number of a client.
-fn key(alloc: Global, client: ClientNo, label: &Bytes) -> Result<Bytes, NoMemory>
-    ensures { IfOk result (λ key. key ≡ client.0 ∷ label.now) }
-{
-    let mut key = Bytes::from_slice(alloc, &[client.0])?;
-    key.append(label.as_slice())?;
-    Ok(key)
+    /// Who began and who took each label.
+    pub labels: LabelIndex,
 }
 
 /// The script of no line.
@@ -120,54 +107,43 @@ impl Gathered {
     {
         Gathered {
             script: empty_script(alloc),
-            begun: LabelSet::new(alloc),
-            owned: LabelSet::new(alloc),
-            taken: LabelSet::new(alloc),
+            labels: LabelIndex::new(alloc),
         }
     }
 
-    fn is_owner(&self, alloc: Global, client: ClientNo, label: &Bytes) -> Result<bool, NoMemory>
+    fn is_owner(&self, client: ClientNo, label: &Bytes) -> bool
         requires { IsIndexed self.now }
-        ensures { IfOk result (λ b. b ≡ is_owner self.now.script.lines client.0 label.now) }
+        ensures { result ≡ is_owner self.now.script.lines client.0 label.now }
     {
-        let key = key(alloc, client, label)?;
-        Ok(self.owned.has(&key))
+        self.labels.is_owner(client, label)
     }
 
-    fn is_taker(&self, alloc: Global, client: ClientNo, label: &Bytes) -> Result<bool, NoMemory>
+    fn is_taker(&self, client: ClientNo, label: &Bytes) -> bool
         requires { IsIndexed self.now }
-        ensures { IfOk result (λ b. b ≡ is_taker self.now.script.lines client.0 label.now) }
+        ensures { result ≡ is_taker self.now.script.lines client.0 label.now }
     {
-        let key = key(alloc, client, label)?;
-        Ok(self.taken.has(&key))
+        self.labels.is_taker(client, label)
     }
 
     fn is_begun(&self, label: &Bytes) -> bool
         requires { IsIndexed self.now }
         ensures { result ≡ is_begun self.now.script.lines label.now }
     {
-        self.begun.has(label)
+        self.labels.is_begun(label)
     }
 
-    fn may_use(&self, alloc: Global, client: ClientNo, label: &Bytes) -> Result<bool, NoMemory>
+    fn may_use(&self, client: ClientNo, label: &Bytes) -> bool
         requires { IsIndexed self.now }
-        ensures { IfOk result (λ b. b ≡ may_use self.now.script.lines client.0 label.now) }
+        ensures { result ≡ may_use self.now.script.lines client.0 label.now }
     {
-        if self.is_owner(alloc, client, label)? {
-            return Ok(true);
-        }
-        self.is_taker(alloc, client, label)
+        self.labels.is_user(client, label)
     }
 
-    fn may_take(&self, alloc: Global, client: ClientNo, label: &Bytes) -> Result<bool, NoMemory>
+    fn may_take(&self, client: ClientNo, label: &Bytes) -> bool
         requires { IsIndexed self.now }
-        ensures { IfOk result (λ b. b ≡ may_take self.now.script.lines client.0 label.now) }
+        ensures { result ≡ may_take self.now.script.lines client.0 label.now }
     {
-        if !self.is_begun(label) {
-            return Ok(false);
-        }
-        let own = self.is_owner(alloc, client, label)?;
-        Ok(!own)
+        self.labels.is_of_another(client, label)
     }
 
     fn names_point(&self, nodes: u8, node: NodeNo, label: &Bytes) -> bool
@@ -191,120 +167,72 @@ impl Gathered {
         }
     }
 
-    fn names_request(
-        &self,
-        alloc: Global,
-        nodes: u8,
-        client: ClientNo,
-        label: &Bytes,
-        member: Member,
-    ) -> Result<bool, NoMemory>
+    fn names_request(&self, nodes: u8, client: ClientNo, label: &Bytes, member: Member) -> bool
         requires { IsIndexed self.now }
-        ensures { IfOk result (λ b. b ≡ names_request nodes self.now.script.lines client.0 label.now member) }
+        ensures { result ≡ names_request nodes self.now.script.lines client.0 label.now member }
     {
-        if !is_node(nodes, member.node) {
-            return Ok(false);
-        }
-        self.may_use(alloc, client, label)
+        is_node(nodes, member.node) && self.may_use(client, label)
     }
 
-    fn names_order(
-        &self,
-        alloc: Global,
-        nodes: u8,
-        client: ClientNo,
-        label: &Bytes,
-        command: &Command,
-    ) -> Result<bool, NoMemory>
+    fn names_order(&self, nodes: u8, client: ClientNo, label: &Bytes, command: &Command) -> bool
         requires { IsIndexed self.now }
-        ensures { IfOk result (λ b. b ≡ names_order nodes self.now.script.lines client.0 label.now command.now) }
+        ensures { result ≡ names_order nodes self.now.script.lines client.0 label.now command.now }
     {
         match command {
-            Command::Begin => Ok(true),
-            Command::Commit => self.is_owner(alloc, client, label),
-            Command::Abort => self.is_owner(alloc, client, label),
-            Command::Take => self.may_take(alloc, client, label),
-            Command::Yield => self.is_taker(alloc, client, label),
-            Command::Request { member, .. } => {
-                self.names_request(alloc, nodes, client, label, *member)
-            }
+            Command::Begin => true,
+            Command::Commit => self.is_owner(client, label),
+            Command::Abort => self.is_owner(client, label),
+            Command::Take => self.may_take(client, label),
+            Command::Yield => self.is_taker(client, label),
+            Command::Request { member, .. } => self.names_request(nodes, client, label, *member),
         }
     }
 
     /// Whether the client is known, and what its command names.
-    fn names_command(
-        &self,
-        alloc: Global,
-        nodes: u8,
-        client: ClientNo,
-        label: &Bytes,
-        command: &Command,
-    ) -> Result<bool, NoMemory>
+    fn names_command(&self, nodes: u8, client: ClientNo, label: &Bytes, command: &Command) -> bool
         requires { IsIndexed self.now }
-        ensures { IfOk result (λ b. b ≡ names_command nodes self.now.script client.0 label.now command.now) }
+        ensures { result ≡ names_command nodes self.now.script client.0 label.now command.now }
     {
-        if !is_client(self.script.seats.as_slice(), client) {
-            return Ok(false);
-        }
-        self.names_order(alloc, nodes, client, label, command)
+        is_client(self.script.seats.as_slice(), client)
+            && self.names_order(nodes, client, label, command)
     }
 
     /// Whether the borrower is known, and neither the lender nor the owner.
-    fn may_borrow(
-        &self,
-        alloc: Global,
-        client: ClientNo,
-        label: &Bytes,
-        to: ClientNo,
-    ) -> Result<bool, NoMemory>
+    fn may_borrow(&self, client: ClientNo, label: &Bytes, to: ClientNo) -> bool
         requires { IsIndexed self.now }
-        ensures { IfOk result (λ b. b ≡ may_borrow self.now.script client.0 label.now to.0) }
+        ensures { result ≡ may_borrow self.now.script client.0 label.now to.0 }
     {
-        if !is_client(self.script.seats.as_slice(), to) || to.0 == client.0 {
-            return Ok(false);
-        }
-        let own = self.is_owner(alloc, to, label)?;
-        Ok(!own)
+        is_client(self.script.seats.as_slice(), to) && to.0 != client.0 && !self.is_owner(to, label)
     }
 
     /// Whether the lender is known and uses the label, and the borrower may borrow it.
-    fn names_loan(
-        &self,
-        alloc: Global,
-        client: ClientNo,
-        label: &Bytes,
-        to: ClientNo,
-    ) -> Result<bool, NoMemory>
+    fn names_loan(&self, client: ClientNo, label: &Bytes, to: ClientNo) -> bool
         requires { IsIndexed self.now }
-        ensures { IfOk result (λ b. b ≡ names_loan self.now.script client.0 label.now to.0) }
+        ensures { result ≡ names_loan self.now.script client.0 label.now to.0 }
     {
-        if !is_client(self.script.seats.as_slice(), client) {
-            return Ok(false);
-        }
-        if !self.may_use(alloc, client, label)? {
-            return Ok(false);
-        }
-        self.may_borrow(alloc, client, label, to)
+        is_client(self.script.seats.as_slice(), client)
+            && self.may_use(client, label)
+            && self.may_borrow(client, label, to)
     }
 
     /// Whether what the line names is known.
-    fn is_known(&self, alloc: Global, nodes: u8, statement: &Statement) -> Result<bool, NoMemory>
+    fn is_known(&self, nodes: u8, statement: &Statement) -> bool
         requires { IsIndexed self.now }
-        ensures { IfOk result (λ b. b ≡ is_known nodes self.now.script statement.now) }
+        ensures { result ≡ is_known nodes self.now.script statement.now }
     {
         match statement {
-            Statement::Nothing => Ok(true),
-            Statement::Seated { seat } => Ok(is_node(nodes, seat.node)),
-            Statement::Limited { quota } => Ok(is_node(nodes, quota.node)),
-            Statement::Audited { node } => Ok(is_node(nodes, *node)),
-            Statement::Fault { fault } => Ok(self.names_fault(nodes, fault)),
+            Statement::Nothing => true,
+            Statement::Seated { seat } => is_node(nodes, seat.node),
+            Statement::Limited { quota } => is_node(nodes, quota.node),
+            Statement::Audited { node } => is_node(nodes, *node),
+            Statement::Fault { fault } => self.names_fault(nodes, fault),
             Statement::Order {
                 client,
                 label,
                 command,
-            } => self.names_command(alloc, nodes, *client, label, command),
-            Statement::Lend { client, label, to } => self.names_loan(alloc, *client, label, *to),
-            Statement::Unreadable { .. } => Ok(true),
+            } => self.names_command(nodes, *client, label, command),
+            Statement::Lend { client, label, to } => self.names_loan(*client, label, *to),
+            Statement::Unreadable { .. } => true,
         }
     }
 
@@ -324,60 +252,40 @@ impl Gathered {
     }
 
     /// The first rule that the line breaks behind those before it.
-    fn broken_rule(
-        &self,
-        alloc: Global,
-        nodes: u8,
-        statement: &Statement,
-    ) -> Result<Option<ScriptFault>, NoMemory>
+    fn broken_rule(&self, nodes: u8, statement: &Statement) -> Option<ScriptFault>
         requires { IsIndexed self.now }
-        ensures { IfOk result (λ fault. fault ≡ broken_rule nodes self.now.script statement.now) }
+        ensures { result ≡ broken_rule nodes self.now.script statement.now }
     {
-        if !self.is_known(alloc, nodes, statement)? {
-            return Ok(Some(ScriptFault::Unknown));
+        if !self.is_known(nodes, statement) {
+            Some(ScriptFault::Unknown)
+        } else if self.is_again(statement) {
+            Some(ScriptFault::Twice)
+        } else if !fits(&self.script, statement) {
+            Some(ScriptFault::Limit)
+        } else {
+            None
         }
-        if self.is_again(statement) {
-            return Ok(Some(ScriptFault::Twice));
-        }
-        if !fits(&self.script, statement) {
-            return Ok(Some(ScriptFault::Limit));
-        }
-        Ok(None)
     }
 
     /// The fault of the next line, if it has one.
-    pub fn fault_of(
-        &self,
-        alloc: Global,
-        nodes: u8,
-        statement: &Statement,
-    ) -> Result<Option<ScriptFault>, NoMemory>
+    pub fn fault_of(&self, nodes: u8, statement: &Statement) -> Option<ScriptFault>
         requires { IsIndexed self.now }
-        ensures { IfOk result (λ fault. fault ≡ fault_of nodes self.now.script statement.now) }
+        ensures { result ≡ fault_of nodes self.now.script statement.now }
     {
         match statement {
-            Statement::Unreadable { fault } => Ok(Some(*fault)),
-            _ => self.broken_rule(alloc, nodes, statement),
+            Statement::Unreadable { fault } => Some(*fault),
+            _ => self.broken_rule(nodes, statement),
         }
     }
 
-    /// Takes in the label of a command that is to follow. After a refusal nothing is said of the sets.
+    /// Takes in the label of a command that is to follow. After a refusal nothing is said of the
+    /// index.
     fn index(&mut self, alloc: Global, line: &ScriptLine) -> Result<(), NoMemory>
         ensures script { self.new.script ≡ self.old.script }
-        ensures begun { OnOk result ((label : List ℕ) → has_label label self.new.begun ≡ (has_label label self.old.begun || begins_line label line.now)) }
-        ensures owned { OnOk result ((client : ℕ) (label : List ℕ) → has_label (client ∷ label) self.new.owned ≡ (has_label (client ∷ label) self.old.owned || owns_line client label line.now)) }
-        ensures taken { OnOk result ((client : ℕ) (label : List ℕ) → has_label (client ∷ label) self.new.taken ≡ (has_label (client ∷ label) self.old.taken || takes_line client label line.now)) }
+        ensures labels { OnOk result ((label : List ℕ) → users_of label self.new.labels.users.entries ≡ users_after label line.now (users_of label self.old.labels.users.entries)) }
     {
         match line.command {
-            Command::Begin => {
-                let key = key(alloc, line.client, &line.label)?;
-                self.begun.add(&line.label)?;
-                self.owned.add(&key)
-            }
-            Command::Take => {
-                let key = key(alloc, line.client, &line.label)?;
-                self.taken.add(&key)
-            }
+            Command::Begin | Command::Take => self.labels.add(alloc, line),
             _ => Ok(()),
         }
     }

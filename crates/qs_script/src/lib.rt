@@ -6,6 +6,7 @@ mod command;
 mod ending;
 mod form;
 mod gathering;
+mod label_index;
 mod label_set;
 mod limits;
 mod open;

@@ -79,7 +79,7 @@ fn gather(alloc: Global, nodes: u8, text: &[u8]) -> Result<Gathered, ScriptFaile
     while !rest.is_empty() {
         let (line, after) = next_line(rest);
         let statement = line_states(alloc, line)?;
-        if let Some(fault) = gathered.fault_of(alloc, nodes, &statement)? {
+        if let Some(fault) = gathered.fault_of(nodes, &statement) {
             return Err(ScriptFailed::Fault {
                 line: gathered.script.count + 1,
                 fault,

@@ -1,9 +1,9 @@
-use Rattle.std.proofs.Common.{◌∷◌}
-use Rattle.qs_script.proofs.ReadingLemmas.{on_ok_more, owned_more}
+use Rattle.std.proofs.Common.{◌∙◌, ap}
+use Rattle.std.proofs.lemmas.Result.{on_ok_weaker}
+use Rattle.qs_script.specs.Users.{users_of}
+use Rattle.qs_script.proofs.UserLemmas.{users_put}
 use Rattle.qs_script.proofs.gathering.Gathered.index.Goals as goal
 
-pub returns-in_ok-add-in-Begin-clause-owned : goal.returns-in_ok-add-in-Begin-clause-owned
-returns-in_ok-add-in-Begin-clause-owned c =
-    on_ok_more c.add-in-Begin.result
-    (λ h client label. owned_more client label c.in_ok-key-in-Begin.key c.args.line.now _ _ c.in_ok-key-in-Begin.ensures c.in-Begin.is (h (client ∷ label)))
-    c.add-in-Begin.ensures
+pub returns-in-Begin-clause-labels : goal.returns-in-Begin-clause-labels
+returns-in-Begin-clause-labels c =
+    on_ok_weaker c.add.result (λ e label. ap (users_of label) e ∙ users_put label c.args.line.now c.args.self.now.labels.users.entries) c.add.ensures
