@@ -1,3 +1,4 @@
 pub mod Looking
 pub mod Loops
 pub mod Once
+pub mod Serving

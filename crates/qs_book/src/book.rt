@@ -1,5 +1,5 @@
 //! The reference machine: is an entry a lawful step, and what does it do.
-ghost use Rattle.std.specs.Prelude.{◌≡◌, ◌⊎◌, ℕ, IfOk, OnOk, OnErr, Some, None, Err, slice_get, length};
+ghost use Rattle.std.specs.Prelude.{◌≡◌, ◌⊎◌, ℕ, IfOk, OnOk, Some, None, Err, slice_get, length};
 ghost use Rattle.std.specs.Option.{option_copied};
 
 mod acts;
@@ -335,7 +335,8 @@ impl Book {
 
     /// Takes an entry in, where it is a lawful step. Where it is not, the book is as it was, and the
     /// fault tells the first clause that it breaks. After [`BookFault::NoMemory`] nothing is said of
-    /// what the book holds, which may be a part of the entry: drop it. Nothing else changes a book.
+    /// what the book holds, which may be a part of the entry: drop it. Besides
+    /// [`Book::apply_lawful`], nothing else changes a book.
     pub fn apply(&mut self, entry: &Entry) -> Result<(), BookFault>
         ensures lawful { OnOk result (broken self.old entry.now ≡ None) }
         ensures effect { OnOk result (self.new ≡ effect self.old entry.now) }
@@ -343,22 +344,23 @@ impl Book {
         ensures broken { (clause : ℕ) → broken self.old entry.now ≡ Some clause → (result ≡ Err (BookFault.Unlawful clause)) ⊎ (result ≡ Err BookFault.NoMemory) }
         ensures unchanged { (clause : ℕ) → result ≡ Err (BookFault.Unlawful clause) → self.new ≡ self.old }
     {
-        match self.broken(entry)? {
-            Some(clause) => Err(BookFault::Unlawful { clause }),
-            None => self.take_in(entry),
+        if let Some(clause) = self.broken(entry)? {
+            return Err(BookFault::Unlawful { clause });
         }
+        self.apply_lawful(entry)?;
+        Ok(())
     }
 
-    fn take_in(&mut self, entry: &Entry) -> Result<(), BookFault>
-        ensures ok { OnOk result (self.new ≡ effect self.old entry.now) }
-        ensures memory { OnErr result (result ≡ Err BookFault.NoMemory) }
+    /// Takes in an entry that is known to be a lawful step, and does not judge it again: of others,
+    /// [`Book::apply`] judges first. The only error is a refusal of memory, for which a counter at
+    /// its last value stands too; nothing is then said of what the book holds, which may be a part
+    /// of the entry: drop it.
+    pub fn apply_lawful(&mut self, entry: &Entry) -> Result<(), NoMemory>
+        requires { broken self.old entry.now ≡ None }
+        ensures { OnOk result (self.new ≡ effect self.old entry.now) }
     {
-        let Some(place) = self.place.checked_add(1) else {
-            return Err(BookFault::NoMemory);
-        };
-        let Ok(()) = self.take_act(entry.stamp, entry.node, &entry.act) else {
-            return Err(BookFault::NoMemory);
-        };
+        let place = self.place.checked_add(1).ok_or(NoMemory)?;
+        self.take_act(entry.stamp, entry.node, &entry.act)?;
         self.stamp = entry.stamp;
         self.node = entry.node;
         self.place = place;

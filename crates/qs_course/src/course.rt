@@ -7,7 +7,7 @@ mod starting;
 
 use crate::client::ClientCourse;
 use qs_base::{ClientNo, List, NoMemory, NodeNo};
-use qs_book::{Book, BookFault};
+use qs_book::Book;
 use qs_conformance::{Made, Mark, NodeCourse, Sought};
 use qs_journal::{Entry, ScriptLine};
 use qs_ops::Reply;
@@ -117,10 +117,6 @@ impl Course {
     {
         self.line_effect(entry.stamp, entry.node, &entry.act)?;
         self.client_effect(entry.node, &entry.act)?;
-        match self.book.apply(entry) {
-            Ok(()) => Ok(()),
-            Err(BookFault::NoMemory) => Err(NoMemory),
-            Err(BookFault::Unlawful { .. }) => unreachable!(),
-        }
+        self.book.apply_lawful(entry)
     }
 }

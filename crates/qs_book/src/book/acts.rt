@@ -4,9 +4,9 @@ ghost use Rattle.std.specs.BTreeMap.{insert_entry};
 ghost use Rattle.qs_base.specs.Order.{bytes_cmp};
 ghost use Rattle.qs_machine.specs.Transaction.{served_in};
 ghost use Rattle.std.specs.Option.{option_copied};
-ghost use Rattle.qs_machine.specs.Book.{is_done, owner_of, hear};
+ghost use Rattle.qs_machine.specs.Book.{is_done, hear};
 
-use super::{Book, find, nodes, owners, transactions};
+use super::{Book, nodes, owners, transactions};
 use crate::clauses::borrower_at;
 use qs_base::{Bytes, ClientNo, Copied, Member, NoMemory, NodeNo, Outcome, Stamp, Tid};
 use qs_book_transactions::Transaction;
@@ -17,7 +17,7 @@ use qs_ops::{Cause, Op, Reply, Vote};
 use std::collections::BTreeMap;
 
 impl Book {
-    ghost use Rattle.qs_machine.specs.Book.{find_transaction, inc_at, ticks_at, begin, with_waiting, crosses, with_crossing, issue, serve, vote, decide, learn, answer, crossed_in, pending_in, serve_node, with_node, with_transaction, loan, give_back, count, end};
+    ghost use Rattle.qs_machine.specs.Book.{find_transaction, inc_at, ticks_at, begin, with_waiting, with_crossing, issue, serve, vote, decide, learn, answer, crossed_in, pending_in, serve_node, with_node, with_transaction, loan, give_back, count, end};
     ghost use Rattle.qs_machine.specs.Clauses.{borrower_at};
     ghost use Rattle.qs_machine.specs.Lawful.{effect_act, effect_told};
 
@@ -75,15 +75,6 @@ impl Book {
         Ok(())
     }
 
-    fn crosses(&self, tid: Tid, at: RequestNo, member: Member) -> bool
-        ensures { result ≡ crosses (find_transaction self.now tid) at member }
-    {
-        match self.transaction(tid) {
-            Some(tx) => tx.standing_request(at, member).is_some(),
-            None => false,
-        }
-    }
-
     fn issue(
         &mut self,
         here: NodeNo,
@@ -108,8 +99,7 @@ impl Book {
             served: false,
         };
         let peer_inc = self.inc_at(member.node);
-        let crossed = self.crosses(tid, at, member);
-        transactions::issue(
+        let crossed = transactions::issue(
             &mut self.transactions,
             tid,
             at,
@@ -138,38 +128,26 @@ impl Book {
             to: member.node,
         };
         let at = RequestNo { link, number };
-        let inc = self.inc_at(here);
-        self.serve_node(here, at, tid, member, reply)?;
-        self.serve_transaction(at, tid, member, inc, stamp, is_done(reply))
+        self.serve_at(here, at, tid, member, stamp, reply)
     }
 
-    /// What a serve does to its transaction.
-    fn serve_transaction(
-        &mut self,
-        at: RequestNo,
-        tid: Tid,
-        member: Member,
-        inc: u64,
-        stamp: Stamp,
-        done: bool,
-    ) -> Result<(), NoMemory>
-        ensures { OnOk result (self.new ≡ with_transaction tid (served_in at member inc stamp done) self.old) }
-    {
-        transactions::serve(&mut self.transactions, tid, at, member, inc, stamp, done)
-    }
-
-    /// What a serve does at its node.
-    fn serve_node(
+    /// What a serve does at its node and to its transaction.
+    #[tactic(auto, using(crate::proofs::Serving::served_unknown))]
+    fn serve_at(
         &mut self,
         here: NodeNo,
         at: RequestNo,
         tid: Tid,
         member: Member,
+        stamp: Stamp,
         reply: &Reply,
     ) -> Result<(), NoMemory>
-        ensures { OnOk result (self.new ≡ with_node here.0 (serve_node (find_transaction self.old tid) at tid member reply.now) self.old) }
+        ensures { OnOk result (self.new ≡ with_transaction tid (served_in at member (inc_at self.old here) stamp (is_done reply.now)) (with_node here.0 (serve_node (find_transaction self.old tid) at tid member reply.now) self.old)) }
     {
-        let tx = find(&self.transactions, tid);
+        let inc = self.inc_at(here);
+        let Some(tx) = self.transactions.get_mut(&tid) else {
+            return Ok(());
+        };
         nodes::serve(
             self.alloc,
             &mut self.nodes,
@@ -179,7 +157,8 @@ impl Book {
             tid,
             member,
             reply,
-        )
+        )?;
+        tx.serve(at, member, inc, stamp, is_done(reply))
     }
 
     pub(crate) fn is_crossed(&self, tid: Tid, member: Member) -> bool
@@ -211,20 +190,18 @@ impl Book {
     ) -> Result<(), NoMemory>
         ensures { OnOk result (self.new ≡ vote here.0 tid member ballot.now covers self.old) }
     {
-        let crossed = self.is_crossed(tid, member);
         let inc = self.inc_at(here);
-        let pending = self.pending_in(tid, member, inc);
+        let before = transactions::vote(&mut self.transactions, tid, member, inc, ballot)?;
         nodes::vote(
             &mut self.nodes,
             here,
-            pending,
-            crossed,
+            before.pending,
+            before.crossed,
             tid,
             member.server,
             ballot,
             covers,
-        )?;
-        transactions::vote(&mut self.transactions, tid, member, inc, ballot)
+        )
     }
 
     pub(crate) fn decide(
@@ -236,9 +213,11 @@ impl Book {
         ensures { OnOk result (self.new ≡ decide tid outcome (option_copied cause.entry) self.old) }
     {
         let kept = copied_cause(cause)?;
-        let owner = owner_of(self.transactions.get(&tid));
-        owners::tell(&mut self.owners, owner, outcome, cause)?;
-        transactions::decide(&mut self.transactions, tid, self.place, outcome, kept);
+        let Some(tx) = self.transactions.get_mut(&tid) else {
+            return Ok(());
+        };
+        owners::tell(&mut self.owners, tx.owner(), outcome, cause)?;
+        tx.decide(self.place, outcome, kept);
         Ok(())
     }
 
@@ -394,11 +373,4 @@ fn is_done(reply: &Reply) -> bool
         Reply::Done => true,
         _ => false,
     }
-}
-
-/// The owner of a transaction.
-fn owner_of(tx: Option<&Transaction>) -> Option<ClientNo>
-    ensures { result ≡ owner_of (option_copied tx.entry) }
-{
-    tx?.owner()
 }

@@ -1,6 +1,5 @@
 //! What entries do to the nodes.
-ghost use Rattle.std.specs.Prelude.{◌≡◌, OnOk, IfOk, map};
-ghost use Rattle.std.specs.Option.{option_copied};
+ghost use Rattle.std.specs.Prelude.{◌≡◌, OnOk, IfOk, Some, map};
 ghost use Rattle.qs_machine.specs.Book.{changed_at, server_serve, crossed_serve, serve_node, vote_node, learn_node, doubts_after, end_node, tick_node, crash_node};
 ghost use Rattle.qs_machine.specs.Restart.{with_votes, restarted_node};
 ghost use Rattle.qs_machine.specs.Nodes.{bound_names, crossed_node};
@@ -124,13 +123,13 @@ pub fn serve(
     alloc: Global,
     nodes: &mut Vec<NodeState>,
     here: NodeNo,
-    tx: Option<&Transaction>,
+    tx: &Transaction,
     at: RequestNo,
     tid: Tid,
     member: Member,
     reply: &Reply,
 ) -> Result<(), NoMemory>
-    ensures { OnOk result (nodes.new.items ≡ changed_at here.0 (serve_node (option_copied tx.entry) at tid member reply.now) nodes.old.items) }
+    ensures { OnOk result (nodes.new.items ≡ changed_at here.0 (serve_node (Some tx.now) at tid member reply.now) nodes.old.items) }
 {
     let place = usize::from(here.0);
     if place < nodes.len() {
@@ -142,17 +141,14 @@ pub fn serve(
 fn serve_at(
     alloc: Global,
     node: &mut NodeState,
-    tx: Option<&Transaction>,
+    tx: &Transaction,
     at: RequestNo,
     tid: Tid,
     member: Member,
     reply: &Reply,
 ) -> Result<(), NoMemory>
-    ensures { OnOk result (node.new ≡ serve_node (option_copied tx.entry) at tid member reply.now node.old) }
+    ensures { OnOk result (node.new ≡ serve_node (Some tx.now) at tid member reply.now node.old) }
 {
-    let Some(tx) = tx else {
-        return Ok(());
-    };
     if tx.is_crossed(member) {
         return crossed_serve(alloc, node, member.server, tid, tx.requests_at(at), reply);
     }

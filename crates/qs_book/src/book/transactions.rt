@@ -1,15 +1,16 @@
 //! What entries do to the transactions.
-ghost use Rattle.std.specs.Prelude.{◌≡◌, OnOk};
+ghost use Rattle.std.specs.Prelude.{◌≡◌, IfOk, OnOk};
 ghost use Rattle.std.specs.BTreeMap.{insert_entry, is_at};
 ghost use Rattle.std.specs.Map.{lookup};
 ghost use Rattle.std.specs.Option.{option_copied};
 ghost use Rattle.qs_base.specs.Order.{tid_cmp};
-ghost use Rattle.qs_machine.specs.Transaction.{changed_value, asked_at, decided_at, counted, heard, ended, issued, served_in, voted, learnt, with_learnt, lent, given_back, found_at};
+ghost use Rattle.qs_machine.specs.Book.{crosses, crossed_in, pending_in};
+ghost use Rattle.qs_machine.specs.Transaction.{changed_value, asked_at, counted, heard, ended, issued, voted, learnt, with_learnt, lent, given_back, found_at};
 
-use qs_base::{Member, NoMemory, NodeNo, Outcome, Stamp, Tid};
+use qs_base::{Member, NoMemory, NodeNo, Outcome, Tid};
 use qs_book_transactions::Transaction;
 use qs_machine::{Link, Request, RequestNo};
-use qs_ops::{Cause, Vote};
+use qs_ops::Vote;
 use std::collections::BTreeMap;
 
 /// What is kept of a transaction; `None` exactly where it is unknown.
@@ -25,21 +26,6 @@ pub fn ask(transactions: &mut BTreeMap<Tid, Transaction>, tid: Tid, place: u64)
 {
     if let Some(tx) = transactions.get_mut(&tid) {
         tx.ask(place);
-    }
-}
-
-/// The cell of the transaction gets its outcome at this place in the history.
-pub fn decide(
-    transactions: &mut BTreeMap<Tid, Transaction>,
-    tid: Tid,
-    place: u64,
-    outcome: Outcome,
-    cause: Option<Cause>,
-)
-    ensures { transactions.new.entries ≡ changed_value (is_at (tid_cmp tid)) (decided_at place outcome cause) transactions.old.entries }
-{
-    if let Some(tx) = transactions.get_mut(&tid) {
-        tx.decide(place, outcome, cause);
     }
 }
 
@@ -77,7 +63,8 @@ pub fn end(transactions: &mut BTreeMap<Tid, Transaction>, tid: Tid, member: Memb
     }
 }
 
-/// A request is issued, at this place in the history.
+/// A request is issued, at this place in the history. Whether its number crosses that of an earlier
+/// request to its member, which was not served.
 pub fn issue(
     transactions: &mut BTreeMap<Tid, Transaction>,
     tid: Tid,
@@ -85,31 +72,24 @@ pub fn issue(
     request: Request,
     peer_inc: u64,
     place: u64,
-) -> Result<(), NoMemory>
-    ensures { OnOk result (transactions.new.entries ≡ changed_value (is_at (tid_cmp tid)) (issued at request peer_inc place) transactions.old.entries) }
+) -> Result<bool, NoMemory>
+    ensures issued { OnOk result (transactions.new.entries ≡ changed_value (is_at (tid_cmp tid)) (issued at request peer_inc place) transactions.old.entries) }
+    ensures crosses { IfOk result (λ crossed. crossed ≡ crosses (lookup (is_at (tid_cmp tid)) transactions.old.entries) at request.member) }
 {
-    if let Some(tx) = transactions.get_mut(&tid) {
-        tx.issue(at, request, peer_inc, place)?;
-    }
-    Ok(())
+    let Some(tx) = transactions.get_mut(&tid) else {
+        return Ok(false);
+    };
+    let crossed = tx.standing_request(at, request.member).is_some();
+    tx.issue(at, request, peer_inc, place)?;
+    Ok(crossed)
 }
 
-/// A request is served.
-pub fn serve(
-    transactions: &mut BTreeMap<Tid, Transaction>,
-    tid: Tid,
-    at: RequestNo,
-    member: Member,
-    inc: u64,
-    stamp: Stamp,
-    done: bool,
-) -> Result<(), NoMemory>
-    ensures { OnOk result (transactions.new.entries ≡ changed_value (is_at (tid_cmp tid)) (served_in at member inc stamp done) transactions.old.entries) }
-{
-    if let Some(tx) = transactions.get_mut(&tid) {
-        tx.serve(at, member, inc, stamp, done)?;
-    }
-    Ok(())
+/// What stood before a member's vote: how many changes it had pending, and whether its requests
+/// crossed.
+#[derive(Clone, Copy)]
+pub struct BeforeVote {
+    pub pending: u64,
+    pub crossed: bool,
 }
 
 /// A member votes.
@@ -119,13 +99,23 @@ pub fn vote(
     member: Member,
     inc: u64,
     vote: &Vote,
-) -> Result<(), NoMemory>
-    ensures { OnOk result (transactions.new.entries ≡ changed_value (is_at (tid_cmp tid)) (voted member inc vote.now) transactions.old.entries) }
+) -> Result<BeforeVote, NoMemory>
+    ensures voted { OnOk result (transactions.new.entries ≡ changed_value (is_at (tid_cmp tid)) (voted member inc vote.now) transactions.old.entries) }
+    ensures pending { IfOk result (λ before. before.pending ≡ pending_in (lookup (is_at (tid_cmp tid)) transactions.old.entries) member inc) }
+    ensures crossed { IfOk result (λ before. before.crossed ≡ crossed_in (lookup (is_at (tid_cmp tid)) transactions.old.entries) member) }
 {
-    if let Some(tx) = transactions.get_mut(&tid) {
-        tx.vote(member, inc, vote)?;
-    }
-    Ok(())
+    let Some(tx) = transactions.get_mut(&tid) else {
+        return Ok(BeforeVote {
+            pending: 0,
+            crossed: false,
+        });
+    };
+    let before = BeforeVote {
+        pending: tx.part(member, inc).pending,
+        crossed: tx.is_crossed(member),
+    };
+    tx.vote(member, inc, vote)?;
+    Ok(before)
 }
 
 /// A member learns the outcome.
