@@ -4,6 +4,7 @@
 
 mod answering;
 mod asking;
+mod choosing;
 mod deciding;
 mod settling;
 mod telling;

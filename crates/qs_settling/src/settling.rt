@@ -1,11 +1,12 @@
 //! What a node does of itself at the end of each step, for each transaction to which something may be due.
-ghost use Rattle.std.specs.Prelude.{◌≡◌, fold, Some, OnOk, if◌then◌else◌};
+ghost use Rattle.std.specs.Prelude.{◌≡◌, fold, Some, OnOk};
 ghost use Rattle.qs_engage.specs.Nodes.{listed};
 ghost use Rattle.qs_tm.specs.Outcomes.{told_with_own};
-ghost use Rattle.qs_step.specs.State.{here, part_of, doings_of};
-ghost use Rattle.qs_step.specs.Deciding.{decide_commit};
-ghost use Rattle.qs_step.specs.Settling.{is_busy, is_put_off, is_pass_due, pass_rule, may_answer, is_quiet, say_yes, ready_rule, refusal_goes_to, send_refusal, refuse_elsewhere, refuse_home, refuse_rule, forget_rule, try, settle_tid, settle};
+ghost use Rattle.qs_step.specs.State.{here, part_of};
+ghost use Rattle.qs_step.specs.Settling.{say_yes, answer_superior, ready_rule, refusal_goes_to, send_refusal, refuse_elsewhere, refuse_rule, forget_rule, try, settle_tid, settle};
+ghost use Rattle.qs_settling.specs.Firsts.{IsFirst};
 
+use crate::choosing::{First, first_due};
 use crate::deciding::{decide, decide_commit};
 use crate::telling::forget;
 use crate::voting::vote_pass;
@@ -13,78 +14,11 @@ use qs_base::{Copied, List, NoMemory, NodeNo, Outcome, Tid};
 use qs_ops::{Cause, Server};
 use qs_packet::Message;
 use qs_servers::Servers;
-use qs_step::{Doings, NodeState, Work};
+use qs_step::Work;
 use qs_tm::Participant;
-use qs_work::{doings_of, send};
-
-/// Whether a request waits, a loan of this incarnation is not given back, or files wait for a reply.
-fn is_busy<F: Server, X: Server>(
-    node: &NodeState<Servers<F, X>>,
-    tid: Tid,
-    part: &Participant,
-) -> bool
-    ensures { result ≡ is_busy tid node.now part.now }
-{
-    node.queues.waits(tid) || (node.kept.has_standing(tid, node.setting.inc) || part.awaits_note())
-}
-
-// ---- vote pass
-
-fn is_put_off(doings: Doings) -> bool
-    ensures { result ≡ is_put_off doings }
-{
-    doings.asked || doings.served
-}
-
-/// A pass is due at an asked node that is not busy, in no step that asked for the commit or served a request.
-fn is_pass_due<F: Server, X: Server>(
-    work: &Work<Servers<F, X>>,
-    tid: Tid,
-    part: &Participant,
-) -> bool
-    ensures { result ≡ is_pass_due tid part.now work.now }
-{
-    (part.asked && !is_busy(&work.node, tid, part))
-        && (part.needs_pass() && !is_put_off(doings_of(work, tid)))
-}
-
-fn pass_rule<F: Server, X: Server>(work: &mut Work<Servers<F, X>>, tid: Tid) -> Result<(), NoMemory>
-    ensures ok { OnOk result (work.new ≡ try tid pass_rule work.old) }
-    ensures saved { work.new.node.kept.saved ≡ work.old.node.kept.saved }
-{
-    let Some(part) = work.node.manager.part(tid) else {
-        return Ok(());
-    };
-    if part.outcome.is_some() {
-        return Ok(());
-    }
-    if !is_pass_due(work, tid, part) {
-        return Ok(());
-    }
-    vote_pass(work, tid)
-}
+use qs_work::send;
 
 // ---- readiness
-
-/// Whether the node can answer for all that came to it and all that it sent. A vote of this step's Prepare
-/// does not count yet, and a pass that was put off comes first.
-fn may_answer<F: Server, X: Server>(
-    work: &Work<Servers<F, X>>,
-    tid: Tid,
-    part: &Participant,
-) -> bool
-    ensures { result ≡ may_answer tid part.now work.now }
-{
-    part.is_ready(is_busy(&work.node, tid, part))
-        && (!part.needs_pass() && !doings_of(work, tid).prepared)
-}
-
-/// The home decides in no step that asked, served, voted or took a loan back.
-fn is_quiet(doings: Doings) -> bool
-    ensures { result ≡ is_quiet doings }
-{
-    !((doings.asked || doings.served) || (doings.voted || doings.yielded))
-}
 
 /// The superior is answered with the number of its last request and this told set, and there is none then.
 fn say_yes<F: Server, X: Server>(
@@ -101,25 +35,12 @@ fn say_yes<F: Server, X: Server>(
     send(work, superior, Message::VotedYes { tid, up_to, told })
 }
 
-fn decide_quietly<F: Server, X: Server>(
+/// The superior is answered, where there is one.
+fn answer_superior<F: Server, X: Server>(
     work: &mut Work<Servers<F, X>>,
     tid: Tid,
 ) -> Result<(), NoMemory>
-    ensures ok { OnOk result (work.new ≡ (if is_quiet (doings_of tid work.old) then decide_commit tid work.old else work.old)) }
-    ensures saved { work.new.node.kept.saved ≡ work.old.node.kept.saved }
-{
-    if is_quiet(doings_of(work, tid)) {
-        decide_commit(work, tid)
-    } else {
-        Ok(())
-    }
-}
-
-fn ready_rule<F: Server, X: Server>(
-    work: &mut Work<Servers<F, X>>,
-    tid: Tid,
-) -> Result<(), NoMemory>
-    ensures ok { OnOk result (work.new ≡ try tid ready_rule work.old) }
+    ensures ok { OnOk result (work.new ≡ try tid answer_superior work.old) }
     ensures saved { work.new.node.kept.saved ≡ work.old.node.kept.saved }
 {
     let Some(part) = work.node.manager.part(tid) else {
@@ -127,12 +48,6 @@ fn ready_rule<F: Server, X: Server>(
     };
     if part.outcome.is_some() {
         return Ok(());
-    }
-    if !may_answer(work, tid, part) {
-        return Ok(());
-    }
-    if part.engage.home {
-        return decide_quietly(work, tid);
     }
     let Some(superior) = part.engage.to_release() else {
         return Ok(());
@@ -192,11 +107,12 @@ fn refuse_elsewhere<F: Server, X: Server>(
     send_refusals(work, tid, to, causes.as_slice())
 }
 
-fn refuse_rule<F: Server, X: Server>(
+/// Causes are sent on, or the first decides at the home. Then another node than the home may forget.
+fn refuse_and_forget<F: Server, X: Server>(
     work: &mut Work<Servers<F, X>>,
     tid: Tid,
 ) -> Result<(), NoMemory>
-    ensures ok { OnOk result (work.new ≡ try tid refuse_rule work.old) }
+    ensures ok { OnOk result (work.new ≡ try tid forget_rule (try tid refuse_rule work.old)) }
     ensures saved { work.new.node.kept.saved ≡ work.old.node.kept.saved }
 {
     let Some(part) = work.node.manager.part(tid) else {
@@ -207,18 +123,19 @@ fn refuse_rule<F: Server, X: Server>(
     }
     if !part.engage.home {
         let to = refusal_goes_to(tid, part);
-        return refuse_elsewhere(work, tid, to);
-    }
-    match part.causes.as_slice() {
-        [] => Ok(()),
-        [cause, ..] => {
-            let cause = cause.copy()?;
-            decide(work, tid, Outcome::Abort, Some(cause))
+        refuse_elsewhere(work, tid, to)?;
+    } else {
+        match part.causes.as_slice() {
+            [] => return Ok(()),
+            [cause, ..] => {
+                let cause = cause.copy()?;
+                decide(work, tid, Outcome::Abort, Some(cause))?;
+            }
         }
     }
+    forget_rule(work, tid);
+    Ok(())
 }
-
-// ---- forgetting
 
 fn forget_rule<F: Server, X: Server>(work: &mut Work<Servers<F, X>>, tid: Tid)
     ensures ok { work.new ≡ try tid forget_rule work.old }
@@ -237,6 +154,25 @@ fn forget_rule<F: Server, X: Server>(work: &mut Work<Servers<F, X>>, tid: Tid)
 
 // ---- all of it
 
+/// All rules but a pass, of which this is the first that does something.
+fn settle_from<F: Server, X: Server>(
+    work: &mut Work<Servers<F, X>>,
+    tid: Tid,
+    first: First,
+) -> Result<(), NoMemory>
+    requires { IsFirst tid work.old first }
+    ensures ok { OnOk result (work.new ≡ try tid forget_rule (try tid refuse_rule (try tid ready_rule work.old))) }
+    ensures saved { work.new.node.kept.saved ≡ work.old.node.kept.saved }
+{
+    match first {
+        First::Nothing => return Ok(()),
+        First::Commit => decide_commit(work, tid)?,
+        First::Answer => answer_superior(work, tid)?,
+        First::Pass | First::Refusal => {}
+    }
+    refuse_and_forget(work, tid)
+}
+
 /// What is due for one transaction.
 fn settle_tid<F: Server, X: Server>(
     work: &mut Work<Servers<F, X>>,
@@ -245,11 +181,14 @@ fn settle_tid<F: Server, X: Server>(
     ensures ok { OnOk result (work.new ≡ settle_tid work.old tid) }
     ensures saved { work.new.node.kept.saved ≡ work.old.node.kept.saved }
 {
-    pass_rule(work, tid)?;
-    ready_rule(work, tid)?;
-    refuse_rule(work, tid)?;
-    forget_rule(work, tid);
-    Ok(())
+    match first_due(work, tid) {
+        First::Pass => {
+            vote_pass(work, tid)?;
+            let next = first_due(work, tid);
+            settle_from(work, tid, next)
+        }
+        first => settle_from(work, tid, first),
+    }
 }
 
 fn settle_each<F: Server, X: Server>(
