@@ -3,3 +3,4 @@ pub mod FurtherServer
 pub mod TakenUp
 mod Refused
 mod Told
+mod Waits

@@ -1,5 +1,4 @@
--- Commands for a label in two parts: its owner and its transaction are looked up, and then the command is obeyed or looked at
--- again.
+-- Commands for a label in two parts: its owner and its transaction are looked up, and then the command is obeyed.
 use Rattle.std.specs.Prelude.{Option, Some, None, if◌then◌else◌}
 use Rattle.qs_base.specs.declared.identifiers.ClientNo.{ClientNo}
 use Rattle.qs_base.specs.declared.identifiers.Tid.{Tid}
@@ -9,8 +8,7 @@ use Rattle.qs_step.specs.State.{Work}
 use Rattle.qs_step.specs.Serving.{label_at}
 use Rattle.qs_step.specs.Commands.{owner_command}
 use Rattle.qs_step.specs.Borrowing.{borrower_command}
-use Rattle.qs_step.specs.declared.state.OpenCommand.{OpenCommand}
-use Rattle.qs_step.specs.Step.{is_owner, labelled, owner_waits, borrower_waits}
+use Rattle.qs_step.specs.Step.{is_owner, labelled}
 
 abbrev pub obeyed : ClientNo → Option ClientNo → Option Tid → Command → Work → Work
 obeyed client owner tid command work =
@@ -18,10 +16,5 @@ obeyed client owner tid command work =
     else elim tid [ None ↦ work | Some tid ↦ borrower_command client tid command work ]
 
 -- of a label that the node has not met nothing can be said yet
-abbrev pub on_label : ScriptLine → Command → Work → Work
-on_label line command work = elim (label_at line.label work.node) [ None ↦ work | Some begun ↦ labelled line.client begun command work ]
-
-abbrev pub waited : ClientNo → OpenCommand → Option ClientNo → Option Tid → Work → Work
-waited client command owner tid work =
-    if is_owner client owner then owner_waits client tid command.line.command work
-    else borrower_waits client command.issued tid command.line.command work
+abbrev pub on_label : ScriptLine → Work → Work
+on_label line work = elim (label_at line.label work.node) [ None ↦ work | Some begun ↦ labelled line.client begun line.command work ]

@@ -1,4 +1,5 @@
 pub mod Labelled
+pub mod Due
 pub mod Closed
 pub mod Contents
 pub mod Begun

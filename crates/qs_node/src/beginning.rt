@@ -15,57 +15,54 @@ use qs_work::{answer, enter, put_label};
 /// The transaction has begun: its label is met, and its client is answered.
 fn has_begun<F: Server, X: Server>(
     work: &mut Work<Servers<F, X>>,
-    line: &ScriptLine,
+    line: ScriptLine,
     tid: Tid,
 ) -> Result<(), NoMemory>
-    ensures ok { OnOk result (work.new ≡ has_begun line.now tid work.old) }
+    ensures ok { OnOk result (work.new ≡ has_begun line tid work.old) }
     ensures saved { work.new.node.kept.saved ≡ work.old.node.kept.saved }
 {
+    let ScriptLine { client, label, .. } = line;
     put_label(
         work,
         Begun {
-            label: line.label.copy()?,
+            label: label.copy()?,
             tid: Some(tid),
-            owner: Some(line.client),
+            owner: Some(client),
         },
     )?;
-    let act = Act::Begin {
-        tid,
-        label: line.label.copy()?,
-        client: line.client,
-    };
-    enter(work, act)?;
-    answer(work, line.client, Answer::Done)
+    enter(work, Act::Begin { tid, label, client })?;
+    answer(work, client, Answer::Done)
 }
 
 /// The log has no room for another transaction.
 fn refuse_begin<F: Server, X: Server>(
     work: &mut Work<Servers<F, X>>,
-    line: &ScriptLine,
+    line: ScriptLine,
     need: u64,
     room: u64,
 ) -> Result<(), NoMemory>
-    ensures ok { OnOk result (work.new ≡ refuse_begin line.now need room work.old) }
+    ensures ok { OnOk result (work.new ≡ refuse_begin line need room work.old) }
     ensures saved { work.new.node.kept.saved ≡ work.old.node.kept.saved }
 {
+    let ScriptLine { client, label, .. } = line;
     put_label(
         work,
         Begun {
-            label: line.label.copy()?,
+            label,
             tid: None,
-            owner: Some(line.client),
+            owner: Some(client),
         },
     )?;
-    answer(work, line.client, Answer::LogFull { need, room })
+    answer(work, client, Answer::LogFull { need, room })
 }
 
 /// A client begins a transaction. Where the log has no room for its records the client is told so; where
 /// the last number of a transaction was given nothing happens.
 pub fn begin_command<F: Server, X: Server>(
     work: &mut Work<Servers<F, X>>,
-    line: &ScriptLine,
+    line: ScriptLine,
 ) -> Result<(), NoMemory>
-    ensures ok { OnOk result (work.new ≡ begin_command line.now work.old) }
+    ensures ok { OnOk result (work.new ≡ begin_command line work.old) }
     ensures saved { work.new.node.kept.saved ≡ work.old.node.kept.saved }
 {
     match work.node.manager.begin(line.client, work.room) {

@@ -14,10 +14,10 @@ ghost use Rattle.qs_step.specs.Settling.{settle};
 ghost use Rattle.qs_step.specs.Step.{happen, answer_waiting, step_work, effects_of, accept};
 
 use crate::closing::close_kept;
-use crate::commanding::answer_waiting;
 use crate::happening::happen;
 use crate::resuming::begin_incarnation;
 use crate::taking_up::{open_servers, opened_manager};
+use crate::waiting::answer_waiting;
 use qs_base::{List, NoMemory, ServerNo};
 use qs_ipc::Ipc;
 use qs_kept::{Keeping, Kept};
