@@ -17,8 +17,8 @@ use Rattle.qs_cell.specs.Restart.{in_round_as, IsRestarted}
 use Rattle.qs_cell.specs.State.{Up, IsSeenAs, state_of, state_after, carried_of, StartsAgain}
 use Rattle.qs_cell.specs.Visits.{Seat, MakesIn, TakesTurn, Turns, IsBroken, TurnsAll, TurnsSome, Visits, Breaks, Grows, entries_in, due, left_by}
 use Rattle.qs_cell.specs.declared.cell.Source.{Source}
-use Rattle.qs_cell.specs.declared.running.Outcome.{Outcome}
-use Rattle.qs_cell.specs.declared.running.Outcome.TheVariants as outcomes
+use Rattle.qs_cell.specs.Outcomes.{Outcome}
+use Rattle.qs_cell.specs.Outcomes as outcomes
 use Rattle.qs_cell.specs.declared.state.NodeState.{NodeState}
 use Rattle.qs_cell.specs.declared.state.NodeState.TheVariants as states
 use Rattle.qs_cell.specs.declared.state.RestartFault.{RestartFault}

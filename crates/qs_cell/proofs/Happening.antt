@@ -1,5 +1,5 @@
 -- What an event does with the log and leaves on the disk, by its stages.
-use Rattle.std.proofs.Common.{◌≡◌, ◌∙◌, ap, subst, sym, ℕ, Bool, false, List}
+use Rattle.std.proofs.Common.{◌≡◌, ◌∙◌, ap, subst, sym, refl, ℕ, Bool, false, List}
 use Rattle.std.specs.Prelude.{None, Some, if◌then◌else◌}
 use Rattle.std.specs.List.{list_any}
 use Rattle.qs_disk.specs.Disk.{DiskState}
@@ -20,8 +20,10 @@ use Rattle.qs_chronicle.specs.declared.carried.Carried.{Carried}
 use Rattle.qs_chronicle.specs.declared.occasion.Occasion.{Occasion}
 use Rattle.qs_cell.specs.Cell.{IfStands, StandsAfter, disk_after, ordered, planned, planned_after, out_of}
 use Rattle.qs_cell.specs.Within.{HasBegun, IsWorkedOut, HasStepped}
-use Rattle.qs_cell.specs.declared.running.Outcome.{Outcome}
-use Rattle.qs_cell.specs.declared.running.Outcome.TheVariants as outcomes
+use Rattle.qs_cell.specs.Outcomes.{Outcome, outcome_of}
+use Rattle.qs_cell.specs.Outcomes as outcomes
+use Rattle.qs_cell.specs.declared.running.Fate.{Fate}
+use Rattle.qs_cell.specs.declared.running.Fate.TheVariants as fates
 use Rattle.qs_cell.specs.declared.running.Running.{Running}
 
 -- ---- a disk that nothing was written to
@@ -93,6 +95,13 @@ has_stepped {D} size occasion old host new carried out work node log = record {
   begun = work.begun;
   unplanned = work.unplanned;
 }
+
+-- it is the disk of the node that made it
+pub disk_left : {D F X : Type 0} (fate : Fate) (running : Running D F X) → disk_after (outcome_of fate running) ≡ running.host.log.disk
+disk_left (fates.Whole answers) running = refl
+disk_left (fates.Followed answers) running = refl
+disk_left (fates.Replaced cause) running = refl
+disk_left (fates.CutOff cause) running = refl
 
 if_stands : {D F X : Type 0} (outcome : Outcome D F X) (P : FusedValue D → Type 0) → P (disk_after outcome) → IfStands outcome P
 if_stands (outcomes.Whole running answers) P p = p

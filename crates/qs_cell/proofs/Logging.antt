@@ -26,8 +26,8 @@ use Rattle.qs_cell.specs.Restart.{IfUp}
 use Rattle.qs_cell.specs.Starts.{LogGoesOn}
 use Rattle.qs_cell.specs.State.{StartsAgain, Up, disk_of, state_after, state_of}
 use Rattle.qs_cell.specs.Visits.{MakesIn}
-use Rattle.qs_cell.specs.declared.running.Outcome.{Outcome}
-use Rattle.qs_cell.specs.declared.running.Outcome.TheVariants as outcomes
+use Rattle.qs_cell.specs.Outcomes.{Outcome}
+use Rattle.qs_cell.specs.Outcomes as outcomes
 use Rattle.qs_cell.specs.declared.state.NodeState.{NodeState}
 use Rattle.qs_cell.specs.declared.state.NodeState.TheVariants as states
 use Rattle.qs_cell.specs.declared.state.RestartFault.{RestartFault}

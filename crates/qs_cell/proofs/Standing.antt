@@ -9,6 +9,7 @@ use Rattle.qs_disk.specs.Moments.{Keeps}
 use Rattle.qs_files.specs.declared.files.Files.{Files}
 use Rattle.qs_host.specs.Host.{HostValue, IsLogAfter, IsOldOrAfter}
 use Rattle.qs_incarnation.specs.Incarnation.{open_limit, IsLeftOrRaised, IsRaisedLog, IsReopened, IsArmed, HasOneOf}
+use Rattle.qs_journal.specs.declared.entry.CrashCause.{CrashCause}
 use Rattle.qs_journal.specs.declared.script_line.Point.{Point}
 use Rattle.qs_lanes.specs.declared.ends.NodeEnds.{NodeEnds}
 use Rattle.qs_log.specs.Log.{LogValue, Stands, records_of}
@@ -18,7 +19,6 @@ use Rattle.qs_restart.specs.declared.recovered.Recovered.{Recovered}
 use Rattle.qs_ops.specs.declared.no_server.NoServer.{NoServer}
 use Rattle.qs_step.specs.declared.event.ClientAnswer.{ClientAnswer}
 use Rattle.qs_step.specs.declared.event.Effects.{Effects}
-use Rattle.qs_step.specs.Opening.{recovered_of}
 use Rattle.qs_step.specs.declared.setting.Setting.{Setting}
 use Rattle.qs_world.specs.Histories.{opened_with}
 use Rattle.qs_chronicle.specs.Carried.{Seen}
@@ -29,9 +29,12 @@ use Rattle.qs_cell.specs.Cell.{IsOutcome, IfStands, StandsAfter, out_of, disk_af
 use Rattle.qs_cell.specs.Restart.{IsRestarted, IfUp, restarted_disk, found_in}
 use Rattle.qs_cell.specs.Starts.{IsSound, IsStarted, LogGoesOn, Begins, setting_in}
 use Rattle.qs_cell.specs.State.{Up, IsSeenAs, LogStands, IsAllowed, Restarts, state_of, answers_of, state_after, answer_after, carried_of, disk_of}
-use Rattle.qs_cell.specs.Visits.{Makes}
-use Rattle.qs_cell.specs.declared.running.Outcome.{Outcome}
-use Rattle.qs_cell.specs.declared.running.Outcome.TheVariants as outcomes
+use Rattle.qs_cell.specs.Visits.{Makes, MakesIn}
+use Rattle.qs_cell.proofs.Happening.{disk_left}
+use Rattle.qs_cell.specs.Outcomes.{Outcome, outcome_of, stopped_of}
+use Rattle.qs_cell.specs.Outcomes as outcomes
+use Rattle.qs_cell.specs.declared.running.Fate.{Fate}
+use Rattle.qs_cell.specs.declared.running.Fate.TheVariants as fates
 use Rattle.qs_cell.specs.declared.starting.NodePlan.{NodePlan}
 use Rattle.qs_cell.specs.declared.state.NodeState.{NodeState}
 use Rattle.qs_cell.specs.declared.state.NodeState.TheVariants as states
@@ -83,6 +86,25 @@ makes_of {D} told state own size occasion old outcome new answers is node said s
       Keeps (IsOldOrAfter (out_of (size old.host.log.disk.disk) occasion old) old.host.log) (state old.host.log.disk.disk) (state d.disk))
       (disk_made outcome ∙ ap (λ (n : NodeState D). disk_of n) (sym node)) (moments yes);
 }
+
+-- a node that a crash stopped is down, and answers nobody
+pub left_down : {D : Type 0} (fate : Fate) (cause : CrashCause) (running : Up D) → (fate ≡ fates.Replaced cause) ⊎ (fate ≡ fates.CutOff cause)
+    → (state_of (outcome_of fate running) ≡ states.Down (stopped_of cause running)) × (answers_of (outcome_of fate running) ≡ [])
+left_down fate cause running (inl is) = rw is (refl, refl)
+left_down fate cause running (inr is) = rw is (refl, refl)
+
+-- by how it left the node, and what it left of it
+pub makes_by : {D : Type 0} (told : Type 0) (state : D → DiskState) (own size : D → ℕ) (occasion : Occasion) (from new : NodeState D) (old running : Up D) (fate : Fate)
+    (answers : List ClientAnswer) → from ≡ states.Up old → IsOutcome own (size old.host.log.disk.disk) occasion old (outcome_of fate running) → new ≡ state_of (outcome_of fate running)
+    → answers ≡ answers_of (outcome_of fate running)
+    → (told → IfStands (outcome_of fate running) (λ disk. StandsAfter (out_of (size old.host.log.disk.disk) occasion old) old.host.log disk (state disk.disk)))
+    → (told → Keeps (IsOldOrAfter (out_of (size old.host.log.disk.disk) occasion old) old.host.log) (state old.host.log.disk.disk) (state running.host.log.disk.disk))
+    → MakesIn told state own size occasion from new answers
+makes_by {D} told state own size occasion from new old running fate answers up is node said stands moments =
+    subst (λ (before : NodeState D). MakesIn told state own size occasion before new answers) (sym up)
+    (makes_of told state own size occasion old (outcome_of fate running) new answers is node said stands (λ yes.
+    subst (λ (d : FusedValue D). Keeps (IsOldOrAfter (out_of (size old.host.log.disk.disk) occasion old) old.host.log) (state old.host.log.disk.disk) (state d.disk))
+    (sym (disk_left fate running)) (moments yes)))
 
 -- what is seen changes alone
 pub sound_seen : {D : Type 0} (told : Type 0) (state : D → DiskState) (opened : Opened) (f : Seen → Seen) (old new : NodeState D) → IsSeenAs f old new → IsSound told state opened old

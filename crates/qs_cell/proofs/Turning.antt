@@ -4,8 +4,10 @@ use Rattle.std.specs.Prelude.{Option, Some, None, Result, Ok, Err, OnOk, OnErr}
 use Rattle.qs_disk.specs.Disk.{DiskState}
 use Rattle.qs_step.specs.declared.event.ClientAnswer.{ClientAnswer}
 use Rattle.qs_chronicle.specs.declared.occasion.Occasion.{Occasion}
+use Rattle.qs_cell.specs.Joined.{HaveSameRings}
 use Rattle.qs_cell.specs.Visits.{Seat, Turns, TakesTurn, MakesIn, IsBroken, TurnsAll, TurnsSome, IsSameNode, sources_of, due, left_by, all_delivered}
 use Rattle.qs_cell.specs.declared.cell.Source.{Source}
+use Rattle.qs_cell.specs.declared.cell.Source.TheVariants as sources
 use Rattle.qs_cell.specs.declared.state.NodeState.{NodeState}
 use Rattle.qs_cell.specs.declared.state.NodeState.TheVariants as states
 use Rattle.qs_lanes.specs.declared.ends.NodeEnds.{NodeEnds}
@@ -84,6 +86,21 @@ module _ {D : Type 0} (told : Type 0) (state : D → DiskState) (own size : D �
       subst (λ (s : Seat D). IsBroken told state own size source s new) is (inr (ready, (same, (occasion, (some, (answers, makes))))))
 
 -- ---- what stays
+
+-- the sources of a visit are those of its clients
+same_sources : (old new : List NodeEnds) → HaveSameRings old new → sources_of new ≡ sources_of old
+same_sources [] [] same = refl
+same_sources (x ∷ xs) (y ∷ ys) same =
+    ap (λ client. sources.Client client ∷ sources_of ys) same.0.client ∙ ap (λ (rest : List Source). sources.Client x.client ∷ rest) (same_sources xs ys same.1)
+same_sources [] (y ∷ ys) same = absurd same
+same_sources (x ∷ xs) [] same = absurd same
+
+-- also as a slice lends them
+pub sources_now : (old now lent : List NodeEnds) → lent ≡ now → HaveSameRings old now → sources_of lent ≡ sources_of old
+sources_now old now lent is same = ap sources_of is ∙ same_sources old now same
+
+pub within : (old lent : List NodeEnds) (place count : ℕ) → lent ≡ old → count ≡ length (sources_of lent) → place < count → place < length (sources_of old)
+within old lent place count is count_is less = subst (λ (n : ℕ). place < n) (count_is ∙ ap (λ (ends : List NodeEnds). length (sources_of ends)) is) less
 
 pub on_err_all : {T E A : Type 0} (result : Result T E) → A → OnErr result A
 on_err_all (Ok t) a = tt

@@ -13,8 +13,8 @@ use Rattle.qs_step.specs.declared.event.Effects.{Effects}
 use Rattle.qs_step.specs.declared.trace.Did.TheVariants as dids
 use Rattle.qs_chronicle.specs.declared.occasion.Occasion.{Occasion}
 use Rattle.qs_points.specs.declared.points.Watched.{Watched}
-use Rattle.qs_cell.specs.declared.running.Outcome.{Outcome}
-use Rattle.qs_cell.specs.declared.running.Outcome.TheVariants as outcomes
+use Rattle.qs_cell.specs.Outcomes.{Outcome}
+use Rattle.qs_cell.specs.Outcomes as outcomes
 use Rattle.qs_cell.specs.declared.running.Running.{Running}
 use Rattle.qs_cell.specs.declared.stopped.Stopped.{Stopped}
 use Rattle.qs_chronicle.specs.Carried.{Seen, seen, answered, is_replaced}

@@ -1,3 +1,5 @@
+-- What comes of an event: the node after it, or what is left of one that stopped.
+pub mod Outcomes
 -- What an event of a cell does: a whole step, and the crashes in place of it, within it and behind it.
 pub mod Cell
 -- What a restart finds, and what it makes of the cell.

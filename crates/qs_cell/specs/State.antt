@@ -18,8 +18,8 @@ use Rattle.qs_step.specs.declared.event.ClientAnswer.{ClientAnswer}
 use Rattle.qs_tm.specs.Manager as tm
 use Rattle.qs_chronicle.specs.Carried.{Seen, seen}
 use Rattle.qs_chronicle.specs.declared.carried.Carried.{Carried}
-use Rattle.qs_cell.specs.declared.running.Outcome.{Outcome}
-use Rattle.qs_cell.specs.declared.running.Outcome.TheVariants as outcomes
+use Rattle.qs_cell.specs.Outcomes.{Outcome, stopped_of}
+use Rattle.qs_cell.specs.Outcomes as outcomes
 use Rattle.qs_cell.specs.declared.running.Running.{Running}
 use Rattle.qs_cell.specs.Restart.{IsRestarted, IfUp}
 use Rattle.qs_cell.specs.declared.state.NodeState.{NodeState}
@@ -66,6 +66,11 @@ IsSeenAs f (states.Down old) (states.Down new) =
     (new.disk ≡ old.disk) × ((new.kept ≡ old.kept) × ((new.cause ≡ old.cause)
     × ((seen new.carried ≡ f (seen old.carried)) × (new.carried.setting ≡ old.carried.setting))))
 IsSeenAs f old new = ⊥
+
+-- a node that is up stops
+abbrev pub stopped_state : {D : Type 0} → CrashCause → NodeState D → NodeState D
+stopped_state cause (states.Up running) = states.Down (stopped_of cause running)
+stopped_state cause (states.Down stopped) = states.Down stopped
 
 -- ---- after an event
 

@@ -27,7 +27,7 @@ use Rattle.qs_cell.specs.State.{Up, IsSeenAs, disk_of, carried_of, is_queued, st
 use Rattle.qs_cell.specs.declared.cell.Source.{Source}
 use Rattle.qs_cell.specs.declared.cell.Source.TheVariants as sources
 use Rattle.qs_lanes.specs.declared.ends.NodeEnds.{NodeEnds}
-use Rattle.qs_cell.specs.declared.running.Outcome.{Outcome}
+use Rattle.qs_cell.specs.Outcomes.{Outcome}
 use Rattle.qs_cell.specs.declared.state.NodeState.{NodeState}
 use Rattle.qs_cell.specs.declared.state.NodeState.TheVariants as states
 

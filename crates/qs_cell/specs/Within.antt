@@ -8,7 +8,6 @@ use Rattle.qs_incarnation.specs.declared.counts.Counts.{Counts}
 use Rattle.qs_incarnation.specs.declared.incarnation.ReopenFault.{ReopenFault}
 use Rattle.qs_incarnation.specs.declared.incarnation.ReopenFault.TheVariants as reopen_faults
 use Rattle.qs_journal.specs.declared.entry.CrashCause.{CrashCause}
-use Rattle.qs_kept.specs.declared.kept.Kept.{Kept}
 use Rattle.qs_log.specs.Log.{LogValue}
 use Rattle.qs_step.specs.declared.event.Effects.{Effects}
 use Rattle.qs_step.specs.declared.trace.Did.TheVariants as dids
@@ -51,16 +50,16 @@ pub record HasStepped {D F X : Type 0} (size : ℕ) (occasion : Occasion) (old :
   pub begun : HasBegun occasion old.carried carried
   pub unplanned : IsUnplanned size occasion old
 
--- the node stopped, and this is left of it
-pub record IsStopped {D : Type 0} (left : FusedValue D) (keeps : Kept) (did : Did) (why : CrashCause) (old : Carried) (new : Stopped D) : Type 0 where
-  pub disk : new.disk ≡ left
-  pub kept : new.kept ≡ keeps
-  pub cause : new.cause ≡ why
-  pub told : new.carried.chronicle.told ≡ crashed did why old.chronicle.told
-  pub commands : new.carried.commands ≡ old.commands
-  pub crashes : new.carried.crashes ≡ old.crashes
-  pub points : new.carried.points.items ≡ old.points.items
-  pub setting : new.carried.setting ≡ old.setting
+-- the crash is told, and else what is carried stays
+pub record HasCrashed (did : Did) (cause : CrashCause) (old new : Carried) : Type 0 where
+  pub told : new.chronicle.told ≡ crashed did cause old.chronicle.told
+  pub commands : new.commands ≡ old.commands
+  pub crashes : new.crashes ≡ old.crashes
+  pub points : new.points.items ≡ old.points.items
+  pub setting : new.setting ≡ old.setting
+
+abbrev pub running_with : {D F X : Type 0} → HostValue (FusedValue D) → Carried → Running D F X
+running_with host carried = record { host = host; carried = carried }
 
 -- the node is still down with what it carries, over this disk
 pub record IsLeft {D : Type 0} (own : D → ℕ) (rest : Rest) (before : Counts) (left : FusedValue D) (stopped : Stopped D) (why : ReopenFault) : Type 0 where

@@ -1,5 +1,5 @@
 //! The cell of a node: its visits and restarts, between its clients and its disk.
-ghost use Rattle.std.specs.Prelude.{◌≡◌, ◌≤◌, ◌⊎◌, ℕ, false, drop, is_none, Err, IfOk, IfErr, OnOk, OnErr, IsTrue};
+ghost use Rattle.std.specs.Prelude.{◌≡◌, ◌≤◌, ◌<◌, ◌⊎◌, ℕ, false, drop, get_or, length, is_none, Err, IfOk, IfErr, OnOk, OnErr, IsTrue};
 ghost use Rattle.std.specs.List.{list_any};
 ghost use Rattle.qs_base.specs.Causes.{Rose};
 ghost use Rattle.qs_cell.specs.Joined.{HaveSameRings, StayJoined};
@@ -56,6 +56,9 @@ pub struct Visited {
     /// An entry other than that of a tick was made.
     pub noted: bool,
 }
+
+/// The queues and the clock, of which each node has one.
+const NODE_SOURCES: usize = 2;
 
 /// Where an event of a visit comes from.
 #[derive(Clone, Copy, Debug, PartialEq, Eq)]
@@ -173,19 +176,9 @@ impl<D: Disk> NodeCell<D> {
         ensures faults { self.new.faults ≡ self.old.faults }
         ensures rings { HaveSameRings self.old.seat.ends self.new.seat.ends }
     {
-        let sources = sources_of(self.alloc, self.ends.as_slice())?;
-        self.turn_each(sources.as_slice())
-    }
-
-    fn turn_each(&mut self, sources: &[Source]) -> Result<(), NoMemory>
-        ensures turns { OnOk result (TurnsAll D.told D.state D.fault_count D.byte_count sources.now self.old.seat self.new.seat) }
-        ensures breaks { OnErr result (TurnsSome D.told D.state D.fault_count D.byte_count sources.now self.old.seat self.new.seat) }
-        ensures opened { self.new.opened ≡ self.old.opened }
-        ensures faults { self.new.faults ≡ self.old.faults }
-        ensures rings { HaveSameRings self.old.seat.ends self.new.seat.ends }
-    {
-        for source in sources {
-            self.turn(*source)?;
+        for place in 0..source_count(self.ends.as_slice()) {
+            let source = source_at(self.ends.as_slice(), place);
+            self.turn(source)?;
         }
         Ok(())
     }
@@ -202,17 +195,7 @@ impl<D: Disk> NodeCell<D> {
         let Some(occasion) = next(&self.state, &mut self.ends, source)? else {
             return Ok(());
         };
-        let answers = mem::replace_with(
-            &mut self.state,
-            (self.alloc, occasion),
-            |state, made|
-                requires stands { D.told → LogStands D.state state }
-                requires room { HasRoom 1 1 (carried_of state).chronicle }
-                ensures makes { MakesIn D.told D.state D.fault_count D.byte_count made.1 state result.0 result.1 }
-                ensures stands { D.told → LogStands D.state result.0 }
-                ensures setting { (carried_of result.0).setting ≡ (carried_of state).setting }
-            { state.event(made.0, made.1) },
-        );
+        let answers = self.state.event(self.alloc, occasion);
         deliver_all(&mut self.ends, answers)
     }
 
@@ -379,17 +362,27 @@ fn rose(before: u64, now: u64) -> bool
     now > before || now == u64::MAX
 }
 
-/// The clients in order, then the queues, then the clock.
-fn sources_of(alloc: Global, ends: &[NodeEnds]) -> Result<Vec<Source>, NoMemory>
-    ensures { IfOk result (λ sources. sources.items ≡ sources_of ends.now) }
+/// How many sources a visit has.
+fn source_count(ends: &[NodeEnds]) -> usize
+    ensures { result ≡ length (sources_of ends.now) }
 {
-    let mut sources = Vec::new(alloc);
-    for end in ends {
-        sources.push(Source::Client { client: end.client })?;
+    ends.len() + NODE_SOURCES
+}
+
+/// The source at a place: the clients in order, then the queues, then the clock.
+fn source_at(ends: &[NodeEnds], place: usize) -> Source
+    requires { place < length (sources_of ends.now) }
+    ensures { (other : Source) → result ≡ get_or (sources_of ends.now) place other }
+{
+    if place < ends.len() {
+        Source::Client {
+            client: ends[place].client,
+        }
+    } else if place == ends.len() {
+        Source::Queues
+    } else {
+        Source::Clock
     }
-    sources.push(Source::Queues)?;
-    sources.push(Source::Clock)?;
-    Ok(sources)
 }
 
 /// The event that is due of that source; none of a node that is down. After `NoMemory`, which comes where memory was

@@ -9,7 +9,7 @@ mod stopped;
 
 pub use cell::{NodeCell, Visited};
 pub use qs_lanes::NodeEnds;
-pub use running::{Outcome, Running};
+pub use running::{Fate, Running};
 pub use starting::{CellOpen, NodePlan};
 pub use state::{NodeState, RestartFault};
 pub use stopped::{Restarted, Stopped};

@@ -1,12 +1,13 @@
 //! A node that is up, or down.
 ghost use Rattle.std.specs.Prelude.{◌≡◌, [], OnOk};
-ghost use Rattle.qs_cell.specs.State.{carried_of, cause_of, disk_of, is_queued, has_undecided, is_settled_node, IsSeenAs, LogStands, IsAllowed, StartsAgain, state_of, answers_of, state_after, answer_of, answer_after};
+ghost use Rattle.qs_cell.specs.State.{carried_of, cause_of, disk_of, is_queued, has_undecided, is_settled_node, IsSeenAs, LogStands, IsAllowed, StartsAgain, stopped_state, state_after, answer_of, answer_after};
 ghost use Rattle.qs_cell.specs.Visits.{MakesIn};
 ghost use Rattle.qs_cell.specs.Restart.{in_round_as};
 ghost use Rattle.qs_chronicle.specs.Chronicle.{HasRoom};
 
-use crate::running::{Outcome, Running};
+use crate::running::{Fate, Running};
 use crate::stopped::{Restarted, Stopped};
+use core::mem;
 use qs_base::{List, NoMemory};
 use qs_chronicle::{Carried, Occasion};
 use qs_disk::{Disk, Fused};
@@ -113,18 +114,53 @@ impl<D: Disk> NodeState<D> {
     }
 
     /// The event comes to the node, if it is up, and its answers go out. Room for a crash is to be made before.
-    pub fn event(self, alloc: Global, occasion: Occasion) -> (NodeState<D>, List<ClientAnswer>)
-        requires stands { D.told → LogStands D.state self }
-        requires room { HasRoom 1 1 (carried_of self).chronicle }
-        ensures makes { MakesIn D.told D.state D.fault_count D.byte_count occasion self result.0 result.1 }
-        ensures stands { D.told → LogStands D.state result.0 }
-        ensures setting { (carried_of result.0).setting ≡ (carried_of self).setting }
+    pub fn event(&mut self, alloc: Global, occasion: Occasion) -> List<ClientAnswer>
+        requires stands { D.told → LogStands D.state self.old }
+        requires room { HasRoom 1 1 (carried_of self.old).chronicle }
+        ensures makes { MakesIn D.told D.state D.fault_count D.byte_count occasion self.old self.new result }
+        ensures stands { D.told → LogStands D.state self.new }
+        ensures setting { (carried_of self.new).setting ≡ (carried_of self.old).setting }
     {
-        let running = match self {
-            NodeState::Up { running } => running,
-            NodeState::Down { .. } => return (self, List::new(alloc)),
+        let fate = match self {
+            NodeState::Up { running } => running.event(occasion),
+            NodeState::Down { .. } => return List::new(alloc),
         };
-        after_event(alloc, running.event(occasion))
+        match fate {
+            Fate::Whole { answers } => answers,
+            Fate::Followed { answers } => {
+                self.stop(CrashCause::Plan);
+                answers
+            }
+            Fate::Replaced { cause } | Fate::CutOff { cause } => {
+                self.stop(cause);
+                List::new(alloc)
+            }
+        }
+    }
+
+    /// A node that is up is down from now on.
+    fn stop(&mut self, cause: CrashCause)
+        ensures { self.new ≡ stopped_state cause self.old }
+    {
+        mem::replace_with(
+            self,
+            cause,
+            |state, cause|
+                ensures { result.0 ≡ stopped_state cause state }
+            { (state.into_stopped(cause), ()) },
+        );
+    }
+
+    /// It takes no memory.
+    fn into_stopped(self, cause: CrashCause) -> NodeState<D>
+        ensures { result ≡ stopped_state cause self }
+    {
+        match self {
+            NodeState::Up { running } => NodeState::Down {
+                stopped: running.into_stopped(cause),
+            },
+            down => down,
+        }
     }
 
     /// A node that is down starts again, and the answer says whether it is up. A node that is up is left alone.
@@ -191,22 +227,6 @@ fn parts<D: Disk>(disk: Fused<D>, carried: Carried) -> (Fused<D>, List<Entry>, L
 {
     let (journal, trace) = carried.chronicle.into_parts();
     (disk, journal, trace)
-}
-
-fn after_event<D: Disk>(
-    alloc: Global,
-    outcome: Outcome<D, Files, NoServer>,
-) -> (NodeState<D>, List<ClientAnswer>)
-    ensures state { result.0 ≡ state_of outcome }
-    ensures answers { result.1 ≡ answers_of outcome }
-{
-    match outcome {
-        Outcome::Whole { running, answers } => (NodeState::Up { running }, answers),
-        Outcome::Followed { stopped, answers } => (NodeState::Down { stopped }, answers),
-        Outcome::Replaced { stopped } | Outcome::CutOff { stopped } => {
-            (NodeState::Down { stopped }, List::new(alloc))
-        }
-    }
 }
 
 fn after_restart<D: Disk>(

@@ -2,7 +2,7 @@
 ghost use Rattle.std.specs.Prelude.{◌≡◌, ◌⊎◌, ◌≤◌, ◌∷◌, List, [], map, None, IfOk, OnOk};
 ghost use Rattle.qs_chronicle.specs.Chronicle.{HasRoom, noted, stamped};
 ghost use Rattle.qs_cell.specs.Restart.{IsRestarted, IsWhyDown, IfUp, restarted_disk, found_of, restart_of};
-ghost use Rattle.qs_cell.specs.Within.{IsStopped, IsLeftDown, Begins};
+ghost use Rattle.qs_cell.specs.Within.{IsLeftDown, Begins};
 ghost use Rattle.qs_cell.specs.declared.stopped.Restarted.TheVariants as restarts;
 ghost use Rattle.qs_disk.specs.Disk.{EachImage};
 ghost use Rattle.qs_disk.specs.Moments.{Keeps};
@@ -37,41 +37,6 @@ pub struct Stopped<D: Disk> {
     /// Why it stopped.
     pub cause: CrashCause,
     pub carried: Carried,
-}
-
-/// The node stops in such a step. It takes no memory.
-pub fn stop<D: Disk, F: Server, X: Server>(
-    host: Host<Fused<D>, F, X>,
-    carried: Carried,
-    did: Did,
-    cause: CrashCause,
-) -> Stopped<D>
-    requires room { HasRoom 1 1 carried.chronicle }
-    ensures { IsStopped host.log.disk host.node.kept.saved did cause carried result }
-{
-    let (disk, kept, _) = host.into_parts();
-    stopped_with(disk, kept, carried, did, cause)
-}
-
-/// The node stopped in such a step, and this is left of it. It takes no memory.
-pub fn stopped_with<D: Disk>(
-    disk: Fused<D>,
-    kept: Kept,
-    carried: Carried,
-    did: Did,
-    cause: CrashCause,
-) -> Stopped<D>
-    requires room { HasRoom 1 1 carried.chronicle }
-    ensures { IsStopped disk kept did cause carried result }
-{
-    let mut carried = carried;
-    carried.chronicle.note_crash(did, cause);
-    Stopped {
-        disk,
-        kept,
-        cause,
-        carried,
-    }
 }
 
 /// What comes of a restart.

@@ -1,0 +1,2 @@
+-- Entries that are added one by one.
+pub mod Entries

@@ -59,6 +59,10 @@ in_round told = record told { rounds = counted told.rounds }
 abbrev pub entry_of : NodeNo → ℕ → Act → Entry
 entry_of node stamp act = record { stamp = stamp; node = node; act = act }
 
+-- one more entry, with the node and the stamp that stands
+abbrev pub with_entry : Told → Act → Told
+with_entry told act = record told { journal = told.journal ++ entry_of told.node told.stamp act ∷ [] }
+
 abbrev pub step_of : Told → Did → Option CrashCause → Step
 step_of told did crash = record {
   stamp = told.stamp;

@@ -1,8 +1,8 @@
 //! What a cell tells: its journal, its trace, and its counts.
-ghost use Rattle.std.specs.Prelude.{◌≡◌, ◌≤◌, ◌<◌, ◌+◌, ◌++◌, ◌∷◌, map, length, Some, None, [], IfOk, OnOk};
-ghost use Rattle.qs_chronicle.specs.Chronicle.{HasRoom, new_told, is_last, stamped, numbered, in_round, entry_of, step_of, stepped, noted, crashed};
+ghost use Rattle.std.specs.Prelude.{◌≡◌, ◌≤◌, ◌<◌, ◌+◌, ◌++◌, ◌∷◌, fold, length, Some, None, [], IfOk, OnOk};
+ghost use Rattle.qs_chronicle.specs.Chronicle.{HasRoom, new_told, is_last, stamped, numbered, in_round, with_entry, step_of, noted, crashed};
 
-use qs_base::{Copied, List, NoMemory, NodeNo, Stamp};
+use qs_base::{List, NoMemory, NodeNo, Stamp};
 use qs_journal::{Act, CrashCause, Entry};
 use qs_points::Tape;
 use qs_step::{Did, Step};
@@ -110,21 +110,14 @@ impl Chronicle {
         self.pages.rounds = self.pages.rounds.saturating_add(1);
     }
 
-    /// Entries of these acts, with the node and the stamp that stands. `NoMemory` comes where memory was refused.
-    pub fn entries_of(&self, acts: &[Act]) -> Result<List<Entry>, NoMemory>
-        ensures { IfOk result (λ entries. entries ≡ map (entry_of self.now.told.node self.now.told.stamp) acts.now) }
-    {
-        entries_of(self.pages.alloc, self.pages.node, self.pages.stamp, acts)
-    }
-
-    /// A step with these entries, for which there is room. It takes no memory.
-    pub fn note(&mut self, did: Did, entries: List<Entry>)
-        requires room { HasRoom (length entries) 1 self.old }
-        ensures told { self.new.told ≡ stepped did entries None self.old.told }
-        ensures entries { self.old.entries ≤ self.new.entries + length entries }
+    /// A step with the entries of these acts, for which there is room. It takes no memory.
+    pub fn note(&mut self, did: Did, acts: List<Act>)
+        requires room { HasRoom (length acts) 1 self.old }
+        ensures told { self.new.told ≡ noted did acts None self.old.told }
+        ensures entries { self.old.entries ≤ self.new.entries + length acts }
         ensures steps { self.old.steps ≤ self.new.steps + 1 }
     {
-        self.pages.journal.append(entries);
+        self.add_entries(acts);
         self.add_step(did, None);
     }
 
@@ -146,10 +139,23 @@ impl Chronicle {
         self.add_step(did, None);
     }
 
+    /// Entries with the node and the stamp that stands.
+    fn add_entries(&mut self, acts: List<Act>)
+        requires room { length acts ≤ self.old.entries }
+        ensures told { self.new.told ≡ fold with_entry self.old.told acts }
+        ensures entries { self.old.entries ≤ self.new.entries + length acts }
+        ensures steps { self.new.steps ≡ self.old.steps }
+    {
+        for act in acts.into_vec() {
+            self.add_entry(act);
+        }
+    }
+
     /// An entry with the node and the stamp that stands.
     fn add_entry(&mut self, act: Act)
         requires room { 0 < self.old.entries }
-        ensures told { self.new.told ≡ record self.old.told { journal = self.old.told.journal ++ entry_of self.old.told.node self.old.told.stamp act ∷ [] } }
+        ensures told { self.new.told ≡ with_entry self.old.told act }
+        ensures entries { self.old.entries ≤ self.new.entries + 1 }
         ensures steps { self.new.steps ≡ self.old.steps }
     {
         let entry = Entry {
@@ -215,23 +221,4 @@ impl Chronicle {
     {
         self.pages.rounds
     }
-}
-
-fn entries_of(
-    alloc: Global,
-    node: NodeNo,
-    stamp: Stamp,
-    acts: &[Act],
-) -> Result<List<Entry>, NoMemory>
-    ensures { IfOk result (λ entries. entries ≡ map (entry_of node stamp) acts.now) }
-{
-    let mut entries = List::new(alloc);
-    for act in acts {
-        entries.push(Entry {
-            stamp,
-            node,
-            act: act.copy()?,
-        })?;
-    }
-    Ok(entries)
 }

@@ -1,5 +1,5 @@
 -- What a step makes of the log, and what stands on the disk meanwhile: the records of before, or those of after it.
-use Rattle.std.proofs.Common.{◌≡◌, ◌∙◌, sym, subst, ap, inl, Bool, true, List, [], ◌∷◌, ◌++◌, fold, append_assoc}
+use Rattle.std.proofs.Common.{◌≡◌, ◌∙◌, sym, subst, ap, inl, Bool, true, List, [], ◌∷◌, fold, append_assoc}
 use Rattle.std.proofs.lemmas.List.{append-nil}
 use Rattle.std.proofs.lemmas.List.Sums.{fold-append}
 use Rattle.qs_disk.specs.Disk.{DiskState}
@@ -10,7 +10,7 @@ use Rattle.qs_record.specs.declared.record.Record.{Record}
 use Rattle.qs_room.specs.Room.{Tids, after_record, unended}
 use Rattle.qs_step.specs.declared.event.Effects.{Effects}
 use Rattle.qs_step.specs.State.{NodeValue}
-use Rattle.qs_host.specs.Host.{HostValue, HasEither, IsOldOrAfter, IsLogAfter, appended, with_record, forced_if}
+use Rattle.qs_host.specs.Host.{HostValue, AreUnended, HasEither, IsOldOrAfter, IsLogAfter, appended, with_record, forced_if}
 
 -- ---- records that wait
 
@@ -24,11 +24,20 @@ appended_each log (r ∷ rs) =
 pub appended_as : {D : Type 0} (old mid : LogValue D) (lent records : List Record) → lent ≡ records → mid ≡ fold with_record old lent → mid ≡ appended records old
 appended_as old mid lent records same is = is ∙ appended_each old lent ∙ ap (λ (rs : List Record). appended rs old) same
 
--- the transactions that are not ended are those of the log with these records
-pub unended_after : {D : Type 0} (old new : LogValue D) (records : List Record) (before after : Tids) → before ≡ unended (records_of old)
-    → after ≡ fold after_record before records → records_of new ≡ records_of old ++ records → after ≡ unended (records_of new)
-unended_after old new records before after is grown same =
-    grown ∙ ap (λ (tids : Tids). fold after_record tids records) is ∙ sym (fold-append after_record [] (records_of old) records) ∙ ap unended (sym same)
+-- the transactions that are not ended are those of the log, also once one more record waits
+pub unended_one_more : {D : Type 0} (old new : LogValue D) (rec : Record) (before after : Tids) → new ≡ with_record old rec → after ≡ after_record before rec
+    → AreUnended before old → AreUnended after new
+unended_one_more {D} old new rec before after grown turned is =
+    turned ∙ ap (λ (tids : Tids). after_record tids rec) is ∙ sym (fold-append after_record [] (records_of old) (rec ∷ []))
+    ∙ ap unended (sym (ap (λ (log : LogValue D). records_of log) grown ∙ sym (append_assoc old.forced old.waiting (rec ∷ []))))
+
+-- and where both stay
+pub unended_same : {D : Type 0} (old new : LogValue D) (before after : Tids) → new ≡ old → after ≡ before → AreUnended before old → AreUnended after new
+unended_same {D} old new before after same stays is = stays ∙ is ∙ ap (λ (log : LogValue D). unended (records_of log)) (sym same)
+
+-- and where the records stay
+pub unended_forced : {D : Type 0} (old new : LogValue D) (tids : Tids) → records_of new ≡ records_of old → AreUnended tids old → AreUnended tids new
+unended_forced old new tids same is = is ∙ ap unended (sym same)
 
 -- ---- a force, where one is due
 
@@ -40,10 +49,6 @@ pub unwritten : {D : Type 0} (log new : LogValue D) (s t : DiskState) → t ≡ 
 unwritten log new s t same stands = rw same (keeps_none (HasEither log new) s (each_still (HasEither log new) s stands.still (inl stands.forced)))
 
 -- ---- the step
-
-pub records_after : {D : Type 0} (records : List Record) (old mid new : LogValue D) → mid ≡ appended records old → records_of new ≡ records_of mid
-    → records_of new ≡ records_of old ++ records
-records_after records old mid new is same = same ∙ ap records_of is ∙ sym (append_assoc old.forced old.waiting records)
 
 pub after_is : {D : Type 0} (out : Effects) (old mid new : LogValue D) → mid ≡ appended out.records old → new ≡ record (forced_if out.force mid) { disk = new.disk } → IsLogAfter out old new
 after_is out old mid new is log = subst (λ (m : LogValue _). new ≡ record (forced_if out.force m) { disk = new.disk }) is log
@@ -59,8 +64,6 @@ abbrev pub host_with : {D : Type 0} → NodeValue → LogValue D → HostValue D
 host_with node log = record { node = node; log = log }
 
 -- seen as one
-pub host_moments : {D : Type 0} (out : Effects) (host : HostValue D) (node : NodeValue) (log : LogValue D) (state : D → DiskState) (end at : D)
-    → host_with node log ≡ host → at ≡ end → Keeps (IsOldOrAfter out log) (state log.disk) (state end) → Keeps (IsOldOrAfter out host.log) (state host.log.disk) (state at)
-host_moments {D} out host node log state end at is same kept =
-    subst (λ (h : HostValue D). Keeps (IsOldOrAfter out h.log) (state h.log.disk) (state at)) is
-    (subst (λ (x : D). Keeps (IsOldOrAfter out log) (state log.disk) (state x)) (sym same) kept)
+pub host_moments : {D : Type 0} (out : Effects) (host : HostValue D) (node : NodeValue) (log : LogValue D) (state : D → DiskState) (end : DiskState)
+    → host_with node log ≡ host → Keeps (IsOldOrAfter out log) (state log.disk) end → Keeps (IsOldOrAfter out host.log) (state host.log.disk) end
+host_moments {D} out host node log state end is kept = subst (λ (h : HostValue D). Keeps (IsOldOrAfter out h.log) (state h.log.disk) end) is kept

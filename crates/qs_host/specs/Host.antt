@@ -1,10 +1,10 @@
 -- A node over its log: what is free to a step, what the log is after it, and what a step that is cut off leaves on the disk.
-use Rattle.std.specs.Prelude.{◌≡◌, ◌⊎◌, ◌&&◌, ◌==◌, ℕ, Bool, not, length, List, [], ◌∷◌, ◌++◌, Result, Ok, Err, if◌then◌else◌}
+use Rattle.std.specs.Prelude.{◌≡◌, ◌⊎◌, ◌&&◌, ◌==◌, ℕ, Bool, not, length, List, [], ◌∷◌, ◌++◌, if◌then◌else◌}
 use Rattle.std.specs.Global.{Global}
 use Rattle.qs_kept.specs.declared.kept.Kept.{Kept}
 use Rattle.qs_log.specs.Image.{IsLog}
 use Rattle.qs_log.specs.Log.{LogValue, records_of, room_of, forced_of}
-use Rattle.qs_room.specs.Room.{unended, free_room}
+use Rattle.qs_room.specs.Room.{Tids, unended, free_room}
 use Rattle.qs_record.specs.declared.record.Record.{Record}
 use Rattle.qs_step.specs.Opening.{recovered_of, opened_node}
 use Rattle.qs_step.specs.State.{NodeValue}
@@ -13,7 +13,6 @@ use Rattle.qs_step.specs.declared.setting.Setting.{Setting}
 use Rattle.qs_step.specs.declared.event.Effects.{Effects}
 use Rattle.qs_step.specs.declared.event.Event.{Event}
 use Rattle.qs_tm.specs.Manager as tm
-use Rattle.qs_host.specs.declared.down.HostDown.{HostDown}
 
 pub record HostValue (D : Type 0) : Type 0 where
   pub node : NodeValue
@@ -46,6 +45,10 @@ is_settled host = not (tm.has_undecided host.node.manager) && (length (unended (
 
 -- ---- what it does with the log
 
+-- the transactions are those that have a record in the log and are not ended there
+abbrev pub AreUnended : {D : Type 0} → Tids → LogValue D → Type 0
+AreUnended tids log = tids ≡ unended (records_of log)
+
 -- a record waits behind those that wait
 abbrev pub with_record : {D : Type 0} → LogValue D → Record → LogValue D
 with_record log rec = record log { waiting = log.waiting ++ rec ∷ [] }
@@ -76,8 +79,3 @@ HasEither old new image = HasForced old image ⊎ HasForced new image
 -- those of before the step, or those of after it
 abbrev pub IsOldOrAfter : {D : Type 0} → Effects → LogValue D → List ℕ → Type 0
 IsOldOrAfter out old image = HasEither old (log_after out old) image
-
--- the disk, whether the step stands or is cut off
-abbrev pub disk_of : {D X : Type 0} → Result (HostValue D) (HostDown D X) → D
-disk_of (Ok host) = host.log.disk
-disk_of (Err down) = down.disk

@@ -1,46 +1,95 @@
 //! How the records of a step go to the log.
-ghost use Rattle.std.specs.Prelude.{◌≡◌, ◌≤◌, ◌++◌, OnOk, OnErr, fold, Err};
+ghost use Rattle.std.specs.Prelude.{◌≡◌, ◌≤◌, OnOk, OnErr, fold, Err};
 ghost use Rattle.qs_base.specs.Causes.{HasCause, Rose};
 ghost use Rattle.qs_disk.specs.Moments.{Keeps};
 ghost use Rattle.qs_log.specs.Log.{Stands, records_of};
-ghost use Rattle.qs_room.specs.Room.{after_record};
-ghost use Rattle.qs_host.specs.Host.{IsLogAfter, IsOldOrAfter, HasEither, forced_if, with_record};
-ghost use Rattle.qs_host.specs.declared.down.HostFault.TheVariants.{Disk as OfDisk};
+ghost use Rattle.qs_record.specs.Grammar.{IsRecord};
+ghost use Rattle.qs_room.specs.Room.{opened, ended, after_record};
+ghost use Rattle.qs_host.specs.Host.{AreUnended, IsLogAfter, IsOldOrAfter, HasEither, forced_if, with_record};
+ghost use Rattle.qs_host.specs.declared.fault.HostFault.TheVariants.{Disk as OfDisk};
 
-use crate::down::HostFault;
-use qs_base::NoMemory;
+use crate::fault::HostFault;
+use qs_base::{NoMemory, Tid};
 use qs_disk::{Disk, DiskFailed};
 use qs_log::Log;
 use qs_record::Record;
-use qs_room::{Unended, is_record};
+use qs_room::{Turn, Unended, is_record, turn_of};
 use qs_step::Effects;
 
-/// The record waits. One that has no spelling, or for which the log has no room, is a refusal of memory.
+/// The record waits. One that has no spelling, or for which the log has no room, is a refusal of memory. After a refusal all
+/// is as it was.
 fn append<D: Disk>(log: &mut Log<D>, unended: &mut Unended, rec: &Record) -> Result<(), NoMemory>
     ensures log { OnOk result (log.new ≡ with_record log.old rec.now) }
     ensures unended { OnOk result (unended.new ≡ after_record unended.old rec.now) }
-    ensures err { OnErr result (log.new ≡ log.old) }
+    ensures log_stays { OnErr result (log.new ≡ log.old) }
+    ensures unended_stays { OnErr result (unended.new ≡ unended.old) }
     ensures disk { log.new.disk ≡ log.old.disk }
     ensures stands { D.told → Stands log.old (D.state log.old.disk) → Stands log.new (D.state log.new.disk) }
 {
     if !is_record(rec) {
         return Err(NoMemory);
     }
-    unended.take_in(rec)?;
-    match log.append(rec) {
-        Ok(_) => Ok(()),
-        Err(_) => Err(NoMemory),
+    match turn_of(rec) {
+        Turn::Opens { tid } => append_open(log, unended, rec, tid),
+        Turn::Ends { tid } => append_end(log, unended, rec, tid),
     }
 }
 
-/// The records wait, in order. After a refusal some of them may wait.
+/// The record waits, of a transaction that it does not end. After a refusal all is as it was.
+fn append_open<D: Disk>(
+    log: &mut Log<D>,
+    unended: &mut Unended,
+    rec: &Record,
+    tid: Tid,
+) -> Result<(), NoMemory>
+    requires { IsRecord rec.now }
+    ensures log { OnOk result (log.new ≡ with_record log.old rec.now) }
+    ensures unended { OnOk result (unended.new ≡ opened tid unended.old) }
+    ensures log_stays { OnErr result (log.new ≡ log.old) }
+    ensures unended_stays { OnErr result (unended.new ≡ unended.old) }
+    ensures disk { log.new.disk ≡ log.old.disk }
+    ensures stands { D.told → Stands log.old (D.state log.old.disk) → Stands log.new (D.state log.new.disk) }
+{
+    let added = unended.open(tid)?;
+    if log.append(rec).is_ok() {
+        return Ok(());
+    }
+    if added {
+        unended.end(tid);
+    }
+    Err(NoMemory)
+}
+
+/// The record waits, which ends the transaction. After a refusal all is as it was.
+fn append_end<D: Disk>(
+    log: &mut Log<D>,
+    unended: &mut Unended,
+    rec: &Record,
+    tid: Tid,
+) -> Result<(), NoMemory>
+    requires { IsRecord rec.now }
+    ensures log { OnOk result (log.new ≡ with_record log.old rec.now) }
+    ensures unended { OnOk result (unended.new ≡ ended tid unended.old) }
+    ensures log_stays { OnErr result (log.new ≡ log.old) }
+    ensures unended_stays { OnErr result (unended.new ≡ unended.old) }
+    ensures disk { log.new.disk ≡ log.old.disk }
+    ensures stands { D.told → Stands log.old (D.state log.old.disk) → Stands log.new (D.state log.new.disk) }
+{
+    if log.append(rec).is_err() {
+        return Err(NoMemory);
+    }
+    unended.end(tid);
+    Ok(())
+}
+
+/// The records wait, in order. After a refusal some of them may wait; the unended transactions are those of the log even so.
 fn append_all<D: Disk>(
     log: &mut Log<D>,
     unended: &mut Unended,
     records: &[Record],
 ) -> Result<(), NoMemory>
     ensures log { OnOk result (log.new ≡ fold with_record log.old records.now) }
-    ensures unended { OnOk result (unended.new ≡ fold after_record unended.old records.now) }
+    ensures unended { AreUnended unended.old log.old → AreUnended unended.new log.new }
     ensures disk { log.new.disk ≡ log.old.disk }
     ensures stands { D.told → Stands log.old (D.state log.old.disk) → Stands log.new (D.state log.new.disk) }
 {
@@ -74,8 +123,7 @@ pub fn append_and_force<D: Disk>(
 ) -> Result<(), HostFault>
     requires stands { D.told → Stands log.old (D.state log.old.disk) }
     ensures log { OnOk result (IsLogAfter out.now log.old log.new) }
-    ensures records { OnOk result (records_of log.new ≡ records_of log.old ++ out.now.records) }
-    ensures unended { OnOk result (unended.new ≡ fold after_record unended.old out.now.records) }
+    ensures unended { AreUnended unended.old log.old → AreUnended unended.new log.new }
     ensures stands { D.told → OnOk result (Stands log.new (D.state log.new.disk)) }
     ensures moments { D.told → Keeps (IsOldOrAfter out.now log.old) (D.state log.old.disk) (D.state log.new.disk) }
     ensures size { D.byte_count log.new.disk ≡ D.byte_count log.old.disk }

@@ -1,5 +1,5 @@
 //! A node over its log.
-ghost use Rattle.std.specs.Prelude.{◌≡◌, ◌≤◌, ◌++◌, IfOk, IfErr, OnOk, Err, fold};
+ghost use Rattle.std.specs.Prelude.{◌≡◌, ◌≤◌, IfOk, IfErr, OnOk, OnErr, Err};
 ghost use Rattle.qs_base.specs.Causes.{Rose};
 ghost use Rattle.qs_disk.specs.Moments.{Keeps};
 ghost use Rattle.qs_ipc.specs.Ipc as ipc;
@@ -11,12 +11,11 @@ ghost use Rattle.qs_servers.specs.Servers.{server_at};
 ghost use Rattle.qs_step.specs.Opening.{recovered_of};
 ghost use Rattle.qs_step.specs.Step.{accept};
 ghost use Rattle.qs_tm.specs.Manager as tm;
-ghost use Rattle.qs_room.specs.Room.{after_record};
-ghost use Rattle.qs_host.specs.Host.{effects_at, worked_node, is_settled, opened_host, IsLogAfter, IsOldOrAfter, disk_of};
-ghost use Rattle.qs_host.specs.declared.down.HostFault.TheVariants.{Disk as OfDisk};
+ghost use Rattle.qs_host.specs.Host.{effects_at, worked_node, is_settled, opened_host, AreUnended, IsLogAfter, IsOldOrAfter};
+ghost use Rattle.qs_host.specs.declared.fault.HostFault.TheVariants.{Disk as OfDisk};
 
 use crate::appending::append_and_force;
-use crate::down::{HostDown, HostFault};
+use crate::fault::HostFault;
 use qs_base::{NoMemory, ServerNo};
 use qs_disk::Disk;
 use qs_kept::Kept;
@@ -53,16 +52,13 @@ pub struct HostOpen<D: Disk, X: Server> {
 }
 
 impl<D: Disk, F: Server, X: Server> Model for Host<D, F, X> {
-    ghost use Rattle.std.specs.Prelude.{◌≡◌};
-    ghost use Rattle.qs_log.specs.Log.{records_of};
-    ghost use Rattle.qs_room.specs.Room as room;
-    ghost use Rattle.qs_host.specs.Host.{HostValue};
+    ghost use Rattle.qs_host.specs.Host.{HostValue, AreUnended};
 
     ghost Value = { HostValue D };
 
     ghost view = { λ h. record { node = h.node; log = h.logged.value.log } };
 
-    ghost invariant = { λ h. h.logged.value.unended ≡ room.unended (records_of h.logged.value.log) };
+    ghost invariant = { λ h. AreUnended h.logged.value.unended h.logged.value.log };
 }
 
 impl<D: Disk, F: Server, X: Server> Host<D, F, X> {
@@ -124,40 +120,29 @@ impl<D: Disk, F: Server, X: Server> Host<D, F, X> {
     }
 
     /// Does with the log what was worked out: its records are appended, and forced where they are to be. Then the step
-    /// counts. Where it is cut off, the disk and what the node kept for its clients before the step are left; on the disk
+    /// counts. Where it is cut off, the node does not count it, and only `disk` and `into_parts` are of use: on the disk
     /// stand the records of before, or, of a step that forces them, those of after it.
     ///
     /// `Disk` comes only where the disk's count of faults rose. `NoMemory` comes for want of memory, and where a record has
     /// no spelling or no room. That no step makes such a record is not proved yet.
-    #[tactic(auto, using(crate::proofs::Carrying::unended_after))]
-    pub fn carry_out(self, out: &Effects) -> Result<Host<D, F, X>, HostDown<D, X>>
-        requires stands { D.told → Stands self.log (D.state self.log.disk) }
-        ensures node { IfOk result (λ host. host.node ≡ accept self.node) }
-        ensures log { IfOk result (λ host. IsLogAfter out.now self.log host.log) }
-        ensures stands { D.told → IfOk result (λ host. Stands host.log (D.state host.log.disk)) }
+    pub fn carry_out(&mut self, out: &Effects) -> Result<(), HostFault>
+        requires stands { D.told → Stands self.old.log (D.state self.old.log.disk) }
+        ensures node { OnOk result (self.new.node ≡ accept self.old.node) }
+        ensures log { OnOk result (IsLogAfter out.now self.old.log self.new.log) }
+        ensures stands { D.told → OnOk result (Stands self.new.log (D.state self.new.log.disk)) }
 
         // At each moment, also of a step that is cut off.
-        ensures moments { D.told → Keeps (IsOldOrAfter out.now self.log) (D.state self.log.disk) (D.state (disk_of result)) }
-        ensures size { D.byte_count (disk_of result) ≡ D.byte_count self.log.disk }
-        ensures later { D.fault_count self.log.disk ≤ D.fault_count (disk_of result) }
+        ensures moments { D.told → Keeps (IsOldOrAfter out.now self.old.log) (D.state self.old.log.disk) (D.state self.new.log.disk) }
+        ensures size { D.byte_count self.new.log.disk ≡ D.byte_count self.old.log.disk }
+        ensures later { D.fault_count self.old.log.disk ≤ D.fault_count self.new.log.disk }
 
         // What is left where it is cut off, and why it is.
-        ensures kept { IfErr result (λ down. down.kept ≡ self.node.kept.saved) }
-        ensures extra { IfErr result (λ down. X.state down.extra ≡ cleared self.node.servers.extra) }
-        ensures cause { IfErr result (λ down. down.why ≡ OfDisk → Rose (D.fault_count self.log.disk) (D.fault_count down.disk)) }
+        ensures kept { OnErr result (self.new.node ≡ self.old.node) }
+        ensures cause { result ≡ Err OfDisk → Rose (D.fault_count self.old.log.disk) (D.fault_count self.new.log.disk) }
     {
-        let Host { node, mut logged } = self;
-        match log_out(&mut logged, out) {
-            Ok(()) => {
-                let mut node = node;
-                node.accept();
-                Ok(Host { node, logged })
-            }
-            Err(why) => {
-                let Logged { log, .. } = Box::into_inner(logged);
-                Err(down(node, log, why))
-            }
-        }
+        log_out(&mut self.logged, out)?;
+        self.node.accept();
+        Ok(())
     }
 
     /// The disk, what the node kept for its clients at its last whole step, or was handed where there was none, and the
@@ -222,8 +207,7 @@ impl<D: Disk, F: Server, X: Server> Host<D, F, X> {
 fn log_out<D: Disk>(logged: &mut Logged<D>, out: &Effects) -> Result<(), HostFault>
     requires stands { D.told → Stands logged.old.log (D.state logged.old.log.disk) }
     ensures log { OnOk result (IsLogAfter out.now logged.old.log logged.new.log) }
-    ensures records { OnOk result (records_of logged.new.log ≡ records_of logged.old.log ++ out.now.records) }
-    ensures unended { OnOk result (logged.new.unended ≡ fold after_record logged.old.unended out.now.records) }
+    ensures unended { AreUnended logged.old.unended logged.old.log → AreUnended logged.new.unended logged.new.log }
     ensures stands { D.told → OnOk result (Stands logged.new.log (D.state logged.new.log.disk)) }
     ensures moments { D.told → Keeps (IsOldOrAfter out.now logged.old.log) (D.state logged.old.log.disk) (D.state logged.new.log.disk) }
     ensures size { D.byte_count logged.new.log.disk ≡ D.byte_count logged.old.log.disk }
@@ -231,24 +215,4 @@ fn log_out<D: Disk>(logged: &mut Logged<D>, out: &Effects) -> Result<(), HostFau
     ensures cause { result ≡ Err OfDisk → Rose (D.fault_count logged.old.log.disk) (D.fault_count logged.new.log.disk) }
 {
     append_and_force(&mut logged.log, &mut logged.unended, out)
-}
-
-/// What is left of a node that stopped within a step. It takes no memory.
-fn down<D: Disk, F: Server, X: Server>(
-    node: Node<F, X>,
-    log: Log<D>,
-    why: HostFault,
-) -> HostDown<D, X>
-    ensures disk { result.disk ≡ log.disk }
-    ensures kept { result.kept ≡ node.kept.saved }
-    ensures extra { X.state result.extra ≡ cleared node.servers.extra }
-    ensures why { result.why ≡ why }
-{
-    let (kept, extra) = node.into_parts();
-    HostDown {
-        disk: log.into_disk(),
-        kept,
-        extra,
-        why,
-    }
 }

@@ -2,8 +2,8 @@
 #![tactic(auto)]
 
 mod appending;
-mod down;
+mod fault;
 mod host;
 
-pub use down::{HostDown, HostFault};
+pub use fault::HostFault;
 pub use host::{Host, HostOpen};

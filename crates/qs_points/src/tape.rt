@@ -1,9 +1,12 @@
 //! A list with room for more.
-ghost use Rattle.std.specs.Prelude.{◌≡◌, ◌<◌, ◌≤◌, ◌+◌, ◌++◌, ◌∷◌, [], OnOk, length};
+ghost use Rattle.std.specs.Prelude.{◌≡◌, ◌<◌, ◌≤◌, ◌+◌, ◌++◌, ◌∷◌, [], OnOk};
 
 use qs_base::{List, NoMemory};
 use std::alloc::Global;
 use std::marker::Model;
+
+/// How many times what it holds a list grows by.
+const GROWTH: usize = 3;
 
 /// A list that grows at its end, with room that was made before.
 #[derive(Drop)]
@@ -45,13 +48,16 @@ impl<T: Drop> Tape<T> {
         List::from_vec(self.items)
     }
 
-    /// Room for so many more.
+    /// Room for so many more. Where there is less it grows by several times what it holds, since a long list is dear to move.
     pub fn make_room(&mut self, more: usize) -> Result<(), NoMemory>
         ensures items { self.new.items ≡ self.old.items }
         ensures ok { OnOk result (more ≤ self.new.spare) }
         ensures kept { self.old.spare ≤ self.new.spare }
     {
-        self.items.reserve(more)?;
+        let count = self.items.len();
+        if self.items.capacity().saturating_sub(count) < more {
+            self.items.reserve(more.max(count.saturating_mul(GROWTH)))?;
+        }
         Ok(())
     }
 
@@ -62,14 +68,5 @@ impl<T: Drop> Tape<T> {
         ensures spare { self.old.spare ≤ self.new.spare + 1 }
     {
         self.items.push_reserved(item);
-    }
-
-    /// More, for which there is room. It takes no memory.
-    pub fn append(&mut self, more: List<T>)
-        requires room { length more ≤ self.old.spare }
-        ensures items { self.new.items ≡ self.old.items ++ more }
-        ensures spare { self.old.spare ≤ self.new.spare + length more }
-    {
-        let _ = self.items.append(&mut more.into_vec());
     }
 }

@@ -1,0 +1,2 @@
+-- What an opened transaction is where it is taken back.
+pub mod TakingBack

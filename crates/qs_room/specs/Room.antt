@@ -1,34 +1,47 @@
 -- Which transactions have a record in a log and are not ended there, and what is free in the log beside the bytes kept for them.
-use Rattle.std.specs.Prelude.{ℕ, ◌*◌, ◌-◌, List, [], ◌∷◌, fold, length, ⊤}
-use Rattle.std.specs.Map.{remove_entry}
+use Rattle.std.specs.Prelude.{ℕ, ◌*◌, ◌-◌, Bool, if◌then◌else◌, is_some, List, [], ◌∷◌, fold, length, ⊤}
+use Rattle.std.specs.Map.{lookup, remove_entry}
 use Rattle.std.specs.BTreeMap.{insert_entry, is_at}
 use Rattle.qs_base.specs.Order.{tid_cmp}
-use Rattle.qs_base.specs.declared.identifiers.NodeNo.{NodeNo}
 use Rattle.qs_base.specs.declared.identifiers.Tid.{Tid}
 use Rattle.qs_record.specs.declared.record.Record.{Record}
 use Rattle.qs_record.specs.declared.record.Record.TheVariants as records
+use Rattle.qs_room.specs.declared.unended.Turn.{Turn}
+use Rattle.qs_room.specs.declared.unended.Turn.TheVariants as turns
 
 -- a set of transactions, in order
 abbrev pub Tids : Type 0
 Tids = List (Tid × ⊤)
 
+-- whether the transaction is among them
+abbrev pub has_open : Tid → Tids → Bool
+has_open tid tids = is_some (lookup (is_at (tid_cmp tid)) tids)
+
+-- one that is among them stays
 abbrev pub opened : Tid → Tids → Tids
-opened tid tids = insert_entry tid_cmp tids tid tt
+opened tid tids = if has_open tid tids then tids else insert_entry tid_cmp tids tid tt
 
 abbrev pub ended : Tid → Tids → Tids
 ended tid tids = remove_entry (is_at (tid_cmp tid)) tids
 
--- a Commit ends what it names where nobody is to be told
-abbrev pub committed : Tid → List NodeNo → Tids → Tids
-committed tid [] tids = ended tid tids
-committed tid (node ∷ nodes) tids = opened tid tids
+-- as they were before one was opened; `added` tells whether it was not among them
+abbrev pub taken_back : Bool → Tid → Tids → Tids
+taken_back added tid tids = if added then ended tid tids else tids
 
--- a Prepare or a Commit with a list begins, a Commit without one, an Aborted or an End ends
+-- a Prepare or a Commit with a list opens, a Commit without one, an Aborted or an End ends
+abbrev pub turn_of : Record → Turn
+turn_of (records.Prepare tid server covers changes) = turns.Opens tid
+turn_of (records.Commit tid []) = turns.Ends tid
+turn_of (records.Commit tid (node ∷ nodes)) = turns.Opens tid
+turn_of (records.Aborted tid) = turns.Ends tid
+turn_of (records.End tid) = turns.Ends tid
+
+abbrev pub after_turn : Turn → Tids → Tids
+after_turn (turns.Opens tid) tids = opened tid tids
+after_turn (turns.Ends tid) tids = ended tid tids
+
 abbrev pub after_record : Tids → Record → Tids
-after_record tids (records.Prepare tid server covers changes) = opened tid tids
-after_record tids (records.Commit tid told) = committed tid told tids
-after_record tids (records.Aborted tid) = ended tid tids
-after_record tids (records.End tid) = ended tid tids
+after_record tids rec = after_turn (turn_of rec) tids
 
 -- those of a log
 abbrev pub unended : List Record → Tids

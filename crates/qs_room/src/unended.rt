@@ -1,6 +1,6 @@
 //! The transactions of a log that are not ended there.
-ghost use Rattle.std.specs.Prelude.{◌≡◌, ◌<◌, ◌≤◌, ◌^◌, ◌==◌, [], OnOk, OnErr, IfOk, length};
-ghost use Rattle.qs_room.specs.Room.{opened, after_record, unended, free_room};
+ghost use Rattle.std.specs.Prelude.{◌≡◌, ◌<◌, ◌≤◌, ◌^◌, ◌==◌, not, [], OnOk, OnErr, IfOk, length};
+ghost use Rattle.qs_room.specs.Room.{has_open, opened, ended, taken_back, turn_of, after_record, unended, free_room};
 
 use qs_base::{NoMemory, Tid};
 use qs_record::Record;
@@ -37,26 +37,39 @@ impl Unended {
     }
 
     /// The record is the log's next. For want of memory, its only error, all is as it was.
-    pub fn take_in(&mut self, rec: &Record) -> Result<(), NoMemory>
+    fn take_in(&mut self, rec: &Record) -> Result<(), NoMemory>
         ensures ok { OnOk result (self.new ≡ after_record self.old rec.now) }
         ensures err { OnErr result (self.new ≡ self.old) }
     {
-        match rec {
-            Record::Prepare { tid, .. } => self.open(*tid),
-            Record::Commit { tid, told } if !told.is_empty() => self.open(*tid),
-            Record::Commit { tid, .. } | Record::Aborted { tid } | Record::End { tid } => {
-                self.tids.remove(tid);
-                Ok(())
+        match turn_of(rec) {
+            Turn::Opens { tid } => {
+                self.open(tid)?;
             }
+            Turn::Ends { tid } => self.end(tid),
         }
+        Ok(())
     }
 
-    fn open(&mut self, tid: Tid) -> Result<(), NoMemory>
+    /// The transaction has a record that does not end it. It answers whether it was not among them: where the log refuses
+    /// that record, it is then to be ended again. For want of memory, its only error, all is as it was.
+    pub fn open(&mut self, tid: Tid) -> Result<bool, NoMemory>
         ensures ok { OnOk result (self.new ≡ opened tid self.old) }
+        ensures added { IfOk result (λ added. added ≡ not (has_open tid self.old)) }
+        ensures back { IfOk result (λ added. taken_back added tid self.new ≡ self.old) }
         ensures err { OnErr result (self.new ≡ self.old) }
     {
+        if self.tids.contains_key(&tid) {
+            return Ok(false);
+        }
         self.tids.insert(tid, ())?;
-        Ok(())
+        Ok(true)
+    }
+
+    /// The transaction is ended. It takes no memory.
+    pub fn end(&mut self, tid: Tid)
+        ensures { self.new ≡ ended tid self.old }
+    {
+        self.tids.remove(&tid);
     }
 
     /// Whether there is none.
@@ -71,5 +84,27 @@ impl Unended {
         ensures { result ≡ free_room room keep self.now }
     {
         room.saturating_sub(keep.saturating_mul(self.tids.len() as u64))
+    }
+}
+
+/// What a record does to the transaction that it names.
+#[derive(Clone, Copy, Debug, PartialEq, Eq)]
+pub enum Turn {
+    /// It begins, or goes on.
+    Opens { tid: Tid },
+    /// It is ended.
+    Ends { tid: Tid },
+}
+
+/// A Prepare or a Commit with a list begins a transaction; a Commit without one, an Aborted or an End ends it.
+pub fn turn_of(rec: &Record) -> Turn
+    ensures { result ≡ turn_of rec.now }
+{
+    match rec {
+        Record::Prepare { tid, .. } => Turn::Opens { tid: *tid },
+        Record::Commit { tid, told } if !told.is_empty() => Turn::Opens { tid: *tid },
+        Record::Commit { tid, .. } | Record::Aborted { tid } | Record::End { tid } => {
+            Turn::Ends { tid: *tid }
+        }
     }
 }

@@ -6,8 +6,8 @@ use Rattle.qs_cell.specs.Cell.{IfStands, IsOutcome, StandsAfter, out_of}
 use Rattle.qs_cell.specs.Restart.{IsRestarted, IsStillDown, IsUp, IfUp, inc_of}
 use Rattle.qs_cell.specs.State.{Restarts, Up, answers_of, cause_of, disk_of, state_after, state_of}
 use Rattle.qs_cell.specs.Visits.{all_delivered}
-use Rattle.qs_cell.specs.declared.running.Outcome.{Outcome}
-use Rattle.qs_cell.specs.declared.running.Outcome.TheVariants as outcomes
+use Rattle.qs_cell.specs.Outcomes.{Outcome}
+use Rattle.qs_cell.specs.Outcomes as outcomes
 use Rattle.qs_cell.specs.declared.state.NodeState.{NodeState}
 use Rattle.qs_cell.specs.declared.state.RestartFault.{RestartFault}
 use Rattle.qs_cell.specs.declared.stopped.Restarted.{Restarted}

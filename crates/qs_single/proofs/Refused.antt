@@ -5,8 +5,8 @@ use Rattle.qs_cell.specs.Cell.{IfStands, IsOutcome, StandsAfter, out_of}
 use Rattle.qs_cell.specs.Starts.{CellValue}
 use Rattle.qs_cell.specs.State.{Up, cause_of, disk_of, state_of}
 use Rattle.qs_cell.specs.Visits.{IsBroken, IsSameNode, Makes, MakesIn, Seat, TakesTurn, TurnsAll, TurnsSome, client_source, due, left_by, sources_of}
-use Rattle.qs_cell.specs.declared.running.Outcome.{Outcome}
-use Rattle.qs_cell.specs.declared.running.Outcome.TheVariants as outcomes
+use Rattle.qs_cell.specs.Outcomes.{Outcome}
+use Rattle.qs_cell.specs.Outcomes as outcomes
 use Rattle.qs_cell.specs.declared.state.NodeState.{NodeState}
 use Rattle.qs_cell.specs.declared.state.NodeState.TheVariants as states
 use Rattle.qs_cell.specs.declared.state.RestartFault.TheVariants as restart_faults

@@ -1,7 +1,6 @@
 use Rattle.std.proofs.Common.{ap, subst, sym}
-use Rattle.qs_disk.specs.Disk.{EachImage}
 use Rattle.qs_world.specs.Histories.{opened_with}
-use Rattle.qs_cell.specs.Logged.{HasLog, IsLogged}
+use Rattle.qs_cell.specs.Logged.{IsLogged}
 use Rattle.qs_cell.proofs.Logging.{has_log}
 use Rattle.qs_cell.proofs.cell.NodeCell.into_parts.Goals as goal
 

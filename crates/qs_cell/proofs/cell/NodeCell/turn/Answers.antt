@@ -23,33 +23,33 @@ returns-in_default-clause-turns g c =
     turn_none g.D.Disk.told g.D.Disk.state g.D.Disk.fault_count g.D.Disk.byte_count c.args.source c.args.self.now.seat c.self.inside.state c.make_room.new.self c.self.inside.ends.items c.next.new.ends.items
     (ap (λ cell. cell.seat) c.self.view_is) c.make_room.ensures.same (sym c.in_ok-occasion.ensures.due ∙ c.in_default.is) c.in_ok-occasion.ensures.left
 
-pub replace_with-answers-requires : goal.replace_with-answers-requires
-replace_with-answers-requires g c = (
-  (sound_seen g.D.Disk.told g.D.Disk.state (opened_with c.self.inside.first c.self.inside.found) (λ s. s) c.self.inside.state c.make_room.new.self c.make_room.ensures.same c.self.invariant).stands,
-  c.in_ok-make_room.ensures.room,
-)
+pub event-answers-requires : goal.event-answers-requires
+event-answers-requires g c = record {
+  stands = (sound_seen g.D.Disk.told g.D.Disk.state (opened_with c.self.inside.first c.self.inside.found) (λ s. s) c.self.inside.state c.make_room.new.self c.make_room.ensures.same c.self.invariant).stands;
+  room = c.in_ok-make_room.ensures.room;
+}
 
 pub invariant_of-self-2 : goal.invariant_of-self-2
 invariant_of-self-2 g c =
     let ready = sound_seen g.D.Disk.told g.D.Disk.state (opened_with c.self.inside.first c.self.inside.found) (λ s. s) c.self.inside.state c.make_room.new.self c.make_room.ensures.same c.self.invariant in
-    sound_after g.D.Disk.told g.D.Disk.state (opened_with c.self.inside.first c.self.inside.found) c.make_room.new.self c.replace_with-answers.new.dest c.replace_with-answers.ensures.1.0
-    (made_on g.D.Disk.told g.D.Disk.state g.D.Disk.fault_count g.D.Disk.byte_count (opened_with c.self.inside.first c.self.inside.found) c.in-Some.occasion c.make_room.new.self c.replace_with-answers.new.dest
-    c.replace_with-answers.result c.replace_with-answers.ensures.0 ready.goes_on)
-    (logged_made g.D.Disk.told g.D.Disk.state g.D.Disk.fault_count g.D.Disk.byte_count (opened_with c.self.inside.first c.self.inside.found) c.in-Some.occasion c.make_room.new.self c.replace_with-answers.new.dest
-    c.replace_with-answers.result c.replace_with-answers.ensures.0 ready.goes_on ready.logged)
-    c.replace_with-answers.ensures.1.1 ready
+    sound_after g.D.Disk.told g.D.Disk.state (opened_with c.self.inside.first c.self.inside.found) c.make_room.new.self c.event-answers.new.self c.event-answers.ensures.stands
+    (made_on g.D.Disk.told g.D.Disk.state g.D.Disk.fault_count g.D.Disk.byte_count (opened_with c.self.inside.first c.self.inside.found) c.in-Some.occasion c.make_room.new.self c.event-answers.new.self
+    c.event-answers.result c.event-answers.ensures.makes ready.goes_on)
+    (logged_made g.D.Disk.told g.D.Disk.state g.D.Disk.fault_count g.D.Disk.byte_count (opened_with c.self.inside.first c.self.inside.found) c.in-Some.occasion c.make_room.new.self c.event-answers.new.self
+    c.event-answers.result c.event-answers.ensures.makes ready.goes_on ready.logged)
+    c.event-answers.ensures.setting ready
 
 pub returns-clause-turns : goal.returns-clause-turns
 returns-clause-turns g c = on_ok_map c.deliver_all.result c.deliver_all.ensures.ok (λ after.
-    turn_made g.D.Disk.told g.D.Disk.state g.D.Disk.fault_count g.D.Disk.byte_count c.args.source c.in-Some.occasion c.args.self.now.seat c.self.inside.state c.make_room.new.self c.replace_with-answers.new.dest
-    c.self.inside.ends.items c.next.new.ends.items c.deliver_all.new.ends.items c.replace_with-answers.result (ap (λ cell. cell.seat) c.self.view_is)
-    c.make_room.ensures.same (sym c.in_ok-occasion.ensures.due ∙ c.in-Some.is) c.in_ok-occasion.ensures.left c.replace_with-answers.ensures.0 after)
+    turn_made g.D.Disk.told g.D.Disk.state g.D.Disk.fault_count g.D.Disk.byte_count c.args.source c.in-Some.occasion c.args.self.now.seat c.self.inside.state c.make_room.new.self c.event-answers.new.self
+    c.self.inside.ends.items c.next.new.ends.items c.deliver_all.new.ends.items c.event-answers.result (ap (λ cell. cell.seat) c.self.view_is)
+    c.make_room.ensures.same (sym c.in_ok-occasion.ensures.due ∙ c.in-Some.is) c.in_ok-occasion.ensures.left c.event-answers.ensures.makes after)
 
 pub returns-clause-breaks : goal.returns-clause-breaks
 returns-clause-breaks g c = on_err_all c.deliver_all.result
-    (turn_broken g.D.Disk.told g.D.Disk.state g.D.Disk.fault_count g.D.Disk.byte_count c.args.source c.in-Some.occasion c.args.self.now.seat (record { node = c.replace_with-answers.new.dest; ends = c.deliver_all.new.ends.items })
-    c.self.inside.state c.make_room.new.self c.self.inside.ends.items c.replace_with-answers.result (ap (λ cell. cell.seat) c.self.view_is)
-    c.make_room.ensures.same (sym c.in_ok-occasion.ensures.due ∙ c.in-Some.is) c.replace_with-answers.ensures.0)
+    (turn_broken g.D.Disk.told g.D.Disk.state g.D.Disk.fault_count g.D.Disk.byte_count c.args.source c.in-Some.occasion c.args.self.now.seat (record { node = c.event-answers.new.self; ends = c.deliver_all.new.ends.items })
+    c.self.inside.state c.make_room.new.self c.self.inside.ends.items c.event-answers.result (ap (λ cell. cell.seat) c.self.view_is)
+    c.make_room.ensures.same (sym c.in_ok-occasion.ensures.due ∙ c.in-Some.is) c.event-answers.ensures.makes)
 
 pub returns-in_err-make_room-clause-rings : goal.returns-in_err-make_room-clause-rings
 returns-in_err-make_room-clause-rings g c = rings_as c.args.self.now.seat.ends c.self.inside.ends.items (ap (λ cell. cell.seat.ends) c.self.view_is)

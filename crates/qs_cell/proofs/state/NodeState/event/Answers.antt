@@ -1,17 +1,28 @@
-use Rattle.std.proofs.Common.{subst, sym}
-use Rattle.qs_cell.specs.State.{LogStands}
-use Rattle.qs_cell.specs.Visits.{MakesIn}
-use Rattle.qs_cell.proofs.Standing.{makes_of, stands_made}
+use Rattle.std.proofs.Common.{◌∙◌, refl, sym}
+use Rattle.qs_cell.specs.Outcomes.{outcome_of}
+use Rattle.qs_cell.specs.declared.running.Fate.TheVariants as fates
+use Rattle.qs_cell.specs.declared.state.NodeState.TheVariants as states
+use Rattle.qs_cell.proofs.Standing.{left_down, makes_by, stands_made}
 use Rattle.qs_cell.proofs.state.NodeState.event.Goals as goal
 
-pub returns-clause-makes : goal.returns-clause-makes
-returns-clause-makes g c =
-    subst (λ node. MakesIn g.D.Disk.told g.D.Disk.state g.D.Disk.fault_count g.D.Disk.byte_count c.args.occasion node c.after_event.result.0 c.after_event.result.1) (sym c.in-Up.is)
-    (makes_of g.D.Disk.told g.D.Disk.state g.D.Disk.fault_count g.D.Disk.byte_count c.args.occasion c.in-Up.running c.event.result c.after_event.result.0 c.after_event.result.1 c.event.ensures.outcome
-    c.after_event.ensures.state c.after_event.ensures.answers c.event.ensures.stands c.event.ensures.moments)
+pub returns-in-Whole-clause-makes : goal.returns-in-Whole-clause-makes
+returns-in-Whole-clause-makes g c =
+    makes_by g.D.Disk.told g.D.Disk.state g.D.Disk.fault_count g.D.Disk.byte_count c.args.occasion c.args.self.now (states.Up c.event-fate.new.self) c.in-Up.running c.event-fate.new.self
+    (fates.Whole c.in-Whole.answers) c.in-Whole.answers c.in-Up.is c.in-Whole.ensures.outcome refl refl c.in-Whole.ensures.stands c.event-fate.ensures.moments
 
-pub returns-clause-stands : goal.returns-clause-stands
-returns-clause-stands g c = λ told.
-    subst (LogStands g.D.Disk.state) (sym c.after_event.ensures.state)
-    (stands_made g.D.Disk.state g.D.Disk.fault_count (g.D.Disk.byte_count c.in-Up.running.host.log.disk.disk) c.args.occasion c.in-Up.running c.event.result
-    c.event.ensures.outcome (c.event.ensures.stands told))
+pub returns-in-Whole-clause-stands : goal.returns-in-Whole-clause-stands
+returns-in-Whole-clause-stands g c = λ told.
+    stands_made g.D.Disk.state g.D.Disk.fault_count (g.D.Disk.byte_count c.in-Up.running.host.log.disk.disk) c.args.occasion c.in-Up.running
+    (outcome_of (fates.Whole c.in-Whole.answers) c.event-fate.new.self) c.in-Whole.ensures.outcome (c.in-Whole.ensures.stands told)
+
+pub returns-in-Followed-clause-makes : goal.returns-in-Followed-clause-makes
+returns-in-Followed-clause-makes g c =
+    makes_by g.D.Disk.told g.D.Disk.state g.D.Disk.fault_count g.D.Disk.byte_count c.args.occasion c.args.self.now c.stop.new.self c.in-Up.running c.event-fate.new.self
+    (fates.Followed c.in-Followed.answers) c.in-Followed.answers c.in-Up.is c.in-Followed.ensures.outcome c.stop.ensures refl c.in-Followed.ensures.stands c.event-fate.ensures.moments
+
+pub returns-in-Replaced-clause-makes : goal.returns-in-Replaced-clause-makes
+returns-in-Replaced-clause-makes g c =
+    let left = left_down c.event-fate.result c.in-Replaced.cause c.event-fate.new.self c.in-Replaced.is in
+    makes_by g.D.Disk.told g.D.Disk.state g.D.Disk.fault_count g.D.Disk.byte_count c.args.occasion c.args.self.now c.stop-in-Replaced.new.self c.in-Up.running c.event-fate.new.self
+    c.event-fate.result c.new-in-Replaced.result c.in-Up.is c.event-fate.ensures.outcome (c.stop-in-Replaced.ensures ∙ sym left.0) (c.new-in-Replaced.ensures ∙ sym left.1)
+    c.event-fate.ensures.stands c.event-fate.ensures.moments

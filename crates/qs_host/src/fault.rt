@@ -1,9 +1,7 @@
-//! What is left of a node that stopped within a step.
+//! Why a step is cut off.
 
 use qs_base::NoMemory;
-use qs_disk::{Disk, DiskFailed};
-use qs_kept::Kept;
-use qs_ops::Server;
+use qs_disk::DiskFailed;
 
 /// Why a step was cut off.
 #[derive(Clone, Copy, Debug, PartialEq, Eq)]
@@ -14,20 +12,9 @@ pub enum HostFault {
     NoMemory,
 }
 
-/// What is left of a node that stopped within a step.
-#[derive(Drop)]
-pub struct HostDown<D: Disk, X: Server> {
-    pub disk: D,
-    /// What it kept for its clients at its last whole step.
-    pub kept: Kept,
-    /// The further server, emptied.
-    pub extra: X,
-    pub why: HostFault,
-}
-
 impl From<NoMemory> for HostFault {
     ghost use Rattle.std.specs.Prelude.{◌≡◌};
-    ghost use Rattle.qs_host.specs.declared.down.HostFault.TheVariants.{NoMemory};
+    ghost use Rattle.qs_host.specs.declared.fault.HostFault.TheVariants.{NoMemory};
 
     ghost from_gives = { λ _ e. e ≡ NoMemory };
 
@@ -38,7 +25,7 @@ impl From<NoMemory> for HostFault {
 
 impl From<DiskFailed> for HostFault {
     ghost use Rattle.std.specs.Prelude.{◌≡◌};
-    ghost use Rattle.qs_host.specs.declared.down.HostFault.TheVariants.{Disk};
+    ghost use Rattle.qs_host.specs.declared.fault.HostFault.TheVariants.{Disk};
 
     ghost from_gives = { λ _ e. e ≡ Disk };
 
