@@ -1,5 +1,5 @@
 //! The order in which the actors of a run are visited in a round.
-ghost use Rattle.std.specs.Prelude.{◌≡◌, ◌≤◌, ◌+◌, ◌-◌, ◌%◌, IfOk, length};
+ghost use Rattle.std.specs.Prelude.{◌≡◌, ◌≤◌, ◌+◌, ◌-◌, ◌%◌, OnOk, length};
 ghost use Rattle.std.specs.List.{swap};
 ghost use Rattle.rand_pcg.specs.Pcg.{pcg32};
 ghost use Rattle.qs_plans.specs.Order.{seeded, places_below, shuffled, drawn_order};
@@ -7,7 +7,6 @@ ghost use Rattle.qs_plans.specs.Order.{seeded, places_below, shuffled, drawn_ord
 use qs_base::NoMemory;
 use rand_core::utils::NextWord;
 use rand_pcg::Lcg64Xsh32;
-use std::alloc::Global;
 
 /// What draws the orders of a run, one for each round.
 #[derive(Drop)]
@@ -25,27 +24,27 @@ impl Orders {
         }
     }
 
-    /// The places of so many actors, from 0, in the order of their visits in the next round. The only error is a refusal of
-    /// memory.
-    pub fn draw(&mut self, alloc: Global, count: usize) -> Result<Vec<usize>, NoMemory>
-        ensures order { IfOk result (λ places. (places.items, self.new.rng) ≡ drawn_order count self.old.rng) }
+    /// Puts the places of so many actors, from 0, into the list in place of what it holds, in the order of their visits in the
+    /// next round. The only error is a refusal of memory, of which none is asked for where the list has room.
+    pub fn draw(&mut self, count: usize, places: &mut Vec<usize>) -> Result<(), NoMemory>
+        ensures order { OnOk result ((places.new.items, self.new.rng) ≡ drawn_order count self.old.rng) }
     {
-        let mut places = places(alloc, count)?;
-        shuffle(&mut self.rng, &mut places);
-        Ok(places)
+        fill(places, count)?;
+        shuffle(&mut self.rng, places);
+        Ok(())
     }
 }
 
 /// The places in order.
-fn places(alloc: Global, count: usize) -> Result<Vec<usize>, NoMemory>
-    ensures places { IfOk result (λ places. places.items ≡ places_below count) }
-    ensures count { IfOk result (λ places. length places.items ≡ count) }
+fn fill(places: &mut Vec<usize>, count: usize) -> Result<(), NoMemory>
+    ensures places { OnOk result (places.new.items ≡ places_below count) }
+    ensures count { OnOk result (length places.new.items ≡ count) }
 {
-    let mut places = Vec::with_capacity(alloc, count)?;
+    places.clear();
     for place in 0..count {
         places.push(place)?;
     }
-    Ok(places)
+    Ok(())
 }
 
 /// Each place from the last one down to place 1 changes with one that is drawn from it and those before it.

@@ -44,9 +44,10 @@ pub fn rounds_of<D: Disk>(
 {
     let mut orders = Orders::new(seed);
     let mut most = budget(script, actors.node().journal());
+    let mut order = Vec::new(alloc);
     let mut rounds: u64 = 0;
     while rounds < u64::MAX {
-        let end = next_round(alloc, &mut orders, actors)?;
+        let end = next_round(&mut orders, &mut order, actors)?;
         rounds += 1;
         if let Some(ending) = ending_of(script, rounds, &mut most, end, actors) {
             return Ok(ending);
@@ -55,10 +56,10 @@ pub fn rounds_of<D: Disk>(
     unreachable!()
 }
 
-/// The next round, in an order that is drawn.
+/// The next round, in an order that is drawn into the list.
 fn next_round<D: Disk>(
-    alloc: Global,
     orders: &mut Orders,
+    order: &mut Vec<usize>,
     actors: &mut Actors<D>,
 ) -> Result<RoundEnd, RoundFault>
     ensures round { IfOk result (λ end. IsRound D.told D.state D.fault_count D.byte_count (drawn_order (count_of actors.old) orders.old.rng).0 actors.old actors.new end.quiet) }
@@ -71,7 +72,7 @@ fn next_round<D: Disk>(
     ensures start { IsSameStart actors.old.node actors.new.node }
     ensures grows { Grows (journal_of actors.old.node) (journal_of actors.new.node) }
 {
-    let order = orders.draw(alloc, actors.count())?;
+    orders.draw(actors.count(), order)?;
     actors.round(order.as_slice())
 }
 

@@ -1,6 +1,6 @@
 use Rattle.std.proofs.Common.{◌≡◌, length}
 use Rattle.qs_plans.specs.Order.{places_below}
-use Rattle.qs_plans.proofs.order.places.Given as goal
+use Rattle.qs_plans.proofs.order.fill.Given as goal
 
 abbrev pub invariant-loop-place : goal.invariant-loop-place
 invariant-loop-place l = record {
