@@ -11,7 +11,7 @@ use Rattle.qs_kept.specs.Index.{IsIndexOf, passing, found_at}
 
 -- ---- a list that grows
 
-find-none : {T : Type 0} (test : T → Bool) (xs : List T) (y : T) → find test xs ≡ None → find test (xs ++ y ∷ []) ≡ (if test y then Some y else None)
+pub find-none : {T : Type 0} (test : T → Bool) (xs : List T) (y : T) → find test xs ≡ None → find test (xs ++ y ∷ []) ≡ (if test y then Some y else None)
 find-none test [] y h = by (test y)
   where
     by : (b : Bool) → cond b (Some y) None ≡ (if b then Some y else None)
@@ -38,17 +38,17 @@ get-some test [] y r i h = absurd (cc)
 get-some test (x ∷ xs) y r zero h = h
 get-some test (x ∷ xs) y r (suc i) h = get-some test xs y r i h
 
-get-none : {T : Type 0} (test : T → Bool) (xs : List T) (y : T) (i : ℕ) → test y ≡ false → passing test (slice_get xs i) ≡ None → passing test (slice_get (xs ++ y ∷ []) i) ≡ None
+pub get-none : {T : Type 0} (test : T → Bool) (xs : List T) (y : T) (i : ℕ) → test y ≡ false → passing test (slice_get xs i) ≡ None → passing test (slice_get (xs ++ y ∷ []) i) ≡ None
 get-none test [] y zero is h = rw is refl
 get-none test [] y (suc i) is h = refl
 get-none test (x ∷ xs) y zero is h = h
 get-none test (x ∷ xs) y (suc i) is h = get-none test xs y i is h
 
-get-last : {T : Type 0} (test : T → Bool) (xs : List T) (y : T) → test y ≡ true → passing test (slice_get (xs ++ y ∷ []) (length xs)) ≡ Some y
+pub get-last : {T : Type 0} (test : T → Bool) (xs : List T) (y : T) → test y ≡ true → passing test (slice_get (xs ++ y ∷ []) (length xs)) ≡ Some y
 get-last test [] y is = rw is refl
 get-last test (x ∷ xs) y is = get-last test xs y is
 
-get-past : {T : Type 0} (test : T → Bool) (xs : List T) → passing test (slice_get xs (length xs)) ≡ None
+pub get-past : {T : Type 0} (test : T → Bool) (xs : List T) → passing test (slice_get xs (length xs)) ≡ None
 get-past test [] = refl
 get-past test (x ∷ xs) = get-past test xs
 

@@ -1,4 +1,5 @@
 mod Indexing
 mod Keys
 mod Lending
+mod Newest
 mod Undoing

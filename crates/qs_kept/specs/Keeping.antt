@@ -1,9 +1,10 @@
 -- What a node keeps for its clients, as it is and as it was at the last accept.
-use Rattle.std.specs.Prelude.{ℕ, Bool, false, List, [], Some, None}
+use Rattle.std.specs.Prelude.{◌≡◌, ◌-◌, ℕ, Bool, true, false, List, [], Some, None, length}
+use Rattle.std.specs.List.{find}
 use Rattle.std.specs.BTreeMap.{is_at}
 use Rattle.qs_base.specs.Order.{bytes_cmp, tid_cmp, same_tid}
 use Rattle.qs_base.specs.declared.identifiers.Tid.{Tid}
-use Rattle.qs_kept.specs.Index.{IsIndexOf}
+use Rattle.qs_kept.specs.Index.{IsIndexOf, found_at}
 use Rattle.qs_kept.specs.declared.kept.Begun.{Begun}
 use Rattle.qs_kept.specs.declared.kept.Decided.{Decided}
 use Rattle.qs_kept.specs.declared.kept.Kept.{Kept}
@@ -42,6 +43,15 @@ is_outcome_of tid decided = same_tid tid decided.tid
 pub record IsLabelled (by_label : List (List ℕ × ℕ)) (by_tid : List (Tid × ℕ)) (labels : List Begun) : Type 0 where
   pub labels_found : IsIndexOf bytes_cmp has_label by_label labels
   pub tids_found : IsIndexOf tid_cmp is_label_of by_tid labels
+
+-- a search from the front for the label that was met last finds that one
+abbrev pub IsFoundLast : List Begun → Type 0
+IsFoundLast labels = (key : List ℕ) (begun : Begun) → found_at (has_label key) labels (Some (length labels - 1)) ≡ Some begun → find (has_label key) labels ≡ Some begun
+
+-- labels are found, and the one that was met last, where it was new, by itself
+pub record IsFound (by_label : List (List ℕ × ℕ)) (by_tid : List (Tid × ℕ)) (newest_is_new : Bool) (labels : List Begun) : Type 0 where
+  pub indexed : IsLabelled by_label by_tid labels
+  pub last : newest_is_new ≡ true → IsFoundLast labels
 
 -- outcomes are found by their transactions
 abbrev pub IsEnded : List (Tid × ℕ) → List Decided → Type 0

@@ -1,10 +1,10 @@
 //! The labels that a node has met, found by themselves and by their transactions.
-ghost use Rattle.std.specs.Prelude.{◌≡◌, ◌++◌, ◌∷◌, [], OnOk, IfOk};
+ghost use Rattle.std.specs.Prelude.{◌≡◌, ◌++◌, ◌∷◌, [], Some, None, true, OnOk, IfOk, IfSome};
 ghost use Rattle.std.specs.List.{find};
 ghost use Rattle.std.specs.Option.{option_copied};
 ghost use Rattle.qs_base.specs.Order.{bytes_cmp, tid_cmp};
 ghost use Rattle.qs_kept.specs.Index.{IsIndexOf, found_at};
-ghost use Rattle.qs_kept.specs.Keeping.{has_label, is_label_of, IsLabelled};
+ghost use Rattle.qs_kept.specs.Keeping.{has_label, is_label_of, IsLabelled, IsFoundLast};
 
 use crate::grown::Grown;
 use crate::kept::Begun;
@@ -19,10 +19,12 @@ pub(crate) struct Labels {
     items: Grown<Begun>,
     by_label: BTreeMap<Bytes, usize>,
     by_tid: BTreeMap<Tid, usize>,
+    /// The label that was met last was not met before, so that it is found by itself, with no search.
+    newest_is_new: bool,
 }
 
 impl Model for Labels {
-    ghost use Rattle.qs_kept.specs.Keeping.{IsLabelled};
+    ghost use Rattle.qs_kept.specs.Keeping.{IsFound};
     ghost use Rattle.qs_kept.specs.Ledger.{LedgerValue};
     ghost use Rattle.qs_kept.specs.declared.kept.Begun.{Begun};
 
@@ -30,7 +32,7 @@ impl Model for Labels {
 
     ghost view = { λ l. l.items };
 
-    ghost invariant = { λ l. IsLabelled l.by_label.entries l.by_tid.entries l.items.now };
+    ghost invariant = { λ l. IsFound l.by_label.entries l.by_tid.entries l.newest_is_new l.items.now };
 }
 
 impl Labels {
@@ -51,6 +53,7 @@ impl Labels {
                 items: Grown::new(labels),
                 by_label,
                 by_tid,
+                newest_is_new: false,
             }),
             Err(NoMemory) => Err(labels),
         }
@@ -67,7 +70,11 @@ impl Labels {
     pub fn at(&self, label: &Bytes) -> Option<&Begun>
         ensures { option_copied result ≡ find (has_label label.now) self.now.now }
     {
-        label_at(&self.by_label, self.items.items(), label)
+        let items = self.items.items();
+        match newest(self.newest_is_new, items, label) {
+            Some(begun) => Some(begun),
+            None => label_at(&self.by_label, items, label),
+        }
     }
 
     /// The label of the transaction, where it was met.
@@ -82,9 +89,11 @@ impl Labels {
         ensures ok { OnOk result (self.new ≡ record self.old { now = self.old.now ++ begun ∷ [] }) }
         ensures err { OnErr result (self.new ≡ self.old) }
     {
-        note_label(&mut self.by_label, self.items.items(), &begun)?;
+        let is_new = note_label(&mut self.by_label, self.items.items(), &begun)?;
         note_tid(&mut self.by_tid, self.items.items(), &begun)?;
-        self.items.push(begun)
+        self.items.push(begun)?;
+        self.newest_is_new = is_new;
+        Ok(())
     }
 
     /// What it is counts from now on. It takes no memory.
@@ -132,6 +141,18 @@ fn with_label<'a>(labels: &'a [Begun], place: usize, label: &Bytes) -> Option<&'
     }
 }
 
+/// The label that was met last, where it is this one and was new.
+fn newest<'a>(is_new: bool, labels: &'a [Begun], label: &Bytes) -> Option<&'a Begun>
+    requires { is_new ≡ true → IsFoundLast labels.now }
+    ensures { IfSome result (λ begun. find (has_label label.now) labels.now ≡ Some begun.now) }
+{
+    if is_new {
+        with_label(labels, labels.len().saturating_sub(1), label)
+    } else {
+        None
+    }
+}
+
 fn label_at<'a>(
     places: &BTreeMap<Bytes, usize>,
     labels: &'a [Begun],
@@ -171,21 +192,22 @@ fn label_of<'a>(places: &BTreeMap<Tid, usize>, labels: &'a [Begun], tid: Tid) ->
     }
 }
 
-/// The label has the next place, unless it was met before.
+/// The label has the next place, unless it was met before. Whether it is new.
 fn note_label(
     places: &mut BTreeMap<Bytes, usize>,
     before: &[Begun],
     begun: &Begun,
-) -> Result<(), NoMemory>
+) -> Result<bool, NoMemory>
     requires { IsIndexOf bytes_cmp has_label places.old.entries before.now }
     ensures ok { OnOk result (IsIndexOf bytes_cmp has_label places.new.entries (before.now ++ begun.now ∷ [])) }
+    ensures new { IfOk result (λ is_new. is_new ≡ true → find (has_label begun.now.label) before.now ≡ None) }
     ensures stays { IsIndexOf bytes_cmp has_label places.new.entries before.now }
 {
     match label_at(places, before, &begun.label) {
-        Some(_) => Ok(()),
+        Some(_) => Ok(false),
         None => {
             places.insert(begun.label.copy()?, before.len())?;
-            Ok(())
+            Ok(true)
         }
     }
 }
