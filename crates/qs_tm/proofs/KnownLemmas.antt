@@ -2,8 +2,9 @@
 use Rattle.std.proofs.Common.{◌≡◌, ◌∙◌, arith, refl, ap, sym, subst, true≢false}
 use Rattle.std.proofs.lemmas.Bool.Decides.{nat_tests}
 use Rattle.std.specs.Prelude.{Bool, true, false, not, ◌&&◌, ◌||◌, ◌==◌, length, List, [], ◌∷◌, ◌++◌, Option, Some, None, Result, Ok, Err, OnOk, OnErr, fold, cond, if◌then◌else◌}
-use Rattle.std.specs.List.{list_any}
-use Rattle.std.specs.Map.{set_value, remove_entry}
+use Rattle.std.specs.List.{AllByRecursion, list_any}
+use Rattle.std.specs.List.Sorted.{IsStrictlySortedBy}
+use Rattle.std.specs.Map.{keys_of, lookup, set_value, remove_entry}
 use Rattle.std.specs.BTreeMap.{insert_entry, is_at}
 use Rattle.std.specs.BTreeMap.Range.{IsLeBy, entries_between}
 use Rattle.std.specs.Ordering.{is_lt, is_le, is_gt, is_eq, ordering_reverse, match_ordering}
@@ -11,6 +12,7 @@ use Rattle.std.specs.declared.cmp.Ordering.{Ordering}
 use Rattle.std.specs.declared.cmp.Ordering.TheVariants.{Less, Equal, Greater}
 use Rattle.std.specs.declared.ops.Bound.TheVariants.{Included}
 use Rattle.std.proofs.lemmas.Cmp.{upto, tied_itself}
+use Rattle.std.proofs.lemmas.Map.Keys.{sorted_head, sorted_tail}
 use Rattle.qs_base.specs.Order.{tid_cmp}
 use Rattle.qs_base.specs.declared.identifiers.Tid.{Tid}
 use Rattle.qs_base.proofs.TidOrder.{tid_total, tid_exact}
@@ -213,3 +215,38 @@ pub spanned_after : {T E : Type 0} (span : Tid × Tid) (tid : Tid) (part : Parti
 spanned_after span tid part old new (Ok x) ok err w s =
     record { forward = s.forward; due = subst (λ (es : List (Tid × Participant)). AreInSpan (Some span) es) (sym ok) (spanned_put (Some span) tid part old w s.due) }
 spanned_after span tid part old new (Err x) ok err w s = subst (λ (es : List (Tid × Participant)). IsSpanned (Some span) es) (sym err) s
+
+-- ---- a span of one
+
+apart : (t : Tid) (e : Tid × Participant) (o : Ordering) → tid_cmp t e.0 ≡ o → is_eq o ≡ false
+    → (may_be_due e.1 ≡ true → in_span (Some (t, t)) e.0 ≡ true) → may_be_due e.1 ≡ false
+apart t e o is n a = not_so (may_be_due e.1) (in_span (Some (t, t)) e.0) a (outside o is n)
+  where
+    outside : (o : Ordering) → tid_cmp t e.0 ≡ o → is_eq o ≡ false → in_span (Some (t, t)) e.0 ≡ false
+    outside Less is n = rw is refl
+    outside Equal is n = absurd (true≢false n)
+    outside Greater is n = rw is refl
+
+none_after : (t : Tid) (es : List (Tid × Participant)) → AllByRecursion (λ (y : Tid). tid_cmp t y ≡ Less) (keys_of es)
+    → AreInSpan (Some (t, t)) es → AreInSpan None es
+none_after t [] s a = tt
+none_after t (e ∷ es) s a = ((λ d. absurd (true≢false (sym d ∙ apart t e Less s.0 refl a.0))), none_after t es s.1 a.1)
+
+abbrev pub listed_at : Tid → Option Participant → List Tid
+listed_at t None = []
+listed_at t (Some part) = put_tid whiches.Due [] (t, part)
+
+-- where no other stands in the span, what is due is what the look-up finds
+pub due_alone : (t : Tid) (entries : List (Tid × Participant)) → IsStrictlySortedBy tid_cmp (keys_of entries) → AreInSpan (Some (t, t)) entries
+    → fold (put_tid whiches.Due) [] entries ≡ listed_at t (lookup (is_at (tid_cmp t)) entries)
+due_alone t [] s a = refl
+due_alone t (e ∷ es) s a = by (tid_cmp t e.0) refl (due_alone t es (sorted_tail tid_cmp e.0 (keys_of es) s) a.1)
+  where
+    by : (o : Ordering) → tid_cmp t e.0 ≡ o → fold (put_tid whiches.Due) [] es ≡ listed_at t (lookup (is_at (tid_cmp t)) es)
+        → fold (put_tid whiches.Due) (put_tid whiches.Due [] e) es ≡ listed_at t (cond (is_eq o) (Some e.1) (lookup (is_at (tid_cmp t)) es))
+    by Less is rest = ap (λ (w : List Tid). fold (put_tid whiches.Due) w es) (skipped [] e (apart t e Less is refl a.0)) ∙ rest
+    by Greater is rest = ap (λ (w : List Tid). fold (put_tid whiches.Due) w es) (skipped [] e (apart t e Greater is refl a.0)) ∙ rest
+    by Equal is rest =
+        nothing_due (put_tid whiches.Due [] e) es
+        (none_after t es (subst (λ (k : Tid). AllByRecursion (λ (y : Tid). tid_cmp k y ≡ Less) (keys_of es)) (sym (tid_exact t e.0 is)) (sorted_head tid_cmp e.0 (keys_of es) s)) a.1)
+        ∙ ap (λ (k : Tid). put_tid whiches.Due [] (k, e.1)) (sym (tid_exact t e.0 is))

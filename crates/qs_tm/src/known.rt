@@ -124,7 +124,7 @@ impl Known {
         ensures { IfOk result (λ tids. tids ≡ fold (put_tid whiches.Due) [] self.now) }
     {
         match self.span {
-            Some(span) => due_in(alloc, &self.parts, span),
+            Some(span) => due_of(alloc, &self.parts, span),
             None => Ok(List::new(alloc)),
         }
     }
@@ -197,6 +197,34 @@ fn may_be_due(part: &Participant) -> bool
     ensures { result ≡ may_be_due part.now }
 {
     part.outcome.is_none() && (part.asked || part.blocked)
+}
+
+/// Those to which something may be due, all of which stand in the span.
+fn due_of(
+    alloc: Global,
+    parts: &Map<Tid, Participant>,
+    span: (Tid, Tid),
+) -> Result<List<Tid>, NoMemory>
+    requires { IsSpanned (Some span) parts.now }
+    ensures { IfOk result (λ tids. tids ≡ fold (put_tid whiches.Due) [] parts.now) }
+{
+    if span.0 == span.1 {
+        due_alone(alloc, parts, span.0)
+    } else {
+        due_in(alloc, parts, span)
+    }
+}
+
+/// The transaction, if something may be due to it; to no other may something be due.
+fn due_alone(alloc: Global, parts: &Map<Tid, Participant>, tid: Tid) -> Result<List<Tid>, NoMemory>
+    requires { IsSpanned (Some (tid, tid)) parts.now }
+    ensures { IfOk result (λ tids. tids ≡ fold (put_tid whiches.Due) [] parts.now) }
+{
+    let mut tids = List::new(alloc);
+    if let Some(part) = parts.get_unique(&tid) {
+        put_tid(&mut tids, Which::Due, tid, part)?;
+    }
+    Ok(tids)
 }
 
 /// Those of the span to which something may be due, in order.
