@@ -136,14 +136,14 @@ impl Book {
     pub fn cell(&self, tid: Tid) -> Option<Cell>
         ensures { result ≡ cell_of_transaction (find_transaction self.now tid) }
     {
-        Some(self.transactions.get(&tid)?.cell())
+        Some(find(&self.transactions, tid)?.cell())
     }
 
     /// What is kept of the transaction; `None` exactly where it is unknown.
     pub fn transaction(&self, tid: Tid) -> Option<&Transaction>
         ensures { option_copied result ≡ find_transaction self.now tid }
     {
-        self.transactions.get(&tid)
+        find(&self.transactions, tid)
     }
 
     /// The transaction that was begun under this label.

@@ -8,6 +8,7 @@ ghost use Rattle.qs_ipc.specs.Queue.{no_queue, counts_at, is_full_at, added, fir
 
 use crate::delivery::Delivery;
 use qs_base::{List, NoMemory, NodeNo, ServerNo, Tid};
+use qs_map::newest_first;
 use std::alloc::Global;
 use std::collections::{BTreeMap, VecDeque};
 use std::marker::Model;
@@ -58,7 +59,7 @@ impl Queue {
     pub fn has(&self, tid: Tid) -> bool
         ensures { result ≡ is_some (lookup (is_at (tid_cmp tid)) self.now.counts) }
     {
-        self.counts.contains_key(&tid)
+        newest_first(&self.counts, &tid).is_some()
     }
 
     /// Whether the transaction's requests that wait here or were served are as many as can be counted.
@@ -161,7 +162,7 @@ fn mark(delivery: &mut Delivery, peer: NodeNo)
 fn counts_at(counts: &BTreeMap<Tid, Counts>, tid: Tid) -> Counts
     ensures { result ≡ counts_at counts.now.entries tid }
 {
-    match counts.get(&tid) {
+    match newest_first(counts, &tid) {
         Some(counts) => *counts,
         None => Counts {
             waiting: 0,

@@ -9,6 +9,7 @@ ghost use Rattle.qs_kept.specs.Keeping.{has_label, is_label_of, IsLabelled, IsFo
 use crate::grown::Grown;
 use crate::kept::Begun;
 use qs_base::{Bytes, Copied, List, NoMemory, Tid};
+use qs_map::newest_first;
 use std::alloc::Global;
 use std::collections::BTreeMap;
 use std::marker::Model;
@@ -186,7 +187,7 @@ fn label_of<'a>(places: &BTreeMap<Tid, usize>, labels: &'a [Begun], tid: Tid) ->
     requires { IsIndexOf tid_cmp is_label_of places.now.entries labels.now }
     ensures { option_copied result ≡ find (is_label_of tid) labels.now }
 {
-    match places.get(&tid) {
+    match newest_first(places, &tid) {
         Some(place) => with_tid(labels, *place, tid),
         None => None,
     }

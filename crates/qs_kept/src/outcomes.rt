@@ -8,6 +8,7 @@ ghost use Rattle.qs_kept.specs.Keeping.{is_outcome_of, IsEnded};
 use crate::grown::Grown;
 use crate::kept::Decided;
 use qs_base::{List, NoMemory, Tid};
+use qs_map::newest_first;
 use std::alloc::Global;
 use std::collections::BTreeMap;
 use std::marker::Model;
@@ -112,7 +113,7 @@ fn outcome_of<'a>(
     requires { IsEnded places.now.entries outcomes.now }
     ensures { option_copied result ≡ find (is_outcome_of tid) outcomes.now }
 {
-    match places.get(&tid) {
+    match newest_first(places, &tid) {
         Some(place) => with_tid(outcomes, *place, tid),
         None => None,
     }

@@ -8,6 +8,9 @@ use std::marker::Model;
 /// How many times what it holds a list grows by.
 const GROWTH: usize = 3;
 
+/// How many items a list has room for from the first on.
+const FIRST_ROOM: usize = 4096;
+
 /// A list that grows at its end, with room that was made before.
 #[derive(Drop)]
 pub struct Tape<T> {
@@ -56,7 +59,8 @@ impl<T: Drop> Tape<T> {
     {
         let count = self.items.len();
         if self.items.capacity().saturating_sub(count) < more {
-            self.items.reserve(more.max(count.saturating_mul(GROWTH)))?;
+            let room = count.saturating_mul(GROWTH).max(FIRST_ROOM);
+            self.items.reserve(room.max(more))?;
         }
         Ok(())
     }

@@ -10,6 +10,7 @@ ghost use Rattle.qs_machine.specs.Transaction.{changed_value, asked_at, counted,
 use qs_base::{Member, NoMemory, NodeNo, Outcome, Tid};
 use qs_book_transactions::Transaction;
 use qs_machine::{Link, Request, RequestNo};
+use qs_map::newest_first;
 use qs_ops::Vote;
 use std::collections::BTreeMap;
 
@@ -17,7 +18,7 @@ use std::collections::BTreeMap;
 pub fn find(transactions: &BTreeMap<Tid, Transaction>, tid: Tid) -> Option<&Transaction>
     ensures { option_copied result ≡ lookup (is_at (tid_cmp tid)) transactions.now.entries }
 {
-    transactions.get(&tid)
+    newest_first(transactions, &tid)
 }
 
 /// Commit is asked for at this place in the history.
