@@ -15,7 +15,7 @@ pub const LAST_STAMP: Stamp = (1 << 62) - 1;
 /// The journal and the trace of a node, and what it counts. A crash ends none of it.
 #[derive(Drop)]
 pub struct Chronicle {
-    // In a box, since what carries it is handed on by value many times in each event.
+    // In a box, since it is handed on by value as its node starts and stops.
     pages: Box<Pages>,
 }
 

@@ -13,7 +13,7 @@ use qs_base::{NoMemory, Tid};
 use qs_disk::{Disk, DiskFailed};
 use qs_log::Log;
 use qs_record::Record;
-use qs_room::{Turn, Unended, is_record, turn_of};
+use qs_room::{Boundary, Unended, boundary_of, is_record};
 use qs_step::Effects;
 
 /// The record waits. One that has no spelling, or for which the log has no room, is a refusal of memory. After a refusal all
@@ -29,9 +29,9 @@ fn append<D: Disk>(log: &mut Log<D>, unended: &mut Unended, rec: &Record) -> Res
     if !is_record(rec) {
         return Err(NoMemory);
     }
-    match turn_of(rec) {
-        Turn::Opens { tid } => append_open(log, unended, rec, tid),
-        Turn::Ends { tid } => append_end(log, unended, rec, tid),
+    match boundary_of(rec) {
+        Boundary::Opens { tid } => append_open(log, unended, rec, tid),
+        Boundary::Ends { tid } => append_end(log, unended, rec, tid),
     }
 }
 

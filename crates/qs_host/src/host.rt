@@ -32,7 +32,7 @@ use std::marker::Model;
 #[derive(Drop)]
 pub struct Host<D: Disk, F: Server, X: Server> {
     node: Node<F, X>,
-    // In a box, since a host is handed on by value many times in each event.
+    // In a box, since a host is handed on by value as its node starts and stops.
     logged: Box<Logged<D>>,
 }
 

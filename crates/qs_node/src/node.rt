@@ -36,7 +36,7 @@ use std::mem::replace;
 /// comes to it.
 #[derive(Drop)]
 pub struct Node<F: Server, X: Server> {
-    // In a box, since a node is handed on by value many times in each event.
+    // In a box, since a node is handed on by value as it starts and stops.
     work: Box<Work<Servers<F, X>>>,
 }
 

@@ -6,8 +6,8 @@ use Rattle.qs_base.specs.Order.{tid_cmp}
 use Rattle.qs_base.specs.declared.identifiers.Tid.{Tid}
 use Rattle.qs_record.specs.declared.record.Record.{Record}
 use Rattle.qs_record.specs.declared.record.Record.TheVariants as records
-use Rattle.qs_room.specs.declared.unended.Turn.{Turn}
-use Rattle.qs_room.specs.declared.unended.Turn.TheVariants as turns
+use Rattle.qs_room.specs.declared.unended.Boundary.{Boundary}
+use Rattle.qs_room.specs.declared.unended.Boundary.TheVariants as boundaries
 
 -- a set of transactions, in order
 abbrev pub Tids : Type 0
@@ -29,19 +29,19 @@ abbrev pub taken_back : Bool → Tid → Tids → Tids
 taken_back added tid tids = if added then ended tid tids else tids
 
 -- a Prepare or a Commit with a list opens, a Commit without one, an Aborted or an End ends
-abbrev pub turn_of : Record → Turn
-turn_of (records.Prepare tid server covers changes) = turns.Opens tid
-turn_of (records.Commit tid []) = turns.Ends tid
-turn_of (records.Commit tid (node ∷ nodes)) = turns.Opens tid
-turn_of (records.Aborted tid) = turns.Ends tid
-turn_of (records.End tid) = turns.Ends tid
+abbrev pub boundary_of : Record → Boundary
+boundary_of (records.Prepare tid server covers changes) = boundaries.Opens tid
+boundary_of (records.Commit tid []) = boundaries.Ends tid
+boundary_of (records.Commit tid (node ∷ nodes)) = boundaries.Opens tid
+boundary_of (records.Aborted tid) = boundaries.Ends tid
+boundary_of (records.End tid) = boundaries.Ends tid
 
-abbrev pub after_turn : Turn → Tids → Tids
-after_turn (turns.Opens tid) tids = opened tid tids
-after_turn (turns.Ends tid) tids = ended tid tids
+abbrev pub after_boundary : Boundary → Tids → Tids
+after_boundary (boundaries.Opens tid) tids = opened tid tids
+after_boundary (boundaries.Ends tid) tids = ended tid tids
 
 abbrev pub after_record : Tids → Record → Tids
-after_record tids rec = after_turn (turn_of rec) tids
+after_record tids rec = after_boundary (boundary_of rec) tids
 
 -- those of a log
 abbrev pub unended : List Record → Tids

@@ -6,4 +6,4 @@ mod spelled;
 mod unended;
 
 pub use spelled::is_record;
-pub use unended::{Turn, Unended, turn_of};
+pub use unended::{Boundary, Unended, boundary_of};

@@ -1,6 +1,6 @@
 //! The transactions of a log that are not ended there.
 ghost use Rattle.std.specs.Prelude.{◌≡◌, ◌<◌, ◌≤◌, ◌^◌, ◌==◌, not, [], OnOk, OnErr, IfOk, length};
-ghost use Rattle.qs_room.specs.Room.{has_open, opened, ended, taken_back, turn_of, after_record, unended, free_room};
+ghost use Rattle.qs_room.specs.Room.{has_open, opened, ended, taken_back, boundary_of, after_record, unended, free_room};
 
 use qs_base::{NoMemory, Tid};
 use qs_record::Record;
@@ -41,11 +41,11 @@ impl Unended {
         ensures ok { OnOk result (self.new ≡ after_record self.old rec.now) }
         ensures err { OnErr result (self.new ≡ self.old) }
     {
-        match turn_of(rec) {
-            Turn::Opens { tid } => {
+        match boundary_of(rec) {
+            Boundary::Opens { tid } => {
                 self.open(tid)?;
             }
-            Turn::Ends { tid } => self.end(tid),
+            Boundary::Ends { tid } => self.end(tid),
         }
         Ok(())
     }
@@ -89,7 +89,7 @@ impl Unended {
 
 /// What a record does to the transaction that it names.
 #[derive(Clone, Copy, Debug, PartialEq, Eq)]
-pub enum Turn {
+pub enum Boundary {
     /// It begins, or goes on.
     Opens { tid: Tid },
     /// It is ended.
@@ -97,14 +97,14 @@ pub enum Turn {
 }
 
 /// A Prepare or a Commit with a list begins a transaction; a Commit without one, an Aborted or an End ends it.
-pub fn turn_of(rec: &Record) -> Turn
-    ensures { result ≡ turn_of rec.now }
+pub fn boundary_of(rec: &Record) -> Boundary
+    ensures { result ≡ boundary_of rec.now }
 {
     match rec {
-        Record::Prepare { tid, .. } => Turn::Opens { tid: *tid },
-        Record::Commit { tid, told } if !told.is_empty() => Turn::Opens { tid: *tid },
+        Record::Prepare { tid, .. } => Boundary::Opens { tid: *tid },
+        Record::Commit { tid, told } if !told.is_empty() => Boundary::Opens { tid: *tid },
         Record::Commit { tid, .. } | Record::Aborted { tid } | Record::End { tid } => {
-            Turn::Ends { tid: *tid }
+            Boundary::Ends { tid: *tid }
         }
     }
 }
