@@ -25,7 +25,7 @@ impl Orders {
     }
 
     /// Puts the places of so many actors, from 0, into the list in place of what it holds, in the order of their visits in the
-    /// next round. The only error is a refusal of memory, of which none is asked for where the list has room.
+    /// next round. The only error is a refusal of memory.
     pub fn draw(&mut self, count: usize, places: &mut Vec<usize>) -> Result<(), NoMemory>
         ensures order { OnOk result ((places.new.items, self.new.rng) ≡ drawn_order count self.old.rng) }
     {
