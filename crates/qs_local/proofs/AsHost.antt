@@ -1,5 +1,5 @@
 -- A node over its log is a host of the world: by cases on whether the step forces.
-use Rattle.std.proofs.Common.{◌≡◌, ◌⊎◌, ◌∙◌, ap, subst, refl, sym, inl, inr, ℕ, Bool, true, false, List, [], ◌++◌}
+use Rattle.std.proofs.Common.{◌≡◌, ◌∙◌, ap, subst, refl, sym, inl, inr, ℕ, Bool, true, false, List, [], ◌++◌}
 use Rattle.std.proofs.lemmas.List.{append-nil}
 use Rattle.std.specs.Global.{Global}
 use Rattle.std.specs.Prelude.{if◌then◌else◌}
@@ -13,7 +13,7 @@ use Rattle.qs_step.specs.declared.setting.Setting.{Setting}
 use Rattle.qs_world.specs.World.{Host}
 use Rattle.qs_world.specs.Moves.{stepped_host, cut_log}
 use Rattle.qs_host.specs.Host as own
-use Rattle.qs_host.specs.Host.{HostValue, HasForced, IsOldOrAfter, appended}
+use Rattle.qs_host.specs.Host.{HostValue, HasForced, appended}
 use Rattle.qs_local.specs.InWorld.{BeginsAsHost, RisesAsHost, HasRecords, IsCutAsHost, host_of}
 
 -- none waits as it begins

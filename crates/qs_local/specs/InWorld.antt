@@ -12,7 +12,7 @@ use Rattle.qs_world.specs.World.{Host}
 use Rattle.qs_world.specs.World as world
 use Rattle.qs_step.specs.Opening.{recovered_of}
 use Rattle.qs_world.specs.Moves.{stepped_host, risen_host, cut_log}
-use Rattle.qs_host.specs.Host.{HostValue, opened_host, free_of, effects_at, node_after, log_after, IsOldOrAfter}
+use Rattle.qs_host.specs.Host.{HostValue, opened_host, effects_at, node_after, log_after, IsOldOrAfter}
 
 -- the host of the world, with the stamp of its last step
 abbrev pub host_of : {D : Type 0} → ℕ → HostValue D → Host
