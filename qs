@@ -1,7 +1,7 @@
 #!/bin/sh
 # Runs the program: ./qs run 1 --serial 7 < examples/hello.qs
 # ./qs --prove proves and builds it first, which takes an hour and more where nothing is kept. Until then it is built and
-# run without proofs.
+# run without proofs, anew each time, in a folder that is gone afterwards, its disks with it.
 top=$(cd "$(dirname "$0")" && pwd) || exit 1
 program=$top/crates/qs/out/qs
 proved=$program.proved
@@ -27,7 +27,11 @@ if [ -x "$program" ] && [ "$(cat "$proved" 2>/dev/null)" = "$(sources)" ]; then
   exec "$program" "$@"
 fi
 
-echo "qs: not proved here yet, so this run is not of the proved program: ./qs --prove proves and builds it" >&2
+cat >&2 <<'END'
+qs: not proved here yet, so this run is not of the proved program
+qs: to build it without proofs takes some three minutes, each time, and each run has fresh disks, which are gone after it
+qs: ./qs --prove proves and builds it, in an hour and more, and then runs begin at once and keep their disks
+END
 said=$(mktemp) || exit 1
 trap 'rm -f "$said"' EXIT
 (cd "$top/crates/qs" && rt try -- "$@") 2>"$said"

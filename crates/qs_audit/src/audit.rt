@@ -159,6 +159,10 @@ impl Server for Audit {
         changes_of(self.alloc, notes.as_slice())
     }
 
+    fn holds(&self) -> bool {
+        self.shares.any_holds()
+    }
+
     fn clear(&mut self) {
         self.committed.clear();
         self.shares.clear();

@@ -3,7 +3,5 @@
 
 mod audit;
 mod notes;
-#[cfg(test)]
-mod tests;
 
 pub use audit::Audit;

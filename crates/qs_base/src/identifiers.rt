@@ -40,7 +40,7 @@ pub enum Outcome {
 }
 
 /// How a server takes part in a commit.
-#[derive(Clone, Copy, Debug, PartialEq, Eq)]
+#[derive(Clone, Copy, PartialEq, Eq)]
 pub enum Class {
     /// Two phases; its prepared changes outlive a crash.
     Recoverable,

@@ -5,8 +5,6 @@ mod bytes;
 mod identifiers;
 mod list;
 mod memory;
-#[cfg(test)]
-mod tests;
 
 pub use bytes::Bytes;
 pub use identifiers::{Class, ClientNo, Member, NodeNo, Outcome, ServerNo, Stamp, Tid};

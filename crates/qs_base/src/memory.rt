@@ -3,7 +3,7 @@
 use std::alloc::{AllocError, AllocFailed};
 
 /// Memory was asked for and refused. No clause ties it to a cause.
-#[derive(Clone, Copy, Debug, PartialEq, Eq)]
+#[derive(Clone, Copy, Debug)]
 pub struct NoMemory;
 
 impl From<AllocError> for NoMemory {
@@ -19,7 +19,7 @@ impl<T: Drop> From<AllocFailed<T>> for NoMemory {
 }
 
 /// Why a call that raises counters refused.
-#[derive(Clone, Copy, Debug, PartialEq, Eq)]
+#[derive(Clone, Copy)]
 pub enum GrowFault {
     /// A counter that the call would raise stands at its last value.
     Last { value: u64 },

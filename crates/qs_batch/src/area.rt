@@ -15,7 +15,7 @@ use std::alloc::Global;
 const OPEN: u8 = 1;
 
 /// The records of an area's batches, in order, and how many bytes the batches take.
-#[derive(Debug, Drop)]
+#[derive(Drop)]
 pub struct Found {
     pub records: List<Record>,
     pub used: u64,

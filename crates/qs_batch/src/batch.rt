@@ -14,7 +14,7 @@ use std::marker::Model;
 
 /// A batch that is being gathered, seen as its records in order. Its spelling, gate and digest
 /// included, stays below 2^32 bytes.
-#[derive(Debug, Drop)]
+#[derive(Drop)]
 pub struct Batch {
     // 8 bytes for length and count, the records' bytes, and what an earlier sealing left behind them.
     bytes: Vec<u8>,

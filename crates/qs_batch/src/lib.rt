@@ -7,8 +7,6 @@ mod buffer;
 mod fault;
 mod laws;
 mod parts;
-#[cfg(test)]
-mod tests;
 
 pub use area::{Found, read_batches};
 pub use batch::Batch;

@@ -28,7 +28,7 @@ use std::marker::Model;
 pub use transactions::find;
 
 /// Why an entry was not taken in.
-#[derive(Clone, Copy, Debug, PartialEq, Eq)]
+#[derive(Clone, Copy)]
 pub enum BookFault {
     /// The first clause of the lawful step that it breaks.
     Unlawful { clause: u16 },
@@ -49,7 +49,7 @@ impl From<NoMemory> for BookFault {
 }
 
 /// The reference machine. It has one outcome cell for each transaction.
-#[derive(Debug, Drop)]
+#[derive(Drop)]
 pub struct Book {
     alloc: Global,
     stamp: Stamp,

@@ -18,7 +18,7 @@ use std::collections::{BTreeMap, BTreeSet};
 use std::marker::Model;
 
 /// The transactions whose Commits a restart finds, in order. To find one takes one look-up.
-#[derive(Debug, Drop)]
+#[derive(Drop)]
 pub struct FoundCommits {
     items: Vec<Tid>,
     set: BTreeSet<Tid>,
@@ -80,7 +80,7 @@ pub fn add_tid(set: &mut BTreeSet<Tid>, tid: Tid) -> Result<(), NoMemory>
 const LEAST_COVERS: u32 = 0;
 
 /// The votes that a restart finds, in order. To find the vote of a member takes one look-up.
-#[derive(Debug, Drop)]
+#[derive(Drop)]
 pub struct FoundVotes {
     items: Vec<Found>,
     /// The greatest covers with which each member's vote was found.

@@ -23,7 +23,7 @@ use std::marker::Model;
 use std::mem;
 
 /// What the machine keeps of a node of the run.
-#[derive(Debug, Drop)]
+#[derive(Drop)]
 pub struct NodeState {
     alloc: Global,
     up: bool,

@@ -11,7 +11,7 @@ use std::alloc::Global;
 use std::collections::{BTreeMap, BTreeSet};
 
 /// Who holds which name. A name that nobody holds takes no room.
-#[derive(Debug, Drop)]
+#[derive(Drop)]
 pub struct Holders {
     names: BTreeMap<Bytes, BTreeSet<Tid>>,
     alloc: Global,

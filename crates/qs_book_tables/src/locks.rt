@@ -14,7 +14,7 @@ use qs_ops::{Op, Reply, Share};
 use std::alloc::Global;
 
 /// Who has a pending change to a name, and who read it.
-#[derive(Debug, Drop)]
+#[derive(Drop)]
 pub struct Locks {
     pub changers: Holders,
     pub readers: Holders,

@@ -6,7 +6,7 @@ use qs_base::Tid;
 use qs_ops::Reply;
 
 /// The first refusal that holds.
-#[derive(Clone, Copy, Debug)]
+#[derive(Clone, Copy)]
 pub enum Refusal {
     /// The transaction had 1,024 operations served.
     Full,

@@ -24,7 +24,7 @@ use std::collections::BTreeMap;
 use std::marker::Model;
 
 /// The table of a server of files, audit, names, windows or scratch.
-#[derive(Debug, Drop)]
+#[derive(Drop)]
 pub struct Table {
     contents: List<File>,
     /// How many bytes the texts of the contents have.

@@ -14,7 +14,7 @@ use std::collections::BTreeMap;
 use std::marker::Model;
 
 /// What a transaction holds at a timers server.
-#[derive(Debug, Drop)]
+#[derive(Drop)]
 struct TimerShare {
     /// Under each name the tick at which its timer stands at 0.
     timers: BTreeMap<Bytes, u64>,
@@ -113,7 +113,7 @@ fn is_left_reply(now: u64, at: Option<u64>, reply: &Reply) -> bool
 }
 
 /// The table of a timers server.
-#[derive(Debug, Drop)]
+#[derive(Drop)]
 pub struct TimerTable {
     ticks: u64,
     shares: BTreeMap<Tid, TimerShare>,

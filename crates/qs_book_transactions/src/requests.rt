@@ -10,7 +10,7 @@ use std::alloc::Global;
 use std::marker::Model;
 
 /// Requests in the order of their issues.
-#[derive(Debug, Drop)]
+#[derive(Drop)]
 pub struct Requests {
     items: Vec<Request>,
 }

@@ -16,7 +16,7 @@ use std::collections::{BTreeMap, BTreeSet};
 use std::marker::Model;
 
 /// What the machine keeps of one transaction.
-#[derive(Debug, Drop)]
+#[derive(Drop)]
 pub struct Transaction {
     label: Option<Bytes>,
     owner: Option<ClientNo>,

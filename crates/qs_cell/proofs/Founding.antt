@@ -3,6 +3,7 @@ use Rattle.std.proofs.Common.{◌≡◌, ◌⊎◌, ◌∙◌, subst, sym, inl, 
 use Rattle.std.specs.Prelude.{Result, Err}
 use Rattle.std.specs.Global.{Global}
 use Rattle.qs_disk.specs.Disk.{DiskState, EachImage}
+use Rattle.qs_disk.specs.Fuse.{GoesOn, mended}
 use Rattle.qs_disk.specs.Moments.{Keeps}
 use Rattle.qs_files.specs.declared.files.Files.{Files}
 use Rattle.qs_incarnation.specs.Incarnation.{HasOneOf, IsLeftOrRaised}
@@ -24,11 +25,11 @@ module _ {D : Type 0} (told : Type 0) (state : D → DiskState) (own : D → ℕ
       → new ≡ state_after restarted → answer_after restarted ≡ Err restart_faults.DiskFailed → said ≡ Err restart_faults.NoMemory
       → (told → (a b : List Record) → EachImage (HasOneOf a b) (state old.disk.disk).now → Keeps (HasOneOf a b) (state old.disk.disk) (state (disk_of new).disk))
       → (told → Keeps (IsLeftOrRaised (state old.disk.disk)) (state old.disk.disk) (state (disk_of new).disk))
-      → Restarts told state own alloc old new said
-  refused old new said (restarts.Up running) is node failed said_is moments touched = absurd (cc failed)
-  refused old new said (restarts.Down stopped reopen_faults.Tripped) is node failed said_is moments touched = absurd (cc failed)
-  refused old new said (restarts.Down stopped reopen_faults.NoMemory) is node failed said_is moments touched = absurd (cc failed)
-  refused old new said (restarts.Down stopped reopen_faults.DiskFailed) is node failed said_is moments touched = record {
+      → GoesOn (mended old.disk.fuse) (disk_of new).fuse → Restarts told state own alloc old new said
+  refused old new said (restarts.Up running) is node failed said_is moments touched goes = absurd (cc failed)
+  refused old new said (restarts.Down stopped reopen_faults.Tripped) is node failed said_is moments touched goes = absurd (cc failed)
+  refused old new said (restarts.Down stopped reopen_faults.NoMemory) is node failed said_is moments touched goes = absurd (cc failed)
+  refused old new said (restarts.Down stopped reopen_faults.DiskFailed) is node failed said_is moments touched goes = record {
     restarted = restarts.Down stopped reopen_faults.NoMemory;
     is = (
       is.0,
@@ -44,6 +45,7 @@ module _ {D : Type 0} (told : Type 0) (state : D → DiskState) (own : D → ℕ
     moments = moments;
     stands = λ yes. tt;
     touched = touched;
+    goes = goes;
   }
 
   pub starts_founded : (old new : NodeState D) (answer said : Result Bool RestartFault) → StartsAgain told state own alloc old new answer
@@ -51,4 +53,4 @@ module _ {D : Type 0} (told : Type 0) (state : D → DiskState) (own : D → ℕ
   starts_founded old new answer said starts (inl same) = subst (StartsAgain told state own alloc old new) (sym same) starts
   starts_founded (states.Up running) new answer said starts (inr other) = absurd (cc (sym starts.1 ∙ other.0))
   starts_founded (states.Down stopped) new answer said starts (inr other) =
-      refused stopped new said starts.restarted starts.is starts.node (sym starts.said ∙ other.0) other.1 starts.moments starts.touched
+      refused stopped new said starts.restarted starts.is starts.node (sym starts.said ∙ other.0) other.1 starts.moments starts.touched starts.goes

@@ -1,30 +1,37 @@
 -- What an event does with the log and leaves on the disk, by its stages.
-use Rattle.std.proofs.Common.{◌≡◌, ◌∙◌, ap, subst, sym, refl, ℕ, Bool, false, List}
+use Rattle.std.proofs.Common.{◌≡◌, ◌⊎◌, ◌∙◌, ap, subst, sym, refl, inl, inr, ℕ, Bool, false, List, ◌++◌}
 use Rattle.std.specs.Prelude.{None, Some, if◌then◌else◌}
 use Rattle.std.specs.List.{list_any}
+use Rattle.qs_base.specs.Causes.{Rose}
 use Rattle.qs_disk.specs.Disk.{DiskState}
-use Rattle.qs_disk.specs.Fuse.{FusedValue}
+use Rattle.qs_disk.specs.Fuse.{FusedValue, GoesOn, fused_count}
 use Rattle.qs_disk.specs.Moments.{Keeps}
 use Rattle.qs_host.proofs.Carrying.{unwritten}
-use Rattle.qs_host.specs.Host.{HostValue, IsLogAfter, IsOldOrAfter, log_after, effects_at, worked_node}
+use Rattle.qs_host.specs.Host.{HostValue, HasBatch, IsLogAfter, IsOldOrAfter, log_after, effects_at, worked_node}
+use Rattle.qs_host.specs.declared.fault.HostFault.{HostFault}
+use Rattle.qs_host.specs.declared.fault.HostFault.TheVariants as faults
 use Rattle.qs_journal.specs.declared.entry.Act.{Act}
+use Rattle.qs_journal.specs.declared.entry.CrashCause.{CrashCause}
 use Rattle.qs_journal.specs.declared.entry.CrashCause.TheVariants as causes
 use Rattle.qs_log.specs.Log.{LogValue, Stands}
 use Rattle.qs_points.specs.Points.{stops_before}
 use Rattle.qs_points.specs.declared.points.Watched.{Watched}
+use Rattle.qs_step.specs.State.{NodeValue}
 use Rattle.qs_step.specs.Step.{accept}
 use Rattle.qs_step.specs.declared.event.Effects.{Effects}
 use Rattle.qs_chronicle.specs.Carried.{Seen, seen}
-use Rattle.qs_chronicle.specs.Occasions.{event_of}
+use Rattle.qs_chronicle.specs.Chronicle.{crashed}
+use Rattle.qs_chronicle.specs.Occasions.{did_of, event_of}
 use Rattle.qs_chronicle.specs.declared.carried.Carried.{Carried}
 use Rattle.qs_chronicle.specs.declared.occasion.Occasion.{Occasion}
-use Rattle.qs_cell.specs.Cell.{IfStands, StandsAfter, disk_after, ordered, planned, planned_after, out_of}
-use Rattle.qs_cell.specs.Within.{HasBegun, IsWorkedOut, HasStepped}
-use Rattle.qs_cell.specs.Outcomes.{Outcome, outcome_of}
+use Rattle.qs_cell.specs.Cell.{IfStands, IsCutOff, IsFaulted, StandsAfter, disk_after, fault_cause, ordered, planned, planned_after, out_of}
+use Rattle.qs_cell.specs.Within.{HasBegun, HasCrashed, IsWorkedOut, HasStepped, running_with}
+use Rattle.qs_cell.specs.Outcomes.{Outcome, outcome_of, stopped_of}
 use Rattle.qs_cell.specs.Outcomes as outcomes
 use Rattle.qs_cell.specs.declared.running.Fate.{Fate}
 use Rattle.qs_cell.specs.declared.running.Fate.TheVariants as fates
 use Rattle.qs_cell.specs.declared.running.Running.{Running}
+use Rattle.qs_cell.specs.declared.stopped.Stopped.{Stopped}
 
 -- ---- a disk that nothing was written to
 
@@ -87,13 +94,54 @@ moments_as {D} state disk out out_as mid log is same keeps =
 -- ---- the step is done with the log
 
 pub has_stepped : {D F X : Type 0} (size : ℕ) (occasion : Occasion) (old : Running D F X) (host new : HostValue (FusedValue D)) (carried : Carried) (out : Effects)
-    → IsWorkedOut size occasion old host carried out → new.node ≡ accept host.node → IsLogAfter out host.log new.log → HasStepped size occasion old new carried out
-has_stepped {D} size occasion old host new carried out work node log = record {
+    → IsWorkedOut size occasion old host carried out → new.node ≡ accept host.node → IsLogAfter out host.log new.log → GoesOn host.log.disk.fuse new.log.disk.fuse
+    → HasStepped size occasion old new carried out
+has_stepped {D} size occasion old host new carried out work node log goes = record {
   node = node ∙ ap accept work.node;
   log = subst (λ (o : Effects). IsLogAfter o old.host.log new.log) work.out (subst (λ (l : LogValue (FusedValue D)). IsLogAfter out l new.log) work.log log);
   out = work.out;
   begun = work.begun;
   unplanned = work.unplanned;
+  goes = subst (λ (l : LogValue (FusedValue D)). GoesOn l.disk.fuse new.log.disk.fuse) work.log goes;
+}
+
+-- or it is cut off: memory was refused, or a call of the disk failed as the batch was forced
+cut_why : {D F X : Type 0} (own : D → ℕ) (size : ℕ) (occasion : Occasion) (old : Running D F X) (host : HostValue (FusedValue D)) (carried : Carried) (out : Effects)
+    (new : Stopped D) (fault : HostFault) → IsWorkedOut size occasion old host carried out → (fault ≡ faults.NoMemory → new.cause ≡ causes.Memory)
+    → (fault ≡ faults.Disk → new.cause ≡ fault_cause own host.log.disk new.disk) → (fault ≡ faults.Disk → HasBatch out host.log)
+    → (fault ≡ faults.Disk → Rose (fused_count own host.log.disk) (fused_count own new.disk)) → (new.cause ≡ causes.Memory) ⊎ IsFaulted own size occasion old new
+cut_why own size occasion old host carried out new faults.NoMemory work memory cause batch rose = inl (memory refl)
+cut_why {D} own size occasion old host carried out new faults.Disk work memory cause batch rose = inr (record {
+  force = ap (λ (o : Effects). o.force) (sym work.out) ∙ (batch refl).force;
+  batch = λ none. (batch refl).batch (ap (λ (l : LogValue (FusedValue D)). l.waiting ++ out.records) work.log ∙ ap (λ (o : Effects). old.host.log.waiting ++ o.records) work.out ∙ none);
+  cause = cause refl ∙ ap (λ (l : LogValue (FusedValue D)). fault_cause own l.disk new.disk) work.log;
+  rose = subst (λ (l : LogValue (FusedValue D)). Rose (fused_count own l.disk) (fused_count own new.disk)) work.log (rose refl);
+})
+
+-- what is told of counts that were read before
+pub told_cause : {D : Type 0} (own : D → ℕ) (old new first second third : FusedValue D) (trips faults : ℕ) (cause : CrashCause) → first ≡ old → second ≡ old → third ≡ new
+    → trips ≡ first.fuse.trips → faults ≡ own second.disk
+    → ((before : FusedValue D) → before.fuse.trips ≡ trips → own before.disk ≡ faults → cause ≡ fault_cause own before third) → cause ≡ fault_cause own old new
+told_cause {D} own old new first second third trips faults cause one two three is_trips is_faults told =
+    told old (ap (λ (d : FusedValue D). d.fuse.trips) (sym one) ∙ sym is_trips) (ap (λ (d : FusedValue D). own d.disk) (sym two) ∙ sym is_faults)
+    ∙ ap (fault_cause own old) three
+
+pub cut_short : {D F X : Type 0} (own : D → ℕ) (size : ℕ) (occasion : Occasion) (old : Running D F X) (host new : HostValue (FusedValue D)) (carried after : Carried)
+    (out : Effects) (fault : HostFault) (cause : CrashCause) → IsWorkedOut size occasion old host carried out → new.node ≡ host.node
+    → HasCrashed (did_of occasion) cause carried after → GoesOn host.log.disk.fuse new.log.disk.fuse → (fault ≡ faults.NoMemory → cause ≡ causes.Memory)
+    → (fault ≡ faults.Disk → cause ≡ fault_cause own host.log.disk new.log.disk) → (fault ≡ faults.Disk → HasBatch out host.log)
+    → (fault ≡ faults.Disk → Rose (fused_count own host.log.disk) (fused_count own new.log.disk))
+    → IsCutOff own size occasion old (stopped_of cause (running_with {F = F} {X = X} new after))
+cut_short {D} {F} {X} own size occasion old host new carried after out fault cause work node crash goes memory is batch rose = record {
+  kept = ap (λ (n : NodeValue). n.kept.saved) node ∙ work.saved;
+  told = crash.told ∙ ap (crashed (did_of occasion) cause) work.begun.told;
+  commands = crash.commands ∙ work.begun.commands;
+  crashes = crash.crashes ∙ work.begun.crashes;
+  points = crash.points ∙ work.begun.points;
+  setting = crash.setting ∙ work.begun.setting;
+  unplanned = work.unplanned;
+  goes = subst (λ (l : LogValue (FusedValue D)). GoesOn l.disk.fuse new.log.disk.fuse) work.log goes;
+  why = cut_why own size occasion old host carried out (stopped_of cause (running_with {F = F} {X = X} new after)) fault work memory is batch rose;
 }
 
 -- it is the disk of the node that made it

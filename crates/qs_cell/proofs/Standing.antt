@@ -4,7 +4,8 @@ use Rattle.std.proofs.lemmas.List.{append-nil}
 use Rattle.std.specs.Prelude.{Result}
 use Rattle.std.specs.Global.{Global}
 use Rattle.qs_disk.specs.Disk.{DiskState, EachImage}
-use Rattle.qs_disk.specs.Fuse.{FusedValue}
+use Rattle.qs_disk.specs.Fuse.{FusedValue, mended}
+use Rattle.qs_disk.specs.Fuse.{GoesOn as GoesOnFuse}
 use Rattle.qs_disk.specs.Moments.{Keeps}
 use Rattle.qs_files.specs.declared.files.Files.{Files}
 use Rattle.qs_host.specs.Host.{HostValue, IsLogAfter, IsOldOrAfter}
@@ -222,8 +223,8 @@ pub restarts_of : {D : Type 0} (told : Type 0) (state : D → DiskState) (own : 
     → Keeps (HasOneOf a b) (state old.disk.disk) (state (restarted_disk restarted).disk))
     → (told → IfUp restarted (λ log. Stands log (state log.disk.disk)))
     → (told → Keeps (IsLeftOrRaised (state old.disk.disk)) (state old.disk.disk) (state (restarted_disk restarted).disk))
-    → Restarts told state own alloc old new answer
-restarts_of {D} told state own alloc old restarted new answer is node said reopened found moments stands touched = record {
+    → GoesOnFuse (mended old.disk.fuse) (restarted_disk restarted).fuse → Restarts told state own alloc old new answer
+restarts_of {D} told state own alloc old restarted new answer is node said reopened found moments stands touched goes = record {
   restarted = restarted;
   is = is;
   node = node;
@@ -233,6 +234,7 @@ restarts_of {D} told state own alloc old restarted new answer is node said reope
   moments = λ yes a b here. subst (λ (d : FusedValue D). Keeps (HasOneOf a b) (state old.disk.disk) (state d.disk)) same (moments yes a b here);
   stands = stands;
   touched = λ yes. subst (λ (d : FusedValue D). Keeps (IsLeftOrRaised (state old.disk.disk)) (state old.disk.disk) (state d.disk)) same (touched yes);
+  goes = subst (λ (d : FusedValue D). GoesOnFuse (mended old.disk.fuse) d.fuse) same goes;
 }
   where
     same : restarted_disk restarted ≡ disk_of new

@@ -1,8 +1,9 @@
 -- What an event of a cell does: a whole step, a crash right behind it, a crash in place of it, or one that cuts it off.
-use Rattle.std.specs.Prelude.{◌≡◌, ◌⊎◌, ℕ, ◌==◌, ◌&&◌, Bool, true, false, List, map, Option, Some, None, if◌then◌else◌}
+use Rattle.std.specs.Prelude.{◌≡◌, ◌≢◌, ◌⊎◌, ℕ, ◌==◌, ◌&&◌, Bool, true, false, List, [], ◌++◌, map, Option, Some, None, if◌then◌else◌}
 use Rattle.std.specs.List.{list_any}
+use Rattle.qs_base.specs.Causes.{Rose}
 use Rattle.qs_disk.specs.Disk.{DiskState}
-use Rattle.qs_disk.specs.Fuse.{FusedValue}
+use Rattle.qs_disk.specs.Fuse.{FusedValue, GoesOn, fused_count}
 use Rattle.qs_host.specs.Host.{effects_at, node_after, log_after, IsLogAfter}
 use Rattle.qs_journal.specs.declared.entry.CrashCause.{CrashCause}
 use Rattle.qs_journal.specs.declared.entry.CrashCause.TheVariants as causes
@@ -87,6 +88,7 @@ pub record IsWhole {D F X : Type 0} (size : ℕ) (occasion : Occasion) (old new 
   pub setting : new.carried.setting ≡ old.carried.setting
   pub unplanned : IsUnplanned size occasion old
   pub unfollowed : is_followed size occasion old ≡ false
+  pub goes : GoesOn old.host.log.disk.fuse new.host.log.disk.fuse
 
 -- a node stops behind a step: it is a step of its own with the next stamp, in which nothing is done
 abbrev pub stopped_behind : Seen → Seen
@@ -101,6 +103,7 @@ pub record IsFollowed {D F X : Type 0} (size : ℕ) (occasion : Occasion) (old :
   pub setting : new.carried.setting ≡ old.carried.setting
   pub unplanned : IsUnplanned size occasion old
   pub followed : is_followed size occasion old ≡ true
+  pub goes : GoesOn old.host.log.disk.fuse new.disk.fuse
 
 -- as the script or the last stamp has it
 pub record IsAsPlanned {D F X : Type 0} (size : ℕ) (occasion : Occasion) (old : Running D F X) (new : Stopped D) : Type 0 where
@@ -117,6 +120,13 @@ pub record IsReplaced {D F X : Type 0} (size : ℕ) (occasion : Occasion) (old :
   pub setting : new.carried.setting ≡ old.carried.setting
   pub why : (new.cause ≡ causes.Memory) ⊎ IsAsPlanned size occasion old new
 
+-- a call of the disk failed, as the batch of the step was forced
+pub record IsFaulted {D F X : Type 0} (own : D → ℕ) (size : ℕ) (occasion : Occasion) (old : Running D F X) (new : Stopped D) : Type 0 where
+  pub force : (out_of size occasion old).force ≡ true
+  pub batch : old.host.log.waiting ++ (out_of size occasion old).records ≢ []
+  pub cause : new.cause ≡ fault_cause own old.host.log.disk new.disk
+  pub rose : Rose (fused_count own old.host.log.disk) (fused_count own new.disk)
+
 -- a crash within the step: it makes no entry but its own, and is answered by none
 pub record IsCutOff {D F X : Type 0} (own : D → ℕ) (size : ℕ) (occasion : Occasion) (old : Running D F X) (new : Stopped D) : Type 0 where
   pub kept : new.kept ≡ old.host.node.kept.saved
@@ -126,7 +136,8 @@ pub record IsCutOff {D F X : Type 0} (own : D → ℕ) (size : ℕ) (occasion : 
   pub points : new.carried.points.items ≡ old.carried.points.items
   pub setting : new.carried.setting ≡ old.carried.setting
   pub unplanned : IsUnplanned size occasion old
-  pub why : (new.cause ≡ causes.Memory) ⊎ (new.cause ≡ fault_cause own old.host.log.disk new.disk)
+  pub goes : GoesOn old.host.log.disk.fuse new.disk.fuse
+  pub why : (new.cause ≡ causes.Memory) ⊎ IsFaulted own size occasion old new
 
 abbrev pub IsOutcome : {D F X : Type 0} → (D → ℕ) → ℕ → Occasion → Running D F X → Outcome D F X → Type 0
 IsOutcome own size occasion old (outcomes.Whole running answers) = IsWhole size occasion old running answers

@@ -2,7 +2,7 @@
 use Rattle.std.specs.Prelude.{◌≡◌, ◌⊎◌, ◌≤◌, ℕ, Bool, true, false, List, [], Option, Some, None, Result, Ok, Err}
 use Rattle.std.specs.Global.{Global}
 use Rattle.qs_disk.specs.Disk.{DiskState, EachImage}
-use Rattle.qs_disk.specs.Fuse.{FusedValue}
+use Rattle.qs_disk.specs.Fuse.{FusedValue, GoesOn, mended}
 use Rattle.qs_disk.specs.Moments.{Keeps}
 use Rattle.qs_files.specs.declared.files.Files.{Files}
 use Rattle.qs_host.specs.Host.{is_settled}
@@ -104,7 +104,8 @@ answer_after (restarts.Up running) = Ok true
 answer_after (restarts.Down stopped why) = answer_of why
 
 -- the node that was down is started again, over what a power cut leaves: each image keeps the records that images had, and is changed at most by the
--- raise of the incarnation; and the log of a node that is up stands there and has the records of one
+-- raise of the incarnation; the log of a node that is up stands there and has the records of one; and the fuse, which the power cut mends, trips at
+-- planned calls alone
 pub record Restarts {D : Type 0} (told : Type 0) (state : D → DiskState) (own : D → ℕ) (alloc : Global) (old : Stopped D) (new : NodeState D) (answer : Result Bool RestartFault) : Type 0 where
   pub restarted : Restarted D Files NoServer
   pub is : IsRestarted own alloc old restarted
@@ -116,6 +117,7 @@ pub record Restarts {D : Type 0} (told : Type 0) (state : D → DiskState) (own 
   pub moments : told → (a b : List Record) → EachImage (HasOneOf a b) (state old.disk.disk).now
       → Keeps (HasOneOf a b) (state old.disk.disk) (state (disk_of new).disk)
   pub touched : told → Keeps (IsLeftOrRaised (state old.disk.disk)) (state old.disk.disk) (state (disk_of new).disk)
+  pub goes : GoesOn (mended old.disk.fuse) (disk_of new).fuse
 
 -- a node that is up is left alone
 abbrev pub StartsAgain : {D : Type 0} → Type 0 → (D → DiskState) → (D → ℕ) → Global → NodeState D → NodeState D → Result Bool RestartFault → Type 0

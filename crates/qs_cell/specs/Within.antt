@@ -2,7 +2,7 @@
 use Rattle.std.specs.Prelude.{◌≡◌, ◌≢◌, ◌↔◌, ℕ, [], ◌∷◌, None}
 use Rattle.std.specs.Global.{Global}
 use Rattle.qs_base.specs.Causes.{Rose}
-use Rattle.qs_disk.specs.Fuse.{FusedValue}
+use Rattle.qs_disk.specs.Fuse.{FusedValue, GoesOn}
 use Rattle.qs_host.specs.Host.{HostValue, node_after, worked_node, opened_host, IsLogAfter}
 use Rattle.qs_incarnation.specs.declared.counts.Counts.{Counts}
 use Rattle.qs_incarnation.specs.declared.incarnation.ReopenFault.{ReopenFault}
@@ -49,6 +49,7 @@ pub record HasStepped {D F X : Type 0} (size : ℕ) (occasion : Occasion) (old :
   pub out : effects ≡ out_of size occasion old
   pub begun : HasBegun occasion old.carried carried
   pub unplanned : IsUnplanned size occasion old
+  pub goes : GoesOn old.host.log.disk.fuse host.log.disk.fuse
 
 -- the crash is told, and else what is carried stays
 pub record HasCrashed (did : Did) (cause : CrashCause) (old new : Carried) : Type 0 where

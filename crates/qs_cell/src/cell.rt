@@ -49,7 +49,7 @@ pub struct NodeCell<D: Disk> {
 }
 
 /// What came of a visit.
-#[derive(Clone, Copy, Debug, PartialEq, Eq)]
+#[derive(Clone, Copy)]
 pub struct Visited {
     /// A packet was put to a link.
     pub sent: bool,
@@ -61,7 +61,7 @@ pub struct Visited {
 const NODE_SOURCES: usize = 2;
 
 /// Where an event of a visit comes from.
-#[derive(Clone, Copy, Debug, PartialEq, Eq)]
+#[derive(Clone, Copy)]
 enum Source {
     /// The commands of that client.
     Client { client: ClientNo },

@@ -35,7 +35,7 @@ pub struct Running<D: Disk, F: Server, X: Server> {
 }
 
 /// How an event left a node.
-#[derive(Debug, Drop)]
+#[derive(Drop)]
 pub enum Fate {
     /// The step stands whole, and these answers go out.
     Whole { answers: List<ClientAnswer> },

@@ -31,7 +31,7 @@ pub enum NodeState<D: Disk> {
 }
 
 /// Why a node that is down could not be started again.
-#[derive(Clone, Copy, Debug, PartialEq, Eq, Error)]
+#[derive(Clone, Copy, Debug, Error)]
 pub enum RestartFault {
     /// The disk itself failed a call.
     #[error("a disk call failed")]

@@ -5,6 +5,7 @@ ghost use Rattle.qs_cell.specs.Restart.{IsRestarted, IsWhyDown, IfUp, restarted_
 ghost use Rattle.qs_cell.specs.Within.{IsLeftDown, Begins};
 ghost use Rattle.qs_cell.specs.declared.stopped.Restarted.TheVariants as restarts;
 ghost use Rattle.qs_disk.specs.Disk.{EachImage};
+ghost use Rattle.qs_disk.specs.Fuse.{GoesOn, mended};
 ghost use Rattle.qs_disk.specs.Moments.{Keeps};
 ghost use Rattle.qs_incarnation.specs.Incarnation.{IsLeftOrRaised, IsReopened, HasOneOf};
 ghost use Rattle.qs_log.specs.Log.{Stands, records_of};
@@ -57,8 +58,8 @@ impl<D: Disk> Stopped<D> {
     /// The power is cut, the log of what that leaves is opened and its incarnation raised, and the node begins it with what
     /// the log says and what it kept for its clients. Its files and the further server are empty.
     ///
-    /// Of a node that is still down `Tripped` is told exactly where the fuse tripped in this call, and `DiskFailed` only
-    /// where the disk's own count of faults rose. A log that opens as damaged is told as `NoMemory`.
+    /// Of a node that is still down `Tripped` is told exactly where the fuse tripped in this call, which it does at planned
+    /// calls alone, and `DiskFailed` only where the disk's own count of faults rose. A log that opens as damaged is told as `NoMemory`.
     pub fn restart<F: Server, X: Server>(
         self,
         alloc: Global,
@@ -81,6 +82,9 @@ impl<D: Disk> Stopped<D> {
             → Keeps (HasOneOf a b) (D.state self.disk.disk) (D.state (restarted_disk result).disk) }
         ensures touched { D.told → Keeps (IsLeftOrRaised (D.state self.disk.disk)) (D.state self.disk.disk) (D.state (restarted_disk result).disk) }
         ensures size { D.byte_count (restarted_disk result).disk ≡ D.byte_count self.disk.disk }
+
+        // What tripped did so at a planned call.
+        ensures goes { GoesOn (mended self.disk.fuse) (restarted_disk result).fuse }
     {
         let Stopped {
             disk,

@@ -10,7 +10,7 @@ use qs_points::Watched;
 use qs_step::{ClientAnswer, Setting};
 
 /// A command that a node took and did not answer.
-#[derive(Debug, Drop, PartialEq, Eq)]
+#[derive(Drop)]
 pub struct Held {
     pub line: ScriptLine,
     /// The incarnation that took it.

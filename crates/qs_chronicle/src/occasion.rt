@@ -7,7 +7,7 @@ use qs_journal::ScriptLine;
 use qs_step::{Did, Event};
 
 /// What an event of a node is made of.
-#[derive(Debug, Drop, PartialEq, Eq)]
+#[derive(Drop)]
 pub enum Occasion {
     /// A client's command.
     Command { line: ScriptLine },

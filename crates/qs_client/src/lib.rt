@@ -4,8 +4,6 @@
 mod cell;
 mod laws;
 mod progress;
-#[cfg(test)]
-mod tests;
 
 pub use cell::{ClientCell, ClientEnds};
 pub use laws::{commands_in_order, ends_behind_its_lines};

@@ -8,7 +8,7 @@ use qs_journal::{LineAnswer, ScriptLine};
 
 /// A client's lines, the place of the line that it stands at, from 0, and whether that line is out:
 /// sent and not answered.
-#[derive(Debug, Drop)]
+#[derive(Drop)]
 pub struct Progress {
     lines: List<ScriptLine>,
     place: usize,

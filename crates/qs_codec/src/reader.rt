@@ -10,7 +10,7 @@ use std::marker::Model;
 
 /// A reader of fields, which stands at a place of its bytes. After a fault it stands where the field
 /// began.
-#[derive(Debug, Drop)]
+#[derive(Drop)]
 pub struct Reader<'a> {
     bytes: &'a [u8],
     at: usize,

@@ -3,7 +3,7 @@ use Rattle.std.specs.Prelude.{◌≡◌, ℕ, List, [], ◌∷◌, ◌++◌, cod
 use Rattle.qs_base.specs.declared.identifiers.Outcome.TheVariants as outcomes
 use Rattle.qs_ops.specs.declared.answer.Answer.TheVariants as answers
 use Rattle.qs_ops.specs.declared.answer.Cause.TheVariants as causes
-use Rattle.qs_ops.specs.declared.operation.Op.TheVariants.{Note}
+use Rattle.qs_ops.specs.declared.operation.Op.TheVariants.{Lend, Note}
 use Rattle.qs_ops.specs.declared.reply.Reply.TheVariants as replies
 use Rattle.qs_ops.specs.declared.vote.Reason.TheVariants as reasons
 use Rattle.qs_ops.specs.declared.vote.Vote.{Vote}
@@ -111,6 +111,47 @@ pub record FoundRows : Type 0 where
   pub unnoted : judged 2 (planned noted_script) (noted_but 6 finds) ≡ broken_at 7 rules.NoteWasServed
   pub unserved : judged 2 (planned noted_script) (noted_but 8 finds) ≡ broken_at 9 rules.NoteWasServed
   pub noted : judged 2 (planned noted_script) (noted_but 9 finds) ≡ well
-  pub over : judged 2 (planned low_quota) (noted_but 6 finds) ≡ broken_at 7 rules.WithinQuota
+  -- what the step that the crash cut off applied before the vote is not told, and no quota is asked of it
+  pub over : judged 2 (planned low_quota) (noted_but 6 finds) ≡ well
   -- on record already
   pub recorded : judged 2 (planned noted_script) (noted_but 11 finds) ≡ well
+
+-- ---- files of node 1 tell the audit of node 0; their note is lost as their node stops, and a later one has its number
+
+abbrev pub lost_note : Script
+lost_note = with_faults (crash 1 ∷ crash 1 ∷ []) (with_audit 0 (script (seat 0 0 ∷ seat 1 0 ∷ [])
+    (said 0 2 a commands.Begin ∷ said 0 3 a (asks 1 0 (put (codes "f") (codes "xy"))) ∷ said 0 4 a (asks 0 33 (Lend (client 1)))
+    ∷ said 0 5 a commands.Commit ∷ said 1 6 a commands.Take ∷ said 1 7 a (asks 1 0 (put (codes "g") (codes "z"))) ∷ [])))
+
+abbrev pub lost_start : List Entry
+lost_start =
+    step 1 0 (acts.Begin (tid 1) a (client 0) ∷ acts.Answer (client 0) 2 answers.Done ∷ [])
+    ++ (step 2 0 (acts.Issue (tid 1) (member 0 32) (member 1 0) 1 (put (codes "f") (codes "xy")) ∷ [])
+    ++ (step 3 1 (acts.Serve (tid 1) (member 1 0) (node 0) 1 replies.Done ∷ [])
+    ++ (step 4 0 (acts.Answer (client 0) 3 answers.Done ∷ acts.Issue (tid 1) (member 0 32) (member 0 33) 1 (Lend (client 1)) ∷ [])
+    ++ (step 5 0 (acts.Serve (tid 1) (member 0 33) (node 0) 1 replies.Done ∷ acts.Loan (tid 1) (client 1) ∷ acts.Answer (client 0) 4 answers.Done
+    ∷ acts.Answer (client 1) 6 answers.Done ∷ [])
+    ++ (step 6 0 (acts.Ask (tid 1) ∷ [])
+    ++ (step 7 1 (acts.Issue (tid 1) (member 1 0) (member 0 1) 1 (Note (codes "0.1.1:files@1:1")) ∷ [])
+    ++ (step 8 1 (acts.Crash crashes.Plan ∷ []) ++ (step 9 1 (acts.Restart 2 [] [] ∷ [])
+    ++ (step 10 0 (acts.Issue (tid 1) (member 0 33) (member 1 0) 2 (put (codes "g") (codes "z")) ∷ [])
+    ++ step 11 1 (acts.Serve (tid 1) (member 1 0) (node 0) 2 replies.Done ∷ []))))))))))
+
+-- the later one is served, so that it is not known which was, and the transaction is crossed at the audit server
+abbrev pub crossed_start : List Entry
+crossed_start =
+    lost_start ++ (step 12 1 (acts.Issue (tid 1) (member 1 0) (member 0 1) 1 (Note (codes "0.1.1:files@1:1")) ∷ [])
+    ++ step 13 0 (acts.Serve (tid 1) (member 0 1) (node 1) 1 replies.Done ∷ []))
+
+abbrev pub votes_then : List Entry
+votes_then = step 14 1 (acts.Vote (tid 1) (member 1 0) votes.Recoverable 1 ∷ [])
+
+abbrev pub finds_then : List Entry
+finds_then = step 14 1 (acts.Crash crashes.Plan ∷ []) ++ step 15 1 (acts.Restart 3 found [] ∷ [])
+
+pub record CrossedRows : Type 0 where
+  pub crossed : judged 2 lost_note (crossed_start ++ votes_then) ≡ well
+  pub found : judged 2 lost_note (crossed_start ++ finds_then) ≡ well
+  -- where nothing is crossed the lost note counts for nothing
+  pub lost : judged 2 lost_note (lost_start ++ votes_then) ≡ broken_at 16 rules.NoteWasServed
+  pub lost_found : judged 2 lost_note (lost_start ++ finds_then) ≡ broken_at 17 rules.NoteWasServed

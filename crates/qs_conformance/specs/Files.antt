@@ -1,5 +1,5 @@
 -- Quotas and audit: what files vote for, and which notes files issue.
-use Rattle.std.specs.Prelude.{ℕ, ◌==◌, Bool, false, not, ◌&&◌, ◌||◌, List, [], ◌∷◌, Option, Some, None, is_none, slice_get, nat_le, if◌then◌else◌}
+use Rattle.std.specs.Prelude.{ℕ, ◌==◌, Bool, true, false, not, ◌&&◌, ◌||◌, List, [], ◌∷◌, Option, Some, None, slice_get, nat_le, if◌then◌else◌}
 use Rattle.qs_base.specs.declared.identifiers.Member.{Member}
 use Rattle.qs_base.specs.declared.identifiers.NodeNo.{NodeNo}
 use Rattle.qs_base.specs.declared.identifiers.Tid.{Tid}
@@ -35,16 +35,22 @@ is_within quota node here tid tx = is_crossed tx (member_at here files_no) || na
 abbrev pub is_noted : NodeValue → ℕ → Tid → TransactionValue → Bool
 is_noted node here tid tx = has_note tx (note_here here node (note_text tid here (files_count here node tx)))
 
--- where the script names no node for them, no notes are asked for
-abbrev pub needs_no_note : Option NodeNo → Bool
-needs_no_note audit = is_none audit
+-- where the script names no node for them, no notes are asked for; where the transaction is crossed at the audit server, it is not known
+-- which of the notes of one number was served, and none is owed
+abbrev pub needs_no_note : Option NodeNo → TransactionValue → Bool
+needs_no_note None tx = true
+needs_no_note (Some audit) tx = is_crossed tx (member_at audit.0 audit_no)
 
--- a vote of files that stands for changes: within the quota, and noted
+-- a vote of files that stands for changes: noted, ..
+abbrev pub broken_owed_note : CourseValue → NodeValue → ℕ → Tid → TransactionValue → Option Rule
+broken_owed_note course node here tid tx =
+    if needs_no_note course.audit tx || is_noted node here tid tx then None else Some rules.NoteWasServed
+
+-- .. and within the quota as it is made
 abbrev pub broken_stake : CourseValue → NodeValue → ℕ → Tid → TransactionValue → Option Rule
 broken_stake course node here tid tx =
     if not (is_within (quota_at course here) node here tid tx) then Some rules.WithinQuota
-    else if not (needs_no_note course.audit || is_noted node here tid tx) then Some rules.NoteWasServed
-    else None
+    else broken_owed_note course node here tid tx
 
 -- a refusal for want of room in the log: within the quota
 abbrev pub broken_refusal : CourseValue → NodeValue → ℕ → Tid → TransactionValue → Option Rule
@@ -71,12 +77,14 @@ broken_vote course here tid member vote =
 
 -- ---- votes that a restart finds
 
--- a vote of files that was made in the step that the crash cut off; what is on record was judged as it was made, or stood at the opening
+-- a vote of files that was made in the step that the crash cut off: noted. No quota is asked of it: what that step had applied before it
+-- votes counts for what it holds, and a restart does not tell that order. What is on record was judged as it was made, or stood at the
+-- opening
 abbrev pub broken_found_vote : CourseValue → NodeValue → ℕ → Found → Option TransactionValue → Option Rule
 broken_found_vote course node here found None = None
 broken_found_vote course node here found (Some tx) =
     if (found.server.0 == files_no) && is_new_vote here node (Some tx) found
-    then broken_stake course node here found.tid tx
+    then broken_owed_note course node here found.tid tx
     else None
 
 abbrev pub first_broken : Option Rule → Option Rule → Option Rule

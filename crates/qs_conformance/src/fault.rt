@@ -1,14 +1,14 @@
 //! What is wrong with a journal: at which entry, and which rule that breaks.
 
 /// The first entry of a history that does not conform, by its place from 0.
-#[derive(Clone, Copy, Debug, PartialEq, Eq)]
+#[derive(Clone, Copy)]
 pub struct Misfit {
     pub place: usize,
     pub fault: Fault,
 }
 
 /// Why an entry does not conform.
-#[derive(Clone, Copy, Debug, PartialEq, Eq)]
+#[derive(Clone, Copy)]
 pub enum Fault {
     /// It is no lawful step of the reference machine: the first clause that it breaks.
     Unlawful { clause: u16 },
@@ -17,7 +17,7 @@ pub enum Fault {
 }
 
 /// The rules by which a journal keeps to a script.
-#[derive(Clone, Copy, Debug, PartialEq, Eq)]
+#[derive(Clone, Copy, Debug)]
 pub enum Rule {
     /// What a client makes is what the first of its commands that are not answered says, at its node.
     CarriesOutItsCommand,
@@ -31,9 +31,10 @@ pub enum Rule {
     NoteGoesToAudit,
     /// The limit in a refusal is the quota of the node.
     LimitIsTheQuota,
-    /// What files vote for has no more bytes than the quota.
+    /// What files vote for has no more bytes than the quota, as the vote is made.
     WithinQuota,
-    /// Files of a run with audit vote recoverable with a served note of their present count.
+    /// Files of a run with audit vote recoverable with a served note of their present count, unless it is not known
+    /// which of two notes was served.
     NoteWasServed,
     /// The cause of an abort is one that the script leaves to the home.
     CauseIsAllowed,

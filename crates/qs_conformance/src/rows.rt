@@ -1,6 +1,6 @@
 //! Histories with their verdicts: lawful ones, and neighbours of each that break one rule.
 ghost use Rattle.qs_conformance.specs.CrashRows.{LineRows, AfterRows, SharedRows, CauseRows};
-ghost use Rattle.qs_conformance.specs.FileRows.{QuotaRows, NoteRows, FoundRows};
+ghost use Rattle.qs_conformance.specs.FileRows.{QuotaRows, NoteRows, FoundRows, CrossedRows};
 ghost use Rattle.qs_conformance.specs.LoanRows.{LentRows, TwoLoanRows, EndedRows, FarRows, AgainRows};
 ghost use Rattle.qs_conformance.specs.OwnerRows.{CommitRows, AbortRows, FullRows};
 
@@ -25,6 +25,7 @@ pub fn file_rows()
     ensures quota { QuotaRows }
     ensures note { NoteRows }
     ensures found { FoundRows }
+    ensures crossed { CrossedRows }
 {}
 
 /// Crashes have lines of their own, and other causes are what they say.

@@ -3,7 +3,7 @@
 use qs_base::{Bytes, Member, NodeNo, Tid};
 
 /// What the first of a client's commands that are not answered has made.
-#[derive(Clone, Copy, Debug, PartialEq, Eq)]
+#[derive(Clone, Copy)]
 pub enum Made {
     Nothing,
     Begun,
@@ -14,7 +14,7 @@ pub enum Made {
 }
 
 /// A request for whose reply a client waits.
-#[derive(Clone, Copy, Debug, PartialEq, Eq, PartialOrd, Ord)]
+#[derive(Clone, Copy, PartialEq, Eq, PartialOrd, Ord)]
 pub struct Sought {
     pub tid: Tid,
     pub member: Member,
@@ -24,7 +24,7 @@ pub struct Sought {
 }
 
 /// A loan to a client.
-#[derive(Clone, Copy, Debug, PartialEq, Eq)]
+#[derive(Clone, Copy)]
 pub struct Loan {
     /// The incarnation of the client's node in which it was made.
     pub inc: u64,
@@ -32,7 +32,7 @@ pub struct Loan {
 }
 
 /// What the entries are about that fault lines may name.
-#[derive(Clone, Copy, Debug, PartialEq, Eq, PartialOrd, Ord)]
+#[derive(Clone, Copy, PartialEq, Eq, PartialOrd, Ord)]
 pub enum Deed {
     Serve,
     Vote,
@@ -41,7 +41,7 @@ pub enum Deed {
 }
 
 /// A fault line that stops a node before or after its first entry of a kind for a label's transaction.
-#[derive(Debug, Drop, PartialEq, Eq, PartialOrd, Ord)]
+#[derive(Drop, PartialEq, Eq, PartialOrd, Ord)]
 pub struct Mark {
     pub node: NodeNo,
     pub after: bool,
@@ -50,7 +50,7 @@ pub struct Mark {
 }
 
 /// What the script and the run so far say of a node.
-#[derive(Clone, Copy, Debug, PartialEq, Eq)]
+#[derive(Clone, Copy)]
 pub struct NodeCourse {
     /// So many bytes its files may have.
     pub quota: u64,

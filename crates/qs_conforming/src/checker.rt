@@ -18,7 +18,7 @@ use std::alloc::Global;
 use std::marker::Model;
 
 /// A run that is judged as it goes: what its script and its journal so far say.
-#[derive(Debug, Drop)]
+#[derive(Drop)]
 pub struct Checker {
     course: Course,
 }

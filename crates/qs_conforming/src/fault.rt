@@ -5,7 +5,7 @@ use qs_conformance::Rule;
 use thiserror::Error;
 
 /// Why an entry was not taken in.
-#[derive(Clone, Copy, Debug, Error, PartialEq, Eq)]
+#[derive(Clone, Copy, Debug, Error)]
 pub enum CheckFault {
     /// It is no lawful step of the reference machine: the first clause that it breaks.
     #[error("the entry breaks clause {clause}")]

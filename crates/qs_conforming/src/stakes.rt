@@ -1,7 +1,7 @@
 //! Quotas and audit: what files vote for, and which notes files issue.
 ghost use Rattle.std.specs.Prelude.{◌≡◌, IfOk};
 ghost use Rattle.std.specs.Option.{option_copied};
-ghost use Rattle.qs_conformance.specs.Files.{quota_of, quota_at, is_within, is_noted, broken_stake, broken_refusal, broken_ballot, broken_files_vote, broken_vote, broken_found_vote, broken_found, broken_restart, is_audit_at, broken_note};
+ghost use Rattle.qs_conformance.specs.Files.{quota_of, quota_at, is_within, is_noted, needs_no_note, broken_owed_note, broken_stake, broken_refusal, broken_ballot, broken_files_vote, broken_vote, broken_found_vote, broken_found, broken_restart, is_audit_at, broken_note};
 
 use qs_base::{Member, NoMemory, NodeNo, Tid};
 use qs_book::{NodeState, files_note, is_new_vote};
@@ -60,6 +60,34 @@ fn is_noted(
     Ok(tx.has_note(&note))
 }
 
+/// Whether files owe no note: none is asked for, or it is not known which of two was served.
+fn needs_no_note(audit: Option<NodeNo>, tx: &Transaction) -> bool
+    ensures { result ≡ needs_no_note audit tx.now }
+{
+    match audit {
+        None => true,
+        Some(node) => tx.is_crossed(Member {
+            node,
+            server: AUDIT,
+        }),
+    }
+}
+
+fn broken_owed_note(
+    course: &Course,
+    node: &NodeState,
+    here: NodeNo,
+    tid: Tid,
+    tx: &Transaction,
+) -> Result<Option<Rule>, NoMemory>
+    ensures { IfOk result (λ rule. rule ≡ broken_owed_note course.now node.now here.0 tid tx.now) }
+{
+    if needs_no_note(course.audit(), tx) || is_noted(course.alloc(), node, here, tid, tx)? {
+        return Ok(None);
+    }
+    Ok(Some(Rule::NoteWasServed))
+}
+
 // ---- votes that are made
 
 fn broken_stake(
@@ -74,10 +102,7 @@ fn broken_stake(
     if !is_within(quota_at(course, here), node, here, tid, tx)? {
         return Ok(Some(Rule::WithinQuota));
     }
-    if course.audit().is_some() && !is_noted(course.alloc(), node, here, tid, tx)? {
-        return Ok(Some(Rule::NoteWasServed));
-    }
-    Ok(None)
+    broken_owed_note(course, node, here, tid, tx)
 }
 
 fn broken_refusal(
@@ -167,7 +192,7 @@ fn broken_found_vote(
 {
     match tx {
         Some(known) if found.server == FILES && is_new_vote(here, node, tx, found) => {
-            broken_stake(course, node, here, found.tid, known)
+            broken_owed_note(course, node, here, found.tid, known)
         }
         _ => Ok(None),
     }

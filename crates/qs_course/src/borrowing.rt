@@ -9,7 +9,7 @@ use std::alloc::Global;
 use std::marker::Model;
 
 /// The loans of a transaction to a client, and how many of its takes were answered.
-#[derive(Debug, Drop)]
+#[derive(Drop)]
 pub struct Borrowing {
     loans: Vec<Loan>,
     taken: usize,

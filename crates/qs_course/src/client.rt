@@ -15,7 +15,7 @@ use std::collections::{BTreeMap, BTreeSet, VecDeque};
 use std::marker::Model;
 
 /// A client: its seat, its commands that are not answered, and what it borrowed.
-#[derive(Debug, Drop)]
+#[derive(Drop)]
 pub struct ClientCourse {
     alloc: Global,
     seat: Option<NodeNo>,

@@ -16,7 +16,7 @@ use std::collections::BTreeMap;
 use std::marker::Model;
 
 /// What the script and the journal so far say, as far as the next entry hangs on it.
-#[derive(Debug, Drop)]
+#[derive(Drop)]
 pub struct Course {
     alloc: Global,
     book: Book,

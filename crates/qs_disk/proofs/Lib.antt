@@ -3,3 +3,4 @@ pub mod Ranges
 pub mod Sizes
 pub mod Images
 pub mod Moments
+pub mod Fuses

@@ -1,5 +1,5 @@
 -- A fuse before a disk, and which calls it lets pass.
-use Rattle.std.specs.Prelude.{◌≡◌, ℕ, Bool, false, ◌&&◌, ◌||◌, ◌⊎◌, not, ◌==◌, if◌then◌else◌, Option, Some, None, List}
+use Rattle.std.specs.Prelude.{◌≡◌, ◌≢◌, ◌≤◌, ℕ, ◌+◌, ◌-◌, ◌^◌, min, nat_le, Bool, true, false, ◌&&◌, ◌||◌, ◌⊎◌, not, ◌==◌, if◌then◌else◌, Option, Some, None, List}
 use Rattle.std.specs.List.{list_any}
 use Rattle.qs_base.specs.Causes.{Rose}
 use Rattle.qs_disk.specs.Disk.{DiskState, with_range}
@@ -17,13 +17,17 @@ pub record FusedValue (D : Type 0) : Type 0 where
   pub disk : D
   pub fuse : FuseValue
 
+-- the calls that the fuse tripped at or refused, and those that the disk itself failed, at most its type's last value
+abbrev pub fused_count : {D : Type 0} → (D → ℕ) → FusedValue D → ℕ
+fused_count own fused = min (fused.fuse.trips + own fused.disk) (2 ^ 64 - 1)
+
 -- nothing is planned, and nothing tripped
 abbrev pub new_fuse : FuseValue
 new_fuse = record { plan = None; blown = false; calls = 0; trips = 0 }
 
--- counting from 1, with this plan
-abbrev pub armed : FuseValue → List ℕ → FuseValue
-armed fuse plan = record { plan = Some plan; blown = fuse.blown; calls = 0; trips = fuse.trips }
+-- with this plan, which counts calls from 1, and nothing tripped
+abbrev pub armed : List ℕ → FuseValue
+armed plan = record { plan = Some plan; blown = false; calls = 0; trips = 0 }
 
 -- the plan has this number
 abbrev pub is_planned : Option (List ℕ) → ℕ → Bool
@@ -54,3 +58,22 @@ after_call fuse = record {
 -- after a power cut
 abbrev pub mended : FuseValue → FuseValue
 mended fuse = record { plan = fuse.plan; blown = false; calls = fuse.calls; trips = fuse.trips }
+
+-- ---- what calls, one after the other, may make of it
+
+-- one of the calls behind the `from`-th and up to the `to`-th is planned
+abbrev pub is_reached : Option (List ℕ) → ℕ → ℕ → Bool
+is_reached None from to = false
+is_reached (Some plan) from to = list_any (λ number. nat_le (raised from) number && nat_le number to) plan
+
+-- why it trips, or has blown: it had blown before, or a planned call was reached
+abbrev pub Trips : FuseValue → FuseValue → Type 0
+Trips old new = (old.blown ≡ true) ⊎ (is_reached old.plan old.calls new.calls ≡ true)
+
+-- it keeps its plan, counts on, and trips at planned calls alone
+pub record GoesOn (old new : FuseValue) : Type 0 where
+  pub plan : new.plan ≡ old.plan
+  pub calls : old.calls ≤ new.calls
+  pub trips : old.trips ≤ new.trips
+  pub tripped : new.trips ≢ old.trips → Trips old new
+  pub blown : new.blown ≡ true → Trips old new

@@ -4,3 +4,4 @@ pub mod Moments
 pub mod Cells
 pub mod Memory
 pub mod Fuse
+pub mod FuseLaws

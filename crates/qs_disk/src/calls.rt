@@ -7,7 +7,7 @@ use std::alloc::Global;
 
 // Counts calls and faults, each at most 2^64 - 1. The calls whose numbers, from 1, stand in `fail`
 // fail.
-#[derive(Debug, Drop)]
+#[derive(Drop)]
 pub struct Calls {
     fail: Vec<u64>,
     calls: u64,

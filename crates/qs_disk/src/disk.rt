@@ -29,6 +29,9 @@ pub trait Disk {
     /// How many bytes it has.
     ghost byte_count: { Self → ℕ };
 
+    /// What calls, one after the other, may make of it.
+    ghost leads_to: { Self → Self → Type 0 };
+
     /// How many bytes it has, which never changes: a multiple of 4,096 from 65,536 to 16,777,216.
     fn size(&self) -> u64
         ensures value { result ≡ byte_count self.now }
@@ -47,7 +50,8 @@ pub trait Disk {
         requires { at + length buf.old ≤ byte_count self.old }
         ensures state { told → Reads at buf.new (is_ok result) (state self.old) (state self.new) }
         ensures size { byte_count self.new ≡ byte_count self.old }
-        ensures cause { HasCause (fault_count self.old) (fault_count self.new) result };
+        ensures cause { HasCause (fault_count self.old) (fault_count self.new) result }
+        ensures leads { leads_to self.old self.new };
 
     /// Writes the bytes from `at` on. `DiskFailed` comes only where the count of faults rose in this
     /// call; any bytes may then stand in the range.
@@ -55,22 +59,31 @@ pub trait Disk {
         requires { at + length bytes.now ≤ byte_count self.old }
         ensures state { told → Writes at bytes.now (is_ok result) (state self.old) (state self.new) }
         ensures size { byte_count self.new ≡ byte_count self.old }
-        ensures cause { HasCause (fault_count self.old) (fault_count self.new) result };
+        ensures cause { HasCause (fault_count self.old) (fault_count self.new) result }
+        ensures leads { leads_to self.old self.new };
 
     /// After it the content is the only image. `DiskFailed` comes only where the count of faults rose
     /// in this call.
     fn sync(&mut self) -> Result<(), DiskFailed>
         ensures state { told → Syncs (is_ok result) (state self.old) (state self.new) }
         ensures size { byte_count self.new ≡ byte_count self.old }
-        ensures cause { HasCause (fault_count self.old) (fault_count self.new) result };
+        ensures cause { HasCause (fault_count self.old) (fault_count self.new) result }
+        ensures leads { leads_to self.old self.new };
 
     /// Cuts the power: leaves one image, which is then the content and the only image. `DiskFailed`
     /// comes only where the count of faults rose in this call.
     fn power_cut(&mut self) -> Result<(), DiskFailed>
         ensures state { told → Cuts (is_ok result) (state self.old) (state self.new) }
         ensures size { byte_count self.new ≡ byte_count self.old }
-        ensures cause { HasCause (fault_count self.old) (fault_count self.new) result };
+        ensures cause { HasCause (fault_count self.old) (fault_count self.new) result }
+        ensures leads { leads_to self.old self.new };
 
     /// The content has as many bytes as the disk.
     ghost sized: { (disk : Self) → told → length (state disk).content ≡ byte_count disk };
+
+    /// No call makes nothing of it.
+    ghost leads_nowhere: { (disk : Self) → leads_to disk disk };
+
+    /// Calls behind others are calls.
+    ghost leads_on: { (first second third : Self) → leads_to first second → leads_to second third → leads_to first third };
 }

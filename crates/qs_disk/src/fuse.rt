@@ -1,13 +1,13 @@
 //! A fuse that trips at the planned calls.
 ghost use Rattle.std.specs.Prelude.{◌≡◌, ◌+◌, not, ◌||◌, if◌then◌else◌};
 ghost use Rattle.qs_disk.specs.Memory.{raised};
-ghost use Rattle.qs_disk.specs.Fuse.{stops, after_call, armed, mended, new_fuse, is_planned};
+ghost use Rattle.qs_disk.specs.Fuse.{GoesOn, stops, after_call, armed, mended, new_fuse, is_planned};
 
 use qs_base::List;
 use std::marker::Model;
 
-// From arming on it numbers calls from 1. It trips at those of its plan, and refuses every later
-// call until it is mended. Its counts stay at 2^64 - 1.
+// From arming on it numbers calls from 1 and counts those that it stops. It trips at those of its
+// plan, and refuses every later call until it is mended. Its counts stay at 2^64 - 1.
 #[derive(Drop)]
 pub struct Fuse {
     plan: Option<List<u64>>,
@@ -37,17 +37,21 @@ impl Fuse {
         }
     }
 
-    // Numbers calls anew, from 1, by this plan.
+    // It begins anew with this plan: calls are numbered from 1, and nothing tripped.
     pub fn arm(&mut self, plan: List<u64>)
-        ensures { self.new ≡ armed self.old plan }
+        ensures { self.new ≡ armed plan }
     {
         self.plan = Some(plan);
+        self.blown = false;
         self.calls = 0;
+        self.trips = 0;
     }
 
     // Lets calls pass again.
+    #[tactic(auto, using(crate::proofs::Fuses::goes_mended))]
     pub fn mend(&mut self)
-        ensures { self.new ≡ mended self.old }
+        ensures mended { self.new ≡ mended self.old }
+        ensures goes { GoesOn self.old self.new }
     {
         self.blown = false;
     }
@@ -67,9 +71,11 @@ impl Fuse {
     }
 
     // Numbers the next call, and answers whether it trips at it or refuses it, which it counts.
+    #[tactic(auto, using(crate::proofs::Fuses::goes_by_call))]
     pub fn stops(&mut self) -> bool
         ensures answer { result ≡ stops self.old }
         ensures after { self.new ≡ after_call self.old }
+        ensures goes { GoesOn self.old self.new }
     {
         self.calls = self.calls.saturating_add(1);
         let stops = self.blown || has(&self.plan, self.calls);

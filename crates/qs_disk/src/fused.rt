@@ -1,8 +1,9 @@
 //! A disk behind a fuse.
-ghost use Rattle.std.specs.Prelude.{◌≡◌, ◌≤◌, ◌+◌, ◌-◌, ◌^◌, min, length, true, false, is_ok, IsTrue, IsErr};
+ghost use Rattle.std.specs.Prelude.{◌≡◌, ◌≤◌, ◌+◌, length, true, false, is_ok, IsTrue, IsErr};
 ghost use Rattle.qs_base.specs.Causes.{HasCause};
 ghost use Rattle.qs_disk.specs.Disk.{IsSize, Reads, Writes, Syncs, Cuts};
-ghost use Rattle.qs_disk.specs.Fuse.{stops, trips_at, IsPassedOn, after_call, armed, mended, new_fuse};
+ghost use Rattle.qs_disk.specs.Fuse.{stops, trips_at, IsPassedOn, GoesOn, after_call, armed, fused_count, mended, new_fuse};
+ghost use Rattle.qs_disk.specs.FuseLaws.{goes_nowhere, goes_further};
 
 use crate::disk::{Disk, DiskFailed};
 use crate::fuse::Fuse;
@@ -41,15 +42,15 @@ impl<D: Disk> Fused<D> {
     }
 
     /// Plans the numbers of the calls to trip at: the next read, write or sync is number 1. What has
-    /// blown stays blown.
+    /// tripped before is forgotten, and calls are passed on again.
     pub fn arm(&mut self, plan: List<u64>)
         ensures disk { self.new.disk ≡ self.old.disk }
-        ensures fuse { self.new.fuse ≡ armed self.old.fuse plan }
+        ensures fuse { self.new.fuse ≡ armed plan }
     {
         self.fuse.arm(plan);
     }
 
-    /// How many calls the fuse tripped at or refused, at most 2^64 - 1.
+    /// How many calls the fuse tripped at or refused since it was armed last, at most 2^64 - 1.
     pub fn trips(&self) -> u64
         ensures { result ≡ self.now.fuse.trips }
     {
@@ -77,9 +78,12 @@ impl<D: Disk> Disk for Fused<D> {
 
     ghost state = { λ f. D.state f.disk };
 
-    ghost fault_count = { λ f. min (f.fuse.trips + D.fault_count f.disk) (2 ^ 64 - 1) };
+    ghost fault_count = { fused_count D.fault_count };
 
     ghost byte_count = { λ f. D.byte_count f.disk };
+
+    // Nothing of the disk behind it: the fuse keeps its plan, and trips at planned calls alone.
+    ghost leads_to = { λ old new. GoesOn old.fuse new.fuse };
 
     fn size(&self) -> u64 {
         self.disk.size()
@@ -93,7 +97,8 @@ impl<D: Disk> Disk for Fused<D> {
         requires { at + length buf.old ≤ D.byte_count self.old.disk }
         ensures state { D.told → Reads at buf.new (is_ok result) (D.state self.old.disk) (D.state self.new.disk) }
         ensures size { D.byte_count self.new.disk ≡ D.byte_count self.old.disk }
-        ensures cause { HasCause (min (self.old.fuse.trips + D.fault_count self.old.disk) (2 ^ 64 - 1)) (min (self.new.fuse.trips + D.fault_count self.new.disk) (2 ^ 64 - 1)) result }
+        ensures cause { HasCause (fused_count D.fault_count self.old) (fused_count D.fault_count self.new) result }
+        ensures leads { GoesOn self.old.fuse self.new.fuse }
 
         // Where the fuse lets it pass, the disk's answer is given; else the disk is left alone.
         ensures fuse { self.new.fuse ≡ after_call self.old.fuse }
@@ -111,7 +116,8 @@ impl<D: Disk> Disk for Fused<D> {
         requires { at + length bytes.now ≤ D.byte_count self.old.disk }
         ensures state { D.told → Writes at bytes.now (is_ok result) (D.state self.old.disk) (D.state self.new.disk) }
         ensures size { D.byte_count self.new.disk ≡ D.byte_count self.old.disk }
-        ensures cause { HasCause (min (self.old.fuse.trips + D.fault_count self.old.disk) (2 ^ 64 - 1)) (min (self.new.fuse.trips + D.fault_count self.new.disk) (2 ^ 64 - 1)) result }
+        ensures cause { HasCause (fused_count D.fault_count self.old) (fused_count D.fault_count self.new) result }
+        ensures leads { GoesOn self.old.fuse self.new.fuse }
 
         // Where the fuse lets it pass, the disk's answer is given; where it trips, the write is
         // passed on; else the disk is left alone.
@@ -137,7 +143,8 @@ impl<D: Disk> Disk for Fused<D> {
     fn sync(&mut self) -> Result<(), DiskFailed>
         ensures state { D.told → Syncs (is_ok result) (D.state self.old.disk) (D.state self.new.disk) }
         ensures size { D.byte_count self.new.disk ≡ D.byte_count self.old.disk }
-        ensures cause { HasCause (min (self.old.fuse.trips + D.fault_count self.old.disk) (2 ^ 64 - 1)) (min (self.new.fuse.trips + D.fault_count self.new.disk) (2 ^ 64 - 1)) result }
+        ensures cause { HasCause (fused_count D.fault_count self.old) (fused_count D.fault_count self.new) result }
+        ensures leads { GoesOn self.old.fuse self.new.fuse }
 
         // Where the fuse lets it pass, the disk's answer is given; else the disk is left alone.
         ensures fuse { self.new.fuse ≡ after_call self.old.fuse }
@@ -155,7 +162,8 @@ impl<D: Disk> Disk for Fused<D> {
     fn power_cut(&mut self) -> Result<(), DiskFailed>
         ensures state { D.told → Cuts (is_ok result) (D.state self.old.disk) (D.state self.new.disk) }
         ensures size { D.byte_count self.new.disk ≡ D.byte_count self.old.disk }
-        ensures cause { HasCause (min (self.old.fuse.trips + D.fault_count self.old.disk) (2 ^ 64 - 1)) (min (self.new.fuse.trips + D.fault_count self.new.disk) (2 ^ 64 - 1)) result }
+        ensures cause { HasCause (fused_count D.fault_count self.old) (fused_count D.fault_count self.new) result }
+        ensures leads { GoesOn self.old.fuse self.new.fuse }
 
         // The disk's answer is given, and the fuse is mended.
         ensures fuse { self.new.fuse ≡ mended self.old.fuse }
@@ -166,4 +174,8 @@ impl<D: Disk> Disk for Fused<D> {
     }
 
     ghost sized = { λ f told. D.sized f.disk told };
+
+    ghost leads_nowhere = { λ f. goes_nowhere f.fuse };
+
+    ghost leads_on = { λ first second third. goes_further first.fuse second.fuse third.fuse };
 }

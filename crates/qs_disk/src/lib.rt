@@ -9,8 +9,6 @@ mod fused;
 mod mem_disk;
 mod past;
 mod size;
-#[cfg(test)]
-mod tests;
 mod through;
 
 pub use disk::{Disk, DiskFailed};

@@ -109,6 +109,9 @@ impl Disk for MemDisk {
 
     ghost byte_count = { λ d. length d.disk.content };
 
+    // Nothing is told of it.
+    ghost leads_to = { λ _ _. ⊤ };
+
     fn size(&self) -> u64 {
         self.cells.content().len() as u64
     }
@@ -122,6 +125,7 @@ impl Disk for MemDisk {
         ensures state { Reads at buf.new (is_ok result) self.old.disk self.new.disk }
         ensures size { length self.new.disk.content ≡ length self.old.disk.content }
         ensures cause { HasCause self.old.faults self.new.faults result }
+        ensures leads { ⊤ }
         ensures counted { IsCounted self.old self.new result }
         ensures untouched { IsUntouched self.old.disk self.new.disk }
     {
@@ -135,6 +139,7 @@ impl Disk for MemDisk {
         ensures state { Writes at bytes.now (is_ok result) self.old.disk self.new.disk }
         ensures size { length self.new.disk.content ≡ length self.old.disk.content }
         ensures cause { HasCause self.old.faults self.new.faults result }
+        ensures leads { ⊤ }
         ensures counted { IsCounted self.old self.new result }
         ensures untouched { OnErr result (IsUntouched self.old.disk self.new.disk) }
     {
@@ -147,6 +152,7 @@ impl Disk for MemDisk {
         ensures state { Syncs (is_ok result) self.old.disk self.new.disk }
         ensures size { length self.new.disk.content ≡ length self.old.disk.content }
         ensures cause { HasCause self.old.faults self.new.faults result }
+        ensures leads { ⊤ }
         ensures counted { IsCounted self.old self.new result }
         ensures untouched { OnErr result (IsUntouched self.old.disk self.new.disk) }
     {
@@ -159,6 +165,7 @@ impl Disk for MemDisk {
         ensures state { Cuts (is_ok result) self.old.disk self.new.disk }
         ensures size { length self.new.disk.content ≡ length self.old.disk.content }
         ensures cause { HasCause self.old.faults self.new.faults result }
+        ensures leads { ⊤ }
         ensures counted { IsCounted self.old self.new result }
         ensures untouched { OnErr result (IsUntouched self.old.disk self.new.disk) }
     {
@@ -168,4 +175,8 @@ impl Disk for MemDisk {
     }
 
     ghost sized = { λ d t. refl };
+
+    ghost leads_nowhere = { λ _. tt };
+
+    ghost leads_on = { λ _ _ _ _ _. tt };
 }

@@ -17,6 +17,7 @@ pub fn write_through<D: Disk>(disk: &mut D, at: u64, bytes: &[u8]) -> Result<(),
     ensures written { D.told → OnOk result ((D.state disk.new).content ≡ with_range (D.state disk.old).content at bytes.now) }
     ensures size { D.byte_count disk.new ≡ D.byte_count disk.old }
     ensures cause { HasCause (D.fault_count disk.old) (D.fault_count disk.new) result }
+    ensures leads { D.leads_to disk.old disk.new }
 {
     disk.write(at, bytes)?;
     disk.sync()

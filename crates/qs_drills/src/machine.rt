@@ -176,12 +176,22 @@ impl Machine {
         if self.server == AUDIT {
             return Ok(*written.notes() == *self.table.notes());
         }
-        Ok(*written.contents() == *self.table.contents())
+        Ok(are_same(
+            written.contents().as_slice(),
+            self.table.contents().as_slice(),
+        ))
     }
 
     pub(crate) fn is_logged(&self) -> bool {
         self.server == FILES || self.server == AUDIT
     }
+}
+
+/// Whether these files have the same names and contents, in the same order.
+fn are_same(files: &[File], others: &[File]) -> bool {
+    let is_same = |(file, other): (&File, &File)| file.name == other.name
+        && file.content == other.content;
+    files.len() == others.len() && files.iter().zip(others.iter()).all(is_same)
 }
 
 /// The bytes that spell a change of files or audit: a tag, and each name and text behind its length.

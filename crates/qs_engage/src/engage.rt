@@ -7,7 +7,7 @@ use crate::nodes::{NODE_COUNT, Nodes, every_node};
 use qs_base::NodeNo;
 
 /// What went to and came from another node.
-#[derive(Clone, Copy, Debug, PartialEq, Eq)]
+#[derive(Clone, Copy)]
 pub struct PeerPart {
     /// How many requests were sent to it.
     pub sent: u32,
@@ -18,14 +18,14 @@ pub struct PeerPart {
 }
 
 /// What a request makes of its sender.
-#[derive(Clone, Copy, Debug, PartialEq, Eq)]
+#[derive(Clone, Copy, PartialEq, Eq)]
 pub enum Engaged {
     Superior,
     Elsewhere,
 }
 
 /// The engagement of a node in one transaction. No call takes memory.
-#[derive(Clone, Copy, Debug, PartialEq, Eq)]
+#[derive(Clone, Copy)]
 pub struct Engage {
     /// The transaction began here.
     pub home: bool,

@@ -3,8 +3,6 @@
 
 mod engage;
 mod nodes;
-#[cfg(test)]
-mod tests;
 
 pub use engage::{Engage, Engaged, PeerPart};
 pub use nodes::{NODE_COUNT, Nodes, every_node};

@@ -37,7 +37,7 @@ pub fn every_node() -> &'static [NodeNo]
 }
 
 /// Which of the nodes of a run. No call but `listed` takes memory. A node from 16 on is in no set.
-#[derive(Clone, Copy, Debug, PartialEq, Eq)]
+#[derive(Clone, Copy)]
 pub struct Nodes {
     /// Whether it has the node of that number.
     pub has: [bool; 16],

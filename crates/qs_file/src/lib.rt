@@ -3,7 +3,10 @@
 
 mod bytes;
 mod file_disk;
-#[cfg(test)]
-mod tests;
+mod lock;
+mod opening;
+mod trouble;
 
 pub use file_disk::FileDisk;
+pub use lock::LockFile;
+pub use trouble::Trouble;

@@ -177,6 +177,10 @@ impl Server for Files {
         self.holdings.contents()
     }
 
+    fn holds(&self) -> bool {
+        self.holdings.any_holds()
+    }
+
     fn clear(&mut self) {
         self.holdings.clear();
     }

@@ -1,6 +1,6 @@
 //! What a file server holds.
 ghost use Rattle.std.specs.Prelude.{◌≡◌, true, is_some, length, map, nat_le, IfOk, IfSome, OnOk, OnErr};
-ghost use Rattle.qs_ops.specs.Table.{no_table, text_at, view_contents, view_bytes, holder_of_name, share_of, has_changes, served, with_vote, released, committed, kept, text_or_empty};
+ghost use Rattle.qs_ops.specs.Table.{no_table, text_at, view_contents, view_bytes, holder_of_name, share_of, has_changes, any_holds, served, with_vote, released, committed, kept, text_or_empty};
 ghost use Rattle.qs_ops.specs.Server.{vote_in_room, AreFilesWritten};
 ghost use Rattle.qs_files.specs.Held.{is_file_op, look_in};
 
@@ -115,6 +115,13 @@ impl Holdings {
         ensures { result ≡ has_changes self.now tid }
     {
         self.shares.has_changes(tid)
+    }
+
+    /// Whether some transaction has pending changes or reads.
+    pub fn any_holds(&self) -> bool
+        ensures { result ≡ any_holds self.now.shares }
+    {
+        self.shares.any_holds()
     }
 
     /// A copy of the transaction's pending changes, in the order in which they were served.

@@ -1,6 +1,7 @@
 -- What a step makes of the log, and what stands on the disk meanwhile: the records of before, or those of after it.
-use Rattle.std.proofs.Common.{◌≡◌, ◌∙◌, sym, subst, ap, inl, Bool, true, List, [], ◌∷◌, fold, append_assoc}
+use Rattle.std.proofs.Common.{◌≡◌, ◌≢◌, ◌∙◌, sym, subst, ap, inl, Bool, true, List, [], ◌∷◌, fold, append_assoc}
 use Rattle.std.proofs.lemmas.List.{append-nil}
+use Rattle.std.specs.Prelude.{Result, Ok, Err, OnErr}
 use Rattle.std.proofs.lemmas.List.Sums.{fold-append}
 use Rattle.qs_disk.specs.Disk.{DiskState}
 use Rattle.qs_disk.specs.Moments.{Keeps}
@@ -10,7 +11,7 @@ use Rattle.qs_record.specs.declared.record.Record.{Record}
 use Rattle.qs_room.specs.Room.{Tids, after_record, unended}
 use Rattle.qs_step.specs.declared.event.Effects.{Effects}
 use Rattle.qs_step.specs.State.{NodeValue}
-use Rattle.qs_host.specs.Host.{HostValue, AreUnended, HasEither, IsOldOrAfter, IsLogAfter, appended, with_record, forced_if}
+use Rattle.qs_host.specs.Host.{HostValue, AreUnended, HasBatch, HasEither, IsOldOrAfter, IsLogAfter, appended, with_record, forced_if}
 
 -- ---- records that wait
 
@@ -48,6 +49,11 @@ forced_moments due log a b is kept = rw is kept
 pub unwritten : {D : Type 0} (log new : LogValue D) (s t : DiskState) → t ≡ s → Stands log s → Keeps (HasEither log new) s t
 unwritten log new s t same stands = rw same (keeps_none (HasEither log new) s (each_still (HasEither log new) s stands.still (inl stands.forced)))
 
+-- where none waits it does not fail
+pub some_waits : {D E : Type 0} (log : LogValue D) (P : Type 0) (result : Result Unit E) → (log.waiting ≡ [] → (result ≡ Ok tt) × P) → OnErr result (log.waiting ≢ [])
+some_waits log P (Ok done) idle = tt
+some_waits log P (Err fault) idle = λ none. cc ((idle none).0)
+
 -- ---- the step
 
 pub after_is : {D : Type 0} (out : Effects) (old mid new : LogValue D) → mid ≡ appended out.records old → new ≡ record (forced_if out.force mid) { disk = new.disk } → IsLogAfter out old new
@@ -57,6 +63,9 @@ pub after_moments : {D : Type 0} (out : Effects) (old mid : LogValue D) (s a b :
     → Keeps (HasEither mid (forced_if out.force mid)) a b → Keeps (IsOldOrAfter out old) s b
 after_moments out old mid s a b is same kept =
     subst (λ (m : LogValue _). Keeps (HasEither m (forced_if out.force m)) s b) is (subst (λ (x : DiskState). Keeps (HasEither mid (forced_if out.force mid)) x b) same kept)
+
+pub batch_waits : {D : Type 0} (out : Effects) (old mid : LogValue D) → mid ≡ appended out.records old → out.force ≡ true → mid.waiting ≢ [] → HasBatch out old
+batch_waits {D} out old mid is force some = record { force = force; batch = λ none. some (ap (λ (l : LogValue D). l.waiting) is ∙ none) }
 
 -- ---- a node with its log
 

@@ -1,9 +1,10 @@
 -- A node over its log: what is free to a step, what the log is after it, and what a step that is cut off leaves on the disk.
-use Rattle.std.specs.Prelude.{◌≡◌, ◌⊎◌, ◌&&◌, ◌==◌, ℕ, Bool, not, length, List, [], ◌∷◌, ◌++◌, if◌then◌else◌}
+use Rattle.std.specs.Prelude.{◌≡◌, ◌≢◌, ◌⊎◌, ◌&&◌, ◌==◌, ℕ, Bool, true, not, length, List, [], ◌∷◌, ◌++◌, if◌then◌else◌}
 use Rattle.std.specs.Global.{Global}
 use Rattle.qs_kept.specs.declared.kept.Kept.{Kept}
 use Rattle.qs_log.specs.Image.{IsLog}
 use Rattle.qs_log.specs.Log.{LogValue, records_of, room_of, forced_of}
+use Rattle.qs_node.specs.Pending.{is_pending}
 use Rattle.qs_room.specs.Room.{Tids, unended, free_room}
 use Rattle.qs_record.specs.declared.record.Record.{Record}
 use Rattle.qs_step.specs.Opening.{recovered_of, opened_node}
@@ -39,9 +40,12 @@ worked_node size host event = (step_work host.node event (free_of size host)).no
 abbrev pub node_after : {D : Type 0} → ℕ → HostValue D → Event → NodeValue
 node_after size host event = after_step host.node event (free_of size host)
 
--- nothing is left to do for a transaction: none is undecided of which it is the home, and none has records that are not ended
+-- nothing is left to do for a transaction: none is undecided of which it is the home, none has records that are not ended,
+-- and none has changes or reads, or an outcome that is still to be learnt, at a server
 abbrev pub is_settled : {D : Type 0} → HostValue D → Bool
-is_settled host = not (tm.has_undecided host.node.manager) && (length (unended (records_of host.log)) == 0)
+is_settled host =
+    not (tm.has_undecided host.node.manager)
+    && ((length (unended (records_of host.log)) == 0) && not (is_pending host.node))
 
 -- ---- what it does with the log
 
@@ -63,6 +67,11 @@ forced_if due log = if due then forced_of log else log
 
 abbrev pub log_after : {D : Type 0} → Effects → LogValue D → LogValue D
 log_after out log = forced_if out.force (appended out.records log)
+
+-- a force is due, and something waits for it
+pub record HasBatch {D : Type 0} (out : Effects) (log : LogValue D) : Type 0 where
+  pub force : out.force ≡ true
+  pub batch : log.waiting ++ out.records ≢ []
 
 -- the log after it, over the disk as that is then
 abbrev pub IsLogAfter : {D : Type 0} → Effects → LogValue D → LogValue D → Type 0

@@ -1,11 +1,11 @@
 //! How the records of a step go to the log.
-ghost use Rattle.std.specs.Prelude.{◌≡◌, ◌≤◌, OnOk, OnErr, fold, Err};
+ghost use Rattle.std.specs.Prelude.{◌≡◌, ◌≢◌, ◌≤◌, true, [], OnOk, OnErr, fold, Err};
 ghost use Rattle.qs_base.specs.Causes.{HasCause, Rose};
 ghost use Rattle.qs_disk.specs.Moments.{Keeps};
 ghost use Rattle.qs_log.specs.Log.{Stands, records_of};
 ghost use Rattle.qs_record.specs.Grammar.{IsRecord};
 ghost use Rattle.qs_room.specs.Room.{opened, ended, after_record};
-ghost use Rattle.qs_host.specs.Host.{AreUnended, IsLogAfter, IsOldOrAfter, HasEither, forced_if, with_record};
+ghost use Rattle.qs_host.specs.Host.{AreUnended, HasBatch, IsLogAfter, IsOldOrAfter, HasEither, forced_if, with_record};
 ghost use Rattle.qs_host.specs.declared.fault.HostFault.TheVariants.{Disk as OfDisk};
 
 use crate::fault::HostFault;
@@ -107,7 +107,10 @@ fn force_if<D: Disk>(log: &mut Log<D>, due: bool) -> Result<(), DiskFailed>
     ensures stands { D.told → OnOk result (Stands log.new (D.state log.new.disk)) }
     ensures moments { D.told → Keeps (HasEither log.old (forced_if due log.old)) (D.state log.old.disk) (D.state log.new.disk) }
     ensures size { D.byte_count log.new.disk ≡ D.byte_count log.old.disk }
+    ensures leads { D.leads_to log.old.disk log.new.disk }
     ensures cause { HasCause (D.fault_count log.old.disk) (D.fault_count log.new.disk) result }
+    ensures due { OnErr result (due ≡ true) }
+    ensures some { OnErr result (log.old.waiting ≢ []) }
 {
     if due {
         return log.force();
@@ -127,8 +130,10 @@ pub fn append_and_force<D: Disk>(
     ensures stands { D.told → OnOk result (Stands log.new (D.state log.new.disk)) }
     ensures moments { D.told → Keeps (IsOldOrAfter out.now log.old) (D.state log.old.disk) (D.state log.new.disk) }
     ensures size { D.byte_count log.new.disk ≡ D.byte_count log.old.disk }
+    ensures leads { D.leads_to log.old.disk log.new.disk }
     ensures later { D.fault_count log.old.disk ≤ D.fault_count log.new.disk }
     ensures cause { result ≡ Err OfDisk → Rose (D.fault_count log.old.disk) (D.fault_count log.new.disk) }
+    ensures batch { result ≡ Err OfDisk → HasBatch out.now log.old }
 {
     append_all(log, unended, out.records.as_slice())?;
     force_if(log, out.force)?;

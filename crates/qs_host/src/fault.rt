@@ -4,7 +4,7 @@ use qs_base::NoMemory;
 use qs_disk::DiskFailed;
 
 /// Why a step was cut off.
-#[derive(Clone, Copy, Debug, PartialEq, Eq)]
+#[derive(Clone, Copy)]
 pub enum HostFault {
     /// A call of the disk failed within the force.
     Disk,

@@ -11,7 +11,7 @@ ghost use Rattle.qs_servers.specs.Servers.{server_at};
 ghost use Rattle.qs_step.specs.Opening.{recovered_of};
 ghost use Rattle.qs_step.specs.Step.{accept};
 ghost use Rattle.qs_tm.specs.Manager as tm;
-ghost use Rattle.qs_host.specs.Host.{effects_at, worked_node, is_settled, opened_host, AreUnended, IsLogAfter, IsOldOrAfter};
+ghost use Rattle.qs_host.specs.Host.{effects_at, worked_node, is_settled, opened_host, AreUnended, HasBatch, IsLogAfter, IsOldOrAfter};
 ghost use Rattle.qs_host.specs.declared.fault.HostFault.TheVariants.{Disk as OfDisk};
 
 use crate::appending::append_and_force;
@@ -123,8 +123,8 @@ impl<D: Disk, F: Server, X: Server> Host<D, F, X> {
     /// counts. Where it is cut off, the node does not count it, and only `disk` and `into_parts` are of use: on the disk
     /// stand the records of before, or, of a step that forces them, those of after it.
     ///
-    /// `Disk` comes only where the disk's count of faults rose. `NoMemory` comes for want of memory, and where a record has
-    /// no spelling or no room. That no step makes such a record is not proved yet.
+    /// `Disk` comes only where a force is due, something waits for it, and the disk's count of faults rose. `NoMemory` comes
+    /// for want of memory, and where a record has no spelling or no room. That no step makes such a record is not proved yet.
     pub fn carry_out(&mut self, out: &Effects) -> Result<(), HostFault>
         requires stands { D.told → Stands self.old.log (D.state self.old.log.disk) }
         ensures node { OnOk result (self.new.node ≡ accept self.old.node) }
@@ -134,11 +134,13 @@ impl<D: Disk, F: Server, X: Server> Host<D, F, X> {
         // At each moment, also of a step that is cut off.
         ensures moments { D.told → Keeps (IsOldOrAfter out.now self.old.log) (D.state self.old.log.disk) (D.state self.new.log.disk) }
         ensures size { D.byte_count self.new.log.disk ≡ D.byte_count self.old.log.disk }
+        ensures leads { D.leads_to self.old.log.disk self.new.log.disk }
         ensures later { D.fault_count self.old.log.disk ≤ D.fault_count self.new.log.disk }
 
         // What is left where it is cut off, and why it is.
         ensures kept { OnErr result (self.new.node ≡ self.old.node) }
         ensures cause { result ≡ Err OfDisk → Rose (D.fault_count self.old.log.disk) (D.fault_count self.new.log.disk) }
+        ensures batch { result ≡ Err OfDisk → HasBatch out.now self.old.log }
     {
         log_out(&mut self.logged, out)?;
         self.node.accept();
@@ -187,12 +189,12 @@ impl<D: Disk, F: Server, X: Server> Host<D, F, X> {
         self.node.undecided()
     }
 
-    /// Whether the node is the home of no transaction that it has not decided, and its log has a record of none that is not
-    /// ended there.
+    /// Whether the node is the home of no transaction that it has not decided, its log has a record of none that is not
+    /// ended there, and no server of it holds changes or reads of one, or is still to learn an outcome.
     pub fn settled(&self) -> bool
         ensures { result ≡ is_settled self.now }
     {
-        !self.undecided() && self.logged.unended.is_empty()
+        !self.undecided() && (self.logged.unended.is_empty() && !self.node.pending())
     }
 
     /// The disk of its log.
@@ -211,8 +213,10 @@ fn log_out<D: Disk>(logged: &mut Logged<D>, out: &Effects) -> Result<(), HostFau
     ensures stands { D.told → OnOk result (Stands logged.new.log (D.state logged.new.log.disk)) }
     ensures moments { D.told → Keeps (IsOldOrAfter out.now logged.old.log) (D.state logged.old.log.disk) (D.state logged.new.log.disk) }
     ensures size { D.byte_count logged.new.log.disk ≡ D.byte_count logged.old.log.disk }
+    ensures leads { D.leads_to logged.old.log.disk logged.new.log.disk }
     ensures later { D.fault_count logged.old.log.disk ≤ D.fault_count logged.new.log.disk }
     ensures cause { result ≡ Err OfDisk → Rose (D.fault_count logged.old.log.disk) (D.fault_count logged.new.log.disk) }
+    ensures batch { result ≡ Err OfDisk → HasBatch out.now logged.old.log }
 {
     append_and_force(&mut logged.log, &mut logged.unended, out)
 }

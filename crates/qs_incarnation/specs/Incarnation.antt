@@ -1,7 +1,7 @@
 -- How the log of a node begins an incarnation, as a run begins and again after a power cut, and what that leaves on the disk.
-use Rattle.std.specs.Prelude.{◌≡◌, ◌≢◌, ◌⊎◌, ℕ, ◌-◌, ◌^◌, List, [], Some, Ok, Result, Err}
+use Rattle.std.specs.Prelude.{◌≡◌, ◌≢◌, ◌⊎◌, ℕ, ◌-◌, ◌^◌, List, [], Ok, Result, Err}
 use Rattle.qs_disk.specs.Disk.{DiskState, IsImage}
-use Rattle.qs_disk.specs.Fuse.{FuseValue, FusedValue}
+use Rattle.qs_disk.specs.Fuse.{FuseValue, FusedValue, armed}
 use Rattle.qs_incarnation.specs.declared.incarnation.LogReopen.{LogReopen}
 use Rattle.qs_log.specs.Image.{IsLog}
 use Rattle.qs_log.specs.Log.{LogValue, raised_of}
@@ -68,10 +68,9 @@ HasOneOf a b image = HasLogOf a image ⊎ HasLogOf b image
 
 -- ---- the fuse
 
--- it trips at the planned calls, from 1 for the next one
-pub record IsArmed (plan : List ℕ) (fuse : FuseValue) : Type 0 where
-  pub planned : fuse.plan ≡ Some plan
-  pub first : fuse.calls ≡ 0
+-- it trips at the planned calls, from 1 for the next one, and none has tripped so far
+abbrev pub IsArmed : List ℕ → FuseValue → Type 0
+IsArmed plan fuse = fuse ≡ armed plan
 
 -- it tripped in between
 abbrev pub HasTripped : {D : Type 0} → FusedValue D → FusedValue D → Type 0

@@ -5,7 +5,7 @@ ghost use Rattle.qs_base.specs.Causes.{Rose};
 use qs_disk::{Disk, Fused};
 
 /// The calls that the fuse tripped at or refused, and those that the disk behind it failed.
-#[derive(Clone, Copy, Debug, PartialEq, Eq)]
+#[derive(Clone, Copy)]
 pub struct Counts {
     pub trips: u64,
     pub own: u64,

@@ -2,6 +2,7 @@
 ghost use Rattle.std.specs.Prelude.{◌≡◌, ◌≢◌, ◌↔◌, ◌⊎◌, ◌<◌, ◌-◌, ◌^◌, ℕ, List, [], IfOk, IfErr};
 ghost use Rattle.qs_base.specs.Causes.{Rose};
 ghost use Rattle.qs_disk.specs.Disk.{EachImage};
+ghost use Rattle.qs_disk.specs.Fuse.{GoesOn, mended};
 ghost use Rattle.qs_disk.specs.Moments.{Keeps};
 ghost use Rattle.qs_incarnation.specs.Incarnation.{open_limit, IsRaisedLog, IsReopened, IsTouched, IsLeftOrRaised, HasOneOf, IsArmed, HasTripped, disk_of};
 ghost use Rattle.qs_incarnation.specs.declared.incarnation.ReopenFault.TheVariants as reopen_faults;
@@ -25,7 +26,7 @@ const OPEN_LIMIT: u64 = 1 << 61;
 const REOPEN_LIMIT: u64 = (1 << 62) - 1;
 
 /// Why the log of a node that is down did not begin its next incarnation.
-#[derive(Clone, Copy, Debug, PartialEq, Eq, Error)]
+#[derive(Clone, Copy, Debug, Error)]
 pub enum ReopenFault {
     /// The fuse tripped.
     #[error("the fuse tripped")]
@@ -58,6 +59,7 @@ fn next_incarnation<D: Disk>(
     ensures damaged { D.told → IfErr result (λ back. (at : ℕ) → back.why ≡ open_faults.Damaged at → IsDamaged limit (D.state disk.disk).content at) }
     ensures moments { D.told → Keeps (IsTouched (D.state disk.disk)) (D.state disk.disk) (D.state (log_disk result).disk) }
     ensures size { D.byte_count (log_disk result).disk ≡ D.byte_count disk.disk }
+    ensures goes { GoesOn disk.fuse (log_disk result).fuse }
 {
     match Log::open(alloc, disk, limit) {
         Ok(log) => raise(log),
@@ -75,6 +77,7 @@ fn raise<D: Disk>(log: Log<Fused<D>>) -> Result<Log<Fused<D>>, LogOpen<Fused<D>>
     ensures failed { IfErr result (λ back. back.why ≡ open_faults.DiskFailed) }
     ensures moments { D.told → Keeps (IsOldOrRaised log) (D.state log.disk.disk) (D.state (log_disk result).disk) }
     ensures size { D.byte_count (log_disk result).disk ≡ D.byte_count log.disk.disk }
+    ensures goes { GoesOn log.disk.fuse (log_disk result).fuse }
 {
     let mut log = log;
     match log.raise() {
@@ -103,6 +106,7 @@ pub fn begin_run<D: Disk>(
     // Why it is not opened.
     ensures damaged { D.told → IfErr result (λ back. (at : ℕ) → back.why ≡ open_faults.Damaged at → IsDamaged open_limit (D.state disk.disk).content at) }
     ensures failed { IfErr result (λ back. back.why ≡ open_faults.DiskFailed → Rose (D.fault_count disk.disk) (D.fault_count back.disk.disk)) }
+    ensures goes { IfErr result (λ back. GoesOn disk.fuse back.disk.fuse) }
 
     // The disk is changed at most by the raise.
     ensures moments { D.told → Keeps (IsTouched (D.state disk.disk)) (D.state disk.disk) (D.state (log_disk result).disk) }
@@ -154,6 +158,9 @@ pub fn begin_again<D: Disk>(alloc: Global, disk: Fused<D>) -> Result<Log<Fused<D
         → Keeps (HasOneOf a b) (D.state disk.disk) (D.state (disk_of result).disk) }
     ensures touched { D.told → Keeps (IsLeftOrRaised (D.state disk.disk)) (D.state disk.disk) (D.state (disk_of result).disk) }
     ensures size { D.byte_count (disk_of result).disk ≡ D.byte_count disk.disk }
+
+    // What tripped did so at a planned call: the power cut mends the fuse, and counts as none.
+    ensures goes { GoesOn (mended disk.fuse) (disk_of result).fuse }
 {
     let before = Counts::of(&disk);
     match after_power_cut(alloc, disk) {
@@ -175,6 +182,7 @@ fn after_power_cut<D: Disk>(
         → Keeps (HasOneOf a b) (D.state disk.disk) (D.state (log_disk result).disk) }
     ensures touched { D.told → Keeps (IsLeftOrRaised (D.state disk.disk)) (D.state disk.disk) (D.state (log_disk result).disk) }
     ensures size { D.byte_count (log_disk result).disk ≡ D.byte_count disk.disk }
+    ensures goes { GoesOn (mended disk.fuse) (log_disk result).fuse }
 {
     let mut disk = disk;
     match disk.power_cut() {

@@ -10,8 +10,6 @@ mod sink;
 mod source;
 mod std_sink;
 mod std_source;
-#[cfg(test)]
-mod tests;
 
 pub use faults::{ReadFailed, ReadFault, WriteFailed};
 pub use giving::give_all;

@@ -14,7 +14,7 @@ use std::marker::Model;
 /// A sink of bytes in memory, with a room and a greatest piece, both in bytes. The calls whose
 /// numbers, from 1, stand in its list fail, and so does a call with a part that is not empty on a
 /// full sink.
-#[derive(Debug, Drop)]
+#[derive(Drop)]
 pub struct MemSink {
     bytes: Vec<u8>,
     room: usize,

@@ -6,7 +6,7 @@ use qs_base::{NodeNo, ServerNo, Tid};
 use qs_ops::{Op, server_of};
 
 /// A request that waits at a server.
-#[derive(Debug, Drop, PartialEq, Eq)]
+#[derive(Drop)]
 pub struct Delivery {
     pub tid: Tid,
     /// The node that asked, and the number of the request there.
@@ -18,7 +18,7 @@ pub struct Delivery {
 }
 
 /// Why a request was not taken in.
-#[derive(Clone, Copy, Debug, PartialEq, Eq)]
+#[derive(Clone, Copy)]
 pub enum Why {
     /// The operation is not one of that server's.
     Foreign,
@@ -27,7 +27,7 @@ pub enum Why {
 }
 
 /// A request that was not taken in, handed back.
-#[derive(Debug, Drop, PartialEq, Eq)]
+#[derive(Drop)]
 pub struct Refused {
     pub delivery: Delivery,
     pub why: Why,

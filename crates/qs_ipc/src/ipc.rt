@@ -16,7 +16,7 @@ use std::marker::Model;
 const SERVERS: u16 = 256;
 
 /// The requests that wait at the servers of a node, and how many each served of each transaction.
-#[derive(Debug, Drop)]
+#[derive(Drop)]
 pub struct Ipc {
     queues: BTreeMap<ServerNo, Queue>,
     alloc: Global,

@@ -14,14 +14,14 @@ use std::collections::{BTreeMap, VecDeque};
 use std::marker::Model;
 
 /// How many requests of one transaction wait at one server, and how many it served.
-#[derive(Clone, Copy, Debug, PartialEq, Eq)]
+#[derive(Clone, Copy)]
 pub struct Counts {
     pub waiting: u32,
     pub served: u32,
 }
 
 /// A server's queue.
-#[derive(Debug, Drop)]
+#[derive(Drop)]
 pub struct Queue {
     waiting: VecDeque<Delivery>,
     counts: BTreeMap<Tid, Counts>,

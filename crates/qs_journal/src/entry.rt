@@ -8,7 +8,7 @@ use qs_base::{
 use qs_ops::{Answer, Cause, Op, Reply, Vote};
 
 /// One entry of the journal. All entries of a step have its stamp.
-#[derive(Debug, Drop, PartialEq, Eq)]
+#[derive(Debug, Drop)]
 pub struct Entry {
     pub stamp: Stamp,
     pub node: NodeNo,
@@ -16,7 +16,7 @@ pub struct Entry {
 }
 
 /// What happened.
-#[derive(Debug, Drop, PartialEq, Eq)]
+#[derive(Debug, Drop)]
 pub enum Act {
     /// The client began a transaction and owns it.
     Begin {
@@ -106,7 +106,7 @@ pub enum Act {
 }
 
 /// Why a node stopped.
-#[derive(Clone, Copy, Debug, PartialEq, Eq)]
+#[derive(Clone, Copy, Debug)]
 pub enum CrashCause {
     /// A line of the script, or a disk call that the script made fail.
     Plan,
@@ -119,7 +119,7 @@ pub enum CrashCause {
 }
 
 /// A Prepare that a restart found not ended.
-#[derive(Clone, Copy, Debug, PartialEq, Eq)]
+#[derive(Clone, Copy, Debug)]
 pub struct Found {
     pub tid: Tid,
     pub server: ServerNo,

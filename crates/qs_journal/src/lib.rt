@@ -4,8 +4,6 @@
 mod entry;
 mod merging;
 mod script_line;
-#[cfg(test)]
-mod tests;
 
 pub use entry::{Act, CrashCause, Entry, Found, copied_cause};
 pub use merging::{merge, one_merge};

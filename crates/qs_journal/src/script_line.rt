@@ -4,7 +4,7 @@ use qs_base::{Bytes, ClientNo, Copied, Member, NoMemory};
 use qs_ops::{Answer, Op};
 
 /// A client's command, with the line of the script at which it stands, from 1.
-#[derive(Debug, Drop, PartialEq, Eq)]
+#[derive(Debug, Drop)]
 pub struct ScriptLine {
     pub client: ClientNo,
     pub line: u32,
@@ -13,7 +13,7 @@ pub struct ScriptLine {
 }
 
 /// What a client commands for the transaction of its label.
-#[derive(Debug, Drop, PartialEq, Eq)]
+#[derive(Debug, Drop)]
 pub enum Command {
     Begin,
     Commit,
@@ -52,7 +52,7 @@ impl Copied for Command {
 }
 
 /// The answer to the command at a line.
-#[derive(Debug, Drop, PartialEq, Eq)]
+#[derive(Drop)]
 pub struct LineAnswer {
     pub line: u32,
     pub answer: Answer,
@@ -60,7 +60,7 @@ pub struct LineAnswer {
 
 /// The place in a run that a fault line of the script names: before or after the step that makes
 /// the first entry of this kind for the transaction of this label.
-#[derive(Debug, Drop, PartialEq, Eq)]
+#[derive(Drop)]
 pub struct Point {
     pub after: bool,
     pub kind: Kind,
@@ -68,7 +68,7 @@ pub struct Point {
 }
 
 /// The kinds of entries that a point may name.
-#[derive(Clone, Copy, Debug, PartialEq, Eq)]
+#[derive(Clone, Copy)]
 pub enum Kind {
     Serve,
     Vote,

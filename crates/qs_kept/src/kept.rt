@@ -4,7 +4,7 @@ use qs_base::{Bytes, ClientNo, List, Outcome, Tid};
 use qs_ops::Cause;
 
 /// A label that the node has met.
-#[derive(Debug, Drop, PartialEq, Eq)]
+#[derive(Drop)]
 pub struct Begun {
     pub label: Bytes,
     /// `None` where its begin was refused.
@@ -14,7 +14,7 @@ pub struct Begun {
 }
 
 /// A loan that was made to a client of this node.
-#[derive(Clone, Copy, Debug, PartialEq, Eq)]
+#[derive(Clone, Copy)]
 pub struct Lent {
     pub tid: Tid,
     pub client: ClientNo,
@@ -27,7 +27,7 @@ pub struct Lent {
 }
 
 /// How a transaction ended that was begun here.
-#[derive(Debug, Drop, PartialEq, Eq)]
+#[derive(Drop)]
 pub struct Decided {
     pub tid: Tid,
     pub outcome: Outcome,
@@ -36,7 +36,7 @@ pub struct Decided {
 }
 
 /// All of it, each list in the order in which it was learnt.
-#[derive(Debug, Drop, PartialEq, Eq)]
+#[derive(Drop)]
 pub struct Kept {
     pub labels: List<Begun>,
     pub loans: List<Lent>,

@@ -15,7 +15,7 @@ use std::collections::VecDeque;
 use std::marker::Model;
 
 /// A fault of a link at one of its packets, which are numbered from 1.
-#[derive(Clone, Copy, Debug, PartialEq, Eq)]
+#[derive(Clone, Copy)]
 pub enum LinkFault {
     /// It is lost.
     Drop { packet: u64 },
@@ -81,7 +81,7 @@ pub struct Held<T> {
 }
 
 /// What becomes of a packet.
-#[derive(Clone, Copy, Debug)]
+#[derive(Clone, Copy)]
 enum Way {
     Passes,
     Lost,

@@ -4,7 +4,7 @@ use qs_disk::DiskFailed;
 use thiserror::Error;
 
 /// Why a log is not opened.
-#[derive(Clone, Copy, Debug, PartialEq, Eq, Error)]
+#[derive(Clone, Copy, Debug, Error)]
 pub enum OpenFault {
     /// A disk call failed.
     #[error("a disk call failed")]
@@ -40,14 +40,14 @@ impl From<NoMemory> for OpenFault {
 }
 
 /// A log that was not opened: its disk, and why.
-#[derive(Debug, Drop)]
+#[derive(Drop)]
 pub struct LogOpen<D> {
     pub disk: D,
     pub why: OpenFault,
 }
 
 /// Why a record is not taken.
-#[derive(Clone, Copy, Debug, PartialEq, Eq, Error)]
+#[derive(Clone, Copy, Debug, Error)]
 pub enum AppendFault {
     /// The record needs more bytes than there is room for.
     #[error("the log is full: {need} bytes are needed, and there is room for {room}")]

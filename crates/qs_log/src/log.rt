@@ -79,6 +79,7 @@ impl<D: Disk> Log<D> {
         ensures content { D.told → (D.state (disk_of result)).content ≡ (D.state disk).content }
         ensures moments { D.told → Keeps (λ c. IsImage (D.state disk).now c ⊎ (c ≡ (D.state disk).content)) (D.state disk) (D.state (disk_of result)) }
         ensures size { D.byte_count (disk_of result) ≡ D.byte_count disk }
+        ensures leads { D.leads_to disk (disk_of result) }
         ensures later { D.fault_count disk ≤ D.fault_count (disk_of result) }
     {
         let mut disk = disk;
@@ -163,6 +164,7 @@ impl<D: Disk> Log<D> {
         ensures slots { self.new.slots ≡ self.old.slots }
         ensures records { records_of self.new ≡ records_of self.old }
         ensures size { D.byte_count self.new.disk ≡ D.byte_count self.old.disk }
+        ensures leads { D.leads_to self.old.disk self.new.disk }
         ensures cause { HasCause (D.fault_count self.old.disk) (D.fault_count self.new.disk) result }
     {
         if self.batch.is_empty() {
@@ -197,6 +199,7 @@ impl<D: Disk> Log<D> {
         // What stays, and why it fails.
         ensures records { HasSameRecords self.old self.new }
         ensures size { D.byte_count self.new.disk ≡ D.byte_count self.old.disk }
+        ensures leads { D.leads_to self.old.disk self.new.disk }
         ensures cause { HasCause (D.fault_count self.old.disk) (D.fault_count self.new.disk) result }
     {
         let value = self.slots.value();
@@ -279,9 +282,9 @@ impl<D: Disk> Log<D> {
 }
 
 impl<D: Disk> Log<Fused<D>> {
-    /// Plans the numbers of the disk calls to trip at, from 1 for the next one.
+    /// Plans the numbers of the disk calls to trip at, from 1 for the next one. What has tripped before is forgotten.
     pub fn arm(&mut self, plan: List<u64>)
-        ensures fuse { self.new.disk.fuse ≡ armed self.old.disk.fuse plan }
+        ensures fuse { self.new.disk.fuse ≡ armed plan }
         ensures same { IsSameButFuse self.old self.new }
         ensures stands { D.told → Stands self.old (D.state self.old.disk.disk) → Stands self.new (D.state self.new.disk.disk) }
     {
@@ -305,6 +308,7 @@ fn write_batch<D: Disk>(disk: &mut D, gate: u64, batch: &mut Batch) -> Result<()
     // What stays, and why it fails.
     ensures batch { batch.new ≡ batch.old }
     ensures size { D.byte_count disk.new ≡ D.byte_count disk.old }
+    ensures leads { D.leads_to disk.old disk.new }
     ensures cause { HasCause (D.fault_count disk.old) (D.fault_count disk.new) result }
 {
     write_behind(disk, gate + 1, batch.seal())?;
@@ -319,6 +323,7 @@ fn write_behind<D: Disk>(disk: &mut D, at: u64, bytes: &[u8]) -> Result<(), Disk
     ensures still { D.told → OnOk result (IsStill (D.state disk.new)) }
     ensures written { D.told → OnOk result ((D.state disk.new).content ≡ with_range (D.state disk.old).content at bytes.now) }
     ensures size { D.byte_count disk.new ≡ D.byte_count disk.old }
+    ensures leads { D.leads_to disk.old disk.new }
     ensures cause { HasCause (D.fault_count disk.old) (D.fault_count disk.new) result }
 {
     write_through(disk, at, bytes)
@@ -332,6 +337,7 @@ fn open_gate<D: Disk>(disk: &mut D, gate: u64) -> Result<(), DiskFailed>
     ensures still { D.told → OnOk result (IsStill (D.state disk.new)) }
     ensures written { D.told → OnOk result ((D.state disk.new).content ≡ with_range (D.state disk.old).content gate (1 ∷ [])) }
     ensures size { D.byte_count disk.new ≡ D.byte_count disk.old }
+    ensures leads { D.leads_to disk.old disk.new }
     ensures cause { HasCause (D.fault_count disk.old) (D.fault_count disk.new) result }
 {
     write_through(disk, gate, &[1])

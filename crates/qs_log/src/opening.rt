@@ -50,6 +50,7 @@ pub(crate) fn read_log<D: Disk>(alloc: Global, disk: &mut D, limit: u64) -> Resu
     ensures content { D.told → (D.state disk.new).content ≡ (D.state disk.old).content }
     ensures moments { D.told → Keeps (λ c. IsImage (D.state disk.old).now c ⊎ (c ≡ (D.state disk.old).content)) (D.state disk.old) (D.state disk.new) }
     ensures size { D.byte_count disk.new ≡ D.byte_count disk.old }
+    ensures leads { D.leads_to disk.old disk.new }
 {
     match settle(disk) {
         Ok(()) => read_held(alloc, disk, limit),
@@ -61,6 +62,7 @@ pub(crate) fn read_log<D: Disk>(alloc: Global, disk: &mut D, limit: u64) -> Resu
 fn settle<D: Disk>(disk: &mut D) -> Result<(), DiskFailed>
     ensures state { D.told → Syncs (is_ok result) (D.state disk.old) (D.state disk.new) }
     ensures size { D.byte_count disk.new ≡ D.byte_count disk.old }
+    ensures leads { D.leads_to disk.old disk.new }
     ensures cause { HasCause (D.fault_count disk.old) (D.fault_count disk.new) result }
 {
     disk.sync()
@@ -83,6 +85,7 @@ fn read_held<D: Disk>(alloc: Global, disk: &mut D, limit: u64) -> Result<Held, O
     ensures content { D.told → (D.state disk.new).content ≡ (D.state disk.old).content }
     ensures moments { D.told → Keeps (λ c. c ≡ (D.state disk.old).content) (D.state disk.old) (D.state disk.new) }
     ensures size { D.byte_count disk.new ≡ D.byte_count disk.old }
+    ensures leads { D.leads_to disk.old disk.new }
 {
     let slots = match open_slots(disk, limit) {
         Ok(slots) => slots,
@@ -146,6 +149,7 @@ fn read_area<D: Disk>(alloc: Global, disk: &mut D, generation: u32) -> Result<Ve
     ensures content { D.told → (D.state disk.new).content ≡ (D.state disk.old).content }
     ensures moments { D.told → Keeps (λ c. c ≡ (D.state disk.old).content) (D.state disk.old) (D.state disk.new) }
     ensures size { D.byte_count disk.new ≡ D.byte_count disk.old }
+    ensures leads { D.leads_to disk.old disk.new }
 {
     let size = disk.size();
     let mut area = zeros(alloc, half(size))?;

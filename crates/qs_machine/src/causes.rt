@@ -12,7 +12,7 @@ use std::collections::BTreeSet;
 use std::marker::Model;
 
 /// Causes of abort, each once. To find one takes one look-up.
-#[derive(Debug, Drop)]
+#[derive(Drop)]
 pub struct Causes {
     set: BTreeSet<Cause>,
 }

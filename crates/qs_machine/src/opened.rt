@@ -4,7 +4,7 @@ use qs_base::{Bytes, List, ServerNo, Tid};
 use qs_ops::{Changes, File};
 
 /// What a node's log holds as it opens.
-#[derive(Debug, Drop, PartialEq, Eq)]
+#[derive(Debug, Drop)]
 pub struct Opened {
     /// The incarnation in which the node runs.
     pub inc: u64,
@@ -23,7 +23,7 @@ pub struct Opened {
 }
 
 /// A recoverable vote that a log holds: the changes that can still be committed or dropped.
-#[derive(Debug, Drop, PartialEq, Eq)]
+#[derive(Debug, Drop)]
 pub struct Pending {
     pub tid: Tid,
     pub server: ServerNo,

@@ -5,14 +5,14 @@ use qs_base::{List, NodeNo, ServerNo, Tid};
 use qs_ops::{Changes, Kept};
 
 /// A transaction at a server of a node.
-#[derive(Clone, Copy, Debug, PartialEq, Eq, PartialOrd, Ord)]
+#[derive(Clone, Copy, PartialEq, Eq, PartialOrd, Ord)]
 pub struct Voter {
     pub tid: Tid,
     pub server: ServerNo,
 }
 
 /// A recoverable vote that can still be committed or dropped.
-#[derive(Debug, Drop, PartialEq, Eq)]
+#[derive(Drop)]
 pub struct OnRecord {
     /// The changes that it stands for; of a crossed member they are not known, and there are none.
     pub changes: Changes,
@@ -23,7 +23,7 @@ pub struct OnRecord {
 }
 
 /// What files and audit of a restarted node begin with.
-#[derive(Debug, Drop)]
+#[derive(Drop)]
 pub struct Reopened {
     /// The new incarnation.
     pub inc: u64,
@@ -37,7 +37,7 @@ pub struct Reopened {
 }
 
 /// What a client may be told, and up to which line it was answered.
-#[derive(Debug, Drop)]
+#[derive(Drop)]
 pub struct Owner {
     /// The line of its last answer; 0 before the first.
     pub line: u32,
@@ -50,7 +50,7 @@ pub struct Owner {
 }
 
 /// A transaction of which a request went to a node.
-#[derive(Clone, Copy, Debug, PartialEq, Eq)]
+#[derive(Clone, Copy)]
 pub struct Asking {
     pub tid: Tid,
     pub node: NodeNo,

@@ -4,7 +4,7 @@ use qs_base::{Bytes, Member, NodeNo};
 use qs_ops::{Op, Reason};
 
 /// The state of a transaction's only outcome.
-#[derive(Clone, Copy, Debug, PartialEq, Eq)]
+#[derive(Clone, Copy, PartialEq, Eq)]
 pub enum Cell {
     Open,
     Commit,
@@ -12,7 +12,7 @@ pub enum Cell {
 }
 
 /// Requests go from the node that issues them to the member's node.
-#[derive(Clone, Copy, Debug, PartialEq, Eq, PartialOrd, Ord)]
+#[derive(Clone, Copy, PartialEq, Eq, PartialOrd, Ord)]
 pub struct Link {
     pub from: NodeNo,
     pub to: NodeNo,
@@ -20,14 +20,14 @@ pub struct Link {
 
 /// The number of a request on a link. A node that restarts begins anew at 1, so two requests of one
 /// transaction may have the same.
-#[derive(Clone, Copy, Debug, PartialEq, Eq, PartialOrd, Ord)]
+#[derive(Clone, Copy, PartialEq, Eq, PartialOrd, Ord)]
 pub struct RequestNo {
     pub link: Link,
     pub number: u32,
 }
 
 /// A request of a transaction.
-#[derive(Debug, Drop, PartialEq, Eq)]
+#[derive(Drop)]
 pub struct Request {
     /// A client of the issuing node, or its files server.
     pub issuer: Member,
@@ -39,7 +39,7 @@ pub struct Request {
 }
 
 /// What a node sent to a peer for a transaction.
-#[derive(Clone, Copy, Debug, PartialEq, Eq)]
+#[derive(Clone, Copy)]
 pub struct Sent {
     /// The incarnation in which it sent last.
     pub inc: u64,
@@ -54,7 +54,7 @@ pub struct Sent {
 }
 
 /// What is open towards a node for a transaction.
-#[derive(Clone, Copy, Debug, PartialEq, Eq)]
+#[derive(Clone, Copy)]
 pub struct Peer {
     /// How many requests of clients went to it since an answer to the client.
     pub waiting: u32,
@@ -63,14 +63,14 @@ pub struct Peer {
 }
 
 /// A member in an incarnation of its node.
-#[derive(Clone, Copy, Debug, PartialEq, Eq, PartialOrd, Ord)]
+#[derive(Clone, Copy, PartialEq, Eq, PartialOrd, Ord)]
 pub struct Life {
     pub member: Member,
     pub inc: u64,
 }
 
 /// What a member did for a transaction in an incarnation of its node.
-#[derive(Clone, Copy, Debug, PartialEq, Eq)]
+#[derive(Clone, Copy)]
 pub struct Part {
     /// How many requests it served.
     pub served: u64,
@@ -99,21 +99,21 @@ pub struct Part {
 }
 
 /// A read-only vote of a member after so many served requests: from there a count may begin anew.
-#[derive(Clone, Copy, Debug, PartialEq, Eq, PartialOrd, Ord)]
+#[derive(Clone, Copy, PartialEq, Eq, PartialOrd, Ord)]
 pub struct Start {
     pub life: Life,
     pub served: u64,
 }
 
 /// A vote against commit.
-#[derive(Debug, Drop, PartialEq, Eq)]
+#[derive(Drop)]
 pub struct Refusal {
     pub member: Member,
     pub reason: Reason,
 }
 
 /// An audit note that files of a node issued in an incarnation, and that was served.
-#[derive(Debug, Drop, PartialEq, Eq, PartialOrd, Ord)]
+#[derive(Drop, PartialEq, Eq, PartialOrd, Ord)]
 pub struct Noted {
     pub node: NodeNo,
     pub inc: u64,

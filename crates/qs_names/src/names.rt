@@ -111,6 +111,10 @@ impl Server for Names {
         Ok(List::new(self.alloc))
     }
 
+    fn holds(&self) -> bool {
+        self.shelf.any_holds()
+    }
+
     fn clear(&mut self) {
         self.shelf.clear();
     }

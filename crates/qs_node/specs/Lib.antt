@@ -3,3 +3,4 @@ pub mod Due
 pub mod Closed
 pub mod Contents
 pub mod Begun
+pub mod Pending

@@ -3,7 +3,7 @@ ghost use Rattle.std.specs.Prelude.{◌≡◌, OnOk};
 ghost use Rattle.qs_step.specs.Borrowing.{is_aborted, is_void, take, take_command, yield, lent_command, with_loan, loan_command, borrower_command};
 
 use crate::requesting::request_command;
-use qs_base::{ClientNo, NoMemory, Outcome, Tid};
+use qs_base::{ClientNo, NoMemory, Tid};
 use qs_journal::{Act, Command};
 use qs_kept::Lent;
 use qs_ops::{Answer, Server};
@@ -16,10 +16,7 @@ pub fn is_aborted<F: Server, X: Server>(work: &Work<Servers<F, X>>, tid: Tid) ->
     ensures { result ≡ is_aborted tid work.now.node }
 {
     match work.node.manager.part(tid) {
-        Some(part) => match part.outcome {
-            Some(Outcome::Abort) => true,
-            Some(Outcome::Commit) | None => false,
-        },
+        Some(part) => part.is_aborted(),
         None => false,
     }
 }

@@ -7,6 +7,7 @@ ghost use Rattle.qs_kept.specs.Keeping.{with_now};
 ghost use Rattle.qs_tm.specs.Manager as tm;
 ghost use Rattle.qs_servers.specs.Kinds.{empty_server, new_servers};
 ghost use Rattle.qs_servers.specs.Servers.{server_at};
+ghost use Rattle.qs_node.specs.Pending.{has_holders, is_pending};
 ghost use Rattle.qs_step.specs.State.{no_effects, work_on};
 ghost use Rattle.qs_step.specs.Opening.{opened_manager, keep_changes, opened_servers, closed_kept, opened_node};
 ghost use Rattle.qs_step.specs.Restarts.{begin_incarnation};
@@ -27,7 +28,7 @@ use qs_restart::Recovered;
 use qs_servers::Servers;
 use qs_settling::settle;
 use qs_step::{Effects, Event, NodeState, Setting, Work};
-use qs_tm::Manager;
+use qs_tm::{Manager, every_server};
 use std::alloc::Global;
 use std::marker::Model;
 use std::mem::replace;
@@ -168,6 +169,22 @@ impl<F: Server, X: Server> Node<F, X> {
         ensures { result ≡ tm.has_undecided self.now.manager }
     {
         self.work.node.manager.has_undecided()
+    }
+
+    /// Whether a server of this node holds changes or reads of a transaction, or is still to learn an outcome.
+    pub fn pending(&self) -> bool
+        ensures { result ≡ is_pending self.now }
+    {
+        self.has_holders() || self.work.node.manager.has_learners()
+    }
+
+    /// Whether a server of this node holds changes or reads of a transaction.
+    fn has_holders(&self) -> bool
+        ensures { result ≡ has_holders self.now }
+    {
+        every_server()
+            .iter()
+            .any(|server| self.work.node.servers.holds(*server))
     }
 }
 

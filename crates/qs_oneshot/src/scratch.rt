@@ -69,6 +69,10 @@ impl Server for Scratch {
         Ok(List::new(self.alloc))
     }
 
+    fn holds(&self) -> bool {
+        self.shelf.any_holds()
+    }
+
     fn clear(&mut self) {
         self.shelf.clear();
     }

@@ -140,6 +140,11 @@ impl Server for Timers {
         Ok(List::new(self.alloc))
     }
 
+    /// Timers are no changes or reads, and end by a notice of their own.
+    fn holds(&self) -> bool {
+        false
+    }
+
     fn clear(&mut self) {
         self.ticks = 0;
         self.shares = BTreeMap::new(self.alloc);

@@ -14,7 +14,7 @@ use Rattle.qs_ops.specs.declared.vote.Notice.TheVariants as notices
 use Rattle.qs_ops.specs.declared.vote.Reason.TheVariants as reasons
 use Rattle.qs_ops.specs.declared.vote.Vote.{Vote}
 use Rattle.qs_ops.specs.declared.vote.Vote.TheVariants as votes
-use Rattle.qs_ops.specs.Table.{TableValue, no_table, share_of, has_changes, view_bytes, least_taken, reply_to, served, released, committed, with_vote, kept}
+use Rattle.qs_ops.specs.Table.{TableValue, no_table, share_of, has_changes, any_holds, view_bytes, least_taken, reply_to, served, released, committed, with_vote, kept}
 use Rattle.qs_ops.specs.Timers.{TimersValue, no_timers, timer_reply_to, timer_served, timers_ended}
 use Rattle.qs_ops.specs.declared.server.Kind.{Kind}
 use Rattle.qs_ops.specs.declared.server.Kind.TheVariants.{Files, Audit, Names, Timers, Windows, Scratch, Nothing}
@@ -123,6 +123,12 @@ noted_by kind notice tid server = record server { table = noted_in notice tid se
 
 abbrev pub after_notice : ServerValue → Tid → Notice → ServerValue
 after_notice server tid notice = noted_by server.kind notice tid server
+
+-- ---- what is pending
+
+-- a transaction has changes or reads there
+abbrev pub holds_some : ServerValue → Bool
+holds_some server = any_holds server.table.shares
 
 -- ---- what a log keeps
 

@@ -72,6 +72,14 @@ with_share table tid share = record table { shares = insert_entry tid_cmp table.
 abbrev pub has_changes : TableValue → Tid → Bool
 has_changes table tid = not (length (share_of table tid).changes == 0)
 
+-- pending changes or reads; a share may be left that has neither
+abbrev pub is_holding : Share → Bool
+is_holding share = not (length share.changes == 0) || not (length share.reads == 0)
+
+-- some transaction holds changes or reads
+abbrev pub any_holds : List (Tid × Share) → Bool
+any_holds shares = list_any (λ (entry : Tid × Share). is_holding entry.1) shares
+
 -- a change to that name
 abbrev pub is_change_of : List ℕ → Op → Bool
 is_change_of name (Put n text) = same_bytes n name

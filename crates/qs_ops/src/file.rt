@@ -3,7 +3,7 @@
 use qs_base::Bytes;
 
 /// A file of a node.
-#[derive(Debug, Drop, PartialEq, Eq)]
+#[derive(Debug, Drop)]
 pub struct File {
     pub name: Bytes,
     pub content: Bytes,

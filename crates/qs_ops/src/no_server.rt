@@ -10,7 +10,7 @@ use qs_base::{Class, NoMemory, Tid};
 use std::alloc::Global;
 
 /// A server that has nothing: it answers each operation that it is absent, and votes read-only.
-#[derive(Debug, Drop)]
+#[derive(Drop)]
 pub struct NoServer {
     alloc: Global,
 }
@@ -49,6 +49,10 @@ impl Server for NoServer {
 
     fn contents(&self) -> Result<Changes, NoMemory> {
         Ok(Changes::new(self.alloc))
+    }
+
+    fn holds(&self) -> bool {
+        false
     }
 
     fn clear(&mut self) {}

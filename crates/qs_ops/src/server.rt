@@ -1,13 +1,13 @@
 //! A server of a node, as the node sees it.
 ghost use Rattle.std.specs.Prelude.{◌≡◌, ◌<◌, ◌^◌, true, IfOk, OnOk, OnErr, Some};
 ghost use Rattle.qs_ops.specs.Members.{class_of, is_two_phase};
-ghost use Rattle.qs_ops.specs.Server.{ServerValue, number_of, is_own, reply_of, after_serving, vote_of, after_vote, after_notice, changes_in, after_keeping, AreContents, cleared};
+ghost use Rattle.qs_ops.specs.Server.{ServerValue, number_of, is_own, reply_of, after_serving, vote_of, after_vote, after_notice, changes_in, after_keeping, AreContents, cleared, holds_some};
 
 use crate::{Changes, Notice, Op, Reply, Vote};
 use qs_base::{Class, NoMemory, Tid};
 
 /// Which server it is.
-#[derive(Clone, Copy, Debug, PartialEq, Eq)]
+#[derive(Clone, Copy)]
 pub enum Kind {
     /// Files, which together may have `quota` bytes.
     Files { quota: u64 },
@@ -70,6 +70,10 @@ pub trait Server: Drop {
     /// the further ones; the notes of audit in order; none of a server whose changes no log keeps.
     fn contents(&self) -> Result<Changes, NoMemory>
         ensures { IfOk result (λ changes. AreContents (state self.now).kind (state self.now).table changes) };
+
+    /// Whether a transaction has changes or reads here. It takes no memory.
+    fn holds(&self) -> bool
+        ensures { result ≡ holds_some (state self.now) };
 
     /// Empties all. It takes no memory.
     fn clear(&mut self)

@@ -4,7 +4,7 @@ use crate::Changes;
 use qs_base::{Bytes, List, Tid};
 
 /// What a transaction holds at a server of a node, since it last ended there.
-#[derive(Debug, Drop)]
+#[derive(Drop)]
 pub struct Share {
     /// Its pending changes, in the order in which they were served.
     pub changes: Changes,
@@ -18,7 +18,7 @@ pub struct Share {
 }
 
 /// The changes of a transaction that a restart finds in the log.
-#[derive(Debug, Drop, PartialEq, Eq)]
+#[derive(Drop)]
 pub struct Kept {
     pub tid: Tid,
     pub changes: Changes,

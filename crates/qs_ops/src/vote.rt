@@ -31,7 +31,7 @@ pub enum Vote {
 }
 
 /// What a member is told.
-#[derive(Clone, Copy, Debug, PartialEq, Eq)]
+#[derive(Clone, Copy)]
 pub enum Notice {
     Commit,
     Abort,

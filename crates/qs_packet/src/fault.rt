@@ -9,7 +9,7 @@ use qs_record::RecordFault;
 use thiserror::Error;
 
 /// Why bytes were not read as a packet.
-#[derive(Clone, Copy, Debug, PartialEq, Eq, Error)]
+#[derive(Clone, Copy, Debug, Error)]
 pub enum PacketFault {
     /// No front of the bytes is the spelling of a packet: the first fault from the left.
     #[error("{fault}")]

@@ -4,7 +4,7 @@ use qs_base::{Bytes, Copied, List, Member, NoMemory, NodeNo, Outcome, ServerNo, 
 use qs_ops::{Cause, Op, Reply};
 
 /// A message about a transaction, or a greeting.
-#[derive(Debug, Drop, PartialEq, Eq)]
+#[derive(Debug, Drop)]
 pub enum Message {
     /// A greeting, or an acknowledgement that goes alone. It bears no number.
     Hello,

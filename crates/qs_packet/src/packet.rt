@@ -4,7 +4,7 @@ use crate::message::Message;
 use qs_base::{Copied, NoMemory, NodeNo, Stamp};
 
 /// A packet from one node to another.
-#[derive(Debug, Drop, PartialEq, Eq)]
+#[derive(Debug, Drop)]
 pub struct Packet {
     /// The node that sends it, in its incarnation `inc`.
     pub from: NodeNo,

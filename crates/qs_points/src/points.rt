@@ -7,7 +7,7 @@ use qs_base::Tid;
 use qs_journal::{Act, Kind, Point};
 
 /// A line of the script that names the first entry of a kind for a label's transaction, and what came of it.
-#[derive(Debug, Drop, PartialEq, Eq)]
+#[derive(Drop)]
 pub struct Watched {
     pub point: Point,
     /// The transaction that the label began.

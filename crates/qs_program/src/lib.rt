@@ -3,19 +3,22 @@
 
 #[cfg(test)]
 mod run_tests;
+mod standard;
 #[cfg(test)]
 mod tests;
 
 ghost use Rattle.std.specs.Prelude.{◌≡◌, length, IfOk};
 
+use crate::standard::{NULL, stand_ins};
 use qs_base::NoMemory;
-use qs_file::FileDisk;
+use qs_file::{FileDisk, LockFile};
 use qs_io::{StdSink, StdSource};
-use qs_text::{Status, status_line};
+use qs_text::{Status, StatusLine};
 use qs_top::run;
 use std::alloc::Global;
 use std::fs::Files;
 use std::io::ErrorKind;
+use std::os::fd::AsRawFd;
 use std::process::ExitCode;
 use std::rt::Env;
 use std::thread::Threads;
@@ -49,15 +52,9 @@ fn given_words<R: Env + AllocGlobal>(rt: &R) -> io::Result<Vec<String>> {
     Ok(words)
 }
 
-/// Tells the status on standard error.
-fn tell(rt: &impl Eprint, alloc: Global, status: &Status) -> io::Result<()> {
-    let Ok(line) = status_line(alloc, status) else {
-        return eprintln!(rt; "qs: no memory");
-    };
-    match str::from_utf8(line.as_slice()) {
-        Ok(text) => eprintln!(rt; "{text}"),
-        Err(_) => Ok(()),
-    }
+/// Tells the status on standard error. It takes no memory.
+fn tell(rt: &impl Eprint, status: &Status) -> io::Result<()> {
+    eprintln!(rt; "{}", StatusLine(status))
 }
 
 /// Eight disks, over the files `node0.disk` to `node7.disk` of the current folder. A file is opened at the first use of its
@@ -73,31 +70,61 @@ fn disks<'a, R: Files>(rt: &'a R, alloc: Global) -> Result<Vec<FileDisk<&'a R>>,
     Ok(disks)
 }
 
-/// Does what the program's words ask for, from standard input to standard output, tells the status
-/// on standard error, and answers its number.
-pub fn program<R>(rt: &R) -> ExitCode
+/// Tells on standard error why calls on disks failed, a line for each disk on which one did.
+fn tell_troubles<R: Files>(rt: &impl Eprint, disks: &[FileDisk<R>]) {
+    for disk in disks {
+        if let Some(trouble) = disk.trouble() {
+            let _ = eprintln!(rt; "qs: {}: {trouble}", disk.path());
+        }
+    }
+}
+
+/// Does what the program's words ask for, from standard input to standard output, and tells on standard error why calls
+/// on disks failed.
+fn carried_out<R>(rt: &R, alloc: Global) -> Status
 where
     R: Env + AllocGlobal + Files + Input + Print + Eprint + Threads + Sync,
+    R::File: LockFile,
 {
-    let alloc = rt.alloc();
-    let status = match (words_of(rt), disks(rt, alloc)) {
+    match (words_of(rt), disks(rt, alloc)) {
         (Ok(words), Ok(mut disks)) => {
             let mut source = StdSource::new(rt.reader());
             let mut sink = StdSink::new(io::writer(rt));
-            run(
+            let ran = run(
                 rt,
                 alloc,
                 words.as_slice(),
                 &mut source,
                 &mut sink,
                 &mut disks,
-            )
-            .status
+            );
+            tell_troubles(rt, disks.as_slice());
+            ran.status
         }
         (Err(status), _) => status,
         (Ok(_), Err(NoMemory)) => Status::NoMemory,
+    }
+}
+
+/// Does what the program's words ask for, from standard input to standard output, tells the status
+/// on standard error, and answers its number. A standard stream that is closed is no file that is opened here: the
+/// input is a read fault then, the output a write fault, and what would go to standard error is lost.
+pub fn program<R>(rt: &R) -> ExitCode
+where
+    R: Env + AllocGlobal + Files + Input + Print + Eprint + Threads + Sync,
+    R::File: AsRawFd + LockFile,
+{
+    let alloc = rt.alloc();
+    let stand_ins = stand_ins(rt);
+    // Where a number may be free nothing else is opened.
+    let status = match &stand_ins {
+        Ok(_) => carried_out(rt, alloc),
+        Err(error) => {
+            let _ = eprintln!(rt; "qs: {NULL}: {error}");
+            Status::WriteFault
+        }
     };
     // Where standard error takes nothing, the number alone tells.
-    let _ = tell(rt, alloc, &status);
+    let _ = tell(rt, &status);
     ExitCode::from(status.number())
 }

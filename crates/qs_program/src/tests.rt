@@ -34,6 +34,6 @@ impl Env for OneByte {
 #[test]
 fn words_that_are_not_utf_8_are_of_no_form(rt: HostRuntime) -> Result<(), Fail> {
     let words = words_of(&(OneByte, rt.alloc()));
-    assert_eq!(rt; words.err(), Some(Status::Usage));
+    assert!(rt; matches!(&words, Err(Status::Usage)));
     Ok(())
 }

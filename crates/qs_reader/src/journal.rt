@@ -5,7 +5,7 @@ use qs_journal::Entry;
 use qs_machine::Opened;
 
 /// What the text of a history says.
-#[derive(Debug, Drop, PartialEq, Eq)]
+#[derive(Drop)]
 pub struct Journal {
     /// What the log of each node held, by number.
     pub opened: List<Opened>,

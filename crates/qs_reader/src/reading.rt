@@ -18,7 +18,7 @@ use std::alloc::Global;
 pub const HISTORY_LIMIT: usize = 67_108_864;
 
 /// Why a text is not read.
-#[derive(Clone, Copy, Debug, PartialEq, Eq)]
+#[derive(Clone, Copy)]
 pub enum JournalFailed {
     /// It is no history: the number, from 1, of the first line that can't follow those before it,
     /// that holds a byte past the limit, or that is missing at the end.

@@ -14,7 +14,7 @@ use qs_journal::Entry;
 use std::alloc::Global;
 
 /// What a line says.
-#[derive(Debug, Drop)]
+#[derive(Drop)]
 pub enum Said {
     /// There are so many nodes.
     Nodes { count: u8 },

@@ -15,8 +15,6 @@ mod record;
 mod record_taking;
 mod record_writing;
 mod taking;
-#[cfg(test)]
-mod tests;
 mod texts;
 mod writing;
 

@@ -6,7 +6,7 @@ use qs_ops::Changes;
 /// A record of a log. It has a spelling where its incarnation is below 2^62, its nodes are below 16
 /// and rise, its server is 0 to 6 or 32 to 95, and its changes are changes with names and texts
 /// within their limits.
-#[derive(Debug, Drop, PartialEq, Eq)]
+#[derive(Drop, PartialEq, Eq)]
 pub enum Record {
     /// A server's vote: it can commit and abort. `covers` counts the requests that it covers, and
     /// `changes` are all that are pending there for the transaction, in order.

@@ -5,8 +5,6 @@ mod laws;
 mod places;
 mod recovered;
 mod recovering;
-#[cfg(test)]
-mod tests;
 
 pub use laws::{a_state_says_the_contents, commits_apply_the_last_vote, what_stands_open_is_kept};
 pub use recovered::{OpenVote, Recovered};

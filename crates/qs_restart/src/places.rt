@@ -12,14 +12,14 @@ use std::alloc::Global;
 use std::collections::BTreeMap;
 
 /// A transaction at a server.
-#[derive(Clone, Copy, Debug, PartialEq, Eq, PartialOrd, Ord)]
+#[derive(Clone, Copy, PartialEq, Eq, PartialOrd, Ord)]
 pub(crate) struct Ballot {
     pub tid: Tid,
     pub server: ServerNo,
 }
 
 /// The places of the last votes, Commits with a list, and records that end a transaction.
-#[derive(Debug, Drop)]
+#[derive(Drop)]
 pub(crate) struct Places {
     pub prepares: BTreeMap<Ballot, usize>,
     pub listed: BTreeMap<Tid, usize>,

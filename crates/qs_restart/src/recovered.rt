@@ -5,7 +5,7 @@ use qs_ops::Changes;
 use qs_record::Record;
 
 /// A server's vote in a log that is not ended, without its changes.
-#[derive(Clone, Copy, Debug, PartialEq, Eq)]
+#[derive(Clone, Copy, PartialEq, Eq)]
 pub struct OpenVote {
     pub tid: Tid,
     pub server: ServerNo,
@@ -15,7 +15,7 @@ pub struct OpenVote {
 
 /// What a log says of the servers and transactions of its node. Identifiers of number 0 name no
 /// transaction: their changes are among the committed ones, and no other list has them.
-#[derive(Debug, Drop)]
+#[derive(Drop)]
 pub struct Recovered {
     /// The committed changes of files, in log order.
     pub files: Changes,

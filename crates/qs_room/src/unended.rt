@@ -9,7 +9,7 @@ use std::collections::BTreeMap;
 use std::marker::Model;
 
 /// The transactions that have a record in a log and are not ended there.
-#[derive(Debug, Drop)]
+#[derive(Drop)]
 pub struct Unended {
     tids: BTreeMap<Tid, ()>,
 }
@@ -88,7 +88,7 @@ impl Unended {
 }
 
 /// What a record does to the transaction that it names.
-#[derive(Clone, Copy, Debug, PartialEq, Eq)]
+#[derive(Clone, Copy)]
 pub enum Boundary {
     /// It begins, or goes on.
     Opens { tid: Tid },

@@ -1,6 +1,6 @@
 -- What carrying and visits leave joined.
 use Rattle.std.proofs.Common.{◌≡◌, ◌∙◌, ◌<◌, ap, subst, sym, refl, ℕ, zero, suc, Bool, false, ◌≤◌, List, [], ◌∷◌, length, get_or, arith}
-use Rattle.std.specs.Prelude.{Option, Some, None, Result, Ok, Err, IfOk, slice_get, slice_set}
+use Rattle.std.specs.Prelude.{◌↔◌, Option, Some, None, Result, Ok, Err, IfOk, slice_get, slice_set}
 use Rattle.qs_base.specs.declared.identifiers.ClientNo.{ClientNo}
 use Rattle.qs_base.specs.declared.memory.NoMemory.{NoMemory}
 use Rattle.qs_cell.specs.Joined.{StayJoined}
@@ -131,14 +131,19 @@ slice_get_none [] at less = refl
 slice_get_none (client ∷ clients) zero less = absurd (omega (arith, less))
 slice_get_none (client ∷ clients) (suc at) less = slice_get_none clients at (omega (arith, less))
 
+-- what is told of an answer is told of what it says
+told_of : (result : Result Bool NoMemory) (did : Bool) (P : Type 0) → result ≡ Ok did → (result ≡ Ok false) ↔ P → (did ≡ false) ↔ P
+told_of result did P is told = (λ none. told.0 (is ∙ ap (λ (b : Bool). Ok b) none), λ p. cc (told.1 p, is))
+
 pub visited_at : (clients : List ClientCell) (at : ℕ) (d here new : ClientCell) (result : Result Bool NoMemory) → at < length clients → here ≡ get_or clients at d
-    → IfOk result (λ did. Turns (to_send here.progress) did here new) → new.client ≡ here.client → new.commands.ring ≡ here.commands.ring
-    → new.answers.ring ≡ here.answers.ring → IfOk result (ClientVisitAt at (slice_get clients at) clients (slice_set clients at new))
-visited_at clients at d here new (Ok did) less is turn number commands answers =
+    → IfOk result (λ did. Turns (to_send here.progress) did here new) → (result ≡ Ok false) ↔ (to_send here.progress ≡ None) × (here.answers.inbox ≡ [])
+    → new.client ≡ here.client → new.commands.ring ≡ here.commands.ring → new.answers.ring ≡ here.answers.ring
+    → IfOk result (ClientVisitAt at (slice_get clients at) clients (slice_set clients at new))
+visited_at clients at d here new (Ok did) less is turn idle number commands answers =
     subst (λ (c : Option ClientCell). ClientVisitAt at c clients (slice_set clients at new) did)
     (sym (slice_get_some clients at d less ∙ ap (λ (c : ClientCell). Some c) (sym is)))
-    (new, (record { turn = turn; client = number; commands = commands; answers = answers }, refl))
-visited_at clients at d here new (Err e) less is turn number commands answers = tt
+    (new, (record { turn = turn; idle = told_of (Ok did) did _ refl idle; client = number; commands = commands; answers = answers }, refl))
+visited_at clients at d here new (Err e) less is turn idle number commands answers = tt
 
 pub visited_none : (clients : List ClientCell) (at : ℕ) → length clients ≤ at → ClientVisitAt at (slice_get clients at) clients clients false
 visited_none clients at less =

@@ -1,5 +1,5 @@
 -- The actors of a run of one node, and its rounds: what is carried, who is visited, and when a round is quiet.
-use Rattle.std.specs.Prelude.{◌≡◌, ℕ, zero, suc, ◌+◌, Bool, true, false, not, ◌&&◌, ◌||◌, List, [], ◌∷◌, length, is_none, Option, Some, None, Ok, slice_get, slice_set}
+use Rattle.std.specs.Prelude.{◌≡◌, ◌↔◌, ℕ, zero, suc, ◌+◌, Bool, true, false, not, ◌&&◌, ◌||◌, List, [], ◌∷◌, length, is_none, Option, Some, None, Ok, slice_get, slice_set}
 use Rattle.std.specs.List.{list_all}
 use Rattle.qs_cell.specs.Starts.{CellValue, journal_of}
 use Rattle.qs_cell.specs.State.{StartsAgain, cause_of, is_settled_node}
@@ -78,9 +78,10 @@ NodeVisitIf false told state own size old new did = NodeStarts told state own ol
 abbrev pub NodeVisit : {D : Type 0} → Type 0 → (D → DiskState) → (D → ℕ) → (D → ℕ) → CellValue D → CellValue D → Bool → Type 0
 NodeVisit told state own size old new did = NodeVisitIf (is_up old) told state own size old new did
 
--- a client sends its next command, or takes an answer that was carried
+-- a client sends its next command, or takes an answer that was carried; it does nothing exactly where it has no command to send and no answer was carried
 pub record ClientVisit (old new : ClientCell) (did : Bool) : Type 0 where
   pub turn : Turns (to_send old.progress) did old new
+  pub idle : (did ≡ false) ↔ (to_send old.progress ≡ None) × (old.answers.inbox ≡ [])
   pub client : new.client ≡ old.client
   pub commands : new.commands.ring ≡ old.commands.ring
   pub answers : new.answers.ring ≡ old.answers.ring

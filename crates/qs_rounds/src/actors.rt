@@ -28,7 +28,7 @@ pub struct Actors<D: Disk> {
 }
 
 /// How a round ended.
-#[derive(Clone, Copy, Debug, PartialEq, Eq)]
+#[derive(Clone, Copy)]
 pub struct RoundEnd {
     /// The node was up as it began and made no entry but those of ticks, it sent no packet, and no client made a step.
     pub quiet: bool,

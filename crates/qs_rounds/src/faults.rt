@@ -3,7 +3,7 @@
 use qs_base::{NoMemory, NodeNo};
 
 /// Why a round is cut short.
-#[derive(Clone, Copy, Debug, PartialEq, Eq)]
+#[derive(Clone, Copy)]
 pub enum RoundFault {
     /// The disk of that node failed as the node was started again.
     DiskFault { node: NodeNo },

@@ -19,7 +19,7 @@ use qs_statements::Script;
 use std::alloc::Global;
 
 /// How the rounds of a run ended.
-#[derive(Clone, Copy, Debug, PartialEq, Eq)]
+#[derive(Clone, Copy)]
 pub struct Ending {
     /// How many there were.
     pub rounds: u64,

@@ -79,19 +79,48 @@ impl Disks {
     }
 }
 
-/// Runs a row under each of its seeds.
+/// Runs a row under each of its seeds, and at each of its stops where it has any.
 pub fn judge<R>(rt: &R, row: &Row, disks: &mut Disks) -> Result<(), Error>
 where
     R: AllocGlobal + Print + Threads + Sync,
 {
-    for seed in row.seeds.iter() {
-        judge_one(rt, row, disks, *seed)?;
+    if row.stops.is_empty() {
+        return judge_script(rt, row, disks, row.script.as_str(), "");
+    }
+    for call in row.stops.iter() {
+        let script = format!(in rt.alloc(); "{}stop 0 {call}\n", row.script.as_str())?;
+        let place = format!(in rt.alloc(); "stop {call} ")?;
+        judge_script(rt, row, disks, script.as_str(), place.as_str())?;
     }
     Ok(())
 }
 
-/// Runs a row under a seed, and prints what it came to where that is none of its ends.
-fn judge_one<R>(rt: &R, row: &Row, disks: &mut Disks, seed: u64) -> Result<(), Error>
+/// Runs a row with this script under each of its seeds.
+fn judge_script<R>(
+    rt: &R,
+    row: &Row,
+    disks: &mut Disks,
+    script: &str,
+    place: &str,
+) -> Result<(), Error>
+where
+    R: AllocGlobal + Print + Threads + Sync,
+{
+    for seed in row.seeds.iter() {
+        judge_one(rt, row, disks, script, place, *seed)?;
+    }
+    Ok(())
+}
+
+/// Runs a row with this script under a seed, and compares what it came to.
+fn judge_one<R>(
+    rt: &R,
+    row: &Row,
+    disks: &mut Disks,
+    script: &str,
+    place: &str,
+    seed: u64,
+) -> Result<(), Error>
 where
     R: AllocGlobal + Print + Threads + Sync,
 {
@@ -101,11 +130,7 @@ where
     if given.len() < DISK_COUNT {
         bail!("a disk is missing");
     }
-    let mut source = made(MemSource::new(
-        alloc,
-        row.script.as_bytes(),
-        row.source_fails.as_slice(),
-    ))?;
+    let mut source = made(MemSource::new(alloc, script.as_bytes(), row.source_fails.as_slice()))?;
     if row.sink_piece == 0 {
         bail!("a sink takes no bytes");
     }
@@ -124,13 +149,26 @@ where
         &mut given,
     );
     let line = made(status_line(alloc, &ran.status))?;
-    let status = str::from_utf8(line.as_slice()).context("a status is no text")?;
-    let output = str::from_utf8(sink.given()).context("an output is no text")?;
+    let turn = format!(in alloc; "{place}seed {seed}")?;
+    compare(rt, row, turn.as_str(), line.as_slice(), sink.given())?;
+    disks.keep(given, seed)
+}
+
+/// Prints what a run came to where that is none of the row's ends.
+fn compare<R: AllocGlobal + Print>(
+    rt: &R,
+    row: &Row,
+    turn: &str,
+    line: &[u8],
+    given: &[u8],
+) -> Result<(), Error> {
+    let status = str::from_utf8(line).context("a status is no text")?;
+    let output = str::from_utf8(given).context("an output is no text")?;
     if !row.ends.iter().any(|end| end.is(status, output)) {
-        println!(rt; "  seed {seed} {status}")?;
+        println!(rt; "  {turn} {status}")?;
         print_all(rt, output)?;
     }
-    disks.keep(given, seed)
+    Ok(())
 }
 
 fn print_all<R: AllocGlobal + Print>(rt: &R, output: &str) -> Result<(), Error> {

@@ -9,6 +9,7 @@
 //!   it has 65,536 bytes and fails nowhere.
 //! - `again`: the first disk is that which the row before left under the same seed.
 //! - `flip AT`: a bit of the byte at that place of the first disk is turned before the run.
+//! - `stops FROM TO`: it is run once for each number from one to the other, with a line `stop 0 NUMBER` behind the script.
 //! - `source CALL`: that call of the source fails. `sink PIECE CALL`: the sink takes so many bytes a call, and that call fails.
 //! - `|TEXT`: a line of the script; `!TEXT`: a part of one, without a line feed; `*COUNT TEXT`: so many equal lines;
 //!   `+COUNT TEXT`: so many equal parts.
@@ -18,7 +19,7 @@
 //! - `~TEXT`: lines of the output end so, in this order; others may stand between them. Of an output that has such lines the
 //!   front alone is compared with the lines before them.
 //!
-//! A row is right where the run comes to one of its ends under each of its seeds.
+//! A row is right where the run comes to one of its ends under each of its seeds, at each of its stops.
 #![tactic(auto)]
 
 mod ends;

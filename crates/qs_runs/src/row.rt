@@ -47,6 +47,8 @@ pub struct Row {
     /// The first disk is that of the row before.
     pub again: bool,
     pub flips: Vec<usize>,
+    /// The disk calls at which it stops, in turn.
+    pub stops: Vec<u64>,
     pub source_fails: Vec<u64>,
     pub sink_piece: usize,
     pub sink_fails: Vec<u64>,
@@ -64,6 +66,7 @@ impl Row {
             disk_fails: Vec::new(alloc),
             again: false,
             flips: Vec::new(alloc),
+            stops: Vec::new(alloc),
             source_fails: Vec::new(alloc),
             sink_piece: SINK_BYTES,
             sink_fails: Vec::new(alloc),
@@ -122,6 +125,8 @@ impl Row {
         } else if let Some(place) = line.strip_prefix("flip ") {
             self.flips
                 .push(place.parse::<usize>().context("a place is no number")?)?;
+        } else if let Some(range) = line.strip_prefix("stops ") {
+            self.stops = range_of(alloc, range)?;
         } else if let Some(calls) = line.strip_prefix("source ") {
             self.source_fails = numbers_of(alloc, calls)?;
         } else if let Some(rest) = line.strip_prefix("sink ") {
@@ -158,6 +163,19 @@ fn numbers_of(alloc: Global, line: &str) -> Result<Vec<u64>, Error> {
     let mut numbers = Vec::new(alloc);
     for word in line.split(' ') {
         numbers.push(word.parse::<u64>().context("a word is no number")?)?;
+    }
+    Ok(numbers)
+}
+
+fn range_of(alloc: Global, line: &str) -> Result<Vec<u64>, Error> {
+    let (from, to) = line.split_once(" ").context("a range has no end")?;
+    let from = from
+        .parse::<u64>()
+        .context("a range begins with no number")?;
+    let to = to.parse::<u64>().context("a range ends with no number")?;
+    let mut numbers = Vec::new(alloc);
+    for number in from..=to {
+        numbers.push(number)?;
     }
     Ok(numbers)
 }

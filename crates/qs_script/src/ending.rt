@@ -1,21 +1,73 @@
 //! The line that tells how a run ended, and the verdict on a lawful history.
-ghost use Rattle.std.specs.Prelude.{◌≡◌, ◌++◌, IfOk, OnOk, string_bytes};
-ghost use Rattle.qs_script.specs.StatusLine.{status_text, status_words, waiting_text, fault_text, lawful_text};
+ghost use Rattle.std.specs.Prelude.{◌≡◌, Some, IfOk};
+ghost use Rattle.std.specs.Fmt.{WritesOnOk};
+ghost use Rattle.qs_script.specs.StatusLine.{status_text, waiting_text, fault_text, lawful_text};
 
 use qs_base::{Bytes, NoMemory};
 use qs_statements::{ScriptFault, Status, Waiting};
-use std::alloc::{AllocError, Global};
+use std::alloc::Global;
+use std::fmt;
+
+/// The line of a status as it is shown, without the line feed at its end. To show it takes no memory.
+#[derive(Clone, Copy)]
+pub struct StatusLine<'a>(pub &'a Status);
+
+impl fmt::Display for StatusLine<'_> {
+    ghost output = { λ line. Some (status_text line.0.now) };
+
+    fn fmt<W: fmt::Write>(&self, f: &mut fmt::Formatter<W>) -> fmt::Result {
+        match self.0 {
+            Status::Finished => write!(f, "qs: finished"),
+            Status::Usage => write!(f, "qs: usage: qs run N [--serial SEED] [--journal]"),
+            Status::Script { line, fault } => {
+                write!(f, "qs: script line {}: {}", *line, fault_text(*fault))
+            }
+            Status::ReadFault => write!(f, "qs: read fault"),
+            Status::WriteFault => write!(f, "qs: write fault"),
+            Status::DiskFault { node } => write!(f, "qs: disk fault at node {}", node.0),
+            Status::Damaged { node, at } => {
+                write!(f, "qs: damaged disk of node {} at byte {}", node.0, *at)
+            }
+            Status::NoRoom { node, need, room } => {
+                write!(
+                    f,
+                    "qs: no room on node {}: need {} room {}",
+                    node.0, *need, *room
+                )
+            }
+            Status::Unlawful { line, clause } => {
+                write!(f, "qs: unlawful at line {}: clause {}", *line, *clause)
+            }
+            Status::Journal { line } => write!(f, "qs: no journal at line {}", *line),
+            Status::LastGeneration { node } => write!(f, "qs: last generation on node {}", node.0),
+            Status::Unfinished { rounds, waiting } => {
+                write!(f, "qs: unfinished after {} rounds, waiting", *rounds)?;
+                write_waiting(f, waiting.as_slice())
+            }
+            Status::NoMemory => write!(f, "qs: no memory"),
+        }
+    }
+}
+
+/// Writes the clients that wait, each with its line.
+fn write_waiting<W: fmt::Write>(f: &mut fmt::Formatter<W>, waiting: &[Waiting]) -> fmt::Result
+    ensures { WritesOnOk W.write_str_gives f.old result (waiting_text waiting.now) f.new }
+{
+    if waiting.is_empty() {
+        return write!(f, " none");
+    }
+    for one in waiting {
+        write!(f, " {}:{}", one.client.0, one.line)?;
+    }
+    Ok(())
+}
 
 /// The line of a status, without the line feed at its end.
 pub fn status_line(alloc: Global, status: &Status) -> Result<Bytes, NoMemory>
     ensures { IfOk result (λ line. line ≡ status_text status.now) }
 {
-    let text = status_words(alloc, status)?;
-    let mut out = Bytes::from_slice(alloc, text.as_bytes())?;
-    if let Status::Unfinished { waiting, .. } = status {
-        put_waiting(alloc, &mut out, waiting.as_slice())?;
-    }
-    Ok(out)
+    let text = StatusLine(status).to_string(alloc)?;
+    Bytes::from_slice(alloc, text.as_bytes())
 }
 
 /// The verdict on a lawful history of so many entries, with the line feed at its end.
@@ -24,57 +76,6 @@ pub fn lawful_text(alloc: Global, entries: usize) -> Result<Bytes, NoMemory>
 {
     let text = format!(in alloc; "lawful {entries}\n")?;
     Bytes::from_slice(alloc, text.as_bytes())
-}
-
-/// Adds the clients that wait, each with its line.
-fn put_waiting(alloc: Global, out: &mut Bytes, waiting: &[Waiting]) -> Result<(), NoMemory>
-    ensures { OnOk result (out.new ≡ out.old ++ waiting_text waiting.now) }
-{
-    if waiting.is_empty() {
-        out.append(" none".as_bytes())?;
-        return Ok(());
-    }
-    for one in waiting {
-        let text = format!(in alloc; " {}:{}", one.client.0, one.line)?;
-        out.append(text.as_bytes())?;
-    }
-    Ok(())
-}
-
-/// The line of a status; of a run that is not finished without the clients that wait.
-fn status_words(alloc: Global, status: &Status) -> Result<String, AllocError>
-    ensures { IfOk result (λ line. string_bytes line ≡ status_words status.now) }
-{
-    match status {
-        Status::Finished => format!(in alloc; "qs: finished"),
-        Status::Usage => format!(in alloc; "qs: usage: qs run N [--serial SEED] [--journal]"),
-        Status::Script { line, fault } => {
-            format!(in alloc; "qs: script line {}: {}", *line, fault_text(*fault))
-        }
-        Status::ReadFault => format!(in alloc; "qs: read fault"),
-        Status::WriteFault => format!(in alloc; "qs: write fault"),
-        Status::DiskFault { node } => format!(in alloc; "qs: disk fault at node {}", node.0),
-        Status::Damaged { node, at } => {
-            format!(in alloc; "qs: damaged disk of node {} at byte {}", node.0, *at)
-        }
-        Status::NoRoom { node, need, room } => {
-            format!(in alloc;
-                "qs: no room on node {}: need {} room {}",
-                node.0, *need, *room
-            )
-        }
-        Status::Unlawful { line, clause } => {
-            format!(in alloc; "qs: unlawful at line {}: clause {}", *line, *clause)
-        }
-        Status::Journal { line } => format!(in alloc; "qs: no journal at line {}", *line),
-        Status::LastGeneration { node } => {
-            format!(in alloc; "qs: last generation on node {}", node.0)
-        }
-        Status::Unfinished { rounds, .. } => {
-            format!(in alloc; "qs: unfinished after {} rounds, waiting", *rounds)
-        }
-        Status::NoMemory => format!(in alloc; "qs: no memory"),
-    }
 }
 
 /// The words for a fault of a script.

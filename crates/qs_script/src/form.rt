@@ -1,7 +1,7 @@
 //! The forms of the words after the program's name.
 
 /// What the words ask for.
-#[derive(Clone, Copy, Debug, PartialEq, Eq)]
+#[derive(Clone, Copy, Debug)]
 pub enum Form {
     /// A script is run on nodes 0 to `nodes` - 1; in one thread, in an order drawn from the seed,
     /// where there is one.
@@ -15,7 +15,7 @@ pub enum Form {
 }
 
 /// Why words are refused.
-#[derive(Clone, Copy, Debug, PartialEq, Eq)]
+#[derive(Clone, Copy, Debug)]
 pub enum WordsFault {
     /// They are of no form.
     Usage,

@@ -13,7 +13,7 @@ mod open;
 mod reading;
 mod words;
 
-pub use ending::{lawful_text, status_line};
+pub use ending::{StatusLine, lawful_text, status_line};
 pub use form::{Form, WordsFault};
 pub use qs_statements::{
     FaultLine, Planned, Quota, Script, ScriptFault, Seat, Status, Waiting, number_of,

@@ -15,7 +15,7 @@ use std::alloc::Global;
 const LIMIT: usize = 1_048_576;
 
 /// Why a text is not read.
-#[derive(Clone, Copy, Debug, PartialEq, Eq)]
+#[derive(Clone, Copy)]
 pub enum ScriptFailed {
     /// It is no script: its first fault, and the line of it, from 1.
     Fault { line: u32, fault: ScriptFault },

@@ -13,7 +13,7 @@ const NODES: u64 = 8;
 const SEED_AT: usize = 9;
 
 /// What the words after `run` said so far.
-#[derive(Clone, Copy, Debug, PartialEq, Eq)]
+#[derive(Clone, Copy)]
 pub struct Options {
     /// How many nodes the run has.
     pub nodes: Option<u8>,

@@ -1,6 +1,6 @@
 //! The servers of a node.
 ghost use Rattle.std.specs.Prelude.{◌≡◌, true, false, IfOk, OnOk, OnErr, Some};
-ghost use Rattle.qs_ops.specs.Server.{reply_of, after_serving, vote_of, after_vote, after_notice, changes_in, after_keeping, AreContents, cleared};
+ghost use Rattle.qs_ops.specs.Server.{reply_of, after_serving, vote_of, after_vote, after_notice, changes_in, after_keeping, AreContents, cleared, holds_some};
 ghost use Rattle.qs_ops.specs.Servers.{is_client_no};
 ghost use Rattle.qs_ops.specs.Table.{no_table};
 ghost use Rattle.qs_ops.specs.Timers.{ticked};
@@ -192,6 +192,21 @@ impl<F: Server, X: Server> Servers<F, X> {
             WINDOWS => self.windows.contents(),
             SCRATCH => self.scratch.contents(),
             _ => self.extra.contents(),
+        }
+    }
+
+    /// Whether a transaction has changes or reads at the server.
+    pub fn holds(&self, server: ServerNo) -> bool
+        ensures { result ≡ holds_some (server_at self.now server) }
+    {
+        match server {
+            FILES => self.files.holds(),
+            AUDIT => self.audit.holds(),
+            NAMES => self.names.holds(),
+            TIMERS => self.timers.holds(),
+            WINDOWS => self.windows.holds(),
+            SCRATCH => self.scratch.holds(),
+            _ => self.extra.holds(),
         }
     }
 

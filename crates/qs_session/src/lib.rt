@@ -4,8 +4,6 @@
 pub mod laws;
 mod session;
 mod taken;
-#[cfg(test)]
-mod tests;
 
 pub use session::Session;
 pub use taken::Taken;

@@ -18,7 +18,7 @@ const LAST: u64 = 4611686018427387903;
 
 /// One end of a session: an incarnation of a node sends messages to another node, and hands up what comes from it,
 /// in order, each once, between their two incarnations.
-#[derive(Debug, Drop)]
+#[derive(Drop)]
 pub struct Session {
     me: NodeNo,
     peer: NodeNo,

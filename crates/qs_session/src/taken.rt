@@ -3,7 +3,7 @@
 use qs_packet::Message;
 
 /// What a packet is answered: the first that holds.
-#[derive(Debug, Drop)]
+#[derive(Drop)]
 pub enum Taken {
     /// It comes from an earlier incarnation of the peer than the known one.
     OldPeer { known: u64, got: u64 },

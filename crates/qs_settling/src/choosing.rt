@@ -13,7 +13,7 @@ use qs_work::doings_of;
 // ---- which rule is the first
 
 /// The first rule that does something for a transaction.
-#[derive(Clone, Copy, Debug, PartialEq, Eq)]
+#[derive(Clone, Copy)]
 pub enum First {
     /// The servers vote.
     Pass,

@@ -6,7 +6,7 @@ ghost use Rattle.std.specs.BTreeMap.{insert_entry, is_at, IsOrdered};
 ghost use Rattle.qs_base.specs.Order.{tid_cmp};
 ghost use Rattle.qs_ops.specs.Server.{vote_in_room};
 ghost use Rattle.qs_ops.specs.Spelled.{op_length};
-ghost use Rattle.qs_ops.specs.Table.{TableValue, after_serve, change_by, nothing_held};
+ghost use Rattle.qs_ops.specs.Table.{TableValue, after_serve, any_holds, change_by, is_holding, nothing_held};
 ghost use Rattle.qs_ops.specs.declared.reply.Reply.TheVariants.{Done};
 ghost use Rattle.qs_shares.specs.Shares.{share_in, kept_share, IsHeld, IsReplaced};
 
@@ -82,6 +82,13 @@ impl Held {
         ensures { result.now ≡ self.now.reads }
     {
         self.share.reads.as_slice()
+    }
+
+    /// Whether there are changes or reads.
+    fn is_holding(&self) -> bool
+        ensures { result ≡ is_holding self.now }
+    {
+        !self.share.changes.is_empty() || !self.share.reads.is_empty()
     }
 
     /// How many operations count.
@@ -228,6 +235,13 @@ impl Shares {
         ensures { result ≡ not (length (share_in self.now tid).changes == 0) }
     {
         !self.changes(tid).is_empty()
+    }
+
+    /// Whether some transaction has pending changes or reads.
+    pub fn any_holds(&self) -> bool
+        ensures { result ≡ any_holds self.now }
+    {
+        self.held.iter().any(|entry| entry.1.is_holding())
     }
 
     /// Whether as many operations of the transaction were served as a server serves.

@@ -6,7 +6,7 @@ ghost use Rattle.std.specs.BTreeMap.{insert_entry, is_at};
 ghost use Rattle.std.specs.Option.{option_copied, option_map};
 ghost use Rattle.qs_base.specs.Order.{tid_cmp};
 ghost use Rattle.qs_ops.specs.Files.{file_text, text_reply};
-ghost use Rattle.qs_ops.specs.Table.{no_table, text_at, share_of, has_changes, served, with_vote, released, committed, reply_to, after_serve, is_change_of, is_claim, is_taken};
+ghost use Rattle.qs_ops.specs.Table.{no_table, text_at, share_of, has_changes, served, with_vote, released, committed, reply_to, after_serve, any_holds, is_change_of, is_claim, is_taken};
 ghost use Rattle.qs_shares.specs.Shares.{share_in};
 ghost use Rattle.qs_shelf.specs.Plain.{is_plain, put_by};
 ghost use Rattle.qs_shelf.specs.Slots.{SameTexts, IsSettled, Follows};
@@ -77,6 +77,13 @@ impl Shelf {
         ensures { IfOk result (λ changes. changes ≡ (share_of self.now tid).changes) }
     {
         self.shares.copy_changes(tid)
+    }
+
+    /// Whether some transaction has pending changes or reads.
+    pub fn any_holds(&self) -> bool
+        ensures { result ≡ any_holds self.now.shares }
+    {
+        self.shares.any_holds()
     }
 
     /// Whether a text is committed under the name.

@@ -1,14 +1,13 @@
 -- Where a node stops, in place of a step, within one or right behind one, the world of one node that shows it stops it with the same stamp.
 use Rattle.std.proofs.Common.{◌≡◌, ◌⊎◌, ◌∙◌, ap, inl, inr, refl, subst, sym, ℕ, ◌+◌, ◌≤◌, ◌==◌, ◌&&◌, Bool, true, false, List, [], ◌∷◌, ◌++◌, Some, None, if◌then◌else◌}
 use Rattle.std.specs.List.{list_any}
-use Rattle.qs_cell.specs.Cell.{IsAsPlanned, begun, fault_cause, out_of, planned_after, stepped, why_not}
+use Rattle.qs_cell.specs.Cell.{IsAsPlanned, IsFaulted, begun, out_of, planned_after, stepped, why_not}
 use Rattle.qs_cell.specs.declared.running.Running.{Running}
 use Rattle.qs_cell.specs.declared.stopped.Stopped.{Stopped}
 use Rattle.qs_chronicle.specs.Carried.{Seen, is_replaced, seen}
 use Rattle.qs_chronicle.specs.Chronicle.{Told, counted, crashed, is_last, last_stamp, stamped}
 use Rattle.qs_chronicle.specs.Occasions.{did_of, event_of}
 use Rattle.qs_chronicle.specs.declared.occasion.Occasion.{Occasion}
-use Rattle.qs_disk.specs.Fuse.{FusedValue}
 use Rattle.qs_host.specs.Host.{free_of, log_after, node_after}
 use Rattle.qs_journal.specs.declared.entry.Act.TheVariants as acts
 use Rattle.qs_journal.specs.declared.entry.CrashCause.{CrashCause}
@@ -138,9 +137,12 @@ or_plan its same = by (is_crash its) refl same
     by false is false = refl
 
 -- a fault that is told as the disk's own is borne out by its count
-cut_crash : {D : Type 0} (own : D → ℕ) (before now : FusedValue D) (cause : CrashCause) → (cause ≡ causes.Memory) ⊎ (cause ≡ fault_cause own before now) → is_crash cause ≡ true
-cut_crash own before now cause (inl memory) = rw memory refl
-cut_crash own before now cause (inr fault) = subst (λ (c : CrashCause). is_crash c ≡ true) (sym fault) (or_plan (causes.Disk (own before.disk) (own now.disk)) (before.fuse.trips == now.fuse.trips))
+cut_crash : {D F X : Type 0} (own : D → ℕ) (size : ℕ) (occasion : Occasion) (old : Running D F X) (new : Stopped D)
+    → (new.cause ≡ causes.Memory) ⊎ IsFaulted own size occasion old new → is_crash new.cause ≡ true
+cut_crash own size occasion old new (inl memory) = subst (λ (c : CrashCause). is_crash c ≡ true) (sym memory) refl
+cut_crash own size occasion old new (inr faulted) =
+    subst (λ (c : CrashCause). is_crash c ≡ true) (sym faulted.cause)
+    (or_plan (causes.Disk (own old.host.log.disk.disk) (own new.disk.disk)) (old.host.log.disk.fuse.trips == new.disk.fuse.trips))
 
 pub each_cut : {D F X : Type 0} (own : D → ℕ) (size : ℕ) (occasion : Occasion) (old : Running D F X) (new : Stopped D) (world : World) → CutMoves own size occasion old new world
 each_cut own size occasion old new world is shows comes is_kept = record {
@@ -159,7 +161,7 @@ each_cut own size occasion old new world is shows comes is_kept = record {
     left = cut_log (world.hosts 0) is_kept (out_of size occasion old)
 
     may_cut : may_move world (cut_of size occasion old is_kept new.cause) ≡ true
-    may_cut = rw (steps.may size occasion old world shows comes is.unplanned, cut_crash own old.host.log.disk new.disk new.cause is.why) refl
+    may_cut = rw (steps.may size occasion old world shows comes is.unplanned, cut_crash own size occasion old new is.why) refl
 
     leads : moved (cut_of size occasion old is_kept new.cause) world ≡ moves.stopped world 0 (stamp_at old) new.cause left
     leads =

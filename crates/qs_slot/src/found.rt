@@ -11,7 +11,7 @@ use crate::value::SlotValue;
 use sha2::{Digest, Sha256};
 
 /// A slot as it was found.
-#[derive(Clone, Copy, Debug)]
+#[derive(Clone, Copy)]
 pub enum Found {
     /// Its gate is closed.
     Shut,

@@ -7,8 +7,6 @@ mod found;
 mod opening;
 mod place;
 mod slots;
-#[cfg(test)]
-mod tests;
 mod value;
 
 pub use fault::SlotFault;

@@ -46,6 +46,7 @@ pub fn open_slots<D: Disk>(disk: &mut D, limit: u64) -> Result<Slots, SlotFault>
     ensures content { D.told → (D.state disk.new).content ≡ (D.state disk.old).content }
     ensures moments { D.told → Keeps (λ c. c ≡ (D.state disk.old).content) (D.state disk.old) (D.state disk.new) }
     ensures size { D.byte_count disk.new ≡ D.byte_count disk.old }
+    ensures leads { D.leads_to disk.old disk.new }
 {
     // Each disk has room for both slots.
     let _size = disk.size();
@@ -63,6 +64,7 @@ fn read_slot<D: Disk>(disk: &mut D, place: Place, limit: u64) -> Result<Found, D
     ensures content { D.told → (D.state disk.new).content ≡ (D.state disk.old).content }
     ensures moments { D.told → Keeps (λ c. c ≡ (D.state disk.old).content) (D.state disk.old) (D.state disk.new) }
     ensures size { D.byte_count disk.new ≡ D.byte_count disk.old }
+    ensures leads { D.leads_to disk.old disk.new }
     ensures cause { HasCause (D.fault_count disk.old) (D.fault_count disk.new) result }
 {
     let mut bytes = [0; 57];

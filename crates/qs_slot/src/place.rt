@@ -4,7 +4,7 @@ ghost use Rattle.qs_slot.specs.Opening.{offset_of};
 ghost use Rattle.qs_slot.specs.Turning.{other};
 
 /// Where a slot stands.
-#[derive(Clone, Copy, Debug, PartialEq, Eq)]
+#[derive(Clone, Copy)]
 pub enum Place {
     /// At byte 0.
     First,

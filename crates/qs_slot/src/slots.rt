@@ -14,7 +14,7 @@ use qs_disk::{Disk, DiskFailed, write_through};
 use std::marker::Model;
 
 /// What the slots of a disk say, and where the next value goes.
-#[derive(Debug, Drop)]
+#[derive(Drop)]
 pub struct Slots {
     pub(crate) sequence: u64,
     pub(crate) value: SlotValue,
@@ -70,6 +70,7 @@ impl Slots {
         // What stays, and why it fails.
         ensures same { OnErr result (self.new ≡ self.old) }
         ensures size { D.byte_count disk.new ≡ D.byte_count disk.old }
+        ensures leads { D.leads_to disk.old disk.new }
         ensures cause { HasCause (D.fault_count disk.old) (D.fault_count disk.new) result }
     {
         // Each disk has room for both slots.
@@ -113,6 +114,7 @@ fn write_slot<D: Disk>(
     ensures still { D.told → OnOk result (IsStill (D.state disk.new)) }
     ensures written { D.told → OnOk result ((D.state disk.new).content ≡ opened_gate place closing.now body.now (D.state disk.old).content) }
     ensures size { D.byte_count disk.new ≡ D.byte_count disk.old }
+    ensures leads { D.leads_to disk.old disk.new }
     ensures cause { HasCause (D.fault_count disk.old) (D.fault_count disk.new) result }
 {
     write_through(disk, place, closing)?;

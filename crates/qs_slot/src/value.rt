@@ -1,7 +1,7 @@
 //! What a slot holds.
 
 /// The format of a disk, its node's incarnation, and the generation of its log.
-#[derive(Clone, Copy, Debug, PartialEq, Eq)]
+#[derive(Clone, Copy, PartialEq, Eq)]
 pub struct SlotValue {
     /// 1 for the format in which the records of a batch stand one behind the other.
     pub format: u32,

@@ -4,7 +4,7 @@ use qs_base::{ClientNo, List, NodeNo};
 use qs_journal::{Point, ScriptLine};
 
 /// A script.
-#[derive(Debug, Drop, PartialEq, Eq)]
+#[derive(Drop)]
 pub struct Script {
     /// The clients, each with its node, in the order of their lines.
     pub seats: List<Seat>,
@@ -22,28 +22,28 @@ pub struct Script {
 }
 
 /// A client sits at a node.
-#[derive(Clone, Copy, Debug, PartialEq, Eq)]
+#[derive(Clone, Copy, Debug)]
 pub struct Seat {
     pub client: ClientNo,
     pub node: NodeNo,
 }
 
 /// The files of a node may have so many bytes together.
-#[derive(Clone, Copy, Debug, PartialEq, Eq)]
+#[derive(Clone, Copy)]
 pub struct Quota {
     pub node: NodeNo,
     pub bytes: u64,
 }
 
 /// A fault that is to come, and the line that asks for it.
-#[derive(Debug, Drop, PartialEq, Eq)]
+#[derive(Drop)]
 pub struct FaultLine {
     pub line: u32,
     pub fault: Planned,
 }
 
 /// A fault that a script asks for. Events, disk calls and packets count from 1.
-#[derive(Debug, Drop, PartialEq, Eq)]
+#[derive(Drop)]
 pub enum Planned {
     /// The node stops in place of that event.
     Crash {

@@ -7,7 +7,7 @@ use qs_journal::Command;
 
 /// What a line says by its words alone. Numbers may be of any length; one that is past its type is
 /// read as the last value of the type, which no limit allows.
-#[derive(Debug, Drop, PartialEq, Eq)]
+#[derive(Drop)]
 pub enum Statement {
     /// Nothing: it has no words, or is a remark.
     Nothing,

@@ -5,7 +5,7 @@ ghost use Rattle.qs_statements.specs.Status.{status_number};
 use qs_base::{ClientNo, List, NodeNo};
 
 /// How a run ended.
-#[derive(Debug, Drop, PartialEq, Eq)]
+#[derive(Drop)]
 pub enum Status {
     /// Every script ended, and no transaction is unended.
     Finished,
@@ -36,14 +36,14 @@ pub enum Status {
 }
 
 /// A client whose script has not ended, and the line that it stands at.
-#[derive(Clone, Copy, Debug, PartialEq, Eq)]
+#[derive(Clone, Copy)]
 pub struct Waiting {
     pub client: ClientNo,
     pub line: u32,
 }
 
 /// What is wrong with a script.
-#[derive(Clone, Copy, Debug, PartialEq, Eq)]
+#[derive(Clone, Copy, Debug)]
 pub enum ScriptFault {
     /// The text is too long.
     TooLarge,

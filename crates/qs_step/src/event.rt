@@ -6,7 +6,7 @@ use qs_packet::Message;
 use qs_record::Record;
 
 /// What comes to a node.
-#[derive(Debug, Drop, PartialEq, Eq)]
+#[derive(Drop)]
 pub enum Event {
     /// A client's command, at that line of its script.
     Command {
@@ -33,21 +33,21 @@ pub enum Event {
 }
 
 /// A message and whom it goes to.
-#[derive(Debug, Drop, PartialEq, Eq)]
+#[derive(Drop)]
 pub struct Sending {
     pub to: NodeNo,
     pub message: Message,
 }
 
 /// An answer and whose it is.
-#[derive(Debug, Drop, PartialEq, Eq)]
+#[derive(Drop)]
 pub struct ClientAnswer {
     pub client: ClientNo,
     pub answer: LineAnswer,
 }
 
 /// What a step brings about, each list in order.
-#[derive(Debug, Drop, PartialEq, Eq)]
+#[derive(Drop)]
 pub struct Effects {
     /// Records to append to the log.
     pub records: List<Record>,

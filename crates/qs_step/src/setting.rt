@@ -3,7 +3,7 @@
 use qs_base::NodeNo;
 
 /// What stays the same while a node runs.
-#[derive(Clone, Copy, Debug, PartialEq, Eq)]
+#[derive(Clone, Copy)]
 pub struct Setting {
     /// Its own number.
     pub node: NodeNo,

@@ -4,7 +4,7 @@ use qs_base::{Member, Tid};
 use qs_journal::ScriptLine;
 
 /// The request that a command was issued as.
-#[derive(Clone, Copy, Debug, PartialEq, Eq)]
+#[derive(Clone, Copy)]
 pub struct Issued {
     pub tid: Tid,
     pub member: Member,
@@ -12,14 +12,14 @@ pub struct Issued {
 }
 
 /// A client's command that is not answered yet.
-#[derive(Debug, Drop, PartialEq, Eq)]
+#[derive(Drop)]
 pub struct OpenCommand {
     pub line: ScriptLine,
     pub issued: Option<Issued>,
 }
 
 /// What a step did for a transaction so far.
-#[derive(Clone, Copy, Debug, PartialEq, Eq)]
+#[derive(Clone, Copy)]
 pub struct Doings {
     /// The owner asked for commit.
     pub asked: bool,

@@ -5,7 +5,7 @@ use qs_journal::{CrashCause, ScriptLine};
 use qs_packet::Packet;
 
 /// The event of a step.
-#[derive(Debug, Drop, PartialEq, Eq)]
+#[derive(Drop)]
 pub enum Did {
     /// A packet was taken.
     Packet { packet: Packet },
@@ -22,7 +22,7 @@ pub enum Did {
 }
 
 /// A step of a node.
-#[derive(Debug, Drop, PartialEq, Eq)]
+#[derive(Drop)]
 pub struct Step {
     pub stamp: Stamp,
     pub node: NodeNo,

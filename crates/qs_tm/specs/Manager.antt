@@ -31,7 +31,7 @@ use Rattle.qs_tm.specs.declared.manager.BeginFault.TheVariants as faults
 use Rattle.qs_tm.specs.declared.participant.Outstanding.{Outstanding}
 use Rattle.qs_tm.specs.declared.participant.Participant.{Participant}
 use Rattle.qs_tm.specs.Participant as participant
-use Rattle.qs_tm.specs.Participant.{new_participant, begun_participant, is_undecided, waits_for, answered_to}
+use Rattle.qs_tm.specs.Participant.{new_participant, begun_participant, is_undecided, is_learning, waits_for, answered_to}
 use Rattle.qs_tm.specs.Outcomes as outcome_rules
 use Rattle.qs_tm.specs.Outcomes.{aborted_participant, voted_before, committed_before}
 
@@ -290,3 +290,7 @@ is_open part = part.engage.home && is_undecided part
 
 abbrev pub has_undecided : Manager → Bool
 has_undecided manager = list_any (λ (entry : Tid × Participant). is_open entry.1) manager.known
+
+-- a server of this node is still to learn the outcome of a transaction
+abbrev pub has_learners : Manager → Bool
+has_learners manager = list_any (λ (entry : Tid × Participant). is_learning entry.1) manager.known

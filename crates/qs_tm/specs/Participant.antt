@@ -1,5 +1,5 @@
 -- What a node keeps of one transaction, and what each rule makes of it.
-use Rattle.std.specs.Prelude.{ℕ, ◌+◌, ◌==◌, Bool, true, false, not, ◌&&◌, ◌||◌, List, [], ◌∷◌, ◌++◌, replicate, Option, Some, None, is_none, slice_index_or, slice_set, if◌then◌else◌}
+use Rattle.std.specs.Prelude.{ℕ, ◌+◌, ◌==◌, Bool, true, false, not, ◌&&◌, ◌||◌, List, [], ◌∷◌, ◌++◌, length, replicate, Option, Some, None, is_none, slice_index_or, slice_set, if◌then◌else◌}
 use Rattle.std.specs.List.{list_all, list_any, filter, find}
 use Rattle.qs_base.specs.Order.{same_member}
 use Rattle.qs_base.specs.declared.identifiers.ClientNo.{ClientNo}
@@ -154,6 +154,10 @@ needs_pass part = has_due dues.Vote part || has_due dues.Ending part
 -- the servers that are still to learn the outcome: two-phase ones first, then standard, then delayed ones
 abbrev pub learners : Participant → List ServerNo
 learners part = servers_due dues.FirstTold part ++ servers_due dues.ThenTold part ++ servers_due dues.LastTold part
+
+-- there is one
+abbrev pub is_learning : Participant → Bool
+is_learning part = not (length (learners part) == 0)
 
 abbrev pub agrees_at : Participant → ServerNo → Bool
 agrees_at part server = agrees server (member_of part server)

@@ -25,7 +25,7 @@ use std::marker::Model;
 /// What is kept of each transaction, by their identifiers. All to which something may be due stand in a span of
 /// identifiers, so that these are found without going over all that are known: the span takes in each one that is put or
 /// lent, and goes to that one alone, or to none, where nothing is due in it.
-#[derive(Debug, Drop)]
+#[derive(Drop)]
 pub struct Known {
     parts: Map<Tid, Participant>,
     /// The first identifier of the span, and the last one.

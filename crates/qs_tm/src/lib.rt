@@ -6,8 +6,6 @@ mod manager;
 mod members;
 mod outcomes;
 mod participant;
-#[cfg(test)]
-mod tests;
 
 pub use known::Known;
 pub use manager::{BeginFault, Decision, Manager, Standing, Which};

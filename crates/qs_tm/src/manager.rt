@@ -3,7 +3,7 @@ ghost use Rattle.std.specs.Prelude.{◌≡◌, ℕ, ◌≤◌, [], None, Some, �
 ghost use Rattle.std.specs.Option.{option_copied};
 ghost use Rattle.qs_tm.specs.declared.manager.BeginFault.TheVariants.{LogFull, Last};
 ghost use Rattle.qs_tm.specs.Outcomes.{voted_before};
-ghost use Rattle.qs_tm.specs.Manager.{part_of, with_part, begin, begin_fault, next_tid, knows, meet, keep_abort, forget, tick, sent, sent_as, issued, drop_waiting, note_served, requested, engaged_at, served, served_as, voted, ask, refused, add_cause, causes_at, take_causes, counted, is_ready, released, released_to, add_told, told_at, decide, decision, took_outcome, settled, logged, acknowledged, all_acknowledged, take_names, new_names, add_tell, restarted, standing, standing_of, need_past, need_of, take_up, take_up_vote, take_up_commit, is_one, put_tid, tids_of, undecided, due, aged, concerned, concerns, has_undecided, is_open};
+ghost use Rattle.qs_tm.specs.Manager.{part_of, with_part, begin, begin_fault, next_tid, knows, meet, keep_abort, forget, tick, sent, sent_as, issued, drop_waiting, note_served, requested, engaged_at, served, served_as, voted, ask, refused, add_cause, causes_at, take_causes, counted, is_ready, released, released_to, add_told, told_at, decide, decision, took_outcome, settled, logged, acknowledged, all_acknowledged, take_names, new_names, add_tell, restarted, standing, standing_of, need_past, need_of, take_up, take_up_vote, take_up_commit, is_one, put_tid, tids_of, undecided, due, aged, concerned, concerns, has_undecided, has_learners, is_open};
 
 use crate::known::Known;
 use crate::participant::{Outstanding, Participant};
@@ -21,7 +21,7 @@ const LAST_NUMBER: u32 = 4_294_967_295;
 const COMMIT_FRAME: u64 = 41 + 15;
 
 /// Why no transaction can begin.
-#[derive(Clone, Copy, Debug, PartialEq, Eq)]
+#[derive(Clone, Copy, PartialEq, Eq)]
 pub enum BeginFault {
     /// The log has no room for its records: `need` bytes are to be kept free for them, and `room` are.
     LogFull { need: u64, room: u64 },
@@ -43,7 +43,7 @@ impl From<NoMemory> for BeginFault {
 }
 
 /// What an inquiry about a transaction is answered by.
-#[derive(Clone, Copy, Debug, PartialEq, Eq)]
+#[derive(Clone, Copy, PartialEq, Eq)]
 pub enum Standing {
     /// It is not decided.
     Running,
@@ -53,7 +53,7 @@ pub enum Standing {
 }
 
 /// What a home makes of its decision.
-#[derive(Debug, Drop, PartialEq, Eq)]
+#[derive(Drop)]
 pub struct Decision {
     /// The record to append: a Commit to be forced, an Aborted, or none.
     pub rec: Option<Record>,
@@ -62,7 +62,7 @@ pub struct Decision {
 }
 
 /// Which transactions are looked for.
-#[derive(Clone, Copy, Debug, PartialEq, Eq)]
+#[derive(Clone, Copy)]
 pub enum Which {
     /// Those whose outcome is not known here.
     Undecided,
@@ -76,7 +76,7 @@ pub enum Which {
 
 /// The transactions that a node knows. A call about one that it does not know changes nothing, unless
 /// it says otherwise. No call takes memory whose result has no `NoMemory`.
-#[derive(Debug, Drop)]
+#[derive(Drop)]
 pub struct Manager {
     /// The node itself.
     pub node: NodeNo,
@@ -615,6 +615,13 @@ impl Manager {
         ensures { result ≡ has_undecided self.now }
     {
         self.known.iter().any(|entry| is_open_home(entry.1))
+    }
+
+    /// Whether a server of this node is still to learn the outcome of a transaction.
+    pub fn has_learners(&self) -> bool
+        ensures { result ≡ has_learners self.now }
+    {
+        self.known.iter().any(|entry| entry.1.is_learning())
     }
 }
 

@@ -27,7 +27,7 @@ pub fn every_server() -> &'static [ServerNo]
 }
 
 /// A vote without its reason.
-#[derive(Clone, Copy, Debug, PartialEq, Eq)]
+#[derive(Clone, Copy, PartialEq, Eq)]
 pub enum Ballot {
     Abort,
     ReadOnly,
@@ -36,14 +36,14 @@ pub enum Ballot {
 }
 
 /// A vote, and how many served requests it covers.
-#[derive(Clone, Copy, Debug, PartialEq, Eq)]
+#[derive(Clone, Copy)]
 pub struct Cast {
     pub ballot: Ballot,
     pub covers: u32,
 }
 
 /// What a server of this node did for the transaction in the present incarnation.
-#[derive(Clone, Copy, Debug, PartialEq, Eq)]
+#[derive(Clone, Copy)]
 pub struct MemberPart {
     /// How many requests it served, with those that a vote in the log covers.
     pub served: u32,

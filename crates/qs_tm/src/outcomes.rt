@@ -167,7 +167,14 @@ impl Participant {
         ensures { result ≡ is_told_again peer self.now }
     {
         (self.outcome.is_some() && self.tell.contains(peer))
-            && (is_abort(self.outcome) || !self.acknowledged.contains(peer))
+            && (self.is_aborted() || !self.acknowledged.contains(peer))
+    }
+
+    /// Whether the outcome is known here, and is abort.
+    pub fn is_aborted(&self) -> bool
+        ensures { result ≡ is_abort self.now.outcome }
+    {
+        is_abort(self.outcome)
     }
 
     // ---- what stands without having run

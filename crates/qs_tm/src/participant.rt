@@ -2,7 +2,7 @@
 ghost use Rattle.std.specs.Prelude.{◌≡◌, ◌&&◌, ◌||◌, not, OnOk, OnErr, IfOk};
 ghost use Rattle.std.specs.List.{filter, list_any, list_all};
 ghost use Rattle.std.specs.Option.{option_copied};
-ghost use Rattle.qs_tm.specs.Participant.{new_participant, begun_participant, member_of, with_member, all_agree, agrees_at, needs_pass, only_read, has_read_at, is_due_at, servers_due, has_due, learners, waiting_for, drop_waiting, is_answered_by, is_by_files, awaits_note, has_noted, is_ready, is_forgotten, is_to, is_owed_by, answered_to, served, next_served, voted, with_causes_of, waits_for, counted};
+ghost use Rattle.qs_tm.specs.Participant.{new_participant, begun_participant, member_of, with_member, all_agree, agrees_at, needs_pass, only_read, has_read_at, is_due_at, servers_due, has_due, learners, is_learning, waiting_for, drop_waiting, is_answered_by, is_by_files, awaits_note, has_noted, is_ready, is_forgotten, is_to, is_owed_by, answered_to, served, next_served, voted, with_causes_of, waits_for, counted};
 
 use crate::members::{
     Cast, MemberPart, SERVER_COUNT, ballot_of, every_server, is_binding, is_told_class,
@@ -15,7 +15,7 @@ use std::alloc::Global;
 use std::mem::replace;
 
 /// A request that was issued here and has no reply yet.
-#[derive(Clone, Copy, Debug, PartialEq, Eq)]
+#[derive(Clone, Copy)]
 pub struct Outstanding {
     /// Files, or a client by its number as a borrower.
     pub issuer: ServerNo,
@@ -26,7 +26,7 @@ pub struct Outstanding {
 }
 
 /// What may be due to a server.
-#[derive(Clone, Copy, Debug, PartialEq, Eq)]
+#[derive(Clone, Copy)]
 pub enum Due {
     /// It is to vote.
     Vote,
@@ -41,7 +41,7 @@ pub enum Due {
 }
 
 /// What the log of this node has of the transaction.
-#[derive(Clone, Copy, Debug, PartialEq, Eq)]
+#[derive(Clone, Copy)]
 pub struct InLog {
     /// A record of it that is not ended.
     pub unended: bool,
@@ -52,7 +52,7 @@ pub struct InLog {
 }
 
 /// All that a node keeps of one transaction in its present incarnation.
-#[derive(Debug, Drop)]
+#[derive(Drop)]
 pub struct Participant {
     /// The client that began it here; `None` where it began elsewhere or was taken up from the log.
     pub owner: Option<ClientNo>,
@@ -333,6 +333,14 @@ impl Participant {
         let last = self.servers_due(alloc, Due::LastTold)?;
         all.extend_from_slice(last.as_slice())?;
         Ok(List::from_vec(all))
+    }
+
+    /// Whether a server is still to learn the outcome. It takes no memory.
+    #[tactic(auto, using(crate::proofs::Learning::learning_by_dues))]
+    pub fn is_learning(&self) -> bool
+        ensures { result ≡ is_learning self.now }
+    {
+        (self.has_due(Due::FirstTold) || self.has_due(Due::ThenTold)) || self.has_due(Due::LastTold)
     }
 
     // ---- readiness and forgetting

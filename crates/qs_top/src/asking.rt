@@ -7,7 +7,7 @@ use qs_rounds::NODE_COUNT;
 use qs_text::{Form, read_words};
 
 /// What the words ask for, as far as it is carried out at this stage.
-#[derive(Clone, Copy, Debug, PartialEq, Eq)]
+#[derive(Clone, Copy)]
 pub enum Asked {
     /// A run of one node in one thread.
     Serial { seed: u64, journal: bool },

@@ -6,7 +6,7 @@ use qs_step::Step;
 use qs_text::Status;
 
 /// How a run ended, and what happened in it.
-#[derive(Debug, Drop)]
+#[derive(Drop)]
 pub struct Run {
     pub status: Status,
     /// All entries, in the order in which they were made.

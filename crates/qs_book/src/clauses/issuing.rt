@@ -41,7 +41,7 @@ fn is_next_tid(here: NodeNo, node: &NodeState, tid: Tid) -> bool
 }
 
 /// Who asks whom, with which number, for what.
-#[derive(Clone, Copy, Debug)]
+#[derive(Clone, Copy)]
 pub struct Issue<'a> {
     pub issuer: Member,
     pub member: Member,

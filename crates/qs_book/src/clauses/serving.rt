@@ -15,7 +15,7 @@ use qs_ops::{Op, Reply};
 use std::collections::BTreeMap;
 
 /// Which member serves which request, with what reply.
-#[derive(Clone, Copy, Debug)]
+#[derive(Clone, Copy)]
 pub struct Serve<'a> {
     pub member: Member,
     pub from: NodeNo,

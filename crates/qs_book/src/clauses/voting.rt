@@ -14,7 +14,7 @@ use qs_ops::servers::{AUDIT, EXTRA, FILES, NAMES};
 use qs_ops::{Reason, Vote, class_of, is_two_phase};
 
 /// How a member votes, for so many requests.
-#[derive(Clone, Copy, Debug)]
+#[derive(Clone, Copy)]
 pub struct Ballot<'a> {
     pub member: Member,
     pub vote: &'a Vote,

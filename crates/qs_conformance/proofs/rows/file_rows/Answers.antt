@@ -18,4 +18,5 @@ returns c = record {
   };
   note = record { whole = refl; elsewhere = refl; no_audit = refl; unnoted = refl; unserved = refl; not_asked_for = refl; issuer = refl };
   found = record { found = refl; unnoted = refl; unserved = refl; noted = refl; over = refl; recorded = refl };
+  crossed = record { crossed = refl; found = refl; lost = refl; lost_found = refl };
 }

@@ -1,6 +1,6 @@
 use Rattle.std.proofs.Common.{ap}
 use Rattle.qs_host.specs.Host.{log_after}
-use Rattle.qs_host.proofs.Carrying.{unwritten, appended_as, unended_forced, after_is, after_moments}
+use Rattle.qs_host.proofs.Carrying.{unwritten, appended_as, unended_forced, after_is, after_moments, batch_waits}
 use Rattle.qs_host.proofs.appending.append_and_force.Goals as goal
 
 pub returns-in_err-append_all-clause-moments : goal.returns-in_err-append_all-clause-moments
@@ -34,3 +34,9 @@ returns-in_err-force_if-clause-unended g c = λ before.
 pub returns-clause-unended : goal.returns-clause-unended
 returns-clause-unended g c = λ before.
     unended_forced c.append_all.new.log c.force_if.new.log c.append_all.new.unended c.force_if.ensures.records (c.append_all.ensures.unended before)
+
+pub returns-in_err-force_if-clause-batch : goal.returns-in_err-force_if-clause-batch
+returns-in_err-force_if-clause-batch g c = λ _.
+    batch_waits c.args.out.now c.args.log.now c.append_all.new.log
+    (appended_as c.args.log.now c.append_all.new.log c.as_slice.result.now _ c.as_slice.ensures c.in_ok-append_all.ensures.log)
+    c.in_err-force_if.ensures.due c.in_err-force_if.ensures.some

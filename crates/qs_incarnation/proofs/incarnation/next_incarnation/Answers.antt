@@ -1,3 +1,5 @@
+use Rattle.qs_disk.specs.FuseLaws.{goes_further}
+use Rattle.qs_log.specs.Log.{disk_of as log_disk}
 use Rattle.qs_incarnation.proofs.Beginning.{raised_if, waiting_if, not_damaged, raise_touches, opened_touches}
 use Rattle.qs_incarnation.proofs.incarnation.next_incarnation.Goals as goal
 
@@ -19,3 +21,6 @@ returns-in-Ok-clause-waiting g c = waiting_if c.in-Ok.log c.raise.result c.in-Ok
 
 pub returns-in-Ok-clause-damaged : goal.returns-in-Ok-clause-damaged
 returns-in-Ok-clause-damaged g c = λ told. not_damaged _ c.raise.result c.raise.ensures.failed
+
+pub returns-in-Ok-clause-goes : goal.returns-in-Ok-clause-goes
+returns-in-Ok-clause-goes g c = goes_further c.args.disk.fuse c.in-Ok.log.disk.fuse (log_disk c.raise.result).fuse c.in-Ok.ensures.leads c.raise.ensures.goes

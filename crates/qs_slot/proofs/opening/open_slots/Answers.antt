@@ -35,3 +35,6 @@ pub returns-clause-moments : goal.returns-clause-moments
 returns-clause-moments g c = λ told.
     same_keeps (g.D.Disk.state c.args.disk.now) (g.D.Disk.state c.read_slot.new.disk) (g.D.Disk.state c.read_slot-2.new.disk)
     (c.read_slot.ensures.content told) (c.read_slot.ensures.moments told) (c.read_slot-2.ensures.moments told)
+
+pub returns-clause-leads : goal.returns-clause-leads
+returns-clause-leads g c = g.met.D.Disk.leads_on c.args.disk.now c.read_slot.new.disk c.read_slot-2.new.disk c.read_slot.ensures.leads c.read_slot-2.ensures.leads

@@ -1,6 +1,7 @@
 use Rattle.std.proofs.Common.{subst, sym}
 use Rattle.std.specs.Prelude.{◌⊎◌, ◌≡◌}
 use Rattle.qs_disk.specs.Disk.{EachImage}
+use Rattle.qs_disk.specs.Fuse.{GoesOn, mended}
 use Rattle.qs_disk.specs.Moments.{Keeps}
 use Rattle.qs_incarnation.specs.Incarnation.{IsLeftOrRaised, IsReopened, HasOneOf}
 use Rattle.qs_log.specs.Log.{Stands, records_of}
@@ -30,3 +31,6 @@ pub returns-in-Ok-clause-touched : goal.returns-in-Ok-clause-touched
 returns-in-Ok-clause-touched g c = λ told.
     let s = (g.D.Disk.state c.args.self.disk.disk) in
     subst (λ d. Keeps (IsLeftOrRaised s) s (g.D.Disk.state d.disk)) (sym c.begin_incarnation.ensures.disk) (c.in-Ok.ensures.touched told)
+
+pub returns-in-Ok-clause-goes : goal.returns-in-Ok-clause-goes
+returns-in-Ok-clause-goes g c = subst (λ d. GoesOn (mended c.args.self.disk.fuse) d.fuse) (sym c.begin_incarnation.ensures.disk) c.in-Ok.ensures.goes

@@ -1,5 +1,0 @@
-use Rattle.qs_log.specs.Log.{Stands}
-use Rattle.qs_bench.proofs.filled.Given as goal
-
-abbrev pub invariant-loop-turn : goal.invariant-loop-turn
-invariant-loop-turn l = Stands l.log l.log.disk.disk

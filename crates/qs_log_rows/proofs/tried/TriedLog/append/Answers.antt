@@ -1,4 +1,0 @@
-use Rattle.qs_log_rows.proofs.tried.TriedLog.append.Goals as goal
-
-pub invariant_of-self : goal.invariant_of-self
-invariant_of-self c = c.append.ensures.stands tt c.self.invariant

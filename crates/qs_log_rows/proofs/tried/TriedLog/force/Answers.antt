@@ -1,4 +1,0 @@
-use Rattle.qs_log_rows.proofs.tried.TriedLog.force.Goals as goal
-
-pub invariant_of-result : goal.invariant_of-result
-invariant_of-result c = c.in-Ok.ensures.stands tt

@@ -1,4 +1,0 @@
-use Rattle.qs_log_rows.proofs.tried.TriedLog.raise.Goals as goal
-
-pub invariant_of-result-in-Ok : goal.invariant_of-result-in-Ok
-invariant_of-result-in-Ok c = c.in-Ok.ensures.stands tt

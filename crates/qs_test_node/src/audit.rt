@@ -1,0 +1,75 @@
+//! An audit server that serves a few transactions, with answers worked out by hand.
+ghost use Rattle.std.specs.Prelude.{◌≡◌, true, IfOk};
+ghost use Rattle.qs_ops.specs.Server.{is_own};
+ghost use Rattle.qs_ops.specs.declared.operation.Op.TheVariants.{Notes};
+ghost use Rattle.qs_ops.specs.declared.server.Kind.TheVariants as kinds;
+
+use crate::samples::tid;
+use qs_audit::Audit;
+use qs_base::{Bytes, Class, List, NoMemory, Tid};
+use qs_ops::{Changes, Notice, Op, Reason, Reply, Server, Vote};
+use std::alloc::Global;
+use std::test::Fail;
+
+/// What a Prepare record of one note of one byte needs beside its frame.
+const NEED: u64 = 23 + 6;
+
+const FRAME: u64 = 169;
+
+fn note(alloc: Global, text: &str) -> Result<Op, NoMemory>
+    ensures { IfOk result (λ op. is_own kinds.Audit op ≡ true) }
+{
+    let text = Bytes::from_slice(alloc, text.as_bytes())?;
+    Ok(Op::Note { text })
+}
+
+fn notes(alloc: Global, texts: &[&str]) -> Result<Changes, NoMemory> {
+    let mut changes = List::new(alloc);
+    for text in texts {
+        changes.push(note(alloc, text)?)?;
+    }
+    Ok(changes)
+}
+
+/// The notes that the transaction sees.
+fn seen<S: Server>(server: &mut S, tid: Tid) -> Result<usize, Fail>
+    requires { is_own (S.state server.old).kind Notes ≡ true }
+{
+    match server.serve(tid, &Op::Notes)? {
+        Reply::Notes { list } => Ok(list.len()),
+        _ => Ok(usize::MAX),
+    }
+}
+
+#[test]
+fn a_committed_note_is_seen(rt: HostRuntime) -> Result<(), Fail> {
+    let alloc = rt.alloc();
+    let mut audit = Audit::new(alloc);
+    assert_eq!(rt; audit.serve(tid(1), &note(alloc, "x")?)?, Reply::Done);
+    assert_eq!(rt; audit.vote(tid(1), FRAME + NEED, FRAME)?, Vote::Recoverable);
+    assert_eq!(rt; audit.changes(tid(1))?, notes(alloc, &["x"])?);
+    audit.note(tid(1), Notice::Commit);
+    assert_eq!(rt; seen(&mut audit, tid(2))?, 1);
+    assert_eq!(rt; audit.vote(tid(2), 0, FRAME)?, Vote::ReadOnly);
+    assert_eq!(rt; audit.contents()?, notes(alloc, &["x"])?);
+    assert!(rt; audit.class() == Class::Recoverable);
+    Ok(())
+}
+
+#[test]
+fn kept_notes_are_pending_until_their_outcome(rt: HostRuntime) -> Result<(), Fail> {
+    let mut audit = Audit::new(rt.alloc());
+    audit.keep(tid(1), &notes(rt.alloc(), &["x", "y"])?)?;
+    audit.keep(tid(2), &notes(rt.alloc(), &["z"])?)?;
+    let reason = Reason::LogRoom {
+        need: FRAME + NEED,
+        room: 0,
+    };
+    assert!(rt; audit.vote(tid(2), 0, FRAME)? == Vote::Abort { reason });
+    audit.note(tid(2), Notice::Abort);
+    audit.note(tid(1), Notice::Commit);
+    assert_eq!(rt; seen(&mut audit, tid(3))?, 2);
+    audit.clear();
+    assert_eq!(rt; seen(&mut audit, tid(3))?, 0);
+    Ok(())
+}

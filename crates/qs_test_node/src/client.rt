@@ -1,0 +1,79 @@
+//! A script of two lines: in acts, and in visits.
+use qs_base::{Bytes, ClientNo, List, NoMemory};
+use qs_client::{ClientCell, ClientEnds};
+use qs_journal::{Command, LineAnswer, ScriptLine};
+use qs_link::{Draw, Feed, lane};
+use qs_ops::Answer;
+use std::alloc::Global;
+use std::test::Fail;
+
+/// The other ends of a client's lanes.
+#[derive(Drop)]
+struct Node {
+    commands: Draw<ScriptLine>,
+    answers: Feed<LineAnswer>,
+}
+
+impl Node {
+    fn takes(&mut self) -> Option<u32> {
+        self.commands.take().map(|line| line.line)
+    }
+
+    fn answer(&mut self, line: u32) {
+        let answer = Answer::Done;
+        let _put = self.answers.put(LineAnswer { line, answer });
+        self.answers.push_all();
+    }
+}
+
+// A begin at line 2 and a commit at line 3.
+fn lines(alloc: Global) -> Result<List<ScriptLine>, NoMemory> {
+    let mut lines = List::new(alloc);
+    for (line, command) in [(2, Command::Begin), (3, Command::Commit)] {
+        lines.push(ScriptLine {
+            client: ClientNo(0),
+            line,
+            label: Bytes::from_slice(alloc, b"a")?,
+            command,
+        })?;
+    }
+    Ok(lines)
+}
+
+fn lanes(alloc: Global) -> Result<(ClientEnds, Node), NoMemory> {
+    let (commands, to_node) = lane(alloc)?;
+    let (from_node, answers) = lane(alloc)?;
+    let node = Node {
+        commands: to_node,
+        answers: from_node,
+    };
+    Ok((ClientEnds { commands, answers }, node))
+}
+
+// Clients may be handed to threads.
+fn goes_to_a_thread<T: Send>(_value: &T) {}
+
+#[test]
+fn an_act_sends_and_an_act_takes(rt: HostRuntime) -> Result<(), Fail> {
+    let (ends, mut node) = lanes(rt.alloc())?;
+    let mut client = ClientCell::new(ClientNo(0), lines(rt.alloc())?, ends);
+    goes_to_a_thread(&client);
+    assert!(rt; client.act()?);
+    assert_eq!(rt; node.takes(), Some(2));
+    node.answer(2);
+    assert!(rt; client.act()?);
+    assert_eq!(rt; client.at(), Some(3));
+    Ok(())
+}
+
+#[test]
+fn a_visit_leaves_the_rings_alone(rt: HostRuntime) -> Result<(), Fail> {
+    let (ends, mut node) = lanes(rt.alloc())?;
+    let mut client = ClientCell::new(ClientNo(0), lines(rt.alloc())?, ends);
+    assert!(rt; client.visit()?);
+    assert_eq!(rt; node.takes(), None);
+    node.answer(2);
+    assert!(rt; !client.visit()?);
+    assert_eq!(rt; client.at(), Some(2));
+    Ok(())
+}

@@ -1,0 +1,121 @@
+//! Words and scripts whose forms, meanings and faults were derived by hand.
+//!
+//! A line `? WORD ..` has the words after the program's name. A line `= N` begins a script for N nodes,
+//! and its text follows: `|TEXT` is a line, `!TEXT` a part of a line without a line feed, `*COUNT TEXT`
+//! so many equal lines, and `+COUNT TEXT` so many equal parts. Printed is what is read of each.
+
+use crate::printing::print_script;
+use crate::shared::{tell, words_of};
+use anyhow::{Context, Error, bail};
+use qs_script::{Form, ScriptFailed, Status, read_script, read_words};
+
+/// A script, and how many nodes it is for.
+#[derive(Drop)]
+struct ScriptText {
+    nodes: u8,
+    text: String,
+}
+
+impl ScriptText {
+    /// Prints what is read of it.
+    fn judge<R: AllocGlobal + Print>(&self, rt: &R) -> Result<(), Error> {
+        match read_script(rt.alloc(), self.text.as_bytes(), self.nodes) {
+            Ok(script) => print_script(rt, &script),
+            Err(ScriptFailed::Fault { line, fault }) => {
+                tell(rt, &Status::Script { line, fault })
+            }
+            Err(ScriptFailed::NoMemory) => bail!("no memory"),
+        }
+    }
+
+    /// Adds what a line of a row says of its text.
+    fn add(&mut self, line: &str) -> Result<(), Error> {
+        if let Some(text) = line.strip_prefix("|") {
+            self.text.push_str(text)?;
+            self.text.push_str("\n")?;
+        } else if let Some(text) = line.strip_prefix("!") {
+            self.text.push_str(text)?;
+        } else if let Some(rest) = line.strip_prefix("*") {
+            self.repeat(rest, "\n")?;
+        } else if let Some(rest) = line.strip_prefix("+") {
+            self.repeat(rest, "")?;
+        } else {
+            bail!("a line of a row begins with no mark");
+        }
+        Ok(())
+    }
+
+    /// Adds a text so many times, each time with an end.
+    fn repeat(&mut self, line: &str, end: &str) -> Result<(), Error> {
+        let (count, text) = line.split_once(" ").context("a count has no text")?;
+        for _turn in 0..count.parse::<u32>().context("a count is no number")? {
+            self.text.push_str(text)?;
+            self.text.push_str(end)?;
+        }
+        Ok(())
+    }
+}
+
+/// The script that is being read, if one is.
+#[derive(Drop)]
+pub(crate) struct Scripts {
+    row: Option<ScriptText>,
+}
+
+impl Scripts {
+    pub(crate) fn new() -> Scripts {
+        Scripts { row: None }
+    }
+
+    /// Reads a line of a script, of words, or that begins a script.
+    pub(crate) fn add<R: AllocGlobal + Print>(&mut self, rt: &R, line: &str) -> Result<(), Error> {
+        if let Some(next) = self.row.as_mut() {
+            if !is_head(line) {
+                return next.add(line);
+            }
+        }
+        self.finish(rt)?;
+        if let Some(words) = line.strip_prefix("?") {
+            return print_form(rt, words);
+        }
+        let nodes = line
+            .strip_prefix("= ")
+            .context("a line stands in no script")?;
+        self.row = Some(ScriptText {
+            nodes: nodes.parse::<u8>().context("the nodes are no number")?,
+            text: String::new(rt.alloc()),
+        });
+        Ok(())
+    }
+
+    /// Prints what is read of the script that ends here, if one does.
+    pub(crate) fn finish<R: AllocGlobal + Print>(&mut self, rt: &R) -> Result<(), Error> {
+        if let Some(last) = self.row.as_ref() {
+            last.judge(rt)?;
+        }
+        self.row = None;
+        Ok(())
+    }
+}
+
+/// Prints the form that words are of.
+fn print_form<R: AllocGlobal + Print>(rt: &R, line: &str) -> Result<(), Error> {
+    let words = words_of(rt.alloc(), line)?;
+    match read_words(words.as_slice()) {
+        Ok(
+            Form::Run {
+                nodes,
+                serial,
+                journal,
+            },
+        ) => println!(rt; "  run nodes {nodes} serial {serial:?} journal {journal}")?,
+        Ok(Form::Check) => println!(rt; "  check")?,
+        Err(_) => println!(rt; "  usage")?,
+    }
+    Ok(())
+}
+
+/// Whether the line begins something new.
+fn is_head(line: &str) -> bool {
+    line.strip_prefix("?").is_some() || line.strip_prefix("=").is_some()
+}
