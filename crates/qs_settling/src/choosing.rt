@@ -1,6 +1,6 @@
 //! Which rule is the first that does something for a transaction, when a step has ended.
 ghost use Rattle.std.specs.Prelude.{◌≡◌};
-ghost use Rattle.qs_step.specs.Settling.{is_busy, is_put_off, is_quiet};
+ghost use Rattle.qs_step.specs.Settling.{is_busy};
 ghost use Rattle.qs_settling.specs.Firsts.{waits_while_busy, first_of_rest, first_of_ready, first_of_asked, first_of_free, first_of, IsFirst};
 
 use qs_base::Tid;
@@ -49,20 +49,6 @@ fn waits_while_busy(first: First) -> bool
     }
 }
 
-/// A pass waits in a step that asked for the commit or served a request.
-fn is_put_off(doings: Doings) -> bool
-    ensures { result ≡ is_put_off doings }
-{
-    doings.asked || doings.served
-}
-
-/// The home decides in no step that asked, served, voted or took a loan back.
-fn is_quiet(doings: Doings) -> bool
-    ensures { result ≡ is_quiet doings }
-{
-    !((doings.asked || doings.served) || (doings.voted || doings.yielded))
-}
-
 // ---- the first
 
 /// Where neither a pass nor readiness is due. At the home without a cause nothing is.
@@ -82,7 +68,7 @@ fn first_of_ready(part: &Participant, doings: Doings) -> First
 {
     if !part.engage.home {
         First::Answer
-    } else if is_quiet(doings) {
+    } else if doings.is_quiet() {
         First::Commit
     } else {
         first_of_rest(part)
@@ -95,7 +81,7 @@ fn first_of_asked(part: &Participant, doings: Doings) -> First
     ensures { result ≡ first_of_asked part.now doings }
 {
     if part.needs_pass() {
-        return if is_put_off(doings) {
+        return if doings.is_put_off() {
             first_of_rest(part)
         } else {
             First::Pass

@@ -1,4 +1,6 @@
 //! Parts of what a node keeps, and of what a step of it works on.
+ghost use Rattle.std.specs.Prelude.{◌≡◌};
+ghost use Rattle.qs_step.specs.Settling.{is_put_off, is_quiet};
 
 use qs_base::{Member, Tid};
 use qs_journal::ScriptLine;
@@ -31,4 +33,20 @@ pub struct Doings {
     pub yielded: bool,
     /// A Prepare was appended, which counts from the next step.
     pub prepared: bool,
+}
+
+impl Doings {
+    /// A pass waits in a step that asked for the commit or served a request.
+    pub fn is_put_off(self) -> bool
+        ensures { result ≡ is_put_off self }
+    {
+        self.asked || self.served
+    }
+
+    /// The home decides in no step that asked, served, voted or took a loan back.
+    pub fn is_quiet(self) -> bool
+        ensures { result ≡ is_quiet self }
+    {
+        !((self.asked || self.served) || (self.voted || self.yielded))
+    }
 }
