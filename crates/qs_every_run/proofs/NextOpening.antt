@@ -243,7 +243,7 @@ module _ (o : Opening) (world : World) (next : Opening) (j : Joined AlongRun o w
     logs = over (λ n log. list_all (is_record next n) log) log_so;
     votes = over (λ n log. list_all (is_open_vote next n) (recovery log).prepared) votes_so;
     unended = over (λ n log. are_unended (recovery log)) unended_so;
-    whole = over (λ n log. is_whole_log next.size (recovery log)) (λ n low. subst (λ (s : ℕ). is_whole_log s (recovery (world.hosts n).log) ≡ true) (sym is.size) (j.shown.listed.whole_logs n low));
+    whole = over (λ n log. is_whole_log (recovery log)) (λ n low. j.shown.listed.whole_logs n low);
   }
 
 pub each_run_coherent : EachRunCoherent

@@ -71,7 +71,6 @@ pub mod ReadyCommits
 pub mod Final
 pub mod Order
 pub mod Reopening
-pub mod Coherent
 pub mod Unanswered
 pub mod Waiting
 pub mod Reaching

@@ -1,4 +1,3 @@
-pub mod Coherence
 pub mod Durable
 pub mod Endings
 pub mod Gone

@@ -3,7 +3,6 @@
 
 mod endings;
 mod laws;
-mod opening;
 mod servers;
 
 pub use endings::{
@@ -15,5 +14,4 @@ pub use laws::{
     committed_changes_are_durable, nothing_of_an_aborted_transaction, one_outcome,
     served_changes_are_kept, what_is_pending_is_to_be_learnt,
 };
-pub use opening::coherent_logs_open_soundly;
 pub use servers::servers_go_by_the_rules;

@@ -16,7 +16,7 @@ pub record IsCoherent (o : Opening) : Type 0 where
   pub logs : each_below o.size (λ n. list_all (is_record o n) (o.logs n)) ≡ true
   pub votes : each_below o.size (λ n. list_all (is_open_vote o n) (recovery (o.logs n)).prepared) ≡ true
   pub unended : each_below o.size (λ n. are_unended (recovery (o.logs n))) ≡ true
-  pub whole : each_below o.size (λ n. is_whole_log o.size (recovery (o.logs n))) ≡ true
+  pub whole : each_below o.size (λ n. is_whole_log (recovery (o.logs n))) ≡ true
 
 -- a run of so many nodes with no clients, each node in its incarnation over its log
 abbrev pub bare_setting : ℕ → (ℕ → ℕ) → ℕ → Setting

@@ -15,13 +15,10 @@ use Rattle.qs_refine.proofs.SoundParts.{and_both}
 use Rattle.qs_refine.proofs.SteadyStarts.{start_steady}
 use Rattle.qs_refine.proofs.WholeLogs.{whole_taken}
 
-small_opening : (o : Opening) → IsOpening o → o.size ≤ 16
-small_opening o opens = grind (arith, nat_tests, (and_both (nat_le 1 o.size) (nat_le o.size 16) opens.size).1)
-
 pub start_shown : (o : Opening) → IsOpening o → IsShownWorld (start o)
 start_shown o opens = record {
   steady = start_steady o opens;
-  listed = start_listed o opens (λ n low. whole_taken o.size (recovery (o.logs n)) (small_opening o opens) (each_is o.size (λ k. is_whole_log o.size (recovery (o.logs k))) opens.whole n low));
+  listed = start_listed o opens (λ n low. whole_taken (recovery (o.logs n)) (each_is o.size (λ k. is_whole_log (recovery (o.logs k))) opens.whole n low));
   shown = start_all_shown o opens;
 }
 

@@ -44,15 +44,15 @@ use Rattle.qs_refine.proofs.TakenLists.{opened_lists}
 
 pub listed_with : (world after : World) (n : ℕ) (host : Host) → after.size ≡ world.size → ((k : ℕ) → after.hosts k ≡ with_at world.hosts n host k) → ((k : ℕ) → (k == n) ≡ false → after.channels.up k ≡ true → world.channels.up k ≡ true)
     → (n < world.size → after.channels.up n ≡ true → AreListed host.node (recovery (host.log ++ host.waiting))) → (n < world.size → AreTaken (recovery host.log))
-    → (n < world.size → is_whole_log world.size (recovery (host.log ++ host.waiting)) ≡ true) → (n < world.size → is_whole_log world.size (recovery host.log) ≡ true)
+    → (n < world.size → is_whole_log (recovery (host.log ++ host.waiting)) ≡ true) → (n < world.size → is_whole_log (recovery host.log) ≡ true)
     → (n < world.size → list_all lists_others (host.log ++ host.waiting) ≡ true) → EachPast after → IsListedWorld world → IsListedWorld after
 listed_with world after n host sized hosts up_is now log whole whole_log others past is = record {
   past = past;
   nodes = λ k low up. subst (λ (h : Host). AreListed h.node (recovery (h.log ++ h.waiting))) (sym (hosts k)) (node_at k (subst (λ (s : ℕ). k < s) sized low) up (k == n) refl);
   logs = λ k low. subst (λ (h : Host). AreTaken (recovery h.log)) (sym (hosts k)) (log_at k (subst (λ (s : ℕ). k < s) sized low) (k == n) refl);
-  whole = λ k low. subst (λ (h : Host). is_whole_log after.size (recovery (h.log ++ h.waiting)) ≡ true) (sym (hosts k)) (subst (λ (s : ℕ). is_whole_log s (recovery ((with_at world.hosts n host k).log ++ (with_at world.hosts n host k).waiting)) ≡ true) (sym sized) (whole_at k (subst (λ (s : ℕ). k < s) sized low) (k == n) refl));
+  whole = λ k low. subst (λ (h : Host). is_whole_log (recovery (h.log ++ h.waiting)) ≡ true) (sym (hosts k)) (whole_at k (subst (λ (s : ℕ). k < s) sized low) (k == n) refl);
   others = λ k low. subst (λ (h : Host). list_all lists_others (h.log ++ h.waiting) ≡ true) (sym (hosts k)) (others_at k (subst (λ (s : ℕ). k < s) sized low) (k == n) refl);
-  whole_logs = λ k low. subst (λ (h : Host). is_whole_log after.size (recovery h.log) ≡ true) (sym (hosts k)) (subst (λ (s : ℕ). is_whole_log s (recovery (with_at world.hosts n host k).log) ≡ true) (sym sized) (whole_log_at k (subst (λ (s : ℕ). k < s) sized low) (k == n) refl));
+  whole_logs = λ k low. subst (λ (h : Host). is_whole_log (recovery h.log) ≡ true) (sym (hosts k)) (whole_log_at k (subst (λ (s : ℕ). k < s) sized low) (k == n) refl);
 }
   where
     node_at : (k : ℕ) → k < world.size → after.channels.up k ≡ true → (b : Bool) → (k == n) ≡ b → AreListed (if b then host else world.hosts k).node (recovery ((if b then host else world.hosts k).log ++ (if b then host else world.hosts k).waiting))
@@ -63,11 +63,11 @@ listed_with world after n host sized hosts up_is now log whole whole_log others 
     log_at k low true same = log (subst (λ (j : ℕ). j < world.size) (eqb-true k n same) low)
     log_at k low false apart = is.logs k low
 
-    whole_at : (k : ℕ) → k < world.size → (b : Bool) → (k == n) ≡ b → is_whole_log world.size (recovery ((if b then host else world.hosts k).log ++ (if b then host else world.hosts k).waiting)) ≡ true
+    whole_at : (k : ℕ) → k < world.size → (b : Bool) → (k == n) ≡ b → is_whole_log (recovery ((if b then host else world.hosts k).log ++ (if b then host else world.hosts k).waiting)) ≡ true
     whole_at k low true same = whole (subst (λ (j : ℕ). j < world.size) (eqb-true k n same) low)
     whole_at k low false apart = is.whole k low
 
-    whole_log_at : (k : ℕ) → k < world.size → (b : Bool) → (k == n) ≡ b → is_whole_log world.size (recovery (if b then host else world.hosts k).log) ≡ true
+    whole_log_at : (k : ℕ) → k < world.size → (b : Bool) → (k == n) ≡ b → is_whole_log (recovery (if b then host else world.hosts k).log) ≡ true
     whole_log_at k low true same = whole_log (subst (λ (j : ℕ). j < world.size) (eqb-true k n same) low)
     whole_log_at k low false apart = is.whole_logs k low
 
@@ -95,16 +95,15 @@ module _ (world : World) (steady : IsSteadyWorld world) (listed : IsListedWorld 
       (steady.sound n low).node ((steady.sound n low).runs up) (listed.nodes n low up)
 
   -- and it can be taken up whole
-  all_whole : is_whole_log world.size (recovery ((host.log ++ host.waiting) ++ out.records)) ≡ true
-  all_whole = subst (λ (s : ℕ). is_whole_log s (recovery ((host.log ++ host.waiting) ++ out.records)) ≡ true) (steady.seated.nodes n low)
-      (step_whole host.node event free (host.log ++ host.waiting) (comes_may world steady n free low up event (event_fits world steady n free low up stamp source event is) gives) (comes_new world steady n free low up event)
-      (steady.sound n low).node ((steady.sound n low).runs up) (subst (λ (s : ℕ). is_whole_log s (recovery (host.log ++ host.waiting)) ≡ true) (sym (steady.seated.nodes n low)) (listed.whole n low)))
+  all_whole : is_whole_log (recovery ((host.log ++ host.waiting) ++ out.records)) ≡ true
+  all_whole = step_whole host.node event free (host.log ++ host.waiting) (comes_may world steady n free low up event (event_fits world steady n free low up stamp source event is) gives) (comes_new world steady n free low up event)
+      (steady.sound n low).node ((steady.sound n low).runs up) (listed.whole n low)
 
-  log_whole : is_whole_log world.size (recovery (log_after host out)) ≡ true
+  log_whole : is_whole_log (recovery (log_after host out)) ≡ true
   log_whole = by out.force
     where
-      by : (b : Bool) → is_whole_log world.size (recovery (if b then host.log ++ (host.waiting ++ out.records) else host.log)) ≡ true
-      by true = subst (λ (l : List Record). is_whole_log world.size (recovery l) ≡ true) (append_three host.log host.waiting out.records) all_whole
+      by : (b : Bool) → is_whole_log (recovery (if b then host.log ++ (host.waiting ++ out.records) else host.log)) ≡ true
+      by true = subst (λ (l : List Record). is_whole_log (recovery l) ≡ true) (append_three host.log host.waiting out.records) all_whole
       by false = listed.whole_logs n low
 
   all_others : list_all lists_others ((host.log ++ host.waiting) ++ out.records) ≡ true
@@ -128,7 +127,7 @@ module _ (world : World) (steady : IsSteadyWorld world) (listed : IsListedWorld 
   step_listed past = listed_with world (step_with world n stamp free source (Some event)) n (stepped_host stamp (after_step host.node event free) out host) refl (λ k. refl)
       (λ k apart on. ap (λ (f : ℕ → Bool). f k) (sym up_is) ∙ on)
       (λ _ _. subst (λ (l : List Record). AreListed (after_step host.node event free) (recovery l)) (sym (log_same out.force host.log host.waiting out.records)) whole) (λ _. log_taken)
-      (λ _. subst (λ (l : List Record). is_whole_log world.size (recovery l) ≡ true) (sym (log_same out.force host.log host.waiting out.records)) all_whole) (λ _. log_whole)
+      (λ _. subst (λ (l : List Record). is_whole_log (recovery l) ≡ true) (sym (log_same out.force host.log host.waiting out.records)) all_whole) (λ _. log_whole)
       (λ _. subst (λ (l : List Record). list_all lists_others l ≡ true) (sym (log_same out.force host.log host.waiting out.records)) all_others) past listed
     where
       up_is : (step_with world n stamp free source (Some event)).channels.up ≡ world.channels.up
@@ -138,7 +137,7 @@ module _ (world : World) (steady : IsSteadyWorld world) (listed : IsListedWorld 
   cut_taken true = log_taken
   cut_taken false = listed.logs n low
 
-  cut_whole : (is_kept : Bool) → is_whole_log world.size (recovery (cut_log host is_kept out)) ≡ true
+  cut_whole : (is_kept : Bool) → is_whole_log (recovery (cut_log host is_kept out)) ≡ true
   cut_whole true = log_whole
   cut_whole false = listed.whole_logs n low
 
@@ -148,9 +147,9 @@ module _ (world : World) (steady : IsSteadyWorld world) (listed : IsListedWorld 
 
 -- ---- a node stops
 
-stop_listed : (world : World) (n stamp : ℕ) (cause : CrashCause) (log : List Record) → (n < world.size → AreTaken (recovery log)) → (n < world.size → is_whole_log world.size (recovery log) ≡ true) → (n < world.size → list_all lists_others log ≡ true) → EachPast (stopped world n stamp cause log) → IsListedWorld world → IsListedWorld (stopped world n stamp cause log)
+stop_listed : (world : World) (n stamp : ℕ) (cause : CrashCause) (log : List Record) → (n < world.size → AreTaken (recovery log)) → (n < world.size → is_whole_log (recovery log) ≡ true) → (n < world.size → list_all lists_others log ≡ true) → EachPast (stopped world n stamp cause log) → IsListedWorld world → IsListedWorld (stopped world n stamp cause log)
 stop_listed world n stamp cause log taken whole others past is = listed_with world (stopped world n stamp cause log) n (stopped_host stamp log (world.hosts n)) refl (λ k. refl) (λ k apart on. still k apart on) (λ low on. absurd (off on)) taken
-    (λ low. subst (λ (l : List Record). is_whole_log world.size (recovery l) ≡ true) (sym (append_nil log)) (whole low)) whole (λ low. subst (λ (l : List Record). list_all lists_others l ≡ true) (sym (append_nil log)) (others low)) past is
+    (λ low. subst (λ (l : List Record). is_whole_log (recovery l) ≡ true) (sym (append_nil log)) (whole low)) whole (λ low. subst (λ (l : List Record). list_all lists_others l ≡ true) (sym (append_nil log)) (others low)) past is
   where
     still : (k : ℕ) → (k == n) ≡ false → (if k == n then false else world.channels.up k) ≡ true → world.channels.up k ≡ true
     still k apart on = rw apart at on
@@ -170,13 +169,13 @@ start_listed o opens taken = record {
       (opened_lists o.alloc (o.settings n) no_kept (o.logs n) (opening_left (recovery (o.logs n)) (each_is o.size (λ k. are_unended (recovery (o.logs k))) opens.unended n low)) (taken n low));
   logs = taken;
   past = start_past o opens;
-  whole = λ n low. subst (λ (l : List Record). is_whole_log o.size (recovery l) ≡ true) (sym (append_nil (o.logs n))) (opened n low);
+  whole = λ n low. subst (λ (l : List Record). is_whole_log (recovery l) ≡ true) (sym (append_nil (o.logs n))) (opened n low);
   whole_logs = opened;
   others = λ n low. subst (λ (l : List Record). list_all lists_others l ≡ true) (sym (append_nil (o.logs n))) (each_others n (o.logs n) (each_is o.size (λ k. list_all (is_record o k) (o.logs k)) opens.logs n low));
 }
   where
-    opened : (n : ℕ) → n < o.size → is_whole_log o.size (recovery (o.logs n)) ≡ true
-    opened n low = each_is o.size (λ k. is_whole_log o.size (recovery (o.logs k))) opens.whole n low
+    opened : (n : ℕ) → n < o.size → is_whole_log (recovery (o.logs n)) ≡ true
+    opened n low = each_is o.size (λ k. is_whole_log (recovery (o.logs k))) opens.whole n low
 
     names_off : (n : ℕ) (tid : Tid) (told : List NodeNo) → is_list n tid told ≡ true → not (has_node told tid.home) ≡ true
     names_off n tid [] is = refl

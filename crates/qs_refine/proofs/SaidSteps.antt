@@ -67,9 +67,9 @@ step_lists node event free log may new sound said listed =
     log_is = ap (λ (records : List Record). recovery (log ++ records)) on.records ∙ fold-append found_record nothing_said log on.more
 
 -- and a log that a restart can take up whole is such with the step's records
-pub step_whole : (node : NodeValue) (event : Event) (free : ℕ) (log : List Record) → MayHappen event (begun node free) → BeginsNew event (begun node free) → is_sound node ≡ true → is_sound_said node (recovery log) ≡ true → is_whole_log node.setting.nodes (recovery log) ≡ true
-    → is_whole_log node.setting.nodes (recovery (log ++ (effects_of node event free).records)) ≡ true
-step_whole node event free log may new sound said whole = subst (λ (r : Recovery). is_whole_log node.setting.nodes r ≡ true) (sym log_is) (on.whole (recovery log) (said_seen node (recovery log) sound said) whole)
+pub step_whole : (node : NodeValue) (event : Event) (free : ℕ) (log : List Record) → MayHappen event (begun node free) → BeginsNew event (begun node free) → is_sound node ≡ true → is_sound_said node (recovery log) ≡ true → is_whole_log (recovery log) ≡ true
+    → is_whole_log (recovery (log ++ (effects_of node event free).records)) ≡ true
+step_whole node event free log may new sound said whole = subst (λ (r : Recovery). is_whole_log r ≡ true) (sym log_is) (on.whole (recovery log) (said_seen node (recovery log) sound said) whole)
   where
     on : SaysOn (work_on node free) (step_work node event free)
     on = step_on node event free may new sound

@@ -56,7 +56,7 @@ MayLog rec work = (is_forced rec ≡ false) ⊎ ((part : Participant) × (part_o
 pub record ListsTold (tid : Tid) (told : List NodeNo) (node : NodeValue) : Type 0 where
   pub named : (m : ℕ) → names_node told (node_no m) ≡ true → (m < 16) × (has_node (tell_at tid node) (node_no m) ≡ true)
   pub all : (m : ℕ) → m < 16 → has_node (tell_at tid node) (node_no m) ≡ true → names_node told (node_no m) ≡ true
-  pub run : list_all (is_in_run node.setting.nodes) told ≡ true  -- nodes of the run,
+  pub run : list_all (is_in_run 16) told ≡ true  -- nodes that some run may have,
   pub fresh : (flags_at tid node).listed ≡ false  -- and it is the first
   pub others : not (openings.has_node told tid.home) ≡ true
 
@@ -163,12 +163,12 @@ logs_others (records.Aborted tid) node lists = refl
 logs_others (records.End tid) node lists = refl
 
 -- and the log can still be taken up whole
-logs_whole : (rec : Record) (node : NodeValue) (said : Recovery) → ListsAt rec node → AreSaid node said → is_whole_log node.setting.nodes said ≡ true → is_whole_log node.setting.nodes (found_record said rec) ≡ true
+logs_whole : (rec : Record) (node : NodeValue) (said : Recovery) → ListsAt rec node → AreSaid node said → is_whole_log said ≡ true → is_whole_log (found_record said rec) ≡ true
 logs_whole (records.Prepare tid server covers changes) node said lists is all = all
-logs_whole (records.Commit tid []) node said lists is all = whole_ended node.setting.nodes tid said all
-logs_whole (records.Commit tid (first ∷ others)) node said lists is all = whole_listed tid (first ∷ others) node.setting.nodes said lists.run (sym (is tid).listed ∙ lists.fresh) all
-logs_whole (records.Aborted tid) node said lists is all = whole_ended node.setting.nodes tid said all
-logs_whole (records.End tid) node said lists is all = whole_ended node.setting.nodes tid said all
+logs_whole (records.Commit tid []) node said lists is all = whole_ended tid said all
+logs_whole (records.Commit tid (first ∷ others)) node said lists is all = whole_listed tid (first ∷ others) said lists.run (sym (is tid).listed ∙ lists.fresh) all
+logs_whole (records.Aborted tid) node said lists is all = whole_ended tid said all
+logs_whole (records.End tid) node said lists is all = whole_ended tid said all
 
 module _ (rec : Record) (work : Work) (may : MayLog rec work) where
   abbrev told : Option Participant → InLog

@@ -69,9 +69,8 @@ on_then {a} {b} {c} first second = record {
   others = list_all-append lists_others first.more second.more ∙ rw (first.others, second.others) refl;
   said = λ said is. subst (λ (r : Recovery). AreSaid c.node r) (sym (fold-append found_record said first.more second.more)) (second.said (fold found_record said first.more) (first.said said is));
   lists = λ said is has. subst (λ (r : Recovery). AreListed c.node r) (sym (fold-append found_record said first.more second.more)) (second.lists (fold found_record said first.more) (first.said said is) (first.lists said is has));
-  whole = λ said is all. subst (λ (r : Recovery). is_whole_log a.node.setting.nodes r ≡ true) (sym (fold-append found_record said first.more second.more))
-      (subst (λ (s : Setting). is_whole_log s.nodes (fold found_record (fold found_record said first.more) second.more) ≡ true) first.setting
-      (second.whole (fold found_record said first.more) (first.said said is) (subst (λ (s : Setting). is_whole_log s.nodes (fold found_record said first.more) ≡ true) (sym first.setting) (first.whole said is all))));
+  whole = λ said is all. subst (λ (r : Recovery). is_whole_log r ≡ true) (sym (fold-append found_record said first.more second.more))
+      (second.whole (fold found_record said first.more) (first.said said is) (first.whole said is all));
 }
 
 -- what piece of a work stays the same

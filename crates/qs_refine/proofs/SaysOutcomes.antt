@@ -73,7 +73,7 @@ decided_may tid outcome work rec = by outcome (part_of tid work) refl
 
 -- a commit that is decided is the first of its transaction in the log, and names nodes of the run
 abbrev pub MayList : Tid → Outcome → Work → Type 0
-MayList tid outcome work = outcome ≡ outcomes.Commit → (part : Participant) → part_of tid work ≡ Some part → (part.log.listed ≡ false) × ((list_all (is_in_run work.node.setting.nodes) (listed part.told) ≡ true) × ((not (openings.has_node (listed part.told) tid.home) ≡ true) × (same_node tid.home (here work) ≡ true)))
+MayList tid outcome work = outcome ≡ outcomes.Commit → (part : Participant) → part_of tid work ≡ Some part → (part.log.listed ≡ false) × ((list_all (is_in_run 16) (listed part.told) ≡ true) × ((not (openings.has_node (listed part.told) tid.home) ≡ true) × (same_node tid.home (here work) ≡ true)))
 
 abbrev flags_in : Option Participant → InLog
 flags_in o = elim o [ None ↦ no_flags | Some part ↦ part.log ]

@@ -48,7 +48,7 @@ use Rattle.qs_refine.proofs.SoundSettle.{ready_rule_sound, refuse_rule_sound, un
 use Rattle.qs_refine.proofs.SoundViews.{PartSound, seen}
 use Rattle.qs_refine.proofs.SoundVotes.{vote_next_holds, pass_open, pass_rule_sound}
 use Rattle.qs_refine.proofs.SaysTells.{open_of}
-use Rattle.qs_refine.proofs.WholeKept.{names_others, told_in_run}
+use Rattle.qs_refine.proofs.WholeKept.{names_others, told_nodes}
 
 -- ---- votes
 
@@ -131,7 +131,7 @@ module _ (tid : Tid) (part : Participant) (work : Work) (known : part_of tid wor
           unless part.log.listed _ (off part.engage.home _ (nowhere part.outcome open_now)) lists.0
 
       may_list : part.engage.home ≡ true → MayList tid outcomes.Commit work
-      may_list home _ other its = subst (λ (p : Participant). (p.log.listed ≡ false) × ((list_all (is_in_run work.node.setting.nodes) (listed p.told) ≡ true) × ((not (openings.has_node (listed p.told) tid.home) ≡ true) × (same_node tid.home (here work) ≡ true)))) (one part other (sym known ∙ its)) (unlisted_yet, (told_in_run work.node part s.peers, (names_others part.told tid.home s.outside, at_home)))
+      may_list home _ other its = subst (λ (p : Participant). (p.log.listed ≡ false) × ((list_all (is_in_run 16) (listed p.told) ≡ true) × ((not (openings.has_node (listed p.told) tid.home) ≡ true) × (same_node tid.home (here work) ≡ true)))) (one part other (sym known ∙ its)) (unlisted_yet, (told_nodes part, (names_others part.told tid.home s.outside, at_home)))
         where
           one : (a b : Participant) → Some a ≡ Some b → a ≡ b
           one a b same = cc (same)

@@ -1,4 +1,4 @@
--- A log that a restart can take up whole stays such behind a record, where a Commit with a list is the first of its transaction and names nodes of the run.
+-- A log that a restart can take up whole stays such behind a record, where a Commit with a list is the first of its transaction and names nodes that some run may have.
 use Rattle.std.proofs.Common.{◌≡◌, ℕ, ◌&&◌, ◌||◌, ◌++◌, not, Bool, true, false, List, [], ◌∷◌, fold, refl, ◌∙◌, subst, arith, if◌then◌else◌}
 use Rattle.std.specs.List.{filter, list_all, list_any}
 use Rattle.std.proofs.lemmas.Bool.Decides.{nat_tests}
@@ -11,10 +11,10 @@ use Rattle.qs_engage.specs.declared.nodes.Nodes.{Nodes}
 use Rattle.qs_restart.specs.Recovery.{Recovery, Untold, ended, is_untold_of}
 use Rattle.qs_step.specs.State.{NodeValue}
 use Rattle.qs_tm.specs.declared.participant.Participant.{Participant}
-use Rattle.qs_world.specs.Openings.{is_in_run, names_run, is_commit_of_other, are_once, is_whole_log}
+use Rattle.qs_world.specs.Openings.{is_in_run, names_nodes, is_commit_of_other, are_once, is_whole_log}
 use Rattle.qs_world.specs.Openings as openings
 use Rattle.qs_refine.specs.Links.{names_node, node_no}
-use Rattle.qs_refine.specs.Sound.{is_sound_peer, where_so}
+use Rattle.qs_refine.specs.Sound.{where_so}
 use Rattle.qs_refine.proofs.NodeLists.{listed_within}
 use Rattle.qs_refine.proofs.SoundKnown.{same_is}
 use Rattle.qs_refine.proofs.SoundParts.{and_both}
@@ -43,10 +43,10 @@ fewer_once p (c ∷ commits) once =
     by true apart more = both_are (list_all (is_commit_of_other c.tid) (filter p commits)) (are_once (filter p commits)) apart more
     by false apart more = more
 
-pub whole_ended : (size : ℕ) (tid : Tid) (said : Recovery) → is_whole_log size said ≡ true → is_whole_log size (ended tid said) ≡ true
-whole_ended size tid said whole =
-    let both : (list_all (names_run size) said.untold ≡ true) × (are_once said.untold ≡ true) = and_both (list_all (names_run size) said.untold) (are_once said.untold) whole in
-    both_are (list_all (names_run size) (ended tid said).untold) (are_once (ended tid said).untold) (fewer_all (λ commit. not (is_untold_of tid commit)) (names_run size) said.untold both.0) (fewer_once (λ commit. not (is_untold_of tid commit)) said.untold both.1)
+pub whole_ended : (tid : Tid) (said : Recovery) → is_whole_log said ≡ true → is_whole_log (ended tid said) ≡ true
+whole_ended tid said whole =
+    let both : (list_all names_nodes said.untold ≡ true) × (are_once said.untold ≡ true) = and_both (list_all names_nodes said.untold) (are_once said.untold) whole in
+    both_are (list_all names_nodes (ended tid said).untold) (are_once (ended tid said).untold) (fewer_all (λ commit. not (is_untold_of tid commit)) names_nodes said.untold both.0) (fewer_once (λ commit. not (is_untold_of tid commit)) said.untold both.1)
 
 -- ---- one more waits
 
@@ -81,15 +81,15 @@ module _ (tid : Tid) (told : List NodeNo) where
           (list_all-append (is_commit_of_other c.tid) commits (last ∷ []) ∙ both_are (list_all (is_commit_of_other c.tid) commits) (is_commit_of_other c.tid last && true) both.0 (both_are (is_commit_of_other c.tid last) true (other_last c its) refl))
           (rest more)
 
-  pub whole_listed : (size : ℕ) (said : Recovery) → list_all (is_in_run size) told ≡ true → list_any (is_untold_of tid) said.untold ≡ false → is_whole_log size said ≡ true
-      → (list_all (names_run size) (said.untold ++ last ∷ []) && are_once (said.untold ++ last ∷ [])) ≡ true
-  whole_listed size said run none whole =
-      let both : (list_all (names_run size) said.untold ≡ true) × (are_once said.untold ≡ true) = and_both (list_all (names_run size) said.untold) (are_once said.untold) whole in
-      both_are (list_all (names_run size) (said.untold ++ last ∷ [])) (are_once (said.untold ++ last ∷ []))
-      (list_all-append (names_run size) said.untold (last ∷ []) ∙ both_are (list_all (names_run size) said.untold) (names_run size last && true) both.0 (both_are (names_run size last) true run refl))
+  pub whole_listed : (said : Recovery) → list_all (is_in_run 16) told ≡ true → list_any (is_untold_of tid) said.untold ≡ false → is_whole_log said ≡ true
+      → (list_all names_nodes (said.untold ++ last ∷ []) && are_once (said.untold ++ last ∷ [])) ≡ true
+  whole_listed said run none whole =
+      let both : (list_all names_nodes said.untold ≡ true) × (are_once said.untold ≡ true) = and_both (list_all names_nodes said.untold) (are_once said.untold) whole in
+      both_are (list_all names_nodes (said.untold ++ last ∷ [])) (are_once (said.untold ++ last ∷ []))
+      (list_all-append names_nodes said.untold (last ∷ []) ∙ both_are (list_all names_nodes said.untold) (names_nodes last && true) both.0 (both_are (names_nodes last) true run refl))
       (once_last said.untold none both.1)
 
--- ---- whom a sound node names
+-- ---- whom a set names
 
 module _ (nodes : Nodes) (p : NodeNo → Bool) where
   all_listed : (list so_far : List NodeNo) → list_all (λ node. where_so (has_node nodes node) (p node)) list ≡ true → list_all p so_far ≡ true → list_all p (fold (with_listed nodes) so_far list) ≡ true
@@ -103,15 +103,19 @@ module _ (nodes : Nodes) (p : NodeNo → Bool) where
       by true its = list_all-append p so_far (node ∷ []) ∙ both_are (list_all p so_far) (p node && true) before (both_are (p node) true its refl)
       by false its = before
 
-pub told_in_run : (node : NodeValue) (part : Participant) → list_all (is_sound_peer node part) all_nodes ≡ true → list_all (is_in_run node.setting.nodes) (listed part.told) ≡ true
-told_in_run node part peers = all_listed part.told (is_in_run node.setting.nodes) all_nodes [] (each all_nodes peers) refl
+pub told_nodes : (part : Participant) → list_all (is_in_run 16) (listed part.told) ≡ true
+unfolding all_nodes
+told_nodes part = all_listed part.told (is_in_run 16) all_nodes [] (each all_nodes refl) refl
   where
-    each : (list : List NodeNo) → list_all (is_sound_peer node part) list ≡ true → list_all (λ n. where_so (has_node part.told n) (is_in_run node.setting.nodes n)) list ≡ true
+    so : (b c : Bool) → c ≡ true → where_so b c ≡ true
+    so true c is = is
+    so false c is = refl
+
+    each : (list : List NodeNo) → list_all (is_in_run 16) list ≡ true → list_all (λ n. where_so (has_node part.told n) (is_in_run 16 n)) list ≡ true
     each [] all = refl
     each (n ∷ list) all =
-        let both : (is_sound_peer node part n ≡ true) × (list_all (is_sound_peer node part) list ≡ true) = and_both (is_sound_peer node part n) (list_all (is_sound_peer node part) list) all in
-        both_are (where_so (has_node part.told n) (is_in_run node.setting.nodes n)) (list_all (λ n. where_so (has_node part.told n) (is_in_run node.setting.nodes n)) list)
-        (and_both _ (where_so (has_node part.told n) (is_in_run node.setting.nodes n)) (and_both _ _ both.0).1).1 (each list both.1)
+        let both : (is_in_run 16 n ≡ true) × (list_all (is_in_run 16) list ≡ true) = and_both (is_in_run 16 n) (list_all (is_in_run 16) list) all in
+        both_are (where_so (has_node part.told n) (is_in_run 16 n)) (list_all (λ n. where_so (has_node part.told n) (is_in_run 16 n)) list) (so (has_node part.told n) (is_in_run 16 n) both.0) (each list both.1)
 
 -- whom a set lacks its list does not name
 pub names_others : (nodes : Nodes) (node : NodeNo) → not (has_node nodes node) ≡ true → not (openings.has_node (listed nodes) node) ≡ true

@@ -1,4 +1,4 @@
--- A log in which of each transaction one Commit waits for its End, and names nodes of the run, is taken up whole.
+-- A log in which of each transaction one Commit waits for its End, and names nodes that some run may have, is taken up whole.
 use Rattle.std.proofs.Common.{◌≡◌, ℕ, ◌<◌, ◌||◌, not, Bool, true, false, List, [], ◌∷◌, fold, refl, sym, subst, ◌∙◌, arith, if◌then◌else◌}
 use Rattle.std.specs.List.{filter, flat_map, list_all, list_any}
 use Rattle.std.proofs.lemmas.Bool.Decides.{nat_tests}
@@ -8,7 +8,7 @@ use Rattle.qs_base.specs.declared.identifiers.NodeNo.{NodeNo}
 use Rattle.qs_base.specs.declared.identifiers.Tid.{Tid}
 use Rattle.qs_engage.specs.Nodes.{same_node}
 use Rattle.qs_restart.specs.Recovery.{Untold, is_untold_of}
-use Rattle.qs_world.specs.Openings.{is_in_run, names_run, is_commit_of_other, are_once}
+use Rattle.qs_world.specs.Openings.{is_in_run, names_nodes, is_commit_of_other, are_once}
 use Rattle.qs_refine.specs.EveryRun.{WholeTaken}
 use Rattle.qs_refine.specs.Links.{names_node, node_no}
 use Rattle.qs_refine.specs.Lists.{later_list}
@@ -16,15 +16,15 @@ use Rattle.qs_refine.proofs.NodeLists.{joined_named, unlisted}
 use Rattle.qs_refine.proofs.SoundKnown.{same_is}
 use Rattle.qs_refine.proofs.SoundParts.{and_both}
 
--- whom a list of nodes of the run names is one
-named_low : (size m : ℕ) (nodes : List NodeNo) → list_all (is_in_run size) nodes ≡ true → names_node nodes (node_no m) ≡ true → m < size
-named_low size m [] all names = absurd (cc (names))
-named_low size m (node ∷ nodes) all names = by (same_node (node_no m) node) refl names (named_low size m nodes both.1)
+-- whom a list of such nodes names is one
+named_low : (m : ℕ) (nodes : List NodeNo) → list_all (is_in_run 16) nodes ≡ true → names_node nodes (node_no m) ≡ true → m < 16
+named_low m [] all names = absurd (cc (names))
+named_low m (node ∷ nodes) all names = by (same_node (node_no m) node) refl names (named_low m nodes both.1)
   where
-    both : (is_in_run size node ≡ true) × (list_all (is_in_run size) nodes ≡ true)
-    both = and_both (is_in_run size node) (list_all (is_in_run size) nodes) all
+    both : (is_in_run 16 node ≡ true) × (list_all (is_in_run 16) nodes ≡ true)
+    both = and_both (is_in_run 16 node) (list_all (is_in_run 16) nodes) all
 
-    by : (b : Bool) → same_node (node_no m) node ≡ b → (b || names_node nodes (node_no m)) ≡ true → (names_node nodes (node_no m) ≡ true → m < size) → m < size
+    by : (b : Bool) → same_node (node_no m) node ≡ b → (b || names_node nodes (node_no m)) ≡ true → (names_node nodes (node_no m) ≡ true → m < 16) → m < 16
     by true same so more = grind (arith, nat_tests, same, both.0)
     by false apart so more = more so
 
@@ -51,14 +51,14 @@ module _ (tid : Tid) where
       by true b none more = absurd (cc (none))
       by false b none more = more none
 
-  once_named : (size m : ℕ) (commits : List Untold) (before : List NodeNo) → list_all (names_run size) commits ≡ true → are_once commits ≡ true
-      → names_node (flat_map (λ (commit : Untold). commit.told) (filter (is_untold_of tid) commits)) (node_no m) ≡ true → (names_node (fold (later_list tid) before commits) (node_no m) ≡ true) × (m < size)
-  once_named size m [] before all once names = absurd (cc (names))
-  once_named size m (c ∷ commits) before all once names = by (is_untold_of tid c) refl (λ so. once_named size m commits before
-      (and_both (names_run size c) (list_all (names_run size) commits) all).1 (and_both (list_all (is_commit_of_other c.tid) commits) (are_once commits) once).1 so) names
+  once_named : (m : ℕ) (commits : List Untold) (before : List NodeNo) → list_all names_nodes commits ≡ true → are_once commits ≡ true
+      → names_node (flat_map (λ (commit : Untold). commit.told) (filter (is_untold_of tid) commits)) (node_no m) ≡ true → (names_node (fold (later_list tid) before commits) (node_no m) ≡ true) × (m < 16)
+  once_named m [] before all once names = absurd (cc (names))
+  once_named m (c ∷ commits) before all once names = by (is_untold_of tid c) refl (λ so. once_named m commits before
+      (and_both (names_nodes c) (list_all names_nodes commits) all).1 (and_both (list_all (is_commit_of_other c.tid) commits) (are_once commits) once).1 so) names
     where
-      run : (names_run size c ≡ true) × (list_all (names_run size) commits ≡ true)
-      run = and_both (names_run size c) (list_all (names_run size) commits) all
+      run : (names_nodes c ≡ true) × (list_all names_nodes commits ≡ true)
+      run = and_both (names_nodes c) (list_all names_nodes commits) all
 
       alone : (list_all (is_commit_of_other c.tid) commits ≡ true) × (are_once commits ≡ true)
       alone = and_both (list_all (is_commit_of_other c.tid) commits) (are_once commits) once
@@ -68,17 +68,17 @@ module _ (tid : Tid) where
       first false b off is = absurd (cc (off, is))
 
       by : (b : Bool) → is_untold_of tid c ≡ b
-          → (names_node (flat_map (λ (commit : Untold). commit.told) (filter (is_untold_of tid) commits)) (node_no m) ≡ true → (names_node (fold (later_list tid) before commits) (node_no m) ≡ true) × (m < size))
+          → (names_node (flat_map (λ (commit : Untold). commit.told) (filter (is_untold_of tid) commits)) (node_no m) ≡ true → (names_node (fold (later_list tid) before commits) (node_no m) ≡ true) × (m < 16))
           → names_node (flat_map (λ (commit : Untold). commit.told) (if b then c ∷ filter (is_untold_of tid) commits else filter (is_untold_of tid) commits)) (node_no m) ≡ true
-          → (names_node (fold (later_list tid) (if b then c.told else before) commits) (node_no m) ≡ true) × (m < size)
+          → (names_node (fold (later_list tid) (if b then c.told else before) commits) (node_no m) ≡ true) × (m < 16)
       by true its more so =
           let none : list_any (is_untold_of tid) commits ≡ false = none_of c.tid its commits alone.0 in
           let here : names_node c.told (node_no m) ≡ true = first (names_node c.told (node_no m)) _ (unlisted tid commits none (node_no m)) (sym (list_any-append (same_node (node_no m)) c.told _) ∙ so) in
-          (subst (λ (l : List NodeNo). names_node l (node_no m) ≡ true) (sym (list_stays commits c.told none)) here, named_low size m c.told run.0 here)
+          (subst (λ (l : List NodeNo). names_node l (node_no m) ≡ true) (sym (list_stays commits c.told none)) here, named_low m c.told run.0 here)
       by false its more so = more so
 
 pub whole_taken : WholeTaken
-whole_taken size said small whole tid m names =
-    let both : (list_all (names_run size) said.untold ≡ true) × (are_once said.untold ≡ true) = and_both (list_all (names_run size) said.untold) (are_once said.untold) whole in
-    let named = once_named tid size m said.untold [] both.0 both.1 names in
-    joined_named (fold (later_list tid) [] said.untold) m (omega (arith, named.1, small)) named.0
+whole_taken said whole tid m names =
+    let both : (list_all names_nodes said.untold ≡ true) × (are_once said.untold ≡ true) = and_both (list_all names_nodes said.untold) (are_once said.untold) whole in
+    let named = once_named tid m said.untold [] both.0 both.1 names in
+    joined_named (fold (later_list tid) [] said.untold) m named.1 named.0

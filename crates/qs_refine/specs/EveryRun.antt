@@ -24,7 +24,7 @@ use Rattle.qs_refine.specs.WorldLaws.{IsToLearn, Knows}
 -- ---- whoever is named by a log that a restart can take up whole is taken up
 
 abbrev pub WholeTaken : Type 0
-WholeTaken = (size : ℕ) (said : Recovery) → size ≤ 16 → is_whole_log size said ≡ true → AreTaken said
+WholeTaken = (said : Recovery) → is_whole_log said ≡ true → AreTaken said
 
 -- ---- a world that some run from such an opening leads to
 

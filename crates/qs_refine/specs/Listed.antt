@@ -27,10 +27,10 @@ is_past_record world rec = is_past_tid world (tid_of rec)
 pub record IsListedWorld (world : World) : Type 0 where
   pub nodes : (n : ℕ) → n < world.size → world.channels.up n ≡ true → AreListed (world.hosts n).node (recovery ((world.hosts n).log ++ (world.hosts n).waiting))
   pub logs : (n : ℕ) → n < world.size → AreTaken (recovery (world.hosts n).log)
-  pub whole : (n : ℕ) → n < world.size → is_whole_log world.size (recovery ((world.hosts n).log ++ (world.hosts n).waiting)) ≡ true
+  pub whole : (n : ℕ) → n < world.size → is_whole_log (recovery ((world.hosts n).log ++ (world.hosts n).waiting)) ≡ true
   pub others : (n : ℕ) → n < world.size → list_all lists_others ((world.hosts n).log ++ (world.hosts n).waiting) ≡ true  -- each Commit names others than the home
   pub past : (n : ℕ) → n < world.size → list_all (is_past_record world) ((world.hosts n).log ++ (world.hosts n).waiting) ≡ true
-  pub whole_logs : (n : ℕ) → n < world.size → is_whole_log world.size (recovery (world.hosts n).log) ≡ true
+  pub whole_logs : (n : ℕ) → n < world.size → is_whole_log (recovery (world.hosts n).log) ≡ true
 
 -- so it is after each move, and where a world begins, if the logs of its opening are such
 abbrev pub StartListed : Type 0

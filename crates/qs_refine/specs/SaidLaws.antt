@@ -74,7 +74,7 @@ pub record SaysOn (work new : Work) : Type 0 where
   pub own : (said : Recovery) → AreSaid work.node said → (t : Tid) → same_node t.home work.node.setting.node ≡ false → list_any (is_commit_of t) more ≡ true
       → (has_doubt t said ≡ true) ⊎ (list_any (is_prepare_of t) more ≡ true)  -- of what began elsewhere only a vote in doubt is committed
   pub lists : (said : Recovery) → AreSaid work.node said → AreListed work.node said → AreListed new.node (fold found_record said more)
-  pub whole : (said : Recovery) → AreSaid work.node said → is_whole_log work.node.setting.nodes said ≡ true → is_whole_log work.node.setting.nodes (fold found_record said more) ≡ true
+  pub whole : (said : Recovery) → AreSaid work.node said → is_whole_log said ≡ true → is_whole_log (fold found_record said more) ≡ true
 
 -- where a client begins a transaction, its number is new
 abbrev pub BeginsNew : Event → Work → Type 0

@@ -75,7 +75,7 @@ HappenSays = (event : Event) (work : Work) → MayHappen event work → BeginsNe
 
 abbrev pub DecideSays : Type 0
 DecideSays = (tid : Tid) (outcome : Outcome) (cause : Option Cause) (work : Work) → ((part : Participant) → part_of tid work ≡ Some part → is_commit part.outcome ≡ false)
-    → (outcome ≡ outcomes.Commit → (part : Participant) → part_of tid work ≡ Some part → (part.log.listed ≡ false) × ((list_all (is_in_run work.node.setting.nodes) (listed part.told) ≡ true) × ((not (openings.has_node (listed part.told) tid.home) ≡ true) × (same_node tid.home work.node.setting.node ≡ true)))) → SaysOn work (decide tid outcome cause work)
+    → (outcome ≡ outcomes.Commit → (part : Participant) → part_of tid work ≡ Some part → (part.log.listed ≡ false) × ((list_all (is_in_run 16) (listed part.told) ≡ true) × ((not (openings.has_node (listed part.told) tid.home) ≡ true) × (same_node tid.home work.node.setting.node ≡ true)))) → SaysOn work (decide tid outcome cause work)
 
 abbrev pub PassSays : Type 0
 PassSays = (tid : Tid) (part : Participant) (work : Work) → part_of tid work ≡ Some part → is_undecided part ≡ true → is_sound work.node ≡ true → SaysOn work (pass_rule tid part work)

@@ -177,7 +177,7 @@ is_listed_tid world host up tid =
 abbrev is_listed_host : World → ℕ → Bool
 is_listed_host world n =
     list_all (is_listed_tid world (world.hosts n) (world.channels.up n)) (map tid_of ((world.hosts n).log ++ (world.hosts n).waiting))
-    && ((is_whole_log world.size (said_by (world.hosts n)) && is_whole_log world.size (recovery (world.hosts n).log))
+    && ((is_whole_log (said_by (world.hosts n)) && is_whole_log (recovery (world.hosts n).log))
     && (list_all lists_others ((world.hosts n).log ++ (world.hosts n).waiting) && list_all (is_past_record world) ((world.hosts n).log ++ (world.hosts n).waiting)))
 
 abbrev pub is_listed : Opening → BookValue → World → Bool

@@ -166,9 +166,9 @@ is_untold commit = names_transaction commit.tid
 abbrev pub are_unended : Recovery → Bool
 are_unended said = list_all (is_doubt said) said.prepared && list_all is_untold said.untold
 
--- a Commit that waits for its End is the only one of its transaction that does, and names nodes of the run
-abbrev pub names_run : ℕ → Untold → Bool
-names_run size commit = list_all (is_in_run size) commit.told
+-- a Commit that waits for its End is the only one of its transaction that does, and names nodes that some run may have
+abbrev pub names_nodes : Untold → Bool
+names_nodes commit = list_all (is_in_run 16) commit.told
 
 abbrev pub is_commit_of_other : Tid → Untold → Bool
 is_commit_of_other tid commit = not (is_untold_of tid commit)
@@ -178,8 +178,8 @@ are_once [] = true
 are_once (commit ∷ commits) = list_all (is_commit_of_other commit.tid) commits && are_once commits
 
 -- so a restart can take up the log whole
-abbrev pub is_whole_log : ℕ → Recovery → Bool
-is_whole_log size said = list_all (names_run size) said.untold && are_once said.untold
+abbrev pub is_whole_log : Recovery → Bool
+is_whole_log said = list_all names_nodes said.untold && are_once said.untold
 
 -- ---- all of it
 
@@ -191,4 +191,4 @@ pub record IsOpening (o : Opening) : Type 0 where
   pub logs : each_below o.size (λ n. list_all (is_record o n) (o.logs n)) ≡ true
   pub votes : each_below o.size (λ n. list_all (is_open_vote o n) (recovery (o.logs n)).prepared) ≡ true
   pub unended : each_below o.size (λ n. are_unended (recovery (o.logs n))) ≡ true
-  pub whole : each_below o.size (λ n. is_whole_log o.size (recovery (o.logs n))) ≡ true
+  pub whole : each_below o.size (λ n. is_whole_log (recovery (o.logs n))) ≡ true
