@@ -88,8 +88,8 @@ fn rows_end_as_they_should(rt: HostRuntime) -> Result<(), Fail> {
     ];
     for (script, output) in rows {
         let mut sink = wide_sink(rt.alloc())?;
-        assert_eq!(rt; ran(&rt, rt.alloc(), &WORDS, script, &mut sink)?, 0);
-        assert_eq!(rt; sink.given(), output.as_bytes());
+        assert!(rt; ran(&rt, rt.alloc(), &WORDS, script, &mut sink)? == 0);
+        assert!(rt; sink.given() == output.as_bytes());
     }
     Ok(())
 }
@@ -106,21 +106,20 @@ fn bad_input_gives_nothing(rt: HostRuntime) -> Result<(), Fail> {
     ];
     for (script, number) in rows {
         let mut sink = wide_sink(rt.alloc())?;
-        assert_eq!(rt; ran(&rt, rt.alloc(), &WORDS, script, &mut sink)?, number);
-        assert_eq!(rt; sink.given().len(), 0);
+        assert!(rt; ran(&rt, rt.alloc(), &WORDS, script, &mut sink)? == number);
+        assert!(rt; sink.given().len() == 0);
     }
     let mut sink = wide_sink(rt.alloc())?;
-    assert_eq!(rt;
+    assert!(rt;
         ran(
             &rt,
             rt.alloc(),
             &["run", "01", "--serial", "7"],
             "",
             &mut sink
-        )?,
-        2
+        )? == 2
     );
-    assert_eq!(rt; sink.given().len(), 0);
+    assert!(rt; sink.given().len() == 0);
     Ok(())
 }
 
@@ -143,11 +142,8 @@ fn histories_are_judged(rt: HostRuntime) -> Result<(), Fail> {
     ];
     for (history, number, output) in rows {
         let mut sink = wide_sink(rt.alloc())?;
-        assert_eq!(rt;
-            ran(&rt, rt.alloc(), &["check"], history, &mut sink)?,
-            number
-        );
-        assert_eq!(rt; sink.given(), output.as_bytes());
+        assert!(rt; ran(&rt, rt.alloc(), &["check"], history, &mut sink)? == number);
+        assert!(rt; sink.given() == output.as_bytes());
     }
     Ok(())
 }
@@ -171,12 +167,12 @@ fn faults_of_the_outside_are_told(rt: HostRuntime) -> Result<(), Fail> {
         &mut sink,
         &mut disks,
     );
-    assert_eq!(rt; failed.status.number(), 4);
-    assert_eq!(rt; sink.given().len(), 0);
+    assert!(rt; failed.status.number() == 4);
+    assert!(rt; sink.given().len() == 0);
 
     let mut sink = MemSink::new(alloc, 1_048_576, 16, &[2])?;
-    assert_eq!(rt; ran(&rt, rt.alloc(), &WORDS, script, &mut sink)?, 5);
-    assert_eq!(rt; sink.given(), b"client 0\n2 ok\n3 ".as_slice());
+    assert!(rt; ran(&rt, rt.alloc(), &WORDS, script, &mut sink)? == 5);
+    assert!(rt; sink.given() == b"client 0\n2 ok\n3 ".as_slice());
     Ok(())
 }
 
@@ -185,11 +181,11 @@ fn the_incarnation_is_read_from_the_log(rt: HostRuntime) -> Result<(), Fail> {
     let alloc = rt.alloc();
     let mut disks = fresh_disks(alloc, &[])?;
     let mut sink = wide_sink(alloc)?;
-    assert_eq!(rt; ran_over(&rt, alloc, &WORDS, "", &mut sink, &mut disks)?, 0);
-    assert_eq!(rt; ran_over(&rt, alloc, &WORDS, "", &mut sink, &mut disks)?, 0);
+    assert!(rt; ran_over(&rt, alloc, &WORDS, "", &mut sink, &mut disks)? == 0);
+    assert!(rt; ran_over(&rt, alloc, &WORDS, "", &mut sink, &mut disks)? == 0);
     let output =
         "node 0 inc 1\ntotals begun 0 committed 0 aborted 0 restarts 0\nnode 0 inc 2\ntotals begun 0 committed 0 aborted 0 restarts 0\n";
-    assert_eq!(rt; sink.given(), output.as_bytes());
+    assert!(rt; sink.given() == output.as_bytes());
     Ok(())
 }
 
@@ -198,8 +194,8 @@ fn a_disk_that_fails_is_told(rt: HostRuntime) -> Result<(), Fail> {
     let alloc = rt.alloc();
     let mut sink = wide_sink(alloc)?;
     let mut disks = fresh_disks(alloc, &[1])?;
-    assert_eq!(rt; ran_over(&rt, alloc, &WORDS, "", &mut sink, &mut disks)?, 6);
-    assert_eq!(rt; sink.given().len(), 0);
+    assert!(rt; ran_over(&rt, alloc, &WORDS, "", &mut sink, &mut disks)? == 6);
+    assert!(rt; sink.given().len() == 0);
     Ok(())
 }
 
@@ -224,7 +220,7 @@ fn a_damaged_disk_is_told(rt: HostRuntime) -> Result<(), Fail> {
     let mut sink = wide_sink(alloc)?;
     let mut disks = fresh_disks(alloc, &[])?;
     disks[0] = damaged_disk(alloc)?;
-    assert_eq!(rt; ran_over(&rt, alloc, &WORDS, "", &mut sink, &mut disks)?, 7);
-    assert_eq!(rt; sink.given().len(), 0);
+    assert!(rt; ran_over(&rt, alloc, &WORDS, "", &mut sink, &mut disks)? == 7);
+    assert!(rt; sink.given().len() == 0);
     Ok(())
 }

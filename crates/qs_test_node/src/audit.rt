@@ -45,13 +45,13 @@ fn seen<S: Server>(server: &mut S, tid: Tid) -> Result<usize, Fail>
 fn a_committed_note_is_seen(rt: HostRuntime) -> Result<(), Fail> {
     let alloc = rt.alloc();
     let mut audit = Audit::new(alloc);
-    assert_eq!(rt; audit.serve(tid(1), &note(alloc, "x")?)?, Reply::Done);
-    assert_eq!(rt; audit.vote(tid(1), FRAME + NEED, FRAME)?, Vote::Recoverable);
-    assert_eq!(rt; audit.changes(tid(1))?, notes(alloc, &["x"])?);
+    assert!(rt; audit.serve(tid(1), &note(alloc, "x")?)? == Reply::Done);
+    assert!(rt; audit.vote(tid(1), FRAME + NEED, FRAME)? == Vote::Recoverable);
+    assert!(rt; audit.changes(tid(1))? == notes(alloc, &["x"])?);
     audit.note(tid(1), Notice::Commit);
-    assert_eq!(rt; seen(&mut audit, tid(2))?, 1);
-    assert_eq!(rt; audit.vote(tid(2), 0, FRAME)?, Vote::ReadOnly);
-    assert_eq!(rt; audit.contents()?, notes(alloc, &["x"])?);
+    assert!(rt; seen(&mut audit, tid(2))? == 1);
+    assert!(rt; audit.vote(tid(2), 0, FRAME)? == Vote::ReadOnly);
+    assert!(rt; audit.contents()? == notes(alloc, &["x"])?);
     assert!(rt; audit.class() == Class::Recoverable);
     Ok(())
 }
@@ -68,8 +68,8 @@ fn kept_notes_are_pending_until_their_outcome(rt: HostRuntime) -> Result<(), Fai
     assert!(rt; audit.vote(tid(2), 0, FRAME)? == Vote::Abort { reason });
     audit.note(tid(2), Notice::Abort);
     audit.note(tid(1), Notice::Commit);
-    assert_eq!(rt; seen(&mut audit, tid(3))?, 2);
+    assert!(rt; seen(&mut audit, tid(3))? == 2);
     audit.clear();
-    assert_eq!(rt; seen(&mut audit, tid(3))?, 0);
+    assert!(rt; seen(&mut audit, tid(3))? == 0);
     Ok(())
 }

@@ -11,14 +11,14 @@ fn a_node_is_engaged_and_a_home_never(rt: HostRuntime) {
     let mut engage = Engage::new(false);
     assert!(rt; engage.requested(ONE, 1) == Engaged::Superior);
     assert!(rt; engage.requested(TWO, 1) == Engaged::Elsewhere);
-    assert_eq!(rt; engage.sent(TWO), Some(1));
-    assert_eq!(rt; engage.passive(), false);
+    assert!(rt; engage.sent(TWO) == Some(1));
+    assert!(rt; engage.passive() == false);
     engage.covered(TWO, 1);
-    assert_eq!(rt; engage.passive(), true);
-    assert_eq!(rt; engage.release(), Some((ONE, 1)));
+    assert!(rt; engage.passive() == true);
+    assert!(rt; engage.release() == Some((ONE, 1)));
     assert!(rt; engage.requested(TWO, 2) == Engaged::Superior);
 
     let mut home = Engage::new(true);
     assert!(rt; home.requested(ONE, 1) == Engaged::Elsewhere);
-    assert_eq!(rt; home.release(), None);
+    assert!(rt; home.release() == None);
 }

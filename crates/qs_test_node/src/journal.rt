@@ -31,7 +31,7 @@ fn journals_are_merged_by_stamp_then_node(rt: HostRuntime) -> Result<(), Fail> {
     journals.push(journal_of(alloc, &[(0, 1, 4), (0, 1, 3), (0, 3, 5)])?)?;
     let wanted = [(0, 1, 4), (0, 1, 3), (1, 1, 1), (1, 2, 2), (0, 3, 5)];
     let merged = merge(alloc, &journals)?;
-    assert_eq!(rt; merged.len(), wanted.len());
+    assert!(rt; merged.len() == wanted.len());
     for (entry, (node, stamp, seq)) in merged.as_slice().iter().zip(wanted.iter()) {
         assert!(rt; entry.node == NodeNo(*node) && entry.stamp == *stamp);
         assert!(rt; matches!(&entry.act, Act::Begin { tid: begun, .. } if *begun == tid(*seq)));

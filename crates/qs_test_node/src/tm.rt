@@ -35,8 +35,8 @@ fn a_transaction_needs_room(rt: HostRuntime) -> Result<(), Fail> {
     assert!(rt; manager.begin(ClientNo(0), 72) == Err(full));
     assert!(rt; manager.begin(ClientNo(0), 128) == Ok(FIRST));
     manager.add_told(FIRST, OTHER);
-    assert_eq!(rt; manager.need_past(FIRST, 150)?, Some(185));
-    assert_eq!(rt; manager.need_past(FIRST, 185)?, None);
+    assert!(rt; manager.need_past(FIRST, 150)? == Some(185));
+    assert!(rt; manager.need_past(FIRST, 185)? == None);
     Ok(())
 }
 
@@ -51,26 +51,26 @@ fn a_home_commits(rt: HostRuntime) -> Result<(), Fail> {
         number: 1,
         count: 0,
     };
-    assert_eq!(rt; manager.sent(FIRST, OTHER), Some(1));
+    assert!(rt; manager.sent(FIRST, OTHER) == Some(1));
     manager.issued(FIRST, request)?;
-    assert_eq!(rt; manager.served(FIRST, FILES), Some(1));
+    assert!(rt; manager.served(FIRST, FILES) == Some(1));
     manager.note_served(FIRST, 1)?;
     manager.ask(FIRST);
     manager.voted(FIRST, files_at(HOME), &Vote::Recoverable, 1)?;
-    assert_eq!(rt; manager.ready(FIRST, false), false);
+    assert!(rt; manager.ready(FIRST, false) == false);
     let mut told = List::new(alloc);
     told.push(OTHER)?;
     manager.counted(FIRST, OTHER, 1, &told);
-    assert_eq!(rt; manager.ready(FIRST, true), false);
-    assert_eq!(rt; manager.ready(FIRST, false), true);
-    assert_eq!(rt; manager.due()?.as_slice(), [FIRST].as_slice());
+    assert!(rt; manager.ready(FIRST, true) == false);
+    assert!(rt; manager.ready(FIRST, false) == true);
+    assert!(rt; manager.due()?.as_slice() == [FIRST].as_slice());
     let made = manager.decide(FIRST, Outcome::Commit)?;
-    assert_eq!(rt; made.tell, told);
+    assert!(rt; made.tell == told);
     let commit = Record::Commit { tid: FIRST, told };
     assert!(rt; made.rec == Some(commit.copy()?));
     manager.logged(FIRST, &commit);
     assert!(rt; manager.standing(FIRST) == Standing::Committed);
-    assert_eq!(rt; manager.acknowledged(FIRST, OTHER), true);
+    assert!(rt; manager.acknowledged(FIRST, OTHER) == true);
     manager.forget(FIRST);
     assert!(rt; manager.standing(FIRST) == Standing::Unknown);
     Ok(())
@@ -82,8 +82,8 @@ fn another_node_answers(rt: HostRuntime) -> Result<(), Fail> {
     let mut manager = Manager::new(alloc, OTHER, 1, 0, 128);
     manager.meet(FIRST)?;
     assert!(rt; manager.requested(FIRST, HOME, 1) == Engaged::Superior);
-    assert_eq!(rt; manager.served(FIRST, FILES), Some(1));
-    assert_eq!(rt; manager.served(FIRST, SCRATCH), Some(1));
+    assert!(rt; manager.served(FIRST, FILES) == Some(1));
+    assert!(rt; manager.served(FIRST, SCRATCH) == Some(1));
     let refusal = Vote::Abort {
         reason: Reason::Quota {
             bytes: 11,
@@ -92,15 +92,15 @@ fn another_node_answers(rt: HostRuntime) -> Result<(), Fail> {
     };
     manager.voted(FIRST, files_at(OTHER), &refusal, 1)?;
     manager.add_cause(FIRST, Cause::Asked)?;
-    assert_eq!(rt; manager.take_causes(FIRST).len(), 2);
-    assert_eq!(rt; manager.released(FIRST), Some((HOME, 1)));
-    assert_eq!(rt; manager.concerned(HOME)?.as_slice(), [FIRST].as_slice());
+    assert!(rt; manager.take_causes(FIRST).len() == 2);
+    assert!(rt; manager.released(FIRST) == Some((HOME, 1)));
+    assert!(rt; manager.concerned(HOME)?.as_slice() == [FIRST].as_slice());
     if let Some(part) = manager.part(FIRST) {
         let learners = part.learners(alloc)?;
         assert!(rt; learners.as_slice() == [FILES, SCRATCH].as_slice());
-        assert_eq!(rt; part.servers_due(alloc, Due::Vote)?.len(), 0);
+        assert!(rt; part.servers_due(alloc, Due::Vote)?.len() == 0);
     }
-    assert_eq!(rt; manager.told(FIRST)?.len(), 0);
+    assert!(rt; manager.told(FIRST)?.len() == 0);
     Ok(())
 }
 
@@ -115,12 +115,12 @@ fn a_log_brings_back_a_vote(rt: HostRuntime) -> Result<(), Fail> {
         changes: List::new(alloc),
     };
     manager.take_up(&vote)?;
-    assert_eq!(rt; manager.undecided()?.as_slice(), [FIRST].as_slice());
+    assert!(rt; manager.undecided()?.as_slice() == [FIRST].as_slice());
     assert!(rt; manager.standing(FIRST) == Standing::Running);
     let mut home = Manager::new(alloc, HOME, 2, 0, 128);
     home.take_up(&vote)?;
     assert!(rt; home.standing(FIRST) == Standing::Unknown);
-    assert_eq!(rt; home.aged(0)?.len(), 0);
+    assert!(rt; home.aged(0)?.len() == 0);
     let lost = Tid { seq: 2, ..FIRST };
     home.keep_abort(lost)?;
     assert!(rt; home.standing(lost) == Standing::Unknown);

@@ -7,11 +7,11 @@ fn what_takes_memory_answers(rt: HostRuntime) -> Result<(), Fail> {
     let alloc = rt.alloc();
     let mut word = Bytes::from_slice(alloc, b"ab")?;
     word.append(b"c")?;
-    assert_eq!(rt; word.as_slice(), b"abc".as_slice());
+    assert!(rt; word.as_slice() == b"abc".as_slice());
     let mut words = List::new(alloc);
     words.push(word.copy()?)?;
     words.push(Bytes::from_slice(alloc, b"b")?)?;
-    assert_eq!(rt; words.copy()?, words);
-    assert_eq!(rt; copy_list(alloc, words.as_slice())?, words);
+    assert!(rt; words.copy()? == words);
+    assert!(rt; copy_list(alloc, words.as_slice())? == words);
     Ok(())
 }

@@ -73,7 +73,7 @@ fn batches_are_read(rt: HostRuntime) -> Result<(), Fail> {
     let alloc = rt.alloc();
     let area = area_with(alloc, &COMMIT)?;
     let found = read_batches(alloc, area.as_slice(), 1)?;
-    assert_eq!(rt; found.used, 135);
+    assert!(rt; found.used == 135);
     let records = [
         samples::prepare(alloc, TID, 1, b"hello")?,
         samples::commit(alloc, TID, &[])?,
@@ -115,8 +115,8 @@ fn areas_are_read_to_their_end_or_damage(rt: HostRuntime) -> Result<(), Fail> {
         }
         area.truncate(len);
         match read_batches(alloc, area.as_slice(), 1) {
-            Ok(found) => assert_eq!(rt; Ok(found.used), wanted),
-            Err(fault) => assert_eq!(rt; Err(fault), wanted),
+            Ok(found) => assert!(rt; Ok(found.used) == wanted),
+            Err(fault) => assert!(rt; Err(fault) == wanted),
         }
     }
     Ok(())
@@ -149,12 +149,12 @@ fn batches_are_sealed(rt: HostRuntime) -> Result<(), Fail> {
         let rec = record_of(rt.alloc(), bytes)?;
         assert!(rt; bytes.len() < 1000 && batch.bytes() < 1000);
         batch.add(&rec)?;
-        assert_eq!(rt; (batch.len(), batch.bytes()), size);
+        assert!(rt; (batch.len(), batch.bytes()) == size);
         assert!(rt; !batch.is_empty());
         let sealed = batch.seal();
         assert!(rt; sealed.starts_with(part));
-        assert_eq!(rt; sealed.last(), Some(&0));
-        assert_eq!(rt; sealed.len(), part.len().wrapping_add(1));
+        assert!(rt; sealed.last() == Some(&0));
+        assert!(rt; sealed.len() == part.len().wrapping_add(1));
     }
     Ok(())
 }

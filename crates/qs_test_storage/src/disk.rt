@@ -17,15 +17,15 @@ fn zeros(alloc: Global, seed: u64, fail: &[u64]) -> Result<MemDisk, NoMemory>
 #[test]
 fn a_write_is_read_back(rt: HostRuntime) -> Result<(), Fail> {
     let mut disk = zeros(rt.alloc(), 1, &[])?;
-    assert_eq!(rt; disk.size(), 65_536);
-    assert_eq!(rt; write_through(&mut disk, 65_533, b"end"), Ok(()));
+    assert!(rt; disk.size() == 65_536);
+    assert!(rt; write_through(&mut disk, 65_533, b"end") == Ok(()));
     let mut buf = [1; 4];
-    assert_eq!(rt; disk.read(65_532, &mut buf), Ok(()));
-    assert_eq!(rt; buf.as_slice(), b"\0end".as_slice());
-    assert_eq!(rt; disk.power_cut(), Ok(()));
+    assert!(rt; disk.read(65_532, &mut buf) == Ok(()));
+    assert!(rt; buf.as_slice() == b"\0end".as_slice());
+    assert!(rt; disk.power_cut() == Ok(()));
     let again = MemDisk::from_bytes(rt.alloc(), disk.bytes(), 1, &[])?;
-    assert_eq!(rt; again.bytes()[65_535], b'd');
-    assert_eq!(rt; again.faults(), 0);
+    assert!(rt; again.bytes()[65_535] == b'd');
+    assert!(rt; again.faults() == 0);
     Ok(())
 }
 
@@ -33,12 +33,12 @@ fn a_write_is_read_back(rt: HostRuntime) -> Result<(), Fail> {
 fn the_planned_calls_fail(rt: HostRuntime) -> Result<(), Fail> {
     let mut disk = zeros(rt.alloc(), 1, &[2, 4])?;
     let mut buf = [1; 1];
-    assert_eq!(rt; disk.write(7, b"x"), Ok(()));
-    assert_eq!(rt; disk.write(7, b"y"), Err(DiskFailed));
-    assert_eq!(rt; disk.read(7, &mut buf), Ok(()));
-    assert_eq!(rt; buf.as_slice(), b"x".as_slice());
-    assert_eq!(rt; disk.power_cut(), Err(DiskFailed));
-    assert_eq!(rt; disk.faults(), 2);
+    assert!(rt; disk.write(7, b"x") == Ok(()));
+    assert!(rt; disk.write(7, b"y") == Err(DiskFailed));
+    assert!(rt; disk.read(7, &mut buf) == Ok(()));
+    assert!(rt; buf.as_slice() == b"x".as_slice());
+    assert!(rt; disk.power_cut() == Err(DiskFailed));
+    assert!(rt; disk.faults() == 2);
     Ok(())
 }
 
@@ -54,8 +54,8 @@ fn a_power_cut_leaves_old_bytes_and_new_ones(rt: HostRuntime) -> Result<(), Fail
         disk.write(100, b"x")?;
         disk.power_cut()?;
         let bytes = disk.bytes();
-        assert_eq!(rt; bytes[99], b'a');
-        assert_eq!(rt; bytes[101], b'c');
+        assert!(rt; bytes[99] == b'a');
+        assert!(rt; bytes[101] == b'c');
         match bytes[100] {
             b'b' => saw_old = true,
             b'x' => saw_new = true,
@@ -72,18 +72,18 @@ fn a_tripping_write_is_passed_on_and_a_sync_is_not(rt: HostRuntime) -> Result<()
     plan.push(1)?;
     let mut disk = Fused::new(zeros(rt.alloc(), 1, &[2])?);
     disk.arm(plan);
-    assert_eq!(rt; disk.write(7, b"x"), Err(DiskFailed));
-    assert_eq!(rt; disk.write(7, b"y"), Err(DiskFailed));
-    assert_eq!(rt; disk.sync(), Err(DiskFailed));
-    assert_eq!(rt; disk.trips(), 3);
-    assert_eq!(rt; disk.own_faults(), 0);
+    assert!(rt; disk.write(7, b"x") == Err(DiskFailed));
+    assert!(rt; disk.write(7, b"y") == Err(DiskFailed));
+    assert!(rt; disk.sync() == Err(DiskFailed));
+    assert!(rt; disk.trips() == 3);
+    assert!(rt; disk.own_faults() == 0);
 
     // The disk's second call.
-    assert_eq!(rt; disk.power_cut(), Err(DiskFailed));
-    assert_eq!(rt; disk.own_faults(), 1);
-    assert_eq!(rt; disk.faults(), 4);
-    assert_eq!(rt; disk.sync(), Ok(()));
-    assert_eq!(rt; disk.into_inner().bytes()[7], b'x');
+    assert!(rt; disk.power_cut() == Err(DiskFailed));
+    assert!(rt; disk.own_faults() == 1);
+    assert!(rt; disk.faults() == 4);
+    assert!(rt; disk.sync() == Ok(()));
+    assert!(rt; disk.into_inner().bytes()[7] == b'x');
     Ok(())
 }
 
@@ -92,13 +92,13 @@ fn nothing_trips_before_its_number(rt: HostRuntime) -> Result<(), Fail> {
     let mut plan = List::new(rt.alloc());
     plan.push(2)?;
     let mut disk = Fused::new(zeros(rt.alloc(), 1, &[])?);
-    assert_eq!(rt; disk.write(7, b"x"), Ok(()));
-    assert_eq!(rt; disk.sync(), Ok(()));
+    assert!(rt; disk.write(7, b"x") == Ok(()));
+    assert!(rt; disk.sync() == Ok(()));
     disk.arm(plan);
-    assert_eq!(rt; disk.write(7, b"y"), Ok(()));
-    assert_eq!(rt; disk.sync(), Err(DiskFailed));
-    assert_eq!(rt; disk.power_cut(), Ok(()));
-    assert_eq!(rt; disk.write(8, b"z"), Ok(()));
-    assert_eq!(rt; disk.trips(), 1);
+    assert!(rt; disk.write(7, b"y") == Ok(()));
+    assert!(rt; disk.sync() == Err(DiskFailed));
+    assert!(rt; disk.power_cut() == Ok(()));
+    assert!(rt; disk.write(8, b"z") == Ok(()));
+    assert!(rt; disk.trips() == 1);
     Ok(())
 }

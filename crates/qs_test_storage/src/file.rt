@@ -73,10 +73,10 @@ fn what_the_system_refuses_is_counted(rt: HostRuntime) -> Result<(), Fail> {
     assert!(rt; disk.sync().is_err());
     assert!(rt; disk.power_cut().is_err());
     assert!(rt; !has(&mut disk, 0, [0; 3]));
-    assert_eq!(rt; disk.faults(), 4);
+    assert!(rt; disk.faults() == 4);
     fs::create_dir(&rt, folder.as_str())?;
     assert!(rt; disk.write(0, b"abc").is_ok());
-    assert_eq!(rt; disk.faults(), 4);
+    assert!(rt; disk.faults() == 4);
     fs::remove_dir_all(&rt, folder.as_str())?;
     Ok(())
 }

@@ -11,10 +11,10 @@ fn what_was_put_is_there(rt: HostRuntime) -> Result<(), Fail> {
     if let Some(value) = map.get_mut(&1) {
         *value = 11;
     }
-    assert_eq!(rt; map.get(&1), Some(&11));
-    assert_eq!(rt; map.get(&2), Some(&21));
-    assert_eq!(rt; map.has(&3), false);
+    assert!(rt; map.get(&1) == Some(&11));
+    assert!(rt; map.get(&2) == Some(&21));
+    assert!(rt; map.has(&3) == false);
     map.remove(&1);
-    assert_eq!(rt; map.get(&1), None);
+    assert!(rt; map.get(&1) == None);
     Ok(())
 }

@@ -22,11 +22,11 @@ fn records_go_both_ways(rt: HostRuntime) -> Result<(), Fail> {
         let mut reader = Reader::new(bytes);
         let rec = decode(alloc, &mut reader)?;
         assert!(rt; rec == *wanted);
-        assert_eq!(rt; reader.left(), 0);
+        assert!(rt; reader.left() == 0);
         let mut out = List::new(alloc);
         encode(&rec, &mut out)?;
-        assert_eq!(rt; out.as_slice(), bytes);
-        assert_eq!(rt; length(&rec), bytes.len() as u64);
+        assert!(rt; out.as_slice() == bytes);
+        assert!(rt; length(&rec) == bytes.len() as u64);
     }
     Ok(())
 }
@@ -82,11 +82,11 @@ fn operations_go_both_ways(rt: HostRuntime) -> Result<(), Fail> {
     ] {
         let mut reader = Reader::new(bytes);
         let op = decode_op(alloc, &mut reader)?;
-        assert_eq!(rt; op, op_of(alloc, tag)?);
-        assert_eq!(rt; reader.left(), 0);
+        assert!(rt; op == op_of(alloc, tag)?);
+        assert!(rt; reader.left() == 0);
         let mut out = List::new(alloc);
         encode_op(&op, &mut out)?;
-        assert_eq!(rt; out.as_slice(), bytes);
+        assert!(rt; out.as_slice() == bytes);
     }
     Ok(())
 }
@@ -106,12 +106,12 @@ fn small_values_go_both_ways(rt: HostRuntime) -> Result<(), Fail> {
     put_member(&mut out, member)?;
     put_nodes(&mut out, &nodes)?;
     let expected = [0, 0, 0, 0, 0, 0, 0, 0, 1, 0, 0, 0, 1, 15, 95, 2, 3, 15];
-    assert_eq!(rt; out.as_slice(), expected.as_slice());
+    assert!(rt; out.as_slice() == expected.as_slice());
     let mut reader = Reader::new(&expected);
-    assert_eq!(rt; read_tid(&mut reader)?, TID);
-    assert_eq!(rt; read_member(&mut reader)?, member);
-    assert_eq!(rt; read_nodes(alloc, &mut reader)?, nodes);
-    assert_eq!(rt; reader.left(), 0);
+    assert!(rt; read_tid(&mut reader)? == TID);
+    assert!(rt; read_member(&mut reader)? == member);
+    assert!(rt; read_nodes(alloc, &mut reader)? == nodes);
+    assert!(rt; reader.left() == 0);
     Ok(())
 }
 
@@ -130,7 +130,7 @@ fn records_are_refused_at_their_first_fault(rt: HostRuntime) -> Result<(), Fail>
         bytes[at] = byte;
         let mut reader = Reader::new(&bytes[..len]);
         assert!(rt; decode(rt.alloc(), &mut reader) == Err(RecordFault::Codec { fault }));
-        assert_eq!(rt; reader.left(), len);
+        assert!(rt; reader.left() == len);
     }
     Ok(())
 }
@@ -140,11 +140,8 @@ fn nodes_that_do_not_rise_are_refused(rt: HostRuntime) -> Result<(), Fail> {
     for (nodes, at, tag) in [([2, 1, 1], 2, 1), ([2, 2, 1], 2, 1), ([2, 16, 17], 1, 16)] {
         let mut reader = Reader::new(&nodes);
         let fault = CodecFault::BadTag { at, tag };
-        assert_eq!(rt;
-            read_nodes(rt.alloc(), &mut reader),
-            Err(RecordFault::Codec { fault })
-        );
-        assert_eq!(rt; reader.left(), 3);
+        assert!(rt; read_nodes(rt.alloc(), &mut reader) == Err(RecordFault::Codec { fault }));
+        assert!(rt; reader.left() == 3);
     }
     Ok(())
 }

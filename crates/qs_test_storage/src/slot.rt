@@ -89,12 +89,12 @@ fn turn_twice(disk: &mut MemDisk) -> Result<u64, SlotFault>
 #[test]
 fn values_go_to_the_slots_in_turn(rt: HostRuntime) -> Result<(), Fail> {
     let mut disk = disk_of(rt.alloc(), &ZEROS, &ZEROS, &[])?;
-    assert_eq!(rt; turn_twice(&mut disk), Ok(2));
+    assert!(rt; turn_twice(&mut disk) == Ok(2));
     let bytes = disk.bytes();
-    assert_eq!(rt; bytes.get(..57), Some(FIRST.as_slice()));
-    assert_eq!(rt; bytes.get(4_096..4_153), Some(SECOND.as_slice()));
+    assert!(rt; bytes.get(..57) == Some(FIRST.as_slice()));
+    assert!(rt; bytes.get(4_096..4_153) == Some(SECOND.as_slice()));
     let slots = open_slots(&mut disk, LIMIT)?;
-    assert_eq!(rt; slots.sequence(), 2);
+    assert!(rt; slots.sequence() == 2);
     assert!(rt; slots.value() == value(2, 1));
     Ok(())
 }
@@ -134,9 +134,9 @@ fn slots_are_opened(rt: HostRuntime) -> Result<(), Fail> {
 fn each_disk_call_may_fail(rt: HostRuntime) -> Result<(), Fail> {
     for call in 1..15 {
         let mut disk = disk_of(rt.alloc(), &ZEROS, &ZEROS, &[call])?;
-        assert_eq!(rt; turn_twice(&mut disk), Err(SlotFault::DiskFailed));
+        assert!(rt; turn_twice(&mut disk) == Err(SlotFault::DiskFailed));
     }
     let mut disk = disk_of(rt.alloc(), &ZEROS, &ZEROS, &[15])?;
-    assert_eq!(rt; turn_twice(&mut disk), Ok(2));
+    assert!(rt; turn_twice(&mut disk) == Ok(2));
     Ok(())
 }
