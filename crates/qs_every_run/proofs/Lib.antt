@@ -272,3 +272,5 @@ pub mod TalliedCommands
 pub mod TalliedStages
 pub mod TalliedOpened
 pub mod TalliedMoves
+pub mod UncrossedEntries
+pub mod UncrossedRuns

@@ -50,11 +50,11 @@ crossed_more (Some earlier) place member m xs is = by (lookup (is_at (member_cmp
 -- ---- what leaves how many were given
 
 module _ (n i m number : ℕ) where
-  given_as : (tx later : TransactionValue) → sent_in i (sent_on later (way_between n m number).link) ≡ sent_in i (sent_on tx (way_between n m number).link) → HasGiven n i m number tx → HasGiven n i m number later
+  pub given_as : (tx later : TransactionValue) → sent_in i (sent_on later (way_between n m number).link) ≡ sent_in i (sent_on tx (way_between n m number).link) → HasGiven n i m number tx → HasGiven n i m number later
   given_as tx later is h = subst (λ (k : ℕ). number ≤ k) (sym is) h
 
   -- an issue gives no fewer, in the incarnation in which its node is
-  given_issued : (tx : TransactionValue) (at : RequestNo) (request : Request) (peer_inc place : ℕ) → (at.link.from.0 ≡ n → request.inc ≡ i) → HasGiven n i m number tx → HasGiven n i m number (issued at request peer_inc place tx)
+  pub given_issued : (tx : TransactionValue) (at : RequestNo) (request : Request) (peer_inc place : ℕ) → (at.link.from.0 ≡ n → request.inc ≡ i) → HasGiven n i m number tx → HasGiven n i m number (issued at request peer_inc place tx)
   given_issued tx at request peer_inc place now h = by (is_at (link_cmp (way_between n m number).link) at.link) refl
     where
       new : TransactionValue

@@ -93,18 +93,21 @@ present_stands client tid inc loan (first ∷ loans) found given now = by (last_
 
 module _ (W : Tid → Type 0) where
   loans_tallied : (loans : List Lent) (t : Tally) → ((k : Tid) → IsBare k t → IsTallied k t ⊎ (list_any (is_standing_loan k t.inc) loans ≡ false)) → AreTallied W t → AreTallied W (record t { loans = loans })
-  loans_tallied loans t off h = record { rising = h.rising; each = λ k. by k (h.each k); runs = h.runs; asked = h.asked; given = h.given; besides = h.besides }
+  loans_tallied loans t off h = record { in_inc = h.in_inc; rising = h.rising; each = λ k. by k (h.each k); runs = λ k p known home runs. on k (h.runs k p known home runs); asked = h.asked; given = h.given; besides = λ k w. on k (h.besides k w) }
     where
       new : Tally
       new = record t { loans = loans }
 
+      on : (k : Tid) → IsTallied k t → IsTallied k new
+      on k it = record { began = it.began; numbers = it.numbers }
+
       by : (k : Tid) → IsTallied k t ⊎ IsBare k t → IsTallied k new ⊎ IsBare k new
-      by k (inl it) = inl it
+      by k (inl it) = inl (on k it)
       by k (inr bare) = at (off k bare)
         where
           at : IsTallied k t ⊎ (list_any (is_standing_loan k t.inc) loans ≡ false) → IsTallied k new ⊎ IsBare k new
-          at (inl it) = inl it
-          at (inr none) = inr (record { waits = bare.waits; lent = none })
+          at (inl it) = inl (on k it)
+          at (inr none) = inr (record { waits = bare.waits; lent = none; none = bare.none })
 
   pub take_tallied : (client : ClientNo) (tid : Tid) (t : Tally) → AreTallied W t → AreTallied W (record t { loans = take_first client tid t.loans })
   take_tallied client tid t = loans_tallied (take_first client tid t.loans) t (λ k bare. inr (taken_off k t.inc client tid t.loans bare.lent))

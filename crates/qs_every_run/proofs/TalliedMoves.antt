@@ -132,7 +132,7 @@ module _ (node : NodeValue) where
   may_serve_all apart h = all_counted node.queues apart (λ tid part s known some. by tid part s known some (h.each tid))
     where
       by : (tid : Tid) (part : Participant) (s : ℕ) → tm.part_of tid node.manager ≡ Some part → 1 ≤ waits_in tid node.queues s → IsTallied tid (tally_of node) ⊎ IsBare tid (tally_of node) → (member_of part (server_no s)).served + waits_in tid node.queues s ≤ last_number
-      by tid part s known some (inl it) = most ((member_of part (server_no s)).served + waits_in tid node.queues s) (given_in tid node.locals) (subst (λ (o : Option Participant). served_in o s + waits_in tid node.queues s ≤ given_in tid node.locals) known (it s)) (h.given tid)
+      by tid part s known some (inl it) = most ((member_of part (server_no s)).served + waits_in tid node.queues s) (given_in tid node.locals) (subst (λ (o : Option Participant). served_in o s + waits_in tid node.queues s ≤ given_in tid node.locals) known (it.numbers s)) (h.given tid)
         where
           most : (a b : ℕ) → a ≤ b → b ≤ last_number → a ≤ last_number
           most a b p q = omega (arith, p, q)

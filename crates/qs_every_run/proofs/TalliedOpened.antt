@@ -28,6 +28,7 @@ use Rattle.qs_refine.specs.Sound.{is_loan_before}
 use Rattle.qs_lawful.proofs.Apart.{Apart, same_or_apart}
 use Rattle.qs_lawful.proofs.Faces.{put_apart}
 use Rattle.qs_lawful.proofs.FactsKept.{each_changed}
+use Rattle.qs_lawful.proofs.FreshLog.{all_taken}
 use Rattle.qs_lawful.proofs.Marks.{changed_rises, put_there}
 use Rattle.qs_lawful.proofs.Truths.{clash, of_some}
 use Rattle.qs_every_run.specs.Counted.{AreTallied, NoneBesides, tally_of}
@@ -135,8 +136,9 @@ old_loans inc tid (loan ∷ loans) before = off (is_standing_loan tid inc loan) 
 
 pub opened_tallied : (alloc : Global) (setting : Setting) (found : Recovered) (kept : Kept) → list_all (is_loan_before setting.inc) kept.loans ≡ true → AreTallied NoneBesides (tally_of (opened_node alloc setting found kept))
 opened_tallied alloc setting found kept before = record {
+  in_inc = (all_taken (found.in_doubt ++ found.untold) (new_manager alloc setting)).inc;
   rising = taken.rising;
-  each = λ tid. inr (record { waits = λ s. refl; lent = old_loans setting.inc tid kept.loans before });
+  each = λ tid. inr (record { waits = λ s. refl; lent = old_loans setting.inc tid kept.loans before; none = refl });
   runs = λ tid part known home runs. absurd ((taken.each tid part known).decided home runs);
   asked = λ tid part known is. absurd (clash (sym (taken.each tid part known).unasked ∙ is));
   given = λ tid. omega arith;

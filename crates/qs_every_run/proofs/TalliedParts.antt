@@ -65,9 +65,12 @@ same_served part server m same s = by (s == server.0) refl
 
 -- ---- a tally in which less was served, nothing else waits and no fewer numbers were given
 
-pub less_tallied : (tid : Tid) (t u : Tally) → IsTallied tid t → ((s : ℕ) → served_in (tm.part_of tid u.manager) s ≤ served_in (tm.part_of tid t.manager) s) → ((s : ℕ) → waits_in tid u.queues s ≤ waits_in tid t.queues s)
+pub less_tallied : (tid : Tid) (t u : Tally) → u.inc ≡ t.inc → IsTallied tid t → ((s : ℕ) → served_in (tm.part_of tid u.manager) s ≤ served_in (tm.part_of tid t.manager) s) → ((s : ℕ) → waits_in tid u.queues s ≤ waits_in tid t.queues s)
     → given_in tid t.locals ≤ given_in tid u.locals → IsTallied tid u
-less_tallied tid t u was served waits given s = less (served_in (tm.part_of tid t.manager) s) (served_in (tm.part_of tid u.manager) s) (waits_in tid t.queues s) (waits_in tid u.queues s) (given_in tid t.locals) (given_in tid u.locals) (was s) (served s) (waits s) given
+less_tallied tid t u same was served waits given = record {
+  began = was.began ∙ sym same;
+  numbers = λ s. less (served_in (tm.part_of tid t.manager) s) (served_in (tm.part_of tid u.manager) s) (waits_in tid t.queues s) (waits_in tid u.queues s) (given_in tid t.locals) (given_in tid u.locals) (was.numbers s) (served s) (waits s) given;
+}
   where
     less : (a b c d e f : ℕ) → a + c ≤ e → b ≤ a → d ≤ c → e ≤ f → b + d ≤ f
     less a b c d e f p q r v = omega (arith, p, q, r, v)
@@ -93,6 +96,7 @@ module _ (tid : Tid) (f : Participant → Participant) (served : (p : Participan
 module _ (W : Tid → Type 0) where
   pub part_tallied : (tid : Tid) (f : Participant → Participant) → IsStill f → (t : Tally) → AreTallied W t → AreTallied W (managed (tm.with_part tid f) t)
   part_tallied tid f still t h = record {
+    in_inc = h.in_inc;
     rising = changed_rises tid f t.manager h.rising;
     each = λ k. by k (h.each k);
     runs = each_changed tid f t.manager (λ k p. p.engage.home ≡ true → p.outcome ≡ None → IsTallied k new) (λ k p far known home runs. less k (h.runs k p known home runs))
@@ -106,15 +110,16 @@ module _ (W : Tid → Type 0) where
       new = managed (tm.with_part tid f) t
 
       less : (k : Tid) → IsTallied k t → IsTallied k new
-      less k was = less_tallied k t new was (λ s. less_served tid f still.served k t.manager s) (λ s. at_most (waits_in k t.queues s)) (at_most (given_in k t.locals))
+      less k was = less_tallied k t new refl was (λ s. less_served tid f still.served k t.manager s) (λ s. at_most (waits_in k t.queues s)) (at_most (given_in k t.locals))
 
       by : (k : Tid) → IsTallied k t ⊎ IsBare k t → IsTallied k new ⊎ IsBare k new
       by k (inl was) = inl (less k was)
-      by k (inr bare) = inr (record { waits = bare.waits; lent = bare.lent })
+      by k (inr bare) = inr (record { waits = bare.waits; lent = bare.lent; none = bare.none })
 
   -- commit is asked for at the home
   pub ask_tallied : (tid : Tid) → (t : Tally) → ((p : Participant) → tm.part_of tid t.manager ≡ Some p → p.engage.home ≡ true) → AreTallied W t → AreTallied W (managed (tm.ask tid) t)
   ask_tallied tid t home h = record {
+    in_inc = h.in_inc;
     rising = changed_rises tid participant.ask t.manager h.rising;
     each = λ k. by k (h.each k);
     runs = each_changed tid participant.ask t.manager (λ k p. p.engage.home ≡ true → p.outcome ≡ None → IsTallied k new) (λ k p far known at runs. less k (h.runs k p known at runs)) (λ p known at runs. less tid (h.runs tid p known at runs));
@@ -127,11 +132,11 @@ module _ (W : Tid → Type 0) where
       new = managed (tm.ask tid) t
 
       less : (k : Tid) → IsTallied k t → IsTallied k new
-      less k was = less_tallied k t new was (λ s. less_served tid participant.ask (λ p r. at_most (member_of p (server_no r)).served) k t.manager s) (λ s. at_most (waits_in k t.queues s)) (at_most (given_in k t.locals))
+      less k was = less_tallied k t new refl was (λ s. less_served tid participant.ask (λ p r. at_most (member_of p (server_no r)).served) k t.manager s) (λ s. at_most (waits_in k t.queues s)) (at_most (given_in k t.locals))
 
       by : (k : Tid) → IsTallied k t ⊎ IsBare k t → IsTallied k new ⊎ IsBare k new
       by k (inl was) = inl (less k was)
-      by k (inr bare) = inr (record { waits = bare.waits; lent = bare.lent })
+      by k (inr bare) = inr (record { waits = bare.waits; lent = bare.lent; none = bare.none })
 
   -- ---- one more begins
 
@@ -147,6 +152,7 @@ module _ (W : Tid → Type 0) where
 
   pub begin_tallied : (client : ClientNo) (t : Tally) → AreTallied W t → AreTallied W (managed (tm.begin client) t)
   begin_tallied client t h = record {
+    in_inc = h.in_inc;
     rising = put_rises tid_cmp tid_total tid part t.manager.known h.rising;
     each = λ k. both k (same_or_apart tid k);
     runs = λ k p known home runs. stands k p known (same_or_apart tid k) home runs;
@@ -171,19 +177,28 @@ module _ (W : Tid → Type 0) where
       begun = put_there tid part more
 
       own : IsTallied tid t ⊎ IsBare tid t → IsTallied tid new
-      own (inl was) s = subst (λ (o : Option Participant). served_in o s + waits_in tid t.queues s ≤ given_in tid t.locals) (sym begun)
-          (less (served_in (tm.part_of tid t.manager) s) (waits_in tid t.queues s) (given_in tid t.locals) (member_of part (server_no s)).served (new_served client t.manager.ticks s) (was s))
+      own (inl was) = record {
+        began = h.in_inc;
+        numbers = λ s. subst (λ (o : Option Participant). served_in o s + waits_in tid t.queues s ≤ given_in tid t.locals) (sym begun)
+            (less (served_in (tm.part_of tid t.manager) s) (waits_in tid t.queues s) (given_in tid t.locals) (member_of part (server_no s)).served (new_served client t.manager.ticks s) (was.numbers s));
+      }
         where
           less : (a b c d : ℕ) → d ≡ 0 → a + b ≤ c → d + b ≤ c
           less a b c d e f = omega (arith, e, f)
-      own (inr bare) s = subst (λ (o : Option Participant). served_in o s + waits_in tid t.queues s ≤ given_in tid t.locals) (sym begun)
-          (less (waits_in tid t.queues s) (given_in tid t.locals) (member_of part (server_no s)).served (new_served client t.manager.ticks s) (bare.waits s))
+      own (inr bare) = record {
+        began = h.in_inc;
+        numbers = λ s. subst (λ (o : Option Participant). served_in o s + waits_in tid t.queues s ≤ given_in tid t.locals) (sym begun)
+            (less (waits_in tid t.queues s) (given_in tid t.locals) (member_of part (server_no s)).served (new_served client t.manager.ticks s) (bare.waits s));
+      }
         where
           less : (b c d : ℕ) → d ≡ 0 → b ≡ 0 → d + b ≤ c
           less b c d e f = omega (arith, e, f)
 
       far_on : (k : Tid) → Apart tid k → IsTallied k t → IsTallied k new
-      far_on k far was s = subst (λ (o : Option Participant). served_in o s + waits_in k t.queues s ≤ given_in k t.locals) (sym (put_apart tid k part more far)) (was s)
+      far_on k far was = record {
+        began = was.began;
+        numbers = λ s. subst (λ (o : Option Participant). served_in o s + waits_in k t.queues s ≤ given_in k t.locals) (sym (put_apart tid k part more far)) (was.numbers s);
+      }
 
       other : (k : Tid) → IsTallied k t → (tid ≡ k) ⊎ Apart tid k → IsTallied k new
       other k was (inl e) = subst (λ (x : Tid). IsTallied x new) e (own (h.each tid))
@@ -195,7 +210,7 @@ module _ (W : Tid → Type 0) where
         where
           by : IsTallied k t ⊎ IsBare k t → IsTallied k new ⊎ IsBare k new
           by (inl was) = inl (far_on k far was)
-          by (inr bare) = inr (record { waits = bare.waits; lent = bare.lent })
+          by (inr bare) = inr (record { waits = bare.waits; lent = bare.lent; none = bare.none })
 
       stands : (k : Tid) (p : Participant) → tm.part_of k new.manager ≡ Some p → (tid ≡ k) ⊎ Apart tid k → p.engage.home ≡ true → p.outcome ≡ None → IsTallied k new
       stands k p known (inl e) home runs = subst (λ (x : Tid). IsTallied x new) e (own (h.each tid))
@@ -206,16 +221,20 @@ module _ (W : Tid → Type 0) where
       unasked k p known (inr far) is = h.asked k p (sym (put_apart tid k part more far) ∙ known) is
 
   pub tick_tallied : (t : Tally) → AreTallied W t → AreTallied W (managed tm.tick t)
-  tick_tallied t h = record { rising = h.rising; each = λ k. by k (h.each k); runs = h.runs; asked = h.asked; given = h.given; besides = h.besides }
+  tick_tallied t h = record { in_inc = h.in_inc; rising = h.rising; each = λ k. by k (h.each k); runs = λ k p known home runs. on k (h.runs k p known home runs); asked = h.asked; given = h.given; besides = λ k w. on k (h.besides k w) }
     where
+      on : (k : Tid) → IsTallied k t → IsTallied k (managed tm.tick t)
+      on k was = record { began = was.began; numbers = was.numbers }
+
       by : (k : Tid) → IsTallied k t ⊎ IsBare k t → IsTallied k (managed tm.tick t) ⊎ IsBare k (managed tm.tick t)
-      by k (inl was) = inl was
-      by k (inr bare) = inr (record { waits = bare.waits; lent = bare.lent })
+      by k (inl was) = inl (on k was)
+      by k (inr bare) = inr (record { waits = bare.waits; lent = bare.lent; none = bare.none })
 
   -- ---- one is forgotten: nothing changes of what waits
 
   pub forget_tallied : (tid : Tid) (t : Tally) → ((k : Tid) (s : ℕ) → waits_in k (drop_counts tid t.queues) s ≡ waits_in k t.queues s) → AreTallied W t → AreTallied W (record t { manager = tm.forget tid t.manager; queues = drop_counts tid t.queues })
   forget_tallied tid t same h = record {
+    in_inc = h.in_inc;
     rising = remove_rises tid_cmp (is_at (tid_cmp tid)) t.manager.known h.rising;
     each = λ k. by k (h.each k);
     runs = λ k p known home runs. stood k p known (same_or_apart k tid) (λ was. less k (h.runs k p was home runs));
@@ -239,8 +258,8 @@ module _ (W : Tid → Type 0) where
       served k s (inr far) = subst (λ (o : Option Participant). served_in o s ≤ served_in (tm.part_of k t.manager) s) (sym (forget_apart k tid t.manager far.by)) (at_most (served_in (tm.part_of k t.manager) s))
 
       less : (k : Tid) → IsTallied k t → IsTallied k new
-      less k was = less_tallied k t new was (λ s. served k s (same_or_apart k tid)) (λ s. subst (λ (n : ℕ). n ≤ waits_in k t.queues s) (sym (same k s)) (at_most (waits_in k t.queues s))) (at_most (given_in k t.locals))
+      less k was = less_tallied k t new refl was (λ s. served k s (same_or_apart k tid)) (λ s. subst (λ (n : ℕ). n ≤ waits_in k t.queues s) (sym (same k s)) (at_most (waits_in k t.queues s))) (at_most (given_in k t.locals))
 
       by : (k : Tid) → IsTallied k t ⊎ IsBare k t → IsTallied k new ⊎ IsBare k new
       by k (inl was) = inl (less k was)
-      by k (inr bare) = inr (record { waits = λ s. same k s ∙ bare.waits s; lent = bare.lent })
+      by k (inr bare) = inr (record { waits = λ s. same k s ∙ bare.waits s; lent = bare.lent; none = bare.none })

@@ -56,6 +56,7 @@ module _ (W : Tid → Type 0) where
     -- whether it waits or is refused
     issued_tallied : (queues : IpcValue) → ((s : ℕ) → waits_in tid queues s ≤ waits_in tid t.queues s + 1) → ((k : Tid) → Apart tid k → (s : ℕ) → waits_in k queues s ≡ waits_in k t.queues s) → AreTallied W (record t { queues = queues; locals = numbered })
     issued_tallied queues more same = record {
+      in_inc = h.in_inc;
       rising = h.rising;
       each = λ k. by k (same_or_apart tid k);
       runs = λ k p known home runs. other k (same_or_apart tid k) (h.runs k p known home runs);
@@ -68,14 +69,17 @@ module _ (W : Tid → Type 0) where
         new = record t { queues = queues; locals = numbered }
 
         own : IsTallied tid new
-        own s = subst (λ (n : ℕ). served_in (tm.part_of tid t.manager) s + waits_in tid queues s ≤ n) (sym (given_here tid (given_in tid t.locals + 1) t.locals))
-            (less (served_in (tm.part_of tid t.manager) s) (waits_in tid t.queues s) (waits_in tid queues s) (given_in tid t.locals) (was s) (more s))
+        own = record {
+          began = was.began;
+          numbers = λ s. subst (λ (n : ℕ). served_in (tm.part_of tid t.manager) s + waits_in tid queues s ≤ n) (sym (given_here tid (given_in tid t.locals + 1) t.locals))
+              (less (served_in (tm.part_of tid t.manager) s) (waits_in tid t.queues s) (waits_in tid queues s) (given_in tid t.locals) (was.numbers s) (more s));
+        }
           where
             less : (a b c d : ℕ) → a + b ≤ d → c ≤ b + 1 → a + c ≤ d + 1
             less a b c d p q = omega (arith, p, q)
 
         far_on : (k : Tid) → Apart tid k → IsTallied k t → IsTallied k new
-        far_on k far it = less_tallied k t new it (λ s. at_most (served_in (tm.part_of k t.manager) s)) (λ s. subst (λ (n : ℕ). n ≤ waits_in k t.queues s) (sym (same k far s)) (at_most (waits_in k t.queues s)))
+        far_on k far it = less_tallied k t new refl it (λ s. at_most (served_in (tm.part_of k t.manager) s)) (λ s. subst (λ (n : ℕ). n ≤ waits_in k t.queues s) (sym (same k far s)) (at_most (waits_in k t.queues s)))
             (subst (λ (n : ℕ). given_in k t.locals ≤ n) (sym (given_apart tid k (given_in tid t.locals + 1) t.locals far)) (at_most (given_in k t.locals)))
 
         other : (k : Tid) → (tid ≡ k) ⊎ Apart tid k → IsTallied k t → IsTallied k new
@@ -88,7 +92,7 @@ module _ (W : Tid → Type 0) where
           where
             at : IsTallied k t ⊎ IsBare k t → IsTallied k new ⊎ IsBare k new
             at (inl it) = inl (far_on k far it)
-            at (inr bare) = inr (record { waits = λ s. same k far s ∙ bare.waits s; lent = bare.lent })
+            at (inr bare) = inr (record { waits = λ s. same k far s ∙ bare.waits s; lent = bare.lent; none = given_apart tid k (given_in tid t.locals + 1) t.locals far ∙ bare.none })
 
         fits : (k : Tid) → (tid ≡ k) ⊎ Apart tid k → given_in k numbered ≤ last_number
         fits k (inl e) = subst (λ (x : Tid). given_in x numbered ≤ last_number) e (subst (λ (n : ℕ). n ≤ last_number) (sym (given_here tid (given_in tid t.locals + 1) t.locals)) room)
@@ -157,6 +161,7 @@ module _ (W : Tid → Type 0) where
     -- and is dropped
     pub left_tallied : AreTallied W left
     left_tallied = record {
+      in_inc = h.in_inc;
       rising = h.rising;
       each = λ k. by k (h.each k);
       runs = λ k p known home runs. on k (h.runs k p known home runs);
@@ -166,11 +171,11 @@ module _ (W : Tid → Type 0) where
     }
       where
         on : (k : Tid) → IsTallied k t → IsTallied k left
-        on k it = less_tallied k t left it (λ s. at_most (served_in (tm.part_of k t.manager) s)) (λ s. any_fewer k s (same_or_apart d.tid k)) (at_most (given_in k t.locals))
+        on k it = less_tallied k t left refl it (λ s. at_most (served_in (tm.part_of k t.manager) s)) (λ s. any_fewer k s (same_or_apart d.tid k)) (at_most (given_in k t.locals))
 
         by : (k : Tid) → IsTallied k t ⊎ IsBare k t → IsTallied k left ⊎ IsBare k left
         by k (inl it) = inl (on k it)
-        by k (inr bare) = inr (record { waits = λ s. none_left (waits_in k left.queues s) (waits_in k t.queues s) (any_fewer k s (same_or_apart d.tid k)) (bare.waits s); lent = bare.lent })
+        by k (inr bare) = inr (record { waits = λ s. none_left (waits_in k left.queues s) (waits_in k t.queues s) (any_fewer k s (same_or_apart d.tid k)) (bare.waits s); lent = bare.lent; none = bare.none })
 
     -- or is served: what waits had numbers
 
@@ -206,33 +211,34 @@ module _ (W : Tid → Type 0) where
             plus a = omega arith
 
     pub served_it : IsTallied d.tid served_now
-    served_it s = by (s == server.0) refl (tm.part_of d.tid t.manager) refl
+    served_it = record { began = stood.began; numbers = λ s. counted_now s (s == server.0) refl (tm.part_of d.tid t.manager) refl }
       where
-        by : (b : Bool) → (s == server.0) ≡ b → (o : Option Participant) → tm.part_of d.tid t.manager ≡ o → served_in (tm.part_of d.tid served_now.manager) s + waits_in d.tid left.queues s ≤ given_in d.tid t.locals
-        by b is None none = subst (λ (o : Option Participant). served_in o s + waits_in d.tid left.queues s ≤ given_in d.tid t.locals) (sym (part_unknown d.tid (participant.served server) t.manager none))
-            (less (waits_in d.tid left.queues s) (waits_in d.tid t.queues s) (served_in (tm.part_of d.tid t.manager) s) (given_in d.tid t.locals) (fewer s) (stood s))
+        counted_now : (s : ℕ) (b : Bool) → (s == server.0) ≡ b → (o : Option Participant) → tm.part_of d.tid t.manager ≡ o → served_in (tm.part_of d.tid served_now.manager) s + waits_in d.tid left.queues s ≤ given_in d.tid t.locals
+        counted_now s b is None none = subst (λ (o : Option Participant). served_in o s + waits_in d.tid left.queues s ≤ given_in d.tid t.locals) (sym (part_unknown d.tid (participant.served server) t.manager none))
+            (less (waits_in d.tid left.queues s) (waits_in d.tid t.queues s) (served_in (tm.part_of d.tid t.manager) s) (given_in d.tid t.locals) (fewer s) (stood.numbers s))
           where
             less : (a b c e : ℕ) → a ≤ b → c + b ≤ e → 0 + a ≤ e
             less a b c e p q = omega (arith, p, q)
-        by true is (Some p) known = subst (λ (o : Option Participant). served_in o s + waits_in d.tid left.queues s ≤ given_in d.tid t.locals) (sym (part_changed d.tid (participant.served server) t.manager p known))
+        counted_now s true is (Some p) known = subst (λ (o : Option Participant). served_in o s + waits_in d.tid left.queues s ≤ given_in d.tid t.locals) (sym (part_changed d.tid (participant.served server) t.manager p known))
             (less (member_of (participant.served server p) (server_no s)).served (member_of p (server_no s)).served (waits_in d.tid left.queues s) (waits_in d.tid t.queues s) (count_of d.tid behind) (given_in d.tid t.locals)
             (once_more p s true is) (now s ∙ picked (s == server.0) is) (subst (λ (k : ℕ). waits_in d.tid t.queues k ≡ count_of d.tid behind + 1) (sym (eqb-true s server.0 is)) one_more)
-            (subst (λ (o : Option Participant). served_in o s + waits_in d.tid t.queues s ≤ given_in d.tid t.locals) known (stood s)))
+            (subst (λ (o : Option Participant). served_in o s + waits_in d.tid t.queues s ≤ given_in d.tid t.locals) known (stood.numbers s)))
           where
             picked : (b : Bool) → b ≡ true → (if b then count_of d.tid behind else waits_in d.tid t.queues s) ≡ count_of d.tid behind
             picked b e = rw e refl
 
             less : (a b c e f g : ℕ) → a ≤ b + 1 → c ≡ f → e ≡ f + 1 → b + e ≤ g → a + c ≤ g
             less a b c e f g p q r v = omega (arith, p, q, r, v)
-        by false is (Some p) known = subst (λ (o : Option Participant). served_in o s + waits_in d.tid left.queues s ≤ given_in d.tid t.locals) (sym (part_changed d.tid (participant.served server) t.manager p known))
+        counted_now s false is (Some p) known = subst (λ (o : Option Participant). served_in o s + waits_in d.tid left.queues s ≤ given_in d.tid t.locals) (sym (part_changed d.tid (participant.served server) t.manager p known))
             (less (member_of (participant.served server p) (server_no s)).served (member_of p (server_no s)).served (waits_in d.tid left.queues s) (waits_in d.tid t.queues s) (given_in d.tid t.locals)
-            (once_more p s false is) (fewer s) (subst (λ (o : Option Participant). served_in o s + waits_in d.tid t.queues s ≤ given_in d.tid t.locals) known (stood s)))
+            (once_more p s false is) (fewer s) (subst (λ (o : Option Participant). served_in o s + waits_in d.tid t.queues s ≤ given_in d.tid t.locals) known (stood.numbers s)))
           where
             less : (a b c e g : ℕ) → a ≤ b + 0 → c ≤ e → b + e ≤ g → a + c ≤ g
             less a b c e g p q r = omega (arith, p, q, r)
 
     pub served_tallied : AreTallied W served_now
     served_tallied = record {
+      in_inc = h.in_inc;
       rising = changed_rises d.tid (participant.served server) t.manager h.rising;
       each = λ k. by k (same_or_apart d.tid k);
       runs = each_changed d.tid (participant.served server) t.manager (λ k p. p.engage.home ≡ true → p.outcome ≡ None → IsTallied k served_now) (λ k p far known home runs. far_on k far (h.runs k p known home runs)) (λ p known home runs. served_it);
@@ -243,7 +249,7 @@ module _ (W : Tid → Type 0) where
     }
       where
         far_on : (k : Tid) → Apart d.tid k → IsTallied k t → IsTallied k served_now
-        far_on k far it = less_tallied k t served_now it (λ s. subst (λ (o : Option Participant). served_in o s ≤ served_in (tm.part_of k t.manager) s) (sym (part_apart d.tid k (participant.served server) t.manager far)) (at_most (served_in (tm.part_of k t.manager) s)))
+        far_on k far it = less_tallied k t served_now refl it (λ s. subst (λ (o : Option Participant). served_in o s ≤ served_in (tm.part_of k t.manager) s) (sym (part_apart d.tid k (participant.served server) t.manager far)) (at_most (served_in (tm.part_of k t.manager) s)))
             (λ s. any_fewer k s (inr far)) (at_most (given_in k t.locals))
 
         other : (k : Tid) → (d.tid ≡ k) ⊎ Apart d.tid k → IsTallied k t → IsTallied k served_now
@@ -256,4 +262,4 @@ module _ (W : Tid → Type 0) where
           where
             at : IsTallied k t ⊎ IsBare k t → IsTallied k served_now ⊎ IsBare k served_now
             at (inl it) = inl (far_on k far it)
-            at (inr bare) = inr (record { waits = λ s. far_waits k far s ∙ bare.waits s; lent = bare.lent })
+            at (inr bare) = inr (record { waits = λ s. far_waits k far s ∙ bare.waits s; lent = bare.lent; none = bare.none })

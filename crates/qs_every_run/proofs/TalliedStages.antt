@@ -101,7 +101,7 @@ passes_keep : (work : Work) (tid : Tid) → Keeps work (try tid pass_rule work)
 passes_keep work tid = rules.undecided_keeps N tid (pass_rule tid) work (λ part known open_now. rules.if_keeps N (is_pass_due tid part work) (vote_pass tid work) work work (λ is h. due part known open_now is h) (λ is h. h))
   where
     due : (part : Participant) → part_of tid work ≡ Some part → is_undecided part ≡ true → is_pass_due tid part work ≡ true → Keeps work (vote_pass tid work)
-    due part known open_now is h = back (pass_keeps (λ k. tid ≡ k) tid refl work (record { rising = h.rising; each = h.each; runs = h.runs; asked = h.asked; given = h.given; besides = λ k e. subst (λ (x : Tid). IsTallied x (tally_of work.node)) e it }))
+    due part known open_now is h = back (pass_keeps (λ k. tid ≡ k) tid refl work (record { in_inc = h.in_inc; rising = h.rising; each = h.each; runs = h.runs; asked = h.asked; given = h.given; besides = λ k e. subst (λ (x : Tid). IsTallied x (tally_of work.node)) e it }))
       where
         asked : part.asked ≡ true
         asked = (both_and part.asked (not (is_busy tid work.node part)) (both_and (part.asked && not (is_busy tid work.node part)) (needs_pass part && not (is_put_off (doings_of tid work))) is).0).0
@@ -110,7 +110,7 @@ passes_keep work tid = rules.undecided_keeps N tid (pass_rule tid) work (λ part
         it = h.runs tid part known (h.asked tid part known asked) (none_of part open_now)
 
         back : AreTallied (λ (k : Tid). tid ≡ k) (tally_of (vote_pass tid work).node) → AreTallied N (tally_of (vote_pass tid work).node)
-        back g = record { rising = g.rising; each = g.each; runs = g.runs; asked = g.asked; given = g.given; besides = λ k w. absurd w }
+        back g = record { in_inc = g.in_inc; rising = g.rising; each = g.each; runs = g.runs; asked = g.asked; given = g.given; besides = λ k w. absurd w }
 
 readies_keep : (work : Work) (tid : Tid) → Keeps work (try tid ready_rule work)
 readies_keep work tid = rules.undecided_keeps N tid (ready_rule tid) work (λ part known open_now. rules.if_keeps N (may_answer tid part work) (ready tid part work) work work

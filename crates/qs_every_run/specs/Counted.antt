@@ -1,5 +1,6 @@
 -- At the only node of a run all that waits can be counted: each request of a transaction has a number of its own, and what a server has served of it, with what waits
--- there, is no more than the numbers that were given. A vote that a log left counts what it covered in an earlier incarnation; of that nothing is issued any more.
+-- there, is no more than the numbers that were given. A vote that a log left counts what it covered in an earlier incarnation; of that nothing is issued any more: numbers
+-- are given in the incarnation alone in which a transaction began.
 use Rattle.std.specs.Prelude.{◌≡◌, ◌⊎◌, ℕ, ◌+◌, ◌≤◌, true, false, List, Option, Some, None, unwrap_or}
 use Rattle.std.specs.BTreeMap.{is_at}
 use Rattle.std.specs.List.{list_any}
@@ -48,19 +49,22 @@ waits_in tid queues s = count_of tid (queue_at queues (server_no s)).waiting
 abbrev pub given_in : Tid → List (Tid × ℕ) → ℕ
 given_in tid locals = unwrap_or (lookup (is_at (tid_cmp tid)) locals) 0
 
--- at each server, what was served and what waits has numbers that were given
-abbrev pub IsTallied : Tid → Tally → Type 0
-IsTallied tid t = (s : ℕ) → served_in (tm.part_of tid t.manager) s + waits_in tid t.queues s ≤ given_in tid t.locals
+-- it began in this incarnation, and at each server what was served and what waits has numbers that were given
+pub record IsTallied (tid : Tid) (t : Tally) : Type 0 where
+  pub began : tid.inc ≡ t.inc
+  pub numbers : (s : ℕ) → served_in (tm.part_of tid t.manager) s + waits_in tid t.queues s ≤ given_in tid t.locals
 
--- nothing of it waits or is lent here
+-- nothing of it waits or is lent here, and no number was given
 pub record IsBare (tid : Tid) (t : Tally) : Type 0 where
   pub waits : (s : ℕ) → waits_in tid t.queues s ≡ 0
   pub lent : list_any (is_standing_loan tid t.inc) t.loans ≡ false
+  pub none : given_in tid t.locals ≡ 0
 
 -- ---- of a node to which no other sends anything: where something waits or is lent, and where it is undecided at its home, numbers were given for all of it.
 -- W tells for which transactions that is known besides
 
 pub record AreTallied (W : Tid → Type 0) (t : Tally) : Type 0 where
+  pub in_inc : t.manager.inc ≡ t.inc
   pub rising : IsRising tid_cmp t.manager.known
   pub each : (tid : Tid) → IsTallied tid t ⊎ IsBare tid t
   pub runs : (tid : Tid) (part : Participant) → tm.part_of tid t.manager ≡ Some part → part.engage.home ≡ true → part.outcome ≡ None → IsTallied tid t

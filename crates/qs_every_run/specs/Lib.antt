@@ -58,3 +58,4 @@ pub mod OnRecord
 pub mod CoversAhead
 pub mod RecordLaws
 pub mod Counted
+pub mod Uncrossed

@@ -1,4 +1,4 @@
--- What the only node of a run has served, and what waits there, as a test: it has numbers that were given, or nothing of it waits or is lent.
+-- What the only node of a run has served, and what waits there, as a test: it has numbers that were given, of what began in this incarnation, or nothing of it waits or is lent.
 use Rattle.std.specs.Prelude.{ℕ, ◌+◌, ◌==◌, Bool, true, not, ◌&&◌, ◌||◌, List, [], ◌∷◌, ◌++◌, map, is_none, nat_le}
 use Rattle.std.specs.List.{flat_map, list_all, list_any}
 use Rattle.std.specs.Ordering.{is_lt}
@@ -29,10 +29,10 @@ abbrev pub servers : List ℕ
 servers = up_to 7 ++ (32 ∷ 33 ∷ 34 ∷ [])
 
 abbrev is_tallied : Tally → Tid → Bool
-is_tallied t tid = list_all (λ (s : ℕ). nat_le (served_in (tm.part_of tid t.manager) s + waits_in tid t.queues s) (given_in tid t.locals)) servers
+is_tallied t tid = (tid.inc == t.inc) && list_all (λ (s : ℕ). nat_le (served_in (tm.part_of tid t.manager) s + waits_in tid t.queues s) (given_in tid t.locals)) servers
 
 abbrev is_bare : Tally → Tid → Bool
-is_bare t tid = list_all (λ (s : ℕ). waits_in tid t.queues s == 0) servers && not (list_any (is_standing_loan tid t.inc) t.loans)
+is_bare t tid = list_all (λ (s : ℕ). waits_in tid t.queues s == 0) servers && (not (list_any (is_standing_loan tid t.inc) t.loans) && (given_in tid t.locals == 0))
 
 abbrev is_given : Tally → Tid → Bool
 is_given t tid = nat_le (given_in tid t.locals) last_number
@@ -52,7 +52,7 @@ tids_in book t =
 
 abbrev are_tallied : List Tid → Tally → Bool
 are_tallied tids t =
-    (rises t.manager.known && list_all (part_ok t) t.manager.known) && list_all (λ (tid : Tid). is_given t tid && (is_tallied t tid || is_bare t tid)) tids
+    ((t.manager.inc == t.inc) && (rises t.manager.known && list_all (part_ok t) t.manager.known)) && list_all (λ (tid : Tid). is_given t tid && (is_tallied t tid || is_bare t tid)) tids
 
 abbrev is_counted_at : BookValue → Tally → Bool
 is_counted_at book t = are_tallied (tids_in book t) t
