@@ -1,15 +1,16 @@
--- As the rounds of a run end, and where one was cut short, its journal is lawful, another run may begin over its disk, and where the node is up what is committed
--- is on the disk.
-use Rattle.std.proofs.Common.{◌≡◌, ◌∙◌, ap, subst, sym, ℕ, ◌-◌, Bool, [], ◌∷◌}
+-- As the rounds of a run end, and where one was cut short, its journal is lawful, another run may begin over its disk, and what the disk has stands for the machine.
+use Rattle.std.proofs.Common.{◌≡◌, ◌∙◌, ap, subst, sym, ℕ, ◌-◌, Bool, List, [], ◌∷◌}
 use Rattle.std.specs.Global.{Global}
+use Rattle.std.specs.Prelude.{is_none}
 use Rattle.qs_cell.specs.Starts.{journal_of}
-use Rattle.qs_cell.specs.State.{disk_of}
+use Rattle.qs_cell.specs.State.{carried_of, cause_of, disk_of}
 use Rattle.qs_disk.specs.Disk.{DiskState}
+use Rattle.qs_journal.specs.declared.entry.Entry.{Entry}
 use Rattle.qs_machine.specs.Book.{BookValue}
 use Rattle.qs_machine.specs.Lawful.{IsLawful, book_after}
 use Rattle.qs_machine.specs.Opening.{opening}
 use Rattle.qs_machine.specs.declared.opened.Opened.{Opened}
-use Rattle.qs_may_begin.specs.Coherent.{IsCoherentDisk, IsCoherentImage}
+use Rattle.qs_may_begin.specs.Coherent.{IsCoherentImage}
 use Rattle.qs_may_begin.specs.Scripts.{Fits, MayBegin}
 use Rattle.qs_plans.specs.Order.{drawn_order, seeded}
 use Rattle.qs_rounds.specs.Endings.{EndsWith, IsCutShort, IsOutOfMemory}
@@ -20,16 +21,19 @@ use Rattle.qs_statements.specs.declared.script.Script.{Script}
 use Rattle.qs_world.specs.Histories.{book_of}
 use Rattle.qs_world.specs.World.{Opening, start}
 use Rattle.rand_pcg.specs.Lcg.{Lcg}
-use Rattle.qs_single.specs.Ends.{BreaksLawful, EndsLawful, HoldsAtEnd, IsRestorable, IsStored, RefusedCoherent, first_book}
+use Rattle.qs_every_run.specs.AlongRun.{AlongRun}
+use Rattle.qs_every_run.proofs.JoinedOver.{each_run_lawful}
+use Rattle.qs_every_run.proofs.RunsGoOn.{runs_go}
+use Rattle.qs_single.specs.Ends.{BreaksLawful, EndsLawful, HoldsAtEnd, HoldsUntold, RefusedUntold, first_book}
 use Rattle.qs_single.specs.OverLog.{IsOpenedOver, opening_over}
-use Rattle.qs_single.specs.Reached.{ServesAll}
+use Rattle.qs_single.specs.Reached.{Reached, ServesAll}
 use Rattle.qs_single.specs.Rounding.{IsCastIn}
+use Rattle.qs_single.specs.StandsFor.{DiskStandsFor}
 use Rattle.qs_single.proofs.Acted.{each_history}
 use Rattle.qs_single.proofs.Entire.{begins_in, each_book, lawful_in}
-use Rattle.qs_single.proofs.LogsLeft.{each_coherent, each_logged, each_stored}
+use Rattle.qs_single.proofs.LogsLeft.{each_coherent, each_logged, each_stands}
 use Rattle.qs_single.proofs.OpensOver.{each_opening}
 use Rattle.qs_single.proofs.Refused.{IsShownDisk, round_leaves}
-use Rattle.qs_single.proofs.RestoredDisk.{each_restored}
 use Rattle.qs_single.proofs.Rounded.{break_goes, round_goes, rounds_go}
 use Rattle.qs_single.proofs.SameStart.{IsOpenedAs, break_start, round_start, rounds_start}
 use Rattle.qs_single.proofs.ServedAlone.{serves_alone}
@@ -55,10 +59,8 @@ module _ {D : Type 0} (may : (o : Opening) → MayBegin o) (told : Type 0) (stat
     lawful = subst (λ (b : BookValue). IsLawful b (journal_of new.node)) book_is (lawful_in told state o opened.may_begin new now);
     logged = each_logged told state o opened.may_begin t new.node.seat.ends new.clients new.node.seat.node now.carried.shows;
     coherent = each_coherent told state o opened.may_begin t new.node.seat.ends new.clients new.node.seat.node now.carried.shows;
-    stored = λ runs. subst (λ (b : BookValue). IsStored (book_after b (journal_of new.node)) (state (disk_of new.node.seat.node).disk)) book_is
-        (each_stored told state o opened.may_begin t new.node.seat.ends new.clients new.node.seat.node runs now.carried.shows);
-    restored = λ cause down. subst (λ (b : BookValue). IsRestorable (book_after b (journal_of new.node)) (state (disk_of new.node.seat.node).disk)) book_is
-        (each_restored told state o opened.may_begin t new.node.seat.ends new.clients new.node.seat.node cause down now.carried.shows);
+    stands = subst (λ (b : BookValue). DiskStandsFor (book_after b (journal_of new.node)) (is_none (cause_of new.node.seat.node)) (state (disk_of new.node.seat.node).disk)) book_is
+        (each_stands told state o opened.may_begin t new.node.seat.ends new.clients new.node.seat.node now.carried.shows);
   }
     where
       book_is : book_of o ≡ first_book new.node
@@ -76,12 +78,29 @@ module _ {D : Type 0} (may : (o : Opening) → MayBegin o) (told : Type 0) (stat
       (break_goes told state own size (start o) t serves (drawn_order (count_of cut.before) cut.drawn).0 cut.before new cut.broken
       (rounds_go told state own size (start o) t serves (seeded seed) cut.rounds cast cut.before cut.drawn cut.earlier was))
 
-  pub refused : (seed : ℕ) (new : Cast D) → IsOutOfMemory told state own size seed cast new → IsCoherentDisk (state (disk_of new.node.seat.node).disk)
-  refused seed new out = subst (λ (d : D). IsCoherentDisk (state d)) (sym left.disk) (each_coherent told state o opened.may_begin t left.ends left.clients left.shown left.in_world)
+  pub refused : (seed : ℕ) (new : Cast D) → IsOutOfMemory told state own size seed cast new → HoldsUntold (first_book cast.node) (state (disk_of new.node.seat.node).disk)
+  refused seed new out = subst (λ (d : D). HoldsUntold (first_book cast.node) (state d)) (sym left.disk) (record {
+    coherent = each_coherent told state o opened.may_begin t left.ends left.clients left.shown left.in_world;
+    journal = journal;
+    lawful = subst (λ (l : List Entry). IsLawful (first_book cast.node) l) history.shows
+        (subst (λ (b : BookValue). IsLawful b history.world.journal) first_is (each_run_lawful AlongRun runs_go o history.moves history.world opened.may_begin history.run));
+    up = is_none (cause_of left.shown);
+    stands = subst (λ (b : BookValue). DiskStandsFor (book_after b journal) (is_none (cause_of left.shown)) (state (disk_of left.shown).disk)) first_is
+        (each_stands told state o opened.may_begin t left.ends left.clients left.shown left.in_world);
+  })
     where
       left : IsShownDisk told state (start o) new.node.seat.node
       left = round_leaves told state own size (start o) t serves (drawn_order (count_of out.before) out.drawn).0 out.before new out.refused
           (rounds_go told state own size (start o) t serves (seeded seed) out.rounds cast out.before out.drawn out.earlier was)
+
+      journal : List Entry
+      journal = (carried_of left.shown).chronicle.told.journal
+
+      history : Reached (start o) (λ world. world.journal ≡ journal)
+      history = each_history told state (start o) left.shown left.ends left.clients left.in_world
+
+      first_is : book_of o ≡ first_book cast.node
+      first_is = each_book told state own alloc script disk cast o t begun opened.opens
 
 pub each_end : {D : Type 0} → ((o : Opening) → MayBegin o) → (told : Type 0) (state : D → DiskState) (own size : D → ℕ) (alloc : Global) (script : Script) (disk : D) (cast : Cast D) (seed : ℕ) (new : Cast D) (ending : Ending)
     → EndsLawful told state own size alloc script disk cast seed new ending
@@ -93,5 +112,5 @@ pub each_cut_short : {D : Type 0} → ((o : Opening) → MayBegin o) → (told :
 each_cut_short may told state own size alloc script disk cast seed new t begun fits coherent is = broken may told state own size alloc script disk cast t begun fits coherent seed new is
 
 pub each_refused : {D : Type 0} → ((o : Opening) → MayBegin o) → (told : Type 0) (state : D → DiskState) (own size : D → ℕ) (alloc : Global) (script : Script) (disk : D) (cast : Cast D) (seed : ℕ) (new : Cast D)
-    → RefusedCoherent told state own size alloc script disk cast seed new
+    → RefusedUntold told state own size alloc script disk cast seed new
 each_refused may told state own size alloc script disk cast seed new t begun fits coherent out = refused may told state own size alloc script disk cast t begun fits coherent seed new out

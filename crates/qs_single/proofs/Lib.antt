@@ -48,10 +48,12 @@ pub mod ServedAlone
 pub mod OpensOver
 -- What the node was opened with stays.
 pub mod SameStart
+-- A run without clients over the log of a world.
+pub mod NextOver
+-- The log of a world stands for the machine.
+pub mod StandsOver
 -- What the images of the disk have as a run ends.
 pub mod LogsLeft
--- Where the node is down then.
-pub mod RestoredDisk
 -- Where memory was refused.
 pub mod Refused
 -- What stands then.

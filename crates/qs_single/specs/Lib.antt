@@ -28,5 +28,7 @@ pub mod Rounding
 pub mod Whole
 -- What it opens with.
 pub mod OverLog
+-- What an image of its disk stands for.
+pub mod StandsFor
 -- What stands as it ends.
 pub mod Ends

@@ -5,7 +5,7 @@ ghost use Rattle.qs_rounds.specs.Rounds.{Cast};
 ghost use Rattle.qs_rounds.specs.declared.rounds.Ending.{Ending};
 ghost use Rattle.qs_statements.specs.declared.script.Script.{Script};
 ghost use Rattle.qs_world.specs.World.{World};
-ghost use Rattle.qs_single.specs.Ends.{BreaksLawful, EndsLawful, RefusedCoherent};
+ghost use Rattle.qs_single.specs.Ends.{BreaksLawful, EndsLawful, RefusedUntold};
 ghost use Rattle.qs_single.specs.OverLog.{HasOpening};
 ghost use Rattle.qs_single.specs.Rounding.{BreaksGoOn};
 
@@ -25,7 +25,7 @@ pub fn runs_have_openings<D: Disk>()
 }
 
 /// So what the cell tells is lawful as the rounds end, and where one was cut short; each image that a power cut may leave then has a coherent log, over
-/// which another run may begin; and where the node is up each has the committed contents that the machine has.
+/// which another run may begin, and which stands for the machine: a restart over it is lawful, and takes up what the machine has.
 pub fn runs_end_lawful<D: Disk>()
     ensures ends { (alloc : Global) (script : Script) (disk : D) (cast : Cast D) (seed : ℕ) (new : Cast D) (ending : Ending)
         → EndsLawful D.told D.state D.fault_count D.byte_count alloc script disk cast seed new ending }
@@ -35,10 +35,11 @@ pub fn runs_end_lawful<D: Disk>()
     what_fits_may_begin();
 }
 
-/// Where memory was refused in a round, in whichever visit and within whichever step, each image that a power cut may leave has a coherent log too.
+/// Where memory was refused in a round, in whichever visit and within whichever step, each image that a power cut may leave has a coherent log too, and stands
+/// for the machine after some lawful history, of which nothing is told.
 pub fn refused_runs_leave_coherent_logs<D: Disk>()
     ensures { (alloc : Global) (script : Script) (disk : D) (cast : Cast D) (seed : ℕ) (new : Cast D)
-        → RefusedCoherent D.told D.state D.fault_count D.byte_count alloc script disk cast seed new }
+        → RefusedUntold D.told D.state D.fault_count D.byte_count alloc script disk cast seed new }
 {
     what_fits_may_begin();
 }

@@ -29,7 +29,7 @@ use Rattle.qs_top.specs.Statuses.{IsEnd, IsOfRounds}
 use Rattle.qs_top.specs.Texts.{ReadWhole, OfScript}
 use Rattle.qs_top.specs.declared.outcome.Run.{Run}
 use Rattle.qs_top.specs.declared.whole.Made.{Made}
-use Rattle.qs_top.proofs.Overs.{end_or, end_logged}
+use Rattle.qs_top.proofs.StatusLemmas.{end_or, end_logged}
 
 -- ---- the text
 
@@ -198,8 +198,8 @@ module _ {D K : Type 0} (told : Type 0) (state : D → DiskState) (own size : D 
       leaves_as status is leaves = subst (λ (s : Status). Leaves told state s disk end) (sym is) leaves
 
       by : (run.status ≡ made.status) ⊎ ((run.status ≡ statuses.WriteFault) × ((bytes : List ℕ) × (made.output ≡ Some bytes))) → Leaves told state run.status disk end
-      by (inl same) = leaves_as made.status same over.leaves
-      by (inr cut) = leaves_as statuses.WriteFault cut.0 (end_logged told state disk end made.status (ends cut.1.0 cut.1.1) over.leaves)
+      by (inl same) = leaves_as made.status same (over.leaves fits)
+      by (inr cut) = leaves_as statuses.WriteFault cut.0 (end_logged told state disk end made.status (ends cut.1.0 cut.1.1) (over.leaves fits))
 
   pub given_lawful : (old new rest : List D) → old ≡ disk ∷ rest → new ≡ end ∷ rest → HasLawful told state run.journal old new
   given_lawful old new rest old_is new_is = record {

@@ -8,6 +8,8 @@ mod Held
 mod Overs
 -- What it comes to, whatever its rounds were answered.
 mod Ran
+-- What a status says of how a run ended.
+mod StatusLemmas
 -- What it comes to where the log was not opened.
 mod Unopened
 -- The lines of a history that was read are few enough to be numbered.

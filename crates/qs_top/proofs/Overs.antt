@@ -1,176 +1,40 @@
 -- What a run over one disk comes to, from how its rounds ended and how its journal was judged.
-use Rattle.std.proofs.Common.{◌≡◌, ◌⊎◌, inl, inr, ℕ, ◌<◌, ◌^◌, Bool, List, [], ◌∷◌, length, true, false, Option, Some, None, Result, Ok, Err, IfErr, refl, sym, ap, subst, ◌∙◌, arith}
-use Rattle.std.specs.Prelude.{⊤}
+use Rattle.std.proofs.Common.{◌≡◌, ◌⊎◌, inl, inr, ℕ, ◌<◌, Bool, List, [], length, Some, refl, sym, ap, subst, ◌∙◌, arith}
+use Rattle.std.specs.Prelude.{is_none}
 use Rattle.std.specs.Global.{Global}
 use Rattle.qs_base.specs.Causes.{Rose}
 use Rattle.qs_base.specs.declared.identifiers.NodeNo.{NodeNo}
 use Rattle.qs_cell.specs.Logged.{HasLog}
-use Rattle.qs_cell.specs.Starts.{CellValue, journal_of, trace_of}
+use Rattle.qs_cell.specs.Starts.{journal_of, trace_of}
+use Rattle.qs_cell.specs.State.{cause_of, disk_of}
 use Rattle.qs_conformance.specs.Conforming.{Conforms}
 use Rattle.qs_disk.specs.Disk.{DiskState, EachImage}
 use Rattle.qs_journal.specs.declared.entry.Entry.{Entry}
-use Rattle.qs_log.specs.Image.{IsDamaged}
 use Rattle.qs_machine.specs.Lawful.{IsLawful}
 use Rattle.qs_machine.specs.declared.opened.Opened.{Opened}
 use Rattle.qs_may_begin.specs.Coherent.{IsCoherentDisk}
 use Rattle.qs_may_begin.specs.Scripts.{Fits}
-use Rattle.qs_rounds.specs.Breaks.{own_faults}
 use Rattle.qs_rounds.specs.Endings.{IsEnding, IsCutShort}
 use Rattle.qs_rounds.specs.Rounds.{Cast, IsSameStart}
 use Rattle.qs_rounds.specs.Seats.{HasBegun, first_node, node_count}
 use Rattle.qs_rounds.specs.declared.rounds.Ending.{Ending}
-use Rattle.qs_single.specs.Ends.{HoldsAtEnd}
+use Rattle.qs_single.specs.Ends.{HoldsAtEnd, HoldsUntold}
 use Rattle.qs_single.specs.OverLog.{opening_over}
 use Rattle.qs_statements.specs.declared.script.Script.{Script}
 use Rattle.qs_statements.specs.declared.status.Status.{Status}
-use Rattle.qs_statements.specs.declared.status.Status.TheVariants as statuses
-use Rattle.qs_statements.specs.declared.status.Waiting.{Waiting}
 use Rattle.qs_step.specs.declared.trace.Step.{Step}
 use Rattle.qs_plans.specs.Waiting.{waiting_of}
 use Rattle.qs_verdict.specs.Ends.{status_of}
 use Rattle.qs_verdict.specs.Verdicts.{IsRefusal}
-use Rattle.qs_top.specs.Disks.{IsHeldIn, IsFaultOver, IsLogged, Leaves, StaysCoherent}
-use Rattle.qs_top.specs.Inner.Making.{IsFailed, IsJudgedEnd, IsJudgedShort, IsNothingMade, IsPassed, IsPassedEnd, IsPassedShort}
+use Rattle.qs_top.specs.Disks.{IsHeldIn, IsLogged, IsUntold, Leaves, StaysCoherent}
+use Rattle.qs_top.specs.Inner.Making.{IsFailed, IsJudgedEnd, IsJudgedShort, IsPassed, IsPassedEnd, IsPassedShort}
 use Rattle.qs_top.specs.Inner.Over.{HasLawfulOver, IsOver}
 use Rattle.qs_top.specs.Run.{HasRun, HasRunShort, IsLasting, IsLeftBy, IsTold, machine_over, output_of}
 use Rattle.qs_top.specs.Statuses.{IsEnd, IsOfRounds, Tells}
 use Rattle.qs_top.specs.declared.whole.Made.{Made}
 use Rattle.qs_top.proofs.Coherent.{refused_by_script}
 use Rattle.qs_top.proofs.Held.{held_in, world_in}
-
--- ---- statuses
-
--- a run came to its end or it did not
-pub end_or : (status : Status) → IsEnd status ⊎ (IsEnd status → ⊥)
-end_or statuses.Finished = inl tt
-end_or (statuses.Unfinished rounds waiting) = inl tt
-end_or statuses.Usage = inr (λ e. e)
-end_or (statuses.Script line fault) = inr (λ e. e)
-end_or statuses.ReadFault = inr (λ e. e)
-end_or statuses.WriteFault = inr (λ e. e)
-end_or (statuses.DiskFault node) = inr (λ e. e)
-end_or (statuses.Damaged node at) = inr (λ e. e)
-end_or statuses.NoMemory = inr (λ e. e)
-end_or (statuses.NoRoom node need room) = inr (λ e. e)
-end_or (statuses.Unlawful line clause) = inr (λ e. e)
-end_or (statuses.Journal line) = inr (λ e. e)
-end_or (statuses.LastGeneration node) = inr (λ e. e)
-
--- it leaves a log, as the judge's refusal does
-module _ {D : Type 0} (told : Type 0) (state : D → DiskState) (disk after : D) where
-  pub end_leaves : (status : Status) → IsEnd status → IsLogged told state disk after → Leaves told state status disk after
-  end_leaves statuses.Finished e logged = logged
-  end_leaves (statuses.Unfinished rounds waiting) e logged = logged
-  end_leaves statuses.Usage e logged = absurd e
-  end_leaves (statuses.Script line fault) e logged = absurd e
-  end_leaves statuses.ReadFault e logged = absurd e
-  end_leaves statuses.WriteFault e logged = absurd e
-  end_leaves (statuses.DiskFault node) e logged = absurd e
-  end_leaves (statuses.Damaged node at) e logged = absurd e
-  end_leaves statuses.NoMemory e logged = absurd e
-  end_leaves (statuses.NoRoom node need room) e logged = absurd e
-  end_leaves (statuses.Unlawful line clause) e logged = absurd e
-  end_leaves (statuses.Journal line) e logged = absurd e
-  end_leaves (statuses.LastGeneration node) e logged = absurd e
-
-  pub end_logged : (status : Status) → IsEnd status → Leaves told state status disk after → IsLogged told state disk after
-  end_logged statuses.Finished e leaves = leaves
-  end_logged (statuses.Unfinished rounds waiting) e leaves = leaves
-  end_logged statuses.Usage e leaves = absurd e
-  end_logged (statuses.Script line fault) e leaves = absurd e
-  end_logged statuses.ReadFault e leaves = absurd e
-  end_logged statuses.WriteFault e leaves = absurd e
-  end_logged (statuses.DiskFault node) e leaves = absurd e
-  end_logged (statuses.Damaged node at) e leaves = absurd e
-  end_logged statuses.NoMemory e leaves = absurd e
-  end_logged (statuses.NoRoom node need room) e leaves = absurd e
-  end_logged (statuses.Unlawful line clause) e leaves = absurd e
-  end_logged (statuses.Journal line) e leaves = absurd e
-  end_logged (statuses.LastGeneration node) e leaves = absurd e
-
-  refusal_leaves : (status : Status) → IsRefusal status → IsLogged told state disk after → Leaves told state status disk after
-  refusal_leaves (statuses.Unlawful line clause) r logged = logged
-  refusal_leaves statuses.NoMemory r logged = inr logged
-  refusal_leaves statuses.Finished r logged = absurd r
-  refusal_leaves (statuses.Unfinished rounds waiting) r logged = absurd r
-  refusal_leaves statuses.Usage r logged = absurd r
-  refusal_leaves (statuses.Script line fault) r logged = absurd r
-  refusal_leaves statuses.ReadFault r logged = absurd r
-  refusal_leaves statuses.WriteFault r logged = absurd r
-  refusal_leaves (statuses.DiskFault node) r logged = absurd r
-  refusal_leaves (statuses.Damaged node at) r logged = absurd r
-  refusal_leaves (statuses.NoRoom node need room) r logged = absurd r
-  refusal_leaves (statuses.Journal line) r logged = absurd r
-  refusal_leaves (statuses.LastGeneration node) r logged = absurd r
-
--- what the judge refuses has the status of a run, and tells nothing
-refusal_built : (status : Status) → IsRefusal status → IsOfRounds status
-refusal_built (statuses.Unlawful line clause) r = tt
-refusal_built statuses.NoMemory r = tt
-refusal_built statuses.Finished r = absurd r
-refusal_built (statuses.Unfinished rounds waiting) r = absurd r
-refusal_built statuses.Usage r = absurd r
-refusal_built (statuses.Script line fault) r = absurd r
-refusal_built statuses.ReadFault r = absurd r
-refusal_built statuses.WriteFault r = absurd r
-refusal_built (statuses.DiskFault node) r = absurd r
-refusal_built (statuses.Damaged node at) r = absurd r
-refusal_built (statuses.NoRoom node need room) r = absurd r
-refusal_built (statuses.Journal line) r = absurd r
-refusal_built (statuses.LastGeneration node) r = absurd r
-
-end_built : (status : Status) → IsEnd status → IsOfRounds status
-end_built statuses.Finished e = tt
-end_built (statuses.Unfinished rounds waiting) e = tt
-end_built statuses.Usage e = absurd e
-end_built (statuses.Script line fault) e = absurd e
-end_built statuses.ReadFault e = absurd e
-end_built statuses.WriteFault e = absurd e
-end_built (statuses.DiskFault node) e = absurd e
-end_built (statuses.Damaged node at) e = absurd e
-end_built statuses.NoMemory e = absurd e
-end_built (statuses.NoRoom node need room) e = absurd e
-end_built (statuses.Unlawful line clause) e = absurd e
-end_built (statuses.Journal line) e = absurd e
-end_built (statuses.LastGeneration node) e = absurd e
-
-status_ends : (rounds : ℕ) (settled : Bool) (waiting : List Waiting) → IsEnd (status_of rounds settled waiting)
-status_ends rounds true [] = tt
-status_ends rounds true (one ∷ more) = tt
-status_ends rounds false waiting = tt
-
--- an end is no refusal
-end_refuses : (status : Status) → IsEnd status → IsRefusal status → ⊥
-end_refuses statuses.Finished e r = r
-end_refuses (statuses.Unfinished rounds waiting) e r = r
-end_refuses statuses.Usage e r = e
-end_refuses (statuses.Script line fault) e r = e
-end_refuses statuses.ReadFault e r = e
-end_refuses statuses.WriteFault e r = e
-end_refuses (statuses.DiskFault node) e r = e
-end_refuses (statuses.Damaged node at) e r = e
-end_refuses statuses.NoMemory e r = e
-end_refuses (statuses.NoRoom node need room) e r = e
-end_refuses (statuses.Unlawful line clause) e r = e
-end_refuses (statuses.Journal line) e r = e
-end_refuses (statuses.LastGeneration node) e r = e
-
-status_tells : (rounds : ℕ) (settled : Bool) (waiting : List Waiting) → Tells (status_of rounds settled waiting)
-status_tells rounds true [] = tt
-status_tells rounds true (one ∷ more) = tt
-status_tells rounds false waiting = tt
-
--- a fault of a disk
-abbrev pub IsFaultStatus : Status → Type 0
-IsFaultStatus (statuses.DiskFault node) = ⊤
-IsFaultStatus _ = ⊥
-
-abbrev fault_node : Status → NodeNo
-fault_node (statuses.DiskFault node) = node
-fault_node _ = first_node
-
-pub same_node : {m n : NodeNo} → statuses.DiskFault m ≡ statuses.DiskFault n → m ≡ n
-same_node is = ap fault_node is
+use Rattle.qs_top.proofs.StatusLemmas.{IsFaultStatus, end_built, end_leaves, end_refuses, refusal_built, refusal_leaves, same_node, status_ends, status_tells}
 
 -- ---- nothing was made
 
@@ -199,8 +63,7 @@ module _ {D : Type 0} (told : Type 0) (state : D → DiskState) (own size : D �
   lasting journal entries t at_end = subst (λ (l : List Entry). IsLasting state script disk last.node l after) (sym entries)
       (subst (λ (d : D). IsLasting state script disk last.node (journal_of last.node) d) (sym left.disk) (record {
         of_world = world_in told state own alloc script disk first begins t (journal_of last.node) at_end.of_world;
-        stored = at_end.stored;
-        restored = at_end.restored;
+        stands = at_end.stands;
       }))
 
   held : told → IsHeldIn script (state disk).content last.node.opened
@@ -208,6 +71,17 @@ module _ {D : Type 0} (told : Type 0) (state : D → DiskState) (own size : D �
 
   pub over_kept : IsLogged told state disk after
   over_kept is_told = record { script = script; opened = last.node.opened; held = held is_told; each = each is_told }
+
+  -- whatever stood at the end, where nothing of it is told
+  pub over_untold : (told → IsCoherentDisk (state disk) → HoldsUntold (machine_over last.node.opened) (state (disk_of last.node.seat.node).disk)) → IsUntold told state disk after
+  over_untold holds = record {
+    logged = over_kept;
+    stands = λ yes coherent. let left_so : HoldsUntold (machine_over last.node.opened) (state after) = subst (λ (d : D). HoldsUntold (machine_over last.node.opened) (state d)) (sym left.disk) (holds yes coherent) in
+        record { script = script; opened = last.node.opened; held = held yes; journal = left_so.journal; lawful = left_so.lawful; up = left_so.up; stands = left_so.stands };
+  }
+
+  pub at_end_untold : HoldsAtEnd state (opening_over alloc script begins.started.running.host.log) last.node → HoldsUntold (machine_over last.node.opened) (state (disk_of last.node.seat.node).disk)
+  at_end_untold at_end = record { coherent = at_end.coherent; journal = journal_of last.node; lawful = at_end.lawful; up = is_none (cause_of last.node.seat.node); stands = at_end.stands }
 
   told_all : (made_journal : List Entry) (made_trace : List Step) → made_journal ≡ journal_of last.node → made_trace ≡ trace_of last.node → Conforms script (machine_over last.node.opened) (journal_of last.node)
       → IsTold told state script disk last.node made_journal made_trace
@@ -241,8 +115,9 @@ module _ {D : Type 0} (told : Type 0) (state : D → DiskState) (own size : D �
       held = held;
       refused = f.refused line clause is;
       by_script = λ yes coherent. refused_by_script script (machine_over last.node.opened) (journal_of last.node) line clause (holds fits yes coherent).lawful (f.refused line clause is);
+      lasts = λ yes coherent. lasting (journal_of last.node) refl yes (holds fits yes coherent);
     };
-    leaves = refusal_leaves told state disk after made.status f.refusal over_kept;
+    leaves = λ fits. refusal_leaves told state disk after made.status f.refusal (over_untold (λ yes coherent. at_end_untold (holds fits yes coherent)));
     coherent = stays holds;
     silent = λ not_end. f.nothing.output;
     empty = λ untold. f.nothing.nothing;
@@ -267,7 +142,7 @@ module _ {D : Type 0} (told : Type 0) (state : D → DiskState) (own size : D �
     };
     short = λ fits node is. absurd (subst IsEnd is end);
     refused = λ fits line clause is. absurd (subst IsEnd is end);
-    leaves = end_leaves told state disk after made.status end over_kept;
+    leaves = λ fits. end_leaves told state disk after made.status end over_kept;
     coherent = stays holds;
     silent = λ not_end. absurd (not_end end);
     empty = λ untold. absurd (untold (subst Tells (sym j.status) (status_tells ending.rounds ending.settled (waiting_of script (journal_of last.node)))));
@@ -297,7 +172,7 @@ module _ {D : Type 0} (told : Type 0) (state : D → DiskState) (own size : D �
       lasts = λ yes coherent. lasting made.journal j.passed.entries yes (holds fits yes coherent);
     });
     refused = λ fits line clause status. absurd (subst IsFaultStatus (sym j.status ∙ status) tt);
-    leaves = subst (λ (status : Status). Leaves told state status disk after) (sym j.status) (inr over_kept);
+    leaves = λ fits. subst (λ (status : Status). Leaves told state status disk after) (sym j.status) (inr over_kept);
     coherent = stays holds;
     silent = λ not_end. j.output;
     empty = λ untold. absurd (untold (subst Tells (sym j.status) tt));

@@ -18,23 +18,23 @@ use Rattle.qs_rounds.specs.Seats.{HasBegun, first_node, node_count}
 use Rattle.qs_rounds.specs.declared.faults.RoundFault.{RoundFault}
 use Rattle.qs_rounds.specs.declared.faults.RoundFault.TheVariants as faults
 use Rattle.qs_rounds.specs.declared.rounds.Ending.{Ending}
-use Rattle.qs_single.specs.Ends.{BreaksLawful, EndsLawful, HoldsAtEnd, RefusedCoherent}
+use Rattle.qs_single.specs.Ends.{BreaksLawful, EndsLawful, HoldsAtEnd, HoldsUntold, RefusedUntold}
 use Rattle.qs_single.specs.OverLog.{opening_over}
 use Rattle.qs_statements.specs.declared.script.Script.{Script}
 use Rattle.qs_step.specs.declared.trace.Step.{Step}
-use Rattle.qs_top.specs.Disks.{IsLogged, StaysCoherent}
-use Rattle.qs_top.specs.Inner.Making.{IsJudgedEnd, IsJudgedShort, IsMadeOf}
+use Rattle.qs_statements.specs.declared.status.Status.TheVariants as statuses
+use Rattle.qs_top.specs.Inner.Making.{IsJudgedEnd, IsJudgedShort, IsMadeOf, IsNothingMade}
 use Rattle.qs_top.specs.Inner.Over.{IsOver}
-use Rattle.qs_top.specs.Run.{IsLeftBy}
+use Rattle.qs_top.specs.Run.{IsLeftBy, machine_over}
 use Rattle.qs_top.specs.declared.whole.Made.{Made}
-use Rattle.qs_top.proofs.Overs.{over_end, over_short, over_kept}
+use Rattle.qs_top.proofs.Overs.{at_end_untold, over_end, over_short, over_untold}
 use Rattle.qs_top.proofs.Unopened.{over_refused}
 
 -- the laws of runs of one node, whatever they came to
 pub record RunLaws {D : Type 0} (told : Type 0) (state : D → DiskState) (own size : D → ℕ) : Type 0 where
   pub ends : (alloc : Global) (script : Script) (disk : D) (cast : Cast D) (seed : ℕ) (new : Cast D) (ending : Ending) → EndsLawful told state own size alloc script disk cast seed new ending
   pub cut_short : (alloc : Global) (script : Script) (disk : D) (cast : Cast D) (seed : ℕ) (new : Cast D) → BreaksLawful told state own size alloc script disk cast seed new
-  pub refused : (alloc : Global) (script : Script) (disk : D) (cast : Cast D) (seed : ℕ) (new : Cast D) → RefusedCoherent told state own size alloc script disk cast seed new
+  pub refused : (alloc : Global) (script : Script) (disk : D) (cast : Cast D) (seed : ℕ) (new : Cast D) → RefusedUntold told state own size alloc script disk cast seed new
 
 -- the node as the rounds ended, and what is told of it
 pub record IsLeft {D : Type 0} (told : Type 0) (state : D → DiskState) (last : Cast D) (node : CellValue D) (journal : List Entry) (trace : List Step) (after : D) : Type 0 where
@@ -55,9 +55,6 @@ module _ {D : Type 0} (told : Type 0) (state : D → DiskState) (own size : D �
   logged : told → EachImage (HasLog last.node.opened) (state after).now
   logged is_told = subst (λ (cell : CellValue D). EachImage (HasLog cell.opened) (state after).now) left.node_is (left.logged is_told)
 
-  kept : IsLogged told state disk after
-  kept = over_kept told state own size seed script shown alloc disk after first last begins start logged left_by made
-
   journal_is : journal ≡ journal_of last.node
   journal_is = left.entries ∙ ap (λ (cell : CellValue D). journal_of cell) left.node_is
 
@@ -73,8 +70,24 @@ module _ {D : Type 0} (told : Type 0) (state : D → DiskState) (own size : D �
   left_coherent : IsCoherentDisk (state (disk_of last.node.seat.node).disk) → IsCoherentDisk (state after)
   left_coherent coherent = subst (λ (d : D). IsCoherentDisk (state d)) (sym after_is) coherent
 
-  at_refusal : IsOutOfMemory told state own size seed first last → Fits node_count script → StaysCoherent told state disk after
-  at_refusal out fits = λ yes coherent. left_coherent (laws.refused alloc script disk first seed last yes begins fits (coherent alloc (state disk).content (image yes)) out)
+  -- where nothing is told
+  abbrev LeftUntold : Type 0
+  LeftUntold = Fits node_count script → told → IsCoherentDisk (state disk) → HoldsUntold (machine_over last.node.opened) (state (disk_of last.node.seat.node).disk)
+
+  at_refusal : IsOutOfMemory told state own size seed first last → LeftUntold
+  at_refusal out fits is_told coherent = subst (λ (found : Opened). HoldsUntold (machine_over found) (state (disk_of last.node.seat.node).disk)) (sym start.opened)
+      (laws.refused alloc script disk first seed last is_told begins fits (coherent alloc (state disk).content (image is_told)) out)
+
+  at_end_so : (ending : Ending) → IsEnding told state own size script seed first last ending → LeftUntold
+  at_end_so ending ends fits is_told coherent = at_end_untold told state own size seed script shown alloc disk after first last begins start logged left_by made (at_end ending ends fits is_told coherent)
+
+  at_cut_so : IsCutShort told state own size seed first last → LeftUntold
+  at_cut_so cut fits is_told coherent = at_end_untold told state own size seed script shown alloc disk after first last begins start logged left_by made (at_cut cut fits is_told coherent)
+
+  refused_so : IsNothingMade made → made.status ≡ statuses.NoMemory → LeftUntold → IsOver told state own size seed script shown made disk after
+  refused_so nothing is holds = over_refused told state own size seed script shown disk after made nothing
+      (λ fits. inr (over_untold told state own size seed script shown alloc disk after first last begins start logged left_by made (holds fits)))
+      (λ fits yes coherent. left_coherent (holds fits yes coherent).coherent) is
 
   pub over_ran : (ending : Result Ending RoundFault) (opened : Result Opened NoMemory) → IfOk ending (IsEnding told state own size script seed first last) → ((n : NodeNo) → ending ≡ Err (faults.DiskFault n) → IsCutShort told state own size seed first last)
       → (ending ≡ Err faults.NoMemory → IsOutOfMemory told state own size seed first last)
@@ -88,9 +101,7 @@ module _ {D : Type 0} (told : Type 0) (state : D → DiskState) (own size : D �
       (subst (λ (steps : List Step). IsJudgedShort script n last.node.opened (journal_of last.node) steps made) trace_is
       (subst (λ (entries : List Entry). IsJudgedShort script n last.node.opened entries trace made) journal_is
       (subst (λ (found : Opened). IsJudgedShort script n found journal trace made) (is ∙ ap (λ (cell : CellValue D). cell.opened) left.node_is) j)))
-  over_ran (Err faults.NoMemory) (Ok opened) ends cut out named is j = over_refused told state own size seed script shown disk after made j.nothing (inr kept) (at_refusal (out refl)) j.status
-  over_ran (Ok ending) (Err fault) ends cut out named is j = over_refused told state own size seed script shown disk after made j.nothing (inr kept)
-      (λ fits yes coherent. left_coherent (at_end ending ends fits yes coherent).coherent) j.status
-  over_ran (Err (faults.DiskFault n)) (Err other) ends cut out named is j = over_refused told state own size seed script shown disk after made j.nothing (inr kept)
-      (λ fits yes coherent. left_coherent (at_cut (cut n refl) fits yes coherent).coherent) j.status
-  over_ran (Err faults.NoMemory) (Err other) ends cut out named is j = over_refused told state own size seed script shown disk after made j.nothing (inr kept) (at_refusal (out refl)) j.status
+  over_ran (Err faults.NoMemory) (Ok opened) ends cut out named is j = refused_so j.nothing j.status (at_refusal (out refl))
+  over_ran (Ok ending) (Err fault) ends cut out named is j = refused_so j.nothing j.status (at_end_so ending ends)
+  over_ran (Err (faults.DiskFault n)) (Err other) ends cut out named is j = refused_so j.nothing j.status (at_cut_so (cut n refl))
+  over_ran (Err faults.NoMemory) (Err other) ends cut out named is j = refused_so j.nothing j.status (at_refusal (out refl))

@@ -16,13 +16,14 @@ use Rattle.qs_statements.specs.declared.status.Status.{Status}
 use Rattle.qs_statements.specs.declared.status.Status.TheVariants as statuses
 use Rattle.qs_step.specs.Opening.{recovered_of}
 use Rattle.qs_world.specs.Histories.{opened_with}
-use Rattle.qs_top.specs.Disks.{IsFaultOver, IsDamageOver, IsLogged, IsOnlyTouched, Leaves, StaysCoherent}
+use Rattle.qs_top.specs.Disks.{IsFaultOver, IsDamageOver, IsOnlyTouched, IsUntold, Leaves, StaysCoherent}
 use Rattle.qs_top.specs.Inner.Making.{IsNothingMade, IsOutOfMemory, not_opened}
 use Rattle.qs_top.specs.Inner.Over.{IsOver}
 use Rattle.qs_top.specs.Statuses.{IsEnd, IsOfRounds}
 use Rattle.qs_top.specs.declared.whole.Made.{Made}
 use Rattle.qs_top.proofs.Coherent.{Later, touched_coherent}
-use Rattle.qs_top.proofs.Overs.{IsFaultStatus, nothing_lawful, same_node}
+use Rattle.qs_top.proofs.Overs.{nothing_lawful}
+use Rattle.qs_top.proofs.StatusLemmas.{IsFaultStatus, same_node}
 
 -- those of a log that was not opened
 abbrev IsUnopened : Status → Type 0
@@ -82,7 +83,7 @@ pub nothing_opened : Opened
 nothing_opened = opened_with (setting_of (record { seats = []; quotas = []; audit = None; faults = []; lines = []; count = 0 }) node_count first_node 1) (recovered_of [])
 
 module _ {D : Type 0} (told : Type 0) (state : D → DiskState) (own size : D → ℕ) (seed : ℕ) (script : Script) (shown : Bool) (disk after : D) (made : Made) (nothing : IsNothingMade made) where
-  over_unopened : IsUnopened made.status → Leaves told state made.status disk after → (Fits node_count script → StaysCoherent told state disk after) → ((node : NodeNo) → made.status ≡ statuses.DiskFault node → IsOnlyTouched told state disk after) → ((node : NodeNo) → made.status ≡ statuses.DiskFault node → IsFaultOver own node disk after) → ((node : NodeNo) (at : ℕ) → made.status ≡ statuses.Damaged node at → IsDamageOver told state node at disk after)
+  over_unopened : IsUnopened made.status → (Fits node_count script → Leaves told state made.status disk after) → (Fits node_count script → StaysCoherent told state disk after) → ((node : NodeNo) → made.status ≡ statuses.DiskFault node → IsOnlyTouched told state disk after) → ((node : NodeNo) → made.status ≡ statuses.DiskFault node → IsFaultOver own node disk after) → ((node : NodeNo) (at : ℕ) → made.status ≡ statuses.Damaged node at → IsDamageOver told state node at disk after)
       → IsOver told state own size seed script shown made disk after
   over_unopened unopened leaves stays touched fault damage = record {
     lawful = nothing_lawful told state script disk nothing_opened made.journal nothing.nothing.entries;
@@ -102,8 +103,8 @@ module _ {D : Type 0} (told : Type 0) (state : D → DiskState) (own size : D �
   leaves_as status is leaves = subst (λ (s : Status). Leaves told state s disk after) (sym is) leaves
 
   -- memory was refused
-  pub over_refused : IsOnlyTouched told state disk after ⊎ IsLogged told state disk after → (Fits node_count script → StaysCoherent told state disk after) → made.status ≡ statuses.NoMemory → IsOver told state own size seed script shown made disk after
-  over_refused left stays is = over_unopened (subst IsUnopened (sym is) tt) (leaves_as statuses.NoMemory is left) stays
+  pub over_refused : (Fits node_count script → IsOnlyTouched told state disk after ⊎ IsUntold told state disk after) → (Fits node_count script → StaysCoherent told state disk after) → made.status ≡ statuses.NoMemory → IsOver told state own size seed script shown made disk after
+  over_refused left stays is = over_unopened (subst IsUnopened (sym is) tt) (λ fits. leaves_as statuses.NoMemory is (left fits)) stays
       (λ node fault. absurd (subst IsRefusedMemory (sym is ∙ fault) tt))
       (λ node fault. absurd (subst IsRefusedMemory (sym is ∙ fault) tt))
       (λ node at damage. absurd (subst IsRefusedMemory (sym is ∙ damage) tt))
@@ -111,12 +112,12 @@ module _ {D : Type 0} (told : Type 0) (state : D → DiskState) (own size : D �
   -- the log was not opened
   pub over_closed : Later → (told → IsImage (state disk).now (state disk).content) → (why : OpenFault) → made.status ≡ not_opened why → IsOnlyTouched told state disk after → (told → (at : ℕ) → why ≡ faults.Damaged at → IsDamaged (2 ^ 61) (state disk).content at) → (why ≡ faults.DiskFailed → Rose (own disk) (own after))
       → IsOver told state own size seed script shown made disk after
-  over_closed stay image faults.NoMemory is touched damaged failed = over_refused (inl touched) (λ fits yes. touched_coherent stay (state disk) (state after) (image yes) (touched yes)) is
-  over_closed stay image faults.DiskFailed is touched damaged failed = over_unopened (subst IsUnopened (sym is) tt) (leaves_as (statuses.DiskFault first_node) is (inl touched))
+  over_closed stay image faults.NoMemory is touched damaged failed = over_refused (λ fits. inl touched) (λ fits yes. touched_coherent stay (state disk) (state after) (image yes) (touched yes)) is
+  over_closed stay image faults.DiskFailed is touched damaged failed = over_unopened (subst IsUnopened (sym is) tt) (λ fits. leaves_as (statuses.DiskFault first_node) is (inl touched))
       (λ fits yes. touched_coherent stay (state disk) (state after) (image yes) (touched yes)) (λ node fault. touched)
       (λ node fault. record { node_is = sym (same_node (sym is ∙ fault)); rose = failed refl })
       (λ node at damage. absurd (subst IsFaultStatus (sym is ∙ damage) tt))
-  over_closed stay image (faults.Damaged at) is touched damaged failed = over_unopened (subst IsUnopened (sym is) tt) (leaves_as (statuses.Damaged first_node at) is touched)
+  over_closed stay image (faults.Damaged at) is touched damaged failed = over_unopened (subst IsUnopened (sym is) tt) (λ fits. leaves_as (statuses.Damaged first_node at) is touched)
       (λ fits yes. touched_coherent stay (state disk) (state after) (image yes) (touched yes)) (λ node fault. touched)
       (λ node fault. absurd (subst IsDamageStatus (sym is ∙ fault) tt))
       (λ node place damage. by (sym is ∙ damage))

@@ -1,16 +1,20 @@
 -- The disks of a run: what the log of the node's disk held, what a fault or a damage shows, and what is left on the disk.
-use Rattle.std.specs.Prelude.{◌≡◌, ◌⊎◌, ◌^◌, ⊤, ℕ, ◌+◌, List, ◌∷◌}
+use Rattle.std.specs.Prelude.{◌≡◌, ◌⊎◌, ◌^◌, ⊤, ℕ, ◌+◌, Bool, List, [], ◌∷◌}
 use Rattle.qs_base.specs.Causes.{Rose}
 use Rattle.qs_base.specs.declared.identifiers.NodeNo.{NodeNo}
 use Rattle.qs_disk.specs.Disk.{DiskState, EachImage, Frame}
 use Rattle.qs_disk.specs.Moments.{Keeps}
 use Rattle.qs_incarnation.specs.Incarnation.{IsTouched}
+use Rattle.qs_journal.specs.declared.entry.Entry.{Entry}
 use Rattle.qs_log.specs.Image.{IsDamaged, IsLog}
+use Rattle.qs_machine.specs.Lawful.{IsLawful, book_after}
+use Rattle.qs_machine.specs.Opening.{opening}
 use Rattle.qs_machine.specs.declared.opened.Opened.{Opened}
 use Rattle.qs_may_begin.specs.Coherent.{IsCoherentDisk}
 use Rattle.qs_plans.specs.Plan.{setting_of}
 use Rattle.qs_record.specs.declared.record.Record.{Record}
 use Rattle.qs_rounds.specs.Seats.{node_count, first_node}
+use Rattle.qs_single.specs.StandsFor.{DiskStandsFor}
 use Rattle.qs_slot.specs.Slot.{Present}
 use Rattle.qs_statements.specs.declared.script.Script.{Script}
 use Rattle.qs_statements.specs.declared.status.Status.{Status}
@@ -64,12 +68,27 @@ pub record GoesOnFrom (content : List ℕ) (frame : Frame) : Type 0 where
 abbrev pub IsLogged : {D : Type 0} → Type 0 → (D → DiskState) → D → D → Type 0
 IsLogged told state disk after = told → GoesOnFrom (state disk).content (state after).now
 
+-- of a history that is not told: it is lawful from what the log of the content held, and each image stands for the machine after it
+pub record StandsUntold (content : List ℕ) (disk : DiskState) : Type 0 where
+  pub script : Script
+  pub opened : Opened
+  pub held : IsHeldIn script content opened
+  pub journal : List Entry
+  pub lawful : IsLawful (opening (opened ∷ [])) journal
+  pub up : Bool  -- whether the node was up
+  pub stands : DiskStandsFor (book_after (opening (opened ∷ [])) journal) up disk
+
+-- so it is where memory was refused, if the log was coherent
+pub record IsUntold {D : Type 0} (told : Type 0) (state : D → DiskState) (disk after : D) : Type 0 where
+  pub logged : IsLogged told state disk after
+  pub stands : told → IsCoherentDisk (state disk) → StandsUntold (state disk).content (state after)
+
 -- a run with this status leaves this: what it was handed in where no disk was opened; that, but for the raise, where its log was
 -- not opened; and a log that goes on from its own where the node began over it
 abbrev pub Leaves : {D : Type 0} → Type 0 → (D → DiskState) → Status → D → D → Type 0
 Leaves told state (statuses.Damaged node at) disk after = IsOnlyTouched told state disk after
 Leaves told state (statuses.DiskFault node) disk after = IsOnlyTouched told state disk after ⊎ IsLogged told state disk after
-Leaves told state statuses.NoMemory disk after = IsOnlyTouched told state disk after ⊎ IsLogged told state disk after
+Leaves told state statuses.NoMemory disk after = IsOnlyTouched told state disk after ⊎ IsUntold told state disk after
 Leaves told state statuses.Finished disk after = IsLogged told state disk after
 Leaves told state (statuses.Unfinished rounds waiting) disk after = IsLogged told state disk after
 Leaves told state statuses.WriteFault disk after = IsLogged told state disk after

@@ -1,11 +1,10 @@
 -- What the top call promises of a run: what its journal is, how it ended, and what was given.
-use Rattle.std.specs.Prelude.{◌≡◌, ◌⊎◌, ◌<◌, ℕ, ◌+◌, Bool, List, [], ◌∷◌, None, Some, length}
+use Rattle.std.specs.Prelude.{◌≡◌, ◌⊎◌, ◌<◌, ℕ, ◌+◌, Bool, List, [], ◌∷◌, is_none, length}
 use Rattle.std.specs.Global.{Global}
 use Rattle.qs_cell.specs.Starts.{CellValue, journal_of, trace_of}
 use Rattle.qs_cell.specs.State.{LogStands, cause_of, disk_of}
 use Rattle.qs_conformance.specs.Conforming.{Conforms}
 use Rattle.qs_disk.specs.Disk.{DiskState}
-use Rattle.qs_journal.specs.declared.entry.CrashCause.{CrashCause}
 use Rattle.qs_journal.specs.declared.entry.Entry.{Entry}
 use Rattle.qs_log.specs.Image.{IsLog}
 use Rattle.qs_machine.specs.Book.{BookValue}
@@ -20,8 +19,8 @@ use Rattle.qs_rounds.specs.Rounds.{Cast}
 use Rattle.qs_record.specs.declared.record.Record.{Record}
 use Rattle.qs_rounds.specs.Seats.{HasBegun, node_count}
 use Rattle.qs_rounds.specs.declared.rounds.Ending.{Ending}
-use Rattle.qs_single.specs.Ends.{IsRestorable, IsStored}
 use Rattle.qs_single.specs.Reached.{Reached}
+use Rattle.qs_single.specs.StandsFor.{DiskStandsFor}
 use Rattle.qs_slot.specs.Slot.{Present}
 use Rattle.qs_statements.specs.declared.script.Script.{Script}
 use Rattle.qs_statements.specs.declared.status.Status.{Status}
@@ -85,11 +84,10 @@ pub record IsOfWorld (script : Script) (content : List ℕ) (journal : List Entr
   pub log : IsLog present records used content
   pub reached : Reached (start (opening_by alloc script node_count (λ n. present.value.inc + 1) (λ n. records))) (λ world. world.journal ≡ journal)
 
--- and what the machine has committed then is on the disk, whatever a power cut leaves of it; where the node is down, with what a restart applies of it
+-- and whatever a power cut leaves of the disk stands for the machine then, whether the node is up or down: a restart over it is lawful, and takes up what the machine has
 pub record IsLasting {D : Type 0} (state : D → DiskState) (script : Script) (disk : D) (node : CellValue D) (journal : List Entry) (after : D) : Type 0 where
   pub of_world : IsOfWorld script (state disk).content journal
-  pub stored : cause_of node.seat.node ≡ None → IsStored (book_after (machine_over node.opened) journal) (state after)
-  pub restored : (cause : CrashCause) → cause_of node.seat.node ≡ Some cause → IsRestorable (book_after (machine_over node.opened) journal) (state after)
+  pub stands : DiskStandsFor (book_after (machine_over node.opened) journal) (is_none (cause_of node.seat.node)) (state after)
 
 -- nothing is told
 pub record IsNothing (journal : List Entry) (trace : List Step) : Type 0 where
@@ -126,7 +124,7 @@ pub record IsNotBegun {D : Type 0} (told : Type 0) (state : D → DiskState) (jo
   pub touched : IsOnlyTouched told state disk after
 
 -- the judge refused the node's journal, at this line for this clause. Where the log was coherent, each entry is a lawful step, and it is for a rule of the
--- script
+-- script; and what is left on the disk lasts, as of a run that is told
 pub record IsRefused {D : Type 0} (told : Type 0) (state : D → DiskState) (own size : D → ℕ) (seed : ℕ) (script : Script) (line clause : ℕ) (disk after : D) : Type 0 where
   pub node : CellValue D
   pub ran : ((ending : Ending) × HasRun told state own size seed script disk node ending) ⊎ HasRunShort told state own size seed script disk node
@@ -134,3 +132,4 @@ pub record IsRefused {D : Type 0} (told : Type 0) (state : D → DiskState) (own
   pub held : told → IsHeldIn script (state disk).content node.opened
   pub refused : IsRefusedAt script (machine_over node.opened) (journal_of node) line clause
   pub by_script : told → IsCoherentDisk (state disk) → clause ≡ rule_of_script
+  pub lasts : told → IsCoherentDisk (state disk) → IsLasting state script disk node (journal_of node) after

@@ -237,8 +237,8 @@ pub fn run<R: Threads + Sync, S: Source, K: Sink, D: Disk>(
 
     // A run that ended made its rounds, the journal is its node's and conforms to the script, the first disk is the one that
     // the node leaves, the status is that of the journal and of how the rounds ended, and the output was given whole; at a write
-    // fault a part of it was. Where the log was coherent and the node is up in the end, what the machine has committed is on the
-    // disk.
+    // fault a part of it was. Where the log was coherent, whatever a power cut leaves of the disk stands for the machine: a restart
+    // over it is lawful, and takes up what the machine has, committed and pending.
     ensures ended { (seed : ℕ) (shown : Bool) → asked_by (form_of words.now) ≡ Some (Asked.Serial seed shown) → IsEnd result.status
         → ReadWhole 1048576 (S.left source.old) (S.left source.new) (OfScript (λ script. OfFirst
         (IsWhole D.told D.state D.fault_count D.byte_count seed script shown (λ status. result.status ≡ status) (Appends (K.given sink.old) (K.given sink.new)) result.journal result.trace)
@@ -250,7 +250,7 @@ pub fn run<R: Threads + Sync, S: Source, K: Sink, D: Disk>(
 
     // Where its disk failed as the node was started again, the journal is what the node had made, and conforms, and the disk is
     // the one that the node leaves. Where the judge refuses what a node made, the line and the clause are told; where the log was
-    // coherent each entry is lawful, and it is for a rule of the script.
+    // coherent each entry is lawful, it is for a rule of the script, and what is left on the disk stands for the machine too.
     ensures cut_short { (seed : ℕ) (shown : Bool) → asked_by (form_of words.now) ≡ Some (Asked.Serial seed shown)
         → (node : NodeNo) → result.status ≡ Status.DiskFault node
         → OfFirst (IsNotBegun D.told D.state result.journal result.trace) disks.old.items disks.new.items

@@ -31,7 +31,7 @@ pub record IsOver {D : Type 0} (told : Type 0) (state : D → DiskState) (own si
   pub whole : Fits node_count script → IsEnd made.status → IsWhole told state own size seed script shown (λ status. made.status ≡ status) (IsOutput made.output) made.journal made.trace disk after
   pub short : Fits node_count script → (node : NodeNo) → made.status ≡ statuses.DiskFault node → IsNotBegun told state made.journal made.trace disk after ⊎ IsShort told state own size seed script made.journal made.trace disk after
   pub refused : Fits node_count script → (line clause : ℕ) → made.status ≡ statuses.Unlawful line clause → IsRefused told state own size seed script line clause disk after
-  pub leaves : Leaves told state made.status disk after
+  pub leaves : Fits node_count script → Leaves told state made.status disk after
   pub coherent : Fits node_count script → StaysCoherent told state disk after
   pub silent : IfNot (IsEnd made.status) (made.output ≡ None)
   pub empty : IfNot (Tells made.status) (IsNothing made.journal made.trace)

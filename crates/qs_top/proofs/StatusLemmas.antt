@@ -1,0 +1,145 @@
+-- What a status says of how a run ended, of the log that it leaves, and of what it tells.
+use Rattle.std.proofs.Common.{◌≡◌, ◌⊎◌, inl, inr, ℕ, Bool, List, [], ◌∷◌, true, false, ap}
+use Rattle.std.specs.Prelude.{⊤}
+use Rattle.qs_base.specs.declared.identifiers.NodeNo.{NodeNo}
+use Rattle.qs_disk.specs.Disk.{DiskState}
+use Rattle.qs_rounds.specs.Seats.{first_node}
+use Rattle.qs_statements.specs.declared.status.Status.{Status}
+use Rattle.qs_statements.specs.declared.status.Status.TheVariants as statuses
+use Rattle.qs_statements.specs.declared.status.Waiting.{Waiting}
+use Rattle.qs_verdict.specs.Ends.{status_of}
+use Rattle.qs_verdict.specs.Verdicts.{IsRefusal}
+use Rattle.qs_top.specs.Disks.{IsLogged, IsUntold, Leaves}
+use Rattle.qs_top.specs.Statuses.{IsEnd, IsOfRounds, Tells}
+
+-- a run came to its end or it did not
+pub end_or : (status : Status) → IsEnd status ⊎ (IsEnd status → ⊥)
+end_or statuses.Finished = inl tt
+end_or (statuses.Unfinished rounds waiting) = inl tt
+end_or statuses.Usage = inr (λ e. e)
+end_or (statuses.Script line fault) = inr (λ e. e)
+end_or statuses.ReadFault = inr (λ e. e)
+end_or statuses.WriteFault = inr (λ e. e)
+end_or (statuses.DiskFault node) = inr (λ e. e)
+end_or (statuses.Damaged node at) = inr (λ e. e)
+end_or statuses.NoMemory = inr (λ e. e)
+end_or (statuses.NoRoom node need room) = inr (λ e. e)
+end_or (statuses.Unlawful line clause) = inr (λ e. e)
+end_or (statuses.Journal line) = inr (λ e. e)
+end_or (statuses.LastGeneration node) = inr (λ e. e)
+
+-- it leaves a log, as the judge's refusal does
+module _ {D : Type 0} (told : Type 0) (state : D → DiskState) (disk after : D) where
+  pub end_leaves : (status : Status) → IsEnd status → IsLogged told state disk after → Leaves told state status disk after
+  end_leaves statuses.Finished e logged = logged
+  end_leaves (statuses.Unfinished rounds waiting) e logged = logged
+  end_leaves statuses.Usage e logged = absurd e
+  end_leaves (statuses.Script line fault) e logged = absurd e
+  end_leaves statuses.ReadFault e logged = absurd e
+  end_leaves statuses.WriteFault e logged = absurd e
+  end_leaves (statuses.DiskFault node) e logged = absurd e
+  end_leaves (statuses.Damaged node at) e logged = absurd e
+  end_leaves statuses.NoMemory e logged = absurd e
+  end_leaves (statuses.NoRoom node need room) e logged = absurd e
+  end_leaves (statuses.Unlawful line clause) e logged = absurd e
+  end_leaves (statuses.Journal line) e logged = absurd e
+  end_leaves (statuses.LastGeneration node) e logged = absurd e
+
+  pub end_logged : (status : Status) → IsEnd status → Leaves told state status disk after → IsLogged told state disk after
+  end_logged statuses.Finished e leaves = leaves
+  end_logged (statuses.Unfinished rounds waiting) e leaves = leaves
+  end_logged statuses.Usage e leaves = absurd e
+  end_logged (statuses.Script line fault) e leaves = absurd e
+  end_logged statuses.ReadFault e leaves = absurd e
+  end_logged statuses.WriteFault e leaves = absurd e
+  end_logged (statuses.DiskFault node) e leaves = absurd e
+  end_logged (statuses.Damaged node at) e leaves = absurd e
+  end_logged statuses.NoMemory e leaves = absurd e
+  end_logged (statuses.NoRoom node need room) e leaves = absurd e
+  end_logged (statuses.Unlawful line clause) e leaves = absurd e
+  end_logged (statuses.Journal line) e leaves = absurd e
+  end_logged (statuses.LastGeneration node) e leaves = absurd e
+
+  pub refusal_leaves : (status : Status) → IsRefusal status → IsUntold told state disk after → Leaves told state status disk after
+  refusal_leaves (statuses.Unlawful line clause) r left = left.logged
+  refusal_leaves statuses.NoMemory r left = inr left
+  refusal_leaves statuses.Finished r logged = absurd r
+  refusal_leaves (statuses.Unfinished rounds waiting) r logged = absurd r
+  refusal_leaves statuses.Usage r logged = absurd r
+  refusal_leaves (statuses.Script line fault) r logged = absurd r
+  refusal_leaves statuses.ReadFault r logged = absurd r
+  refusal_leaves statuses.WriteFault r logged = absurd r
+  refusal_leaves (statuses.DiskFault node) r logged = absurd r
+  refusal_leaves (statuses.Damaged node at) r logged = absurd r
+  refusal_leaves (statuses.NoRoom node need room) r logged = absurd r
+  refusal_leaves (statuses.Journal line) r logged = absurd r
+  refusal_leaves (statuses.LastGeneration node) r logged = absurd r
+
+-- what the judge refuses has the status of a run, and tells nothing
+pub refusal_built : (status : Status) → IsRefusal status → IsOfRounds status
+refusal_built (statuses.Unlawful line clause) r = tt
+refusal_built statuses.NoMemory r = tt
+refusal_built statuses.Finished r = absurd r
+refusal_built (statuses.Unfinished rounds waiting) r = absurd r
+refusal_built statuses.Usage r = absurd r
+refusal_built (statuses.Script line fault) r = absurd r
+refusal_built statuses.ReadFault r = absurd r
+refusal_built statuses.WriteFault r = absurd r
+refusal_built (statuses.DiskFault node) r = absurd r
+refusal_built (statuses.Damaged node at) r = absurd r
+refusal_built (statuses.NoRoom node need room) r = absurd r
+refusal_built (statuses.Journal line) r = absurd r
+refusal_built (statuses.LastGeneration node) r = absurd r
+
+pub end_built : (status : Status) → IsEnd status → IsOfRounds status
+end_built statuses.Finished e = tt
+end_built (statuses.Unfinished rounds waiting) e = tt
+end_built statuses.Usage e = absurd e
+end_built (statuses.Script line fault) e = absurd e
+end_built statuses.ReadFault e = absurd e
+end_built statuses.WriteFault e = absurd e
+end_built (statuses.DiskFault node) e = absurd e
+end_built (statuses.Damaged node at) e = absurd e
+end_built statuses.NoMemory e = absurd e
+end_built (statuses.NoRoom node need room) e = absurd e
+end_built (statuses.Unlawful line clause) e = absurd e
+end_built (statuses.Journal line) e = absurd e
+end_built (statuses.LastGeneration node) e = absurd e
+
+pub status_ends : (rounds : ℕ) (settled : Bool) (waiting : List Waiting) → IsEnd (status_of rounds settled waiting)
+status_ends rounds true [] = tt
+status_ends rounds true (one ∷ more) = tt
+status_ends rounds false waiting = tt
+
+-- an end is no refusal
+pub end_refuses : (status : Status) → IsEnd status → IsRefusal status → ⊥
+end_refuses statuses.Finished e r = r
+end_refuses (statuses.Unfinished rounds waiting) e r = r
+end_refuses statuses.Usage e r = e
+end_refuses (statuses.Script line fault) e r = e
+end_refuses statuses.ReadFault e r = e
+end_refuses statuses.WriteFault e r = e
+end_refuses (statuses.DiskFault node) e r = e
+end_refuses (statuses.Damaged node at) e r = e
+end_refuses statuses.NoMemory e r = e
+end_refuses (statuses.NoRoom node need room) e r = e
+end_refuses (statuses.Unlawful line clause) e r = e
+end_refuses (statuses.Journal line) e r = e
+end_refuses (statuses.LastGeneration node) e r = e
+
+pub status_tells : (rounds : ℕ) (settled : Bool) (waiting : List Waiting) → Tells (status_of rounds settled waiting)
+status_tells rounds true [] = tt
+status_tells rounds true (one ∷ more) = tt
+status_tells rounds false waiting = tt
+
+-- a fault of a disk
+abbrev pub IsFaultStatus : Status → Type 0
+IsFaultStatus (statuses.DiskFault node) = ⊤
+IsFaultStatus _ = ⊥
+
+abbrev fault_node : Status → NodeNo
+fault_node (statuses.DiskFault node) = node
+fault_node _ = first_node
+
+pub same_node : {m n : NodeNo} → statuses.DiskFault m ≡ statuses.DiskFault n → m ≡ n
+same_node is = ap fault_node is
