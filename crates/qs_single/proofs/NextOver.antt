@@ -1,5 +1,5 @@
 -- An opening without clients over the log of a world of one node: such a run may begin there.
-use Rattle.std.proofs.Common.{◌≡◌, ap, refl, sym, ℕ, ◌+◌, ◌<◌, zero, suc, true, List, [], ◌++◌, arith, nat_lt}
+use Rattle.std.proofs.Common.{◌≡◌, ap, refl, sym, ℕ, ◌<◌, zero, suc, true, List, [], ◌++◌, arith, nat_lt}
 use Rattle.std.proofs.lemmas.Bool.Decides.{nat_tests}
 use Rattle.std.specs.Global.{Global}
 use Rattle.qs_may_begin.specs.Coherent.{bare_setting, over_logs}

@@ -1,8 +1,8 @@
 -- Where the log of a disk was coherent it is so where a run did not begin, and what the judge refuses of a lawful journal is for a rule of the script.
-use Rattle.std.proofs.Common.{◌≡◌, ◌∙◌, ◌≤◌, ◌⊎◌, inl, inr, ℕ, ◌<◌, ◌+◌, List, [], ◌∷◌, Option, Some, None, ap, subst, sym, arith}
+use Rattle.std.proofs.Common.{◌≡◌, ◌∙◌, ◌≤◌, ◌⊎◌, inl, inr, ℕ, ◌+◌, List, [], ◌∷◌, Option, Some, None, ap, subst, sym, arith}
 use Rattle.std.specs.Global.{Global}
 use Rattle.qs_conformance.specs.Begun.{at_start}
-use Rattle.qs_conformance.specs.Conforming.{fault_from, fault_of, first_misfit_from}
+use Rattle.qs_conformance.specs.Conforming.{fault_from, first_misfit_from}
 use Rattle.qs_conformance.specs.Course.{CourseValue}
 use Rattle.qs_conformance.specs.Effects.{course_after}
 use Rattle.qs_conformance.specs.Rules.{broken_rule}

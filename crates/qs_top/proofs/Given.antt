@@ -1,28 +1,23 @@
 -- What a run is once its output was given: from what it came to over the first disk.
 use Rattle.std.proofs.Common.{◌≡◌, ◌≤◌, ◌⊎◌, inl, inr, ℕ, ◌<◌, Bool, List, [], ◌∷◌, length, Option, Some, None, Ok, refl, sym, ap, subst, ◌∙◌, arith, append-nil}
-use Rattle.std.specs.Prelude.{⊤}
 use Rattle.std.specs.Io.KnownBytes.{Appends}
 use Rattle.qs_base.specs.declared.identifiers.NodeNo.{NodeNo}
-use Rattle.qs_cell.specs.Starts.{CellValue}
 use Rattle.qs_disk.specs.Disk.{DiskState}
 use Rattle.qs_io.specs.Streams.{GivesPart}
 use Rattle.qs_journal.specs.declared.entry.Entry.{Entry}
 use Rattle.qs_machine.specs.Lawful.{IsLawful}
 use Rattle.qs_machine.specs.declared.opened.Opened.{Opened}
 use Rattle.qs_may_begin.specs.Scripts.{Fits, ScriptFits}
-use Rattle.qs_plans.specs.Plan.{setting_of}
-use Rattle.qs_plans.specs.Waiting.{waiting_of}
-use Rattle.qs_rounds.specs.Seats.{node_count, first_node}
+use Rattle.qs_rounds.specs.Seats.{node_count}
 use Rattle.qs_script.specs.Script.{script_of}
 use Rattle.qs_statements.specs.declared.script.Script.{Script}
 use Rattle.qs_statements.specs.declared.status.Status.{Status}
 use Rattle.qs_statements.specs.declared.status.Status.TheVariants as statuses
 use Rattle.qs_step.specs.declared.trace.Step.{Step}
-use Rattle.qs_verdict.specs.Ends.{status_of}
 use Rattle.qs_disk.specs.Moments.{Keeps}
 use Rattle.qs_incarnation.specs.Incarnation.{IsTouched}
-use Rattle.qs_top.specs.Disks.{OfFirst, IsLogged, Leaves}
-use Rattle.qs_top.specs.Inner.Giving.{IsNoScript, IsGiven, IsGivenOf, WasGiven, WasCutOff, WasSilent}
+use Rattle.qs_top.specs.Disks.{OfFirst, Leaves}
+use Rattle.qs_top.specs.Inner.Giving.{IsNoScript, IsGiven, IsGivenOf}
 use Rattle.qs_top.specs.Inner.Over.{IsOver, IsOutput}
 use Rattle.qs_top.specs.Run.{HasLawful, IsNotBegun, IsWhole, IsShort, IsRefused, machine_over, output_of}
 use Rattle.qs_top.specs.Statuses.{IsEnd, IsOfRounds}

@@ -1,12 +1,11 @@
 -- What the machine opens with is what the log of the disk held, and a run of the world begins over that log.
-use Rattle.std.proofs.Common.{◌≡◌, ℕ, ◌+◌, List, [], ◌++◌, refl, sym, ap, subst, ◌∙◌, append-nil}
+use Rattle.std.proofs.Common.{◌≡◌, ℕ, ◌+◌, List, [], ◌++◌, ap, subst, ◌∙◌, append-nil}
 use Rattle.std.specs.Global.{Global}
 use Rattle.qs_cell.specs.Restart.{inc_of, found_in}
 use Rattle.qs_disk.specs.Disk.{DiskState}
 use Rattle.qs_disk.specs.Fuse.{FusedValue}
 use Rattle.qs_incarnation.specs.Incarnation.{open_limit, IsRaisedLog}
 use Rattle.qs_log.specs.Log.{LogValue}
-use Rattle.qs_machine.specs.declared.opened.Opened.{Opened}
 use Rattle.qs_plans.specs.Plan.{setting_of}
 use Rattle.qs_record.specs.declared.record.Record.{Record}
 use Rattle.qs_rounds.specs.Rounds.{Cast}

@@ -69,7 +69,7 @@ module _ {D : Type 0} (told : Type 0) (state : D → DiskState) (own size : D �
   held : told → IsHeldIn script (state disk).content last.node.opened
   held is = subst (IsHeldIn script (state disk).content) (sym start.opened) (held_in told state own alloc script disk first begins is)
 
-  pub over_kept : IsLogged told state disk after
+  over_kept : IsLogged told state disk after
   over_kept is_told = record { script = script; opened = last.node.opened; held = held is_told; each = each is_told }
 
   -- whatever stood at the end, where nothing of it is told

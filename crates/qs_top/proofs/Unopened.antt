@@ -1,5 +1,5 @@
 -- What a run over one disk comes to whose log was not opened, or for which memory was refused.
-use Rattle.std.proofs.Common.{◌≡◌, ◌⊎◌, inl, ℕ, ◌^◌, Bool, Result, Err, IfErr, refl, sym, ap, subst, ◌∙◌, List, [], None}
+use Rattle.std.proofs.Common.{◌≡◌, ◌⊎◌, inl, ℕ, ◌^◌, Bool, refl, sym, ap, subst, ◌∙◌, [], None}
 use Rattle.std.specs.Prelude.{⊤}
 use Rattle.qs_base.specs.Causes.{Rose}
 use Rattle.qs_base.specs.declared.identifiers.NodeNo.{NodeNo}
@@ -17,7 +17,7 @@ use Rattle.qs_statements.specs.declared.status.Status.TheVariants as statuses
 use Rattle.qs_step.specs.Opening.{recovered_of}
 use Rattle.qs_world.specs.Histories.{opened_with}
 use Rattle.qs_top.specs.Disks.{IsFaultOver, IsDamageOver, IsOnlyTouched, IsUntold, Leaves, StaysCoherent}
-use Rattle.qs_top.specs.Inner.Making.{IsNothingMade, IsOutOfMemory, not_opened}
+use Rattle.qs_top.specs.Inner.Making.{IsNothingMade, not_opened}
 use Rattle.qs_top.specs.Inner.Over.{IsOver}
 use Rattle.qs_top.specs.Statuses.{IsEnd, IsOfRounds}
 use Rattle.qs_top.specs.declared.whole.Made.{Made}
