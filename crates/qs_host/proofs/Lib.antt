@@ -1,2 +1,3 @@
--- What a step makes of the log, and what stands on the disk meanwhile.
+-- What a step makes of the log, what stands on the disk meanwhile, and what room it finds.
 pub mod Carrying
+pub mod Rooms

@@ -1,2 +1,3 @@
 -- A node over its log.
 pub mod Host
+pub mod Roomy

@@ -1,5 +1,5 @@
 //! A node over its log.
-ghost use Rattle.std.specs.Prelude.{◌≡◌, ◌≤◌, IfOk, IfErr, OnOk, OnErr, Err};
+ghost use Rattle.std.specs.Prelude.{◌≡◌, ◌≢◌, ◌≤◌, ℕ, IfOk, IfErr, OnOk, OnErr, Err};
 ghost use Rattle.qs_base.specs.Causes.{Rose};
 ghost use Rattle.qs_disk.specs.Moments.{Keeps};
 ghost use Rattle.qs_ipc.specs.Ipc as ipc;
@@ -12,7 +12,8 @@ ghost use Rattle.qs_step.specs.Opening.{recovered_of};
 ghost use Rattle.qs_step.specs.Step.{accept};
 ghost use Rattle.qs_tm.specs.Manager as tm;
 ghost use Rattle.qs_host.specs.Host.{effects_at, worked_node, is_settled, opened_host, AreUnended, HasBatch, IsLogAfter, IsOldOrAfter};
-ghost use Rattle.qs_host.specs.declared.fault.HostFault.TheVariants.{Disk as OfDisk};
+ghost use Rattle.qs_host.specs.Roomy.{BeginsNewAt, HasRoomyLog, IsRoomyHost, IsWorkedRoomy, LacksRoom, OpensRoomy};
+ghost use Rattle.qs_host.specs.declared.fault.HostFault.TheVariants.{Disk as OfDisk, NoRoom as OfRoom};
 
 use crate::appending::append_and_force;
 use crate::fault::HostFault;
@@ -64,7 +65,7 @@ impl<D: Disk, F: Server, X: Server> Model for Host<D, F, X> {
 impl<D: Disk, F: Server, X: Server> Host<D, F, X> {
     /// A node begins an incarnation over its log, which says `found`: it keeps `kept` for its clients. Its files and the
     /// further server are empty. For want of memory alone the log, what it keeps for its clients and the further server are
-    /// handed back.
+    /// handed back. Over a log that has room for all that is kept there the host is roomy.
     pub fn open(
         alloc: Global,
         log: Log<D>,
@@ -80,6 +81,7 @@ impl<D: Disk, F: Server, X: Server> Host<D, F, X> {
         requires batch { setting.extra ≤ 8 }
         requires keep { setting.keep ≤ 144 }
         ensures ok { IfOk result (λ host. host ≡ opened_host alloc setting kept log) }
+        ensures roomy { (keep : ℕ) → OpensRoomy keep (D.byte_count log.disk) setting log → IfOk result (IsRoomyHost keep (D.byte_count log.disk)) }
         ensures log { IfErr result (λ back. back.log ≡ log) }
         ensures kept { IfErr result (λ back. back.kept ≡ kept) }
         ensures extra { IfErr result (λ back. X.state back.extra ≡ X.state extra) }
@@ -105,10 +107,13 @@ impl<D: Disk, F: Server, X: Server> Host<D, F, X> {
     }
 
     /// Works out what the event brings about. Nothing of it is done: the log stays as it is, and the node waits for
-    /// `carry_out`. After `NoMemory`, its only error, only `into_parts` is to be called.
+    /// `carry_out`. After `NoMemory`, its only error, only `into_parts` is to be called. Over a roomy host the log has room for
+    /// what the event brings about.
     pub fn work_out(&mut self, event: Event) -> Result<Effects, NoMemory>
         ensures effects { IfOk result (λ out. out ≡ effects_at (D.byte_count self.old.log.disk) self.old event) }
         ensures node { OnOk result (self.new.node ≡ worked_node (D.byte_count self.old.log.disk) self.old event) }
+        ensures room { (keep : ℕ) → IsRoomyHost keep (D.byte_count self.old.log.disk) self.old → BeginsNewAt (D.byte_count self.old.log.disk) self.old event
+            → IfOk result (IsWorkedRoomy keep (D.byte_count self.old.log.disk) self.new) }
         ensures log { self.new.log ≡ self.old.log }
         ensures saved { self.new.node.kept.saved ≡ self.old.node.kept.saved }
     {
@@ -123,8 +128,10 @@ impl<D: Disk, F: Server, X: Server> Host<D, F, X> {
     /// counts. Where it is cut off, the node does not count it, and only `disk` and `into_parts` are of use: on the disk
     /// stand the records of before, or, of a step that forces them, those of after it.
     ///
-    /// `Disk` comes only where a force is due, something waits for it, and the disk's count of faults rose. `NoMemory` comes
-    /// for want of memory, and where a record has no spelling or no room. That no step makes such a record is not proved yet.
+    /// `Disk` comes only where a force is due, something waits for it, and the disk's count of faults rose. `NoRoom` comes only
+    /// where the log has no room for a record as its turn comes, which is never so of a step that a roomy host worked out; and
+    /// the host is roomy then after the step. `NoMemory` comes for want of memory, and where a record has no spelling: that no
+    /// step makes such a record is not proved yet.
     pub fn carry_out(&mut self, out: &Effects) -> Result<(), HostFault>
         requires stands { D.told → Stands self.old.log (D.state self.old.log.disk) }
         ensures node { OnOk result (self.new.node ≡ accept self.old.node) }
@@ -141,6 +148,14 @@ impl<D: Disk, F: Server, X: Server> Host<D, F, X> {
         ensures kept { OnErr result (self.new.node ≡ self.old.node) }
         ensures cause { result ≡ Err OfDisk → Rose (D.fault_count self.old.log.disk) (D.fault_count self.new.log.disk) }
         ensures batch { result ≡ Err OfDisk → HasBatch out.now self.old.log }
+        ensures full { result ≡ Err OfRoom → LacksRoom (D.byte_count self.old.log.disk) self.old.log out.now.records }
+
+        // Of a step that a roomy host worked out.
+        ensures room { (keep : ℕ) → IsWorkedRoomy keep (D.byte_count self.old.log.disk) self.old out.now → result ≢ Err OfRoom }
+        ensures roomy { (keep : ℕ) → IsWorkedRoomy keep (D.byte_count self.old.log.disk) self.old out.now
+            → OnOk result (IsRoomyHost keep (D.byte_count self.old.log.disk) self.new) }
+        ensures left { D.told → (keep : ℕ) → IsWorkedRoomy keep (D.byte_count self.old.log.disk) self.old out.now
+            → Keeps (HasRoomyLog keep (D.byte_count self.old.log.disk)) (D.state self.old.log.disk) (D.state self.new.log.disk) }
     {
         log_out(&mut self.logged, out)?;
         self.node.accept();
@@ -217,6 +232,7 @@ fn log_out<D: Disk>(logged: &mut Logged<D>, out: &Effects) -> Result<(), HostFau
     ensures later { D.fault_count logged.old.log.disk ≤ D.fault_count logged.new.log.disk }
     ensures cause { result ≡ Err OfDisk → Rose (D.fault_count logged.old.log.disk) (D.fault_count logged.new.log.disk) }
     ensures batch { result ≡ Err OfDisk → HasBatch out.now logged.old.log }
+    ensures full { result ≡ Err OfRoom → LacksRoom (D.byte_count logged.old.log.disk) logged.old.log out.now.records }
 {
     append_and_force(&mut logged.log, &mut logged.unended, out)
 }
