@@ -1,6 +1,6 @@
 -- What an event does with the log and leaves on the disk, by its stages.
-use Rattle.std.proofs.Common.{◌≡◌, ◌⊎◌, ◌∙◌, ap, subst, sym, refl, inl, inr, ℕ, Bool, false, List, ◌++◌}
-use Rattle.std.specs.Prelude.{None, Some, if◌then◌else◌}
+use Rattle.std.proofs.Common.{◌≡◌, ◌⊎◌, ◌∙◌, ap, subst, sym, refl, inl, inr, ℕ, Bool, true, false, List, ◌++◌}
+use Rattle.std.specs.Prelude.{◌↔◌, None, Some, if◌then◌else◌}
 use Rattle.std.specs.List.{list_any}
 use Rattle.qs_base.specs.Causes.{Rose}
 use Rattle.qs_disk.specs.Disk.{DiskState}
@@ -8,6 +8,7 @@ use Rattle.qs_disk.specs.Fuse.{FusedValue, GoesOn, fused_count}
 use Rattle.qs_disk.specs.Moments.{Keeps}
 use Rattle.qs_host.proofs.Carrying.{unwritten}
 use Rattle.qs_host.specs.Host.{HostValue, HasBatch, IsLogAfter, IsOldOrAfter, log_after, effects_at, worked_node}
+use Rattle.qs_host.specs.Roomy.{LacksRoom}
 use Rattle.qs_host.specs.declared.fault.HostFault.{HostFault}
 use Rattle.qs_host.specs.declared.fault.HostFault.TheVariants as faults
 use Rattle.qs_journal.specs.declared.entry.Act.{Act}
@@ -24,7 +25,7 @@ use Rattle.qs_chronicle.specs.Chronicle.{crashed}
 use Rattle.qs_chronicle.specs.Occasions.{did_of, event_of}
 use Rattle.qs_chronicle.specs.declared.carried.Carried.{Carried}
 use Rattle.qs_chronicle.specs.declared.occasion.Occasion.{Occasion}
-use Rattle.qs_cell.specs.Cell.{IfStands, IsCutOff, IsFaulted, StandsAfter, disk_after, fault_cause, ordered, planned, planned_after, out_of}
+use Rattle.qs_cell.specs.Cell.{IfStands, IsCutOff, IsFaulted, IsRefused, StandsAfter, disk_after, fault_cause, ordered, planned, planned_after, out_of}
 use Rattle.qs_cell.specs.Within.{HasBegun, HasCrashed, IsWorkedOut, HasStepped, running_with}
 use Rattle.qs_cell.specs.Outcomes.{Outcome, outcome_of, stopped_of}
 use Rattle.qs_cell.specs.Outcomes as outcomes
@@ -108,15 +109,26 @@ has_stepped {D} size occasion old host new carried out work node log goes = reco
 -- or it is cut off: memory was refused, or a call of the disk failed as the batch was forced
 cut_why : {D F X : Type 0} (own : D → ℕ) (size : ℕ) (occasion : Occasion) (old : Running D F X) (host : HostValue (FusedValue D)) (carried : Carried) (out : Effects)
     (new : Stopped D) (fault : HostFault) → IsWorkedOut size occasion old host carried out → (fault ≡ faults.NoMemory → new.cause ≡ causes.Memory)
+    → (fault ≡ faults.NoRoom → new.cause ≡ causes.Memory) → (new.is_full ≡ true ↔ fault ≡ faults.NoRoom) → (fault ≡ faults.NoRoom → LacksRoom size host.log out.records)
     → (fault ≡ faults.Disk → new.cause ≡ fault_cause own host.log.disk new.disk) → (fault ≡ faults.Disk → HasBatch out host.log)
-    → (fault ≡ faults.Disk → Rose (fused_count own host.log.disk) (fused_count own new.disk)) → (new.cause ≡ causes.Memory) ⊎ IsFaulted own size occasion old new
-cut_why own size occasion old host carried out new faults.NoMemory work memory cause batch rose = inl (memory refl)
-cut_why {D} own size occasion old host carried out new faults.Disk work memory cause batch rose = inr (record {
+    → (fault ≡ faults.Disk → Rose (fused_count own host.log.disk) (fused_count own new.disk)) → IsRefused size occasion old new ⊎ IsFaulted own size occasion old new
+cut_why own size occasion old host carried out new faults.NoMemory work memory room full lacks cause batch rose =
+    inl (record { cause = memory refl; full = λ is. absurd (let no : faults.NoMemory ≡ faults.NoRoom = full.0 is in cc no) })
+cut_why {D} own size occasion old host carried out new faults.NoRoom work memory room full lacks cause batch rose = inl (record {
+  cause = room refl;
+  full = λ is. subst (λ (o : Effects). LacksRoom size old.host.log o.records) work.out (subst (λ (l : LogValue (FusedValue D)). LacksRoom size l out.records) work.log (lacks refl));
+})
+cut_why {D} own size occasion old host carried out new faults.Disk work memory room full lacks cause batch rose = inr (record {
   force = ap (λ (o : Effects). o.force) (sym work.out) ∙ (batch refl).force;
   batch = λ none. (batch refl).batch (ap (λ (l : LogValue (FusedValue D)). l.waiting ++ out.records) work.log ∙ ap (λ (o : Effects). old.host.log.waiting ++ o.records) work.out ∙ none);
   cause = cause refl ∙ ap (λ (l : LogValue (FusedValue D)). fault_cause own l.disk new.disk) work.log;
   rose = subst (λ (l : LogValue (FusedValue D)). Rose (fused_count own l.disk) (fused_count own new.disk)) work.log (rose refl);
+  full = not_full new.is_full refl;
 })
+  where
+    not_full : (b : Bool) → new.is_full ≡ b → new.is_full ≡ false
+    not_full false is = is
+    not_full true is = absurd (let no : faults.Disk ≡ faults.NoRoom = full.0 is in cc no)
 
 -- what is told of counts that were read before
 pub told_cause : {D : Type 0} (own : D → ℕ) (old new first second third : FusedValue D) (trips faults : ℕ) (cause : CrashCause) → first ≡ old → second ≡ old → third ≡ new
@@ -127,12 +139,13 @@ told_cause {D} own old new first second third trips faults cause one two three i
     ∙ ap (fault_cause own old) three
 
 pub cut_short : {D F X : Type 0} (own : D → ℕ) (size : ℕ) (occasion : Occasion) (old : Running D F X) (host new : HostValue (FusedValue D)) (carried after : Carried)
-    (out : Effects) (fault : HostFault) (cause : CrashCause) → IsWorkedOut size occasion old host carried out → new.node ≡ host.node
+    (out : Effects) (fault : HostFault) (cause : CrashCause) (is_full : Bool) → IsWorkedOut size occasion old host carried out → new.node ≡ host.node
     → HasCrashed (did_of occasion) cause carried after → GoesOn host.log.disk.fuse new.log.disk.fuse → (fault ≡ faults.NoMemory → cause ≡ causes.Memory)
+    → (fault ≡ faults.NoRoom → cause ≡ causes.Memory) → (is_full ≡ true ↔ fault ≡ faults.NoRoom) → (fault ≡ faults.NoRoom → LacksRoom size host.log out.records)
     → (fault ≡ faults.Disk → cause ≡ fault_cause own host.log.disk new.log.disk) → (fault ≡ faults.Disk → HasBatch out host.log)
     → (fault ≡ faults.Disk → Rose (fused_count own host.log.disk) (fused_count own new.log.disk))
-    → IsCutOff own size occasion old (stopped_of cause (running_with {F = F} {X = X} new after))
-cut_short {D} {F} {X} own size occasion old host new carried after out fault cause work node crash goes memory is batch rose = record {
+    → IsCutOff own size occasion old (stopped_of cause is_full (running_with {F = F} {X = X} new after))
+cut_short {D} {F} {X} own size occasion old host new carried after out fault cause is_full work node crash goes memory room full lacks is batch rose = record {
   kept = ap (λ (n : NodeValue). n.kept.saved) node ∙ work.saved;
   told = crash.told ∙ ap (crashed (did_of occasion) cause) work.begun.told;
   commands = crash.commands ∙ work.begun.commands;
@@ -141,7 +154,7 @@ cut_short {D} {F} {X} own size occasion old host new carried after out fault cau
   setting = crash.setting ∙ work.begun.setting;
   unplanned = work.unplanned;
   goes = subst (λ (l : LogValue (FusedValue D)). GoesOn l.disk.fuse new.log.disk.fuse) work.log goes;
-  why = cut_why own size occasion old host carried out (stopped_of cause (running_with {F = F} {X = X} new after)) fault work memory is batch rose;
+  why = cut_why own size occasion old host carried out (stopped_of cause is_full (running_with {F = F} {X = X} new after)) fault work memory room full lacks is batch rose;
 }
 
 -- it is the disk of the node that made it
@@ -149,7 +162,7 @@ pub disk_left : {D F X : Type 0} (fate : Fate) (running : Running D F X) → dis
 disk_left (fates.Whole answers) running = refl
 disk_left (fates.Followed answers) running = refl
 disk_left (fates.Replaced cause) running = refl
-disk_left (fates.CutOff cause) running = refl
+disk_left (fates.CutOff cause is_full) running = refl
 
 if_stands : {D F X : Type 0} (outcome : Outcome D F X) (P : FusedValue D → Type 0) → P (disk_after outcome) → IfStands outcome P
 if_stands (outcomes.Whole running answers) P p = p

@@ -23,15 +23,16 @@ seen_is a b told commands crashes points =
     ∙ ap (λ (watched : List Watched). record { told = b.chronicle.told; commands = b.commands; crashes = b.crashes; points = watched }) points
 
 pub left_begins : {D F X : Type 0} (own : D → ℕ) (alloc : Global) (log : LogValue (FusedValue D)) (rest kept : Rest) (before : Counts) (back : LogValue (FusedValue D))
-    (result : Restarted D F X) → back ≡ log → kept.kept ≡ rest.kept → kept.cause ≡ rest.cause → kept.carried.setting ≡ rest.carried.setting
+    (result : Restarted D F X) → back ≡ log → kept.kept ≡ rest.kept → kept.cause ≡ rest.cause → kept.is_full ≡ rest.is_full → kept.carried.setting ≡ rest.carried.setting
     → seen kept.carried ≡ seen rest.carried → IsLeftDown own kept before back.disk result → Begins own alloc log rest before result
-left_begins own alloc log rest kept before back (restarts.Up running) same is_kept cause setting seen_same left = absurd left
-left_begins {D} own alloc log rest kept before back (restarts.Down stopped why) is_log is_kept cause setting seen_same left =
+left_begins own alloc log rest kept before back (restarts.Up running) same is_kept cause full setting seen_same left = absurd left
+left_begins {D} own alloc log rest kept before back (restarts.Down stopped why) is_log is_kept cause full setting seen_same left =
     let same : back.disk ≡ log.disk = ap (λ (l : LogValue (FusedValue D)). l.disk) is_log in
     record {
       disk = left.disk ∙ same;
       kept = left.kept ∙ is_kept;
       cause = left.cause ∙ cause;
+      full = left.full ∙ full;
       setting = left.setting ∙ setting;
       seen = left.seen ∙ seen_same;
       tripped = subst (λ (d : FusedValue D). (why ≡ reopen_faults.Tripped) ↔ (d.fuse.trips ≢ before.trips)) same left.tripped;

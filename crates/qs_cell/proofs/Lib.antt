@@ -16,3 +16,5 @@ pub mod Rings
 pub mod Logging
 -- A refusal of memory in place of a fault of the disk.
 pub mod Founding
+-- A node whose log has room for all that is kept there stays so.
+pub mod Rooms

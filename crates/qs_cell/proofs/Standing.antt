@@ -1,5 +1,5 @@
 -- What stands of a node after an event and after a restart: its log on the disk, and its setting.
-use Rattle.std.proofs.Common.{◌≡◌, ◌⊎◌, ◌∙◌, ◌≤◌, ap, subst, sym, refl, inl, inr, ℕ, Bool, List, [], ◌++◌}
+use Rattle.std.proofs.Common.{◌≡◌, ◌⊎◌, ◌∙◌, ◌≤◌, ap, subst, sym, refl, inl, inr, ℕ, Bool, true, false, List, [], ◌++◌}
 use Rattle.std.proofs.lemmas.List.{append-nil}
 use Rattle.std.specs.Prelude.{Result}
 use Rattle.std.specs.Global.{Global}
@@ -89,10 +89,11 @@ makes_of {D} told state own size occasion old outcome new answers is node said s
 }
 
 -- a node that a crash stopped is down, and answers nobody
-pub left_down : {D : Type 0} (fate : Fate) (cause : CrashCause) (running : Up D) → (fate ≡ fates.Replaced cause) ⊎ (fate ≡ fates.CutOff cause)
-    → (state_of (outcome_of fate running) ≡ states.Down (stopped_of cause running)) × (answers_of (outcome_of fate running) ≡ [])
-left_down fate cause running (inl is) = rw is (refl, refl)
-left_down fate cause running (inr is) = rw is (refl, refl)
+pub left_down : {D : Type 0} (fate : Fate) (cause : CrashCause) (is_full : Bool) (running : Up D)
+    → ((fate ≡ fates.Replaced cause) × (is_full ≡ false)) ⊎ (fate ≡ fates.CutOff cause is_full)
+    → (state_of (outcome_of fate running) ≡ states.Down (stopped_of cause is_full running)) × (answers_of (outcome_of fate running) ≡ [])
+left_down fate cause is_full running (inl is) = rw (is.0, is.1) (refl, refl)
+left_down fate cause is_full running (inr is) = rw is (refl, refl)
 
 -- by how it left the node, and what it left of it
 pub makes_by : {D : Type 0} (told : Type 0) (state : D → DiskState) (own size : D → ℕ) (occasion : Occasion) (from new : NodeState D) (old running : Up D) (fate : Fate)

@@ -5,6 +5,7 @@ use Rattle.qs_base.specs.Causes.{Rose}
 use Rattle.qs_disk.specs.Disk.{DiskState}
 use Rattle.qs_disk.specs.Fuse.{FusedValue, GoesOn, fused_count}
 use Rattle.qs_host.specs.Host.{effects_at, node_after, log_after, IsLogAfter}
+use Rattle.qs_host.specs.Roomy.{LacksRoom}
 use Rattle.qs_journal.specs.declared.entry.CrashCause.{CrashCause}
 use Rattle.qs_journal.specs.declared.entry.CrashCause.TheVariants as causes
 use Rattle.qs_log.specs.Log.{LogValue, Stands}
@@ -103,6 +104,7 @@ pub record IsFollowed {D F X : Type 0} (size : ℕ) (occasion : Occasion) (old :
   pub setting : new.carried.setting ≡ old.carried.setting
   pub unplanned : IsUnplanned size occasion old
   pub followed : is_followed size occasion old ≡ true
+  pub full : new.is_full ≡ false
   pub goes : GoesOn old.host.log.disk.fuse new.disk.fuse
 
 -- as the script or the last stamp has it
@@ -118,6 +120,7 @@ pub record IsReplaced {D F X : Type 0} (size : ℕ) (occasion : Occasion) (old :
   pub told : new.carried.chronicle.told ≡ crashed (did_of occasion) new.cause (begun old.carried.chronicle.told)
   pub crashes : new.carried.crashes ≡ old.carried.crashes
   pub setting : new.carried.setting ≡ old.carried.setting
+  pub full : new.is_full ≡ false
   pub why : (new.cause ≡ causes.Memory) ⊎ IsAsPlanned size occasion old new
 
 -- a call of the disk failed, as the batch of the step was forced
@@ -126,6 +129,12 @@ pub record IsFaulted {D F X : Type 0} (own : D → ℕ) (size : ℕ) (occasion :
   pub batch : old.host.log.waiting ++ (out_of size occasion old).records ≢ []
   pub cause : new.cause ≡ fault_cause own old.host.log.disk new.disk
   pub rose : Rose (fused_count own old.host.log.disk) (fused_count own new.disk)
+  pub full : new.is_full ≡ false
+
+-- memory was refused; or the log had no room for a record of the step, which is told beside
+pub record IsRefused {D F X : Type 0} (size : ℕ) (occasion : Occasion) (old : Running D F X) (new : Stopped D) : Type 0 where
+  pub cause : new.cause ≡ causes.Memory
+  pub full : new.is_full ≡ true → LacksRoom size old.host.log (out_of size occasion old).records
 
 -- a crash within the step: it makes no entry but its own, and is answered by none
 pub record IsCutOff {D F X : Type 0} (own : D → ℕ) (size : ℕ) (occasion : Occasion) (old : Running D F X) (new : Stopped D) : Type 0 where
@@ -137,7 +146,7 @@ pub record IsCutOff {D F X : Type 0} (own : D → ℕ) (size : ℕ) (occasion : 
   pub setting : new.carried.setting ≡ old.carried.setting
   pub unplanned : IsUnplanned size occasion old
   pub goes : GoesOn old.host.log.disk.fuse new.disk.fuse
-  pub why : (new.cause ≡ causes.Memory) ⊎ IsFaulted own size occasion old new
+  pub why : IsRefused size occasion old new ⊎ IsFaulted own size occasion old new
 
 abbrev pub IsOutcome : {D F X : Type 0} → (D → ℕ) → ℕ → Occasion → Running D F X → Outcome D F X → Type 0
 IsOutcome own size occasion old (outcomes.Whole running answers) = IsWhole size occasion old running answers

@@ -16,3 +16,5 @@ pub mod Starts
 pub mod Logged
 -- The lanes of a node stay joined to the other ends.
 pub mod Joined
+-- A node of a cell whose log has room for all that is kept there.
+pub mod Roomy

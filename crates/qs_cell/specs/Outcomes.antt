@@ -1,5 +1,5 @@
 -- What comes of an event: the node after it, or what is left of one that stopped.
-use Rattle.std.specs.Prelude.{List}
+use Rattle.std.specs.Prelude.{Bool, false, List}
 use Rattle.qs_journal.specs.declared.entry.CrashCause.{CrashCause}
 use Rattle.qs_journal.specs.declared.entry.CrashCause.TheVariants as causes
 use Rattle.qs_step.specs.declared.event.ClientAnswer.{ClientAnswer}
@@ -14,13 +14,19 @@ pub data Outcome (D F X : Type 0) : Type 0 where
   Replaced : Stopped D → Outcome D F X  -- a crash stands in place of the event
   CutOff : Stopped D → Outcome D F X  -- a crash cut the step off
 
--- what is left of a node that stops
-abbrev pub stopped_of : {D F X : Type 0} → CrashCause → Running D F X → Stopped D
-stopped_of cause running = record { disk = running.host.log.disk; kept = running.host.node.kept.saved; cause = cause; carried = running.carried }
+-- what is left of a node that stops; whether its log had no room
+abbrev pub stopped_of : {D F X : Type 0} → CrashCause → Bool → Running D F X → Stopped D
+stopped_of cause is_full running = record {
+  disk = running.host.log.disk;
+  kept = running.host.node.kept.saved;
+  cause = cause;
+  is_full = is_full;
+  carried = running.carried;
+}
 
 -- only a line of the script stops a node right behind a step
 abbrev pub outcome_of : {D F X : Type 0} → Fate → Running D F X → Outcome D F X
 outcome_of (fates.Whole answers) running = Whole running answers
-outcome_of (fates.Followed answers) running = Followed (stopped_of causes.Plan running) answers
-outcome_of (fates.Replaced cause) running = Replaced (stopped_of cause running)
-outcome_of (fates.CutOff cause) running = CutOff (stopped_of cause running)
+outcome_of (fates.Followed answers) running = Followed (stopped_of causes.Plan false running) answers
+outcome_of (fates.Replaced cause) running = Replaced (stopped_of cause false running)
+outcome_of (fates.CutOff cause is_full) running = CutOff (stopped_of cause is_full running)

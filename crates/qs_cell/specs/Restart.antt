@@ -53,6 +53,7 @@ in_round_as s = record s { told = in_round s.told }
 pub record IsStillDown {D : Type 0} (old new : Stopped D) : Type 0 where
   pub kept : new.kept ≡ old.kept
   pub cause : new.cause ≡ old.cause
+  pub full : new.is_full ≡ old.is_full
   pub setting : new.carried.setting ≡ old.carried.setting
   pub seen : seen new.carried ≡ in_round_as (seen old.carried)
 

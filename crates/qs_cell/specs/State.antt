@@ -63,14 +63,14 @@ abbrev pub IsSeenAs : {D : Type 0} → (Seen → Seen) → NodeState D → NodeS
 IsSeenAs f (states.Up old) (states.Up new) =
     (new.host ≡ old.host) × ((seen new.carried ≡ f (seen old.carried)) × (new.carried.setting ≡ old.carried.setting))
 IsSeenAs f (states.Down old) (states.Down new) =
-    (new.disk ≡ old.disk) × ((new.kept ≡ old.kept) × ((new.cause ≡ old.cause)
+    (new.disk ≡ old.disk) × ((new.kept ≡ old.kept) × (((new.cause ≡ old.cause) × (new.is_full ≡ old.is_full))
     × ((seen new.carried ≡ f (seen old.carried)) × (new.carried.setting ≡ old.carried.setting))))
 IsSeenAs f old new = ⊥
 
 -- a node that is up stops
-abbrev pub stopped_state : {D : Type 0} → CrashCause → NodeState D → NodeState D
-stopped_state cause (states.Up running) = states.Down (stopped_of cause running)
-stopped_state cause (states.Down stopped) = states.Down stopped
+abbrev pub stopped_state : {D : Type 0} → CrashCause → Bool → NodeState D → NodeState D
+stopped_state cause is_full (states.Up running) = states.Down (stopped_of cause is_full running)
+stopped_state cause is_full (states.Down stopped) = states.Down stopped
 
 -- ---- after an event
 

@@ -67,6 +67,7 @@ pub record IsLeft {D : Type 0} (own : D → ℕ) (rest : Rest) (before : Counts)
   pub disk : stopped.disk ≡ left
   pub kept : stopped.kept ≡ rest.kept
   pub cause : stopped.cause ≡ rest.cause
+  pub full : stopped.is_full ≡ rest.is_full
   pub setting : stopped.carried.setting ≡ rest.carried.setting
   pub seen : seen stopped.carried ≡ seen rest.carried
   pub tripped : (why ≡ reopen_faults.Tripped) ↔ (left.fuse.trips ≢ before.trips)

@@ -1,8 +1,9 @@
 //! A node that is up: its events.
-ghost use Rattle.std.specs.Prelude.{◌≡◌, ℕ, ◌+◌, None, map, length, OnOk, IfOk};
+ghost use Rattle.std.specs.Prelude.{◌≡◌, ◌↔◌, ℕ, ◌+◌, true, None, map, length, OnOk, IfOk};
 ghost use Rattle.qs_disk.specs.Moments.{Keeps};
 ghost use Rattle.qs_disk.specs.Fuse.{FusedValue};
 ghost use Rattle.qs_host.specs.Host.{IsOldOrAfter, worked_node, effects_at};
+ghost use Rattle.qs_host.specs.Roomy.{HasRoomyLog, IsRoomyHost};
 ghost use Rattle.qs_host.specs.declared.fault.HostFault.TheVariants as faults;
 ghost use Rattle.qs_journal.specs.declared.entry.CrashCause.TheVariants as causes;
 ghost use Rattle.qs_log.specs.Log.{Stands};
@@ -13,6 +14,7 @@ ghost use Rattle.qs_chronicle.specs.Occasions.{taken, event_of, did_of};
 ghost use Rattle.qs_points.specs.Points.{after_entries};
 ghost use Rattle.qs_cell.specs.Cell.{begun, ordered, why_not, fault_cause, out_of, IsOutcome, IfStands, StandsAfter};
 ghost use Rattle.qs_cell.specs.Outcomes.{stopped_of, outcome_of};
+ghost use Rattle.qs_cell.specs.Roomy.{ComesNew, IsRoomyOutcome};
 ghost use Rattle.qs_cell.specs.Within.{HasBegun, HasCrashed, IsWorkedOut, HasStepped, running_with};
 ghost use Rattle.qs_cell.specs.declared.running.Fate.TheVariants as fates;
 
@@ -43,15 +45,15 @@ pub enum Fate {
     Followed { answers: List<ClientAnswer> },
     /// A crash stands in place of the event.
     Replaced { cause: CrashCause },
-    /// A crash cut the step off.
-    CutOff { cause: CrashCause },
+    /// A crash cut the step off; whether it did as the log had no room for a record, which counts as a want of memory.
+    CutOff { cause: CrashCause, is_full: bool },
 }
 
 impl<D: Disk, F: Server, X: Server> Running<D, F, X> {
     /// An event: it takes its number and the next stamp. Then, in this order: the last stamp or a line `crash` stops the
     /// node in place of it; a line `before` does, where the whole step would make the entry that it names; the force is cut
-    /// off; the step stands; a line `after` stops the node behind it. Memory that is refused stops the node as well. Room
-    /// for a crash is to be made before. Where the node is stopped only `into_stopped` is to be called.
+    /// off; the step stands; a line `after` stops the node behind it. Memory that is refused stops the node as well, and so does
+    /// a log with no room for a record, which over a roomy host never comes. Room for a crash is to be made before. Where the node is stopped only `into_stopped` is to be called.
     pub fn event(&mut self, occasion: Occasion) -> Fate
         requires stands { D.told → Stands self.old.host.log (D.state self.old.host.log.disk.disk) }
         requires room { HasRoom 1 1 self.old.carried.chronicle }
@@ -62,6 +64,14 @@ impl<D: Disk, F: Server, X: Server> Running<D, F, X> {
         ensures moments { D.told → Keeps (IsOldOrAfter (out_of (D.byte_count self.old.host.log.disk.disk) occasion self.old) self.old.host.log)
             (D.state self.old.host.log.disk.disk) (D.state self.new.host.log.disk.disk) }
         ensures size { D.byte_count self.new.host.log.disk.disk ≡ D.byte_count self.old.host.log.disk.disk }
+
+        // Over a roomy host it leaves one, or a node that is not stopped for a full log; and so does each image.
+        ensures rooms { (keep : ℕ) → IsRoomyHost keep (D.byte_count self.old.host.log.disk.disk) self.old.host
+            → ComesNew (D.byte_count self.old.host.log.disk.disk) occasion self.old
+            → IsRoomyOutcome keep (D.byte_count self.old.host.log.disk.disk) (outcome_of result self.new) }
+        ensures left { D.told → (keep : ℕ) → IsRoomyHost keep (D.byte_count self.old.host.log.disk.disk) self.old.host
+            → ComesNew (D.byte_count self.old.host.log.disk.disk) occasion self.old
+            → Keeps (HasRoomyLog keep (D.byte_count self.old.host.log.disk.disk)) (D.state self.old.host.log.disk.disk) (D.state self.new.host.log.disk.disk) }
     {
         match begin(&mut self.carried, &occasion) {
             Ok(None) => worked_out(&mut self.host, &mut self.carried, occasion),
@@ -71,8 +81,8 @@ impl<D: Disk, F: Server, X: Server> Running<D, F, X> {
     }
 
     /// What is left of it where it stops. It takes no memory.
-    pub fn into_stopped(self, cause: CrashCause) -> Stopped<D>
-        ensures { result ≡ stopped_of cause self }
+    pub fn into_stopped(self, cause: CrashCause, is_full: bool) -> Stopped<D>
+        ensures { result ≡ stopped_of cause is_full self }
     {
         let Running { host, carried } = self;
         let (disk, kept, _) = host.into_parts();
@@ -80,6 +90,7 @@ impl<D: Disk, F: Server, X: Server> Running<D, F, X> {
             disk,
             kept,
             cause,
+            is_full,
             carried,
         }
     }
@@ -189,7 +200,7 @@ fn carried_out<D: Disk, F: Server, X: Server>(
 ) -> Fate
     requires stands { D.told → Stands host.old.log (D.state host.old.log.disk.disk) }
     requires room { HasRoom (length out.entries + 1) 2 carried.old.chronicle }
-    ensures outcome { (size : ℕ) (old : Running D F X) → IsWorkedOut size occasion old host.old carried.old out
+    ensures outcome { (size : ℕ) (old : Running D F X) → size ≡ D.byte_count host.old.log.disk.disk → IsWorkedOut size occasion old host.old carried.old out
         → IsOutcome D.fault_count size occasion old (outcome_of result (running_with host.new carried.new)) }
     ensures stands { D.told → IfStands (outcome_of result (running_with {F = F} {X = X} host.new carried.new)) (λ disk. StandsAfter out host.old.log disk (D.state disk.disk)) }
     ensures moments { D.told → Keeps (IsOldOrAfter out host.old.log) (D.state host.old.log.disk.disk) (D.state host.new.log.disk.disk) }
@@ -199,28 +210,39 @@ fn carried_out<D: Disk, F: Server, X: Server>(
     let own = host.disk().own_faults();
     match host.carry_out(&out) {
         Ok(()) => whole(host, carried, occasion, out),
-        Err(why) => cut_off(carried, occasion, cut_cause(why, host.disk(), trips, own)),
+        Err(why) => {
+            let cause = cut_cause(why, host.disk(), trips, own);
+            cut_off(carried, occasion, cause, is_full(why))
+        }
     }
 }
 
 /// A crash cut the step off. It takes no memory.
-fn cut_off(carried: &mut Carried, occasion: Occasion, cause: CrashCause) -> Fate
+fn cut_off(carried: &mut Carried, occasion: Occasion, cause: CrashCause, is_full: bool) -> Fate
     requires room { HasRoom 1 1 carried.old.chronicle }
     ensures crashed { HasCrashed (did_of occasion) cause carried.old carried.new }
-    ensures fate { result ≡ fates.CutOff cause }
+    ensures fate { result ≡ fates.CutOff cause is_full }
 {
     carried.chronicle.note_crash(occasion.into_did(), cause);
-    Fate::CutOff { cause }
+    Fate::CutOff { cause, is_full }
 }
 
-/// Why a step was cut off, whose disk had these counts before.
+/// Whether the log had no room for a record.
+fn is_full(why: HostFault) -> bool
+    ensures { (result ≡ true) ↔ (why ≡ faults.NoRoom) }
+{
+    matches!(why, HostFault::NoRoom)
+}
+
+/// Why a step was cut off, whose disk had these counts before. A log with no room counts as a want of memory.
 fn cut_cause<D: Disk>(why: HostFault, disk: &Fused<D>, trips: u64, own: u64) -> CrashCause
     ensures memory { why ≡ faults.NoMemory → result ≡ causes.Memory }
+    ensures full { why ≡ faults.NoRoom → result ≡ causes.Memory }
     ensures fault { why ≡ faults.Disk → (before : FusedValue D) → before.fuse.trips ≡ trips → D.fault_count before.disk ≡ own
         → result ≡ fault_cause D.fault_count before disk.now }
 {
     match why {
-        HostFault::NoMemory => CrashCause::Memory,
+        HostFault::NoMemory | HostFault::NoRoom => CrashCause::Memory,
         HostFault::Disk => fault_cause(disk, trips, own),
     }
 }

@@ -1,8 +1,11 @@
 //! A node that is up, or down.
-ghost use Rattle.std.specs.Prelude.{◌≡◌, [], OnOk};
+ghost use Rattle.std.specs.Prelude.{◌≡◌, ℕ, [], OnOk};
 ghost use Rattle.qs_cell.specs.State.{carried_of, cause_of, disk_of, is_queued, has_undecided, is_settled_node, IsSeenAs, LogStands, IsAllowed, StartsAgain, stopped_state, state_after, answer_of, answer_after};
 ghost use Rattle.qs_cell.specs.Visits.{MakesIn};
 ghost use Rattle.qs_cell.specs.Restart.{in_round_as};
+ghost use Rattle.qs_cell.specs.Roomy.{ComesNewTo, IsRoomyNode, IsSetToKeep, StartsRoomy};
+ghost use Rattle.qs_disk.specs.Disk.{EachImage};
+ghost use Rattle.qs_host.specs.Roomy.{HasRoomyLog};
 ghost use Rattle.qs_chronicle.specs.Chronicle.{HasRoom};
 
 use crate::running::{Fate, Running};
@@ -120,6 +123,8 @@ impl<D: Disk> NodeState<D> {
         ensures makes { MakesIn D.told D.state D.fault_count D.byte_count occasion self.old self.new result }
         ensures stands { D.told → LogStands D.state self.new }
         ensures setting { (carried_of self.new).setting ≡ (carried_of self.old).setting }
+        ensures rooms { (keep : ℕ) → IsRoomyNode keep (D.byte_count (disk_of self.old).disk) self.old
+            → ComesNewTo (D.byte_count (disk_of self.old).disk) occasion self.old → IsRoomyNode keep (D.byte_count (disk_of self.old).disk) self.new }
     {
         let fate = match self {
             NodeState::Up { running } => running.event(occasion),
@@ -128,36 +133,40 @@ impl<D: Disk> NodeState<D> {
         match fate {
             Fate::Whole { answers } => answers,
             Fate::Followed { answers } => {
-                self.stop(CrashCause::Plan);
+                self.stop(CrashCause::Plan, false);
                 answers
             }
-            Fate::Replaced { cause } | Fate::CutOff { cause } => {
-                self.stop(cause);
+            Fate::Replaced { cause } => {
+                self.stop(cause, false);
+                List::new(alloc)
+            }
+            Fate::CutOff { cause, is_full } => {
+                self.stop(cause, is_full);
                 List::new(alloc)
             }
         }
     }
 
     /// A node that is up is down from now on.
-    fn stop(&mut self, cause: CrashCause)
-        ensures { self.new ≡ stopped_state cause self.old }
+    fn stop(&mut self, cause: CrashCause, is_full: bool)
+        ensures { self.new ≡ stopped_state cause is_full self.old }
     {
         mem::replace_with(
             self,
-            cause,
-            |state, cause|
-                ensures { result.0 ≡ stopped_state cause state }
-            { (state.into_stopped(cause), ()) },
+            (cause, is_full),
+            |state, why|
+                ensures { result.0 ≡ stopped_state why.0 why.1 state }
+            { (state.into_stopped(why.0, why.1), ()) },
         );
     }
 
     /// It takes no memory.
-    fn into_stopped(self, cause: CrashCause) -> NodeState<D>
-        ensures { result ≡ stopped_state cause self }
+    fn into_stopped(self, cause: CrashCause, is_full: bool) -> NodeState<D>
+        ensures { result ≡ stopped_state cause is_full self }
     {
         match self {
             NodeState::Up { running } => NodeState::Down {
-                stopped: running.into_stopped(cause),
+                stopped: running.into_stopped(cause, is_full),
             },
             down => down,
         }
@@ -170,6 +179,9 @@ impl<D: Disk> NodeState<D> {
         ensures starts { StartsAgain D.told D.state D.fault_count alloc self result.0 result.1 }
         ensures stands { D.told → LogStands D.state result.0 }
         ensures allowed { IsAllowed (carried_of result.0) }
+        ensures rooms { D.told → (keep : ℕ) → IsSetToKeep keep (carried_of self).setting → IsRoomyNode keep (D.byte_count (disk_of self).disk) self
+            → EachImage (HasRoomyLog keep (D.byte_count (disk_of self).disk)) (D.state (disk_of self).disk).now
+            → StartsRoomy keep (D.byte_count (disk_of self).disk) result.0 }
     {
         let stopped = match self {
             NodeState::Up { .. } => return (self, Ok(true)),

@@ -1,12 +1,14 @@
 //! A node that is down: how it stops, and how it starts again.
-ghost use Rattle.std.specs.Prelude.{◌≡◌, ◌⊎◌, ◌≤◌, ◌∷◌, List, [], map, None, IfOk, OnOk};
+ghost use Rattle.std.specs.Prelude.{◌≡◌, ◌⊎◌, ◌≤◌, ℕ, ◌∷◌, List, [], map, None, IfOk, OnOk};
 ghost use Rattle.qs_chronicle.specs.Chronicle.{HasRoom, noted, stamped};
 ghost use Rattle.qs_cell.specs.Restart.{IsRestarted, IsWhyDown, IfUp, restarted_disk, found_of, restart_of};
+ghost use Rattle.qs_cell.specs.Roomy.{IsSetToKeep, RisesRoomy};
 ghost use Rattle.qs_cell.specs.Within.{IsLeftDown, Begins};
 ghost use Rattle.qs_cell.specs.declared.stopped.Restarted.TheVariants as restarts;
 ghost use Rattle.qs_disk.specs.Disk.{EachImage};
 ghost use Rattle.qs_disk.specs.Fuse.{GoesOn, mended};
 ghost use Rattle.qs_disk.specs.Moments.{Keeps};
+ghost use Rattle.qs_host.specs.Roomy.{HasRoomyLog};
 ghost use Rattle.qs_incarnation.specs.Incarnation.{IsLeftOrRaised, IsReopened, HasOneOf};
 ghost use Rattle.qs_log.specs.Log.{Stands, records_of};
 ghost use Rattle.qs_ops.specs.declared.server.Kind.TheVariants as kinds;
@@ -37,6 +39,8 @@ pub struct Stopped<D: Disk> {
     pub kept: Kept,
     /// Why it stopped.
     pub cause: CrashCause,
+    /// Whether it did as its log had no room for a record, which counts as a want of memory.
+    pub is_full: bool,
     pub carried: Carried,
 }
 
@@ -85,11 +89,19 @@ impl<D: Disk> Stopped<D> {
 
         // What tripped did so at a planned call.
         ensures goes { GoesOn (mended self.disk.fuse) (restarted_disk result).fuse }
+
+        // Where each image has a log with room for all that is kept there, each has one at each moment, and a node that is up is
+        // roomy, if what its log says is of transactions.
+        ensures left { D.told → (keep : ℕ) → EachImage (HasRoomyLog keep (D.byte_count self.disk.disk)) (D.state self.disk.disk).now
+            → Keeps (HasRoomyLog keep (D.byte_count self.disk.disk)) (D.state self.disk.disk) (D.state (restarted_disk result).disk) }
+        ensures rooms { D.told → (keep : ℕ) → IsSetToKeep keep self.carried.setting
+            → EachImage (HasRoomyLog keep (D.byte_count self.disk.disk)) (D.state self.disk.disk).now → RisesRoomy keep (D.byte_count self.disk.disk) result }
     {
         let Stopped {
             disk,
             kept,
             cause,
+            is_full,
             mut carried,
         } = self;
         let before = Counts::of(&disk);
@@ -97,6 +109,7 @@ impl<D: Disk> Stopped<D> {
         let rest = Rest {
             kept,
             cause,
+            is_full,
             carried,
         };
         match begin_again(alloc, disk) {
@@ -111,22 +124,25 @@ impl<D: Disk> Stopped<D> {
 struct Rest {
     kept: Kept,
     cause: CrashCause,
+    is_full: bool,
     carried: Carried,
 }
 
 impl Rest {
     fn over<D: Disk>(self, disk: Fused<D>) -> Stopped<D>
-        ensures { result ≡ record { disk = disk; kept = self.kept; cause = self.cause; carried = self.carried } }
+        ensures { result ≡ record { disk = disk; kept = self.kept; cause = self.cause; is_full = self.is_full; carried = self.carried } }
     {
         let Rest {
             kept,
             cause,
+            is_full,
             carried,
         } = self;
         Stopped {
             disk,
             kept,
             cause,
+            is_full,
             carried,
         }
     }
@@ -158,6 +174,7 @@ fn begin_incarnation<D: Disk, F: Server, X: Server>(
     let Rest {
         kept,
         cause,
+        is_full,
         carried,
     } = rest;
     let setting = Setting {
@@ -175,6 +192,7 @@ fn begin_incarnation<D: Disk, F: Server, X: Server>(
             let rest = Rest {
                 kept: back.kept,
                 cause,
+                is_full,
                 carried,
             };
             without_memory(rest, before, back.log)
@@ -197,7 +215,7 @@ fn without_memory<D: Disk, F: Server, X: Server>(
 
 /// The node is still down.
 fn refused<D: Disk, F: Server, X: Server>(rest: Rest, back: LogReopen<D>) -> Restarted<D, F, X>
-    ensures { result ≡ restarts.Down (record { disk = back.disk; kept = rest.kept; cause = rest.cause; carried = rest.carried }) back.why }
+    ensures { result ≡ restarts.Down (record { disk = back.disk; kept = rest.kept; cause = rest.cause; is_full = rest.is_full; carried = rest.carried }) back.why }
 {
     Restarted::Down {
         stopped: rest.over(back.disk),

@@ -1,7 +1,7 @@
 -- Where a node stops, in place of a step, within one or right behind one, the world of one node that shows it stops it with the same stamp.
 use Rattle.std.proofs.Common.{◌≡◌, ◌⊎◌, ◌∙◌, ap, inl, inr, refl, subst, sym, ℕ, ◌+◌, ◌≤◌, ◌==◌, ◌&&◌, Bool, true, false, List, [], ◌∷◌, ◌++◌, Some, None, if◌then◌else◌}
 use Rattle.std.specs.List.{list_any}
-use Rattle.qs_cell.specs.Cell.{IsAsPlanned, IsFaulted, begun, out_of, planned_after, stepped, why_not}
+use Rattle.qs_cell.specs.Cell.{IsAsPlanned, IsFaulted, IsRefused, begun, out_of, planned_after, stepped, why_not}
 use Rattle.qs_cell.specs.declared.running.Running.{Running}
 use Rattle.qs_cell.specs.declared.stopped.Stopped.{Stopped}
 use Rattle.qs_chronicle.specs.Carried.{Seen, is_replaced, seen}
@@ -138,8 +138,8 @@ or_plan its same = by (is_crash its) refl same
 
 -- a fault that is told as the disk's own is borne out by its count
 cut_crash : {D F X : Type 0} (own : D → ℕ) (size : ℕ) (occasion : Occasion) (old : Running D F X) (new : Stopped D)
-    → (new.cause ≡ causes.Memory) ⊎ IsFaulted own size occasion old new → is_crash new.cause ≡ true
-cut_crash own size occasion old new (inl memory) = subst (λ (c : CrashCause). is_crash c ≡ true) (sym memory) refl
+    → IsRefused size occasion old new ⊎ IsFaulted own size occasion old new → is_crash new.cause ≡ true
+cut_crash own size occasion old new (inl refused) = subst (λ (c : CrashCause). is_crash c ≡ true) (sym refused.cause) refl
 cut_crash own size occasion old new (inr faulted) =
     subst (λ (c : CrashCause). is_crash c ≡ true) (sym faulted.cause)
     (or_plan (causes.Disk (own old.host.log.disk.disk) (own new.disk.disk)) (old.host.log.disk.fuse.trips == new.disk.fuse.trips))

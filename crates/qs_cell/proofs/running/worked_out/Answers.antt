@@ -1,4 +1,4 @@
-use Rattle.std.proofs.Common.{◌∙◌, ap, refl}
+use Rattle.std.proofs.Common.{◌∙◌, ap, refl, sym}
 use Rattle.qs_cell.specs.Outcomes.{outcome_of}
 use Rattle.qs_cell.specs.Within.{running_with}
 use Rattle.qs_cell.proofs.Happening.{untouched, unplanned_by, begun_on, worked, stands_as, moments_as}
@@ -25,7 +25,7 @@ returns-then-is_err-clause-moments g c = λ told.
 pub returns-clause-outcome : goal.returns-clause-outcome
 returns-clause-outcome g c = λ old same begun none.
     let size = g.D.Disk.byte_count c.args.host.now.log.disk.disk in
-    c.carried_out.ensures.outcome size old
+    c.carried_out.ensures.outcome size old (ap (λ log. g.D.Disk.byte_count log.disk.disk) (sym c.work_out.ensures.log))
     (worked size c.args.occasion old c.args.host.now c.work_out.new.host c.args.carried.now (record c.args.carried.now { chronicle = c.make_room.new.self }) c.in-Ok.out same
     c.in-Ok.ensures.node c.work_out.ensures.saved c.work_out.ensures.log c.in-Ok.ensures.effects
     (begun_on c.args.occasion old.carried c.args.carried.now (record c.args.carried.now { chronicle = c.make_room.new.self }) begun c.make_room.ensures.told refl refl refl refl)

@@ -1,5 +1,6 @@
 use Rattle.std.proofs.Common.{subst, sym}
-use Rattle.qs_cell.specs.State.{LogStands, StartsAgain}
+use Rattle.qs_cell.specs.State.{LogStands, StartsAgain, disk_of}
+use Rattle.qs_cell.proofs.Rooms.{restarted_roomy, stays_roomy}
 use Rattle.qs_cell.proofs.Standing.{restarts_of, stands_restarted}
 use Rattle.qs_cell.proofs.state.NodeState.restart.Goals as goal
 
@@ -13,3 +14,11 @@ returns-clause-starts g c =
 pub returns-clause-stands : goal.returns-clause-stands
 returns-clause-stands g c = λ told.
     subst (LogStands g.D.Disk.state) (sym c.after_restart.ensures.state) (stands_restarted g.D.Disk.state c.restart.result (c.restart.ensures.stands told))
+
+pub returns-clause-rooms : goal.returns-clause-rooms
+returns-clause-rooms g c = λ told keep.
+    restarted_roomy g.D.Disk.fault_count c.args.alloc keep g.D.Disk.byte_count g.D.Disk.state c.args.self c.in-Down.stopped c.restart.result c.after_restart.result.0 c.in-Down.is
+    c.after_restart.ensures.state c.restart.ensures.restarted (c.restart.ensures.rooms told)
+
+pub returns-in-Up-clause-rooms : goal.returns-in-Up-clause-rooms
+returns-in-Up-clause-rooms g c = λ told keep set roomy here. stays_roomy keep (g.D.Disk.byte_count (disk_of c.args.self).disk) c.args.self roomy
