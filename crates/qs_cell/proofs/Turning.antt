@@ -112,7 +112,7 @@ on_ok_map (Err e) a f = a
 
 pub same_node : {D : Type 0} (node : NodeState D) → IsSameNode node node
 same_node (states.Up running) = (refl, (refl, refl))
-same_node (states.Down stopped) = (refl, (refl, (refl, (refl, refl))))
+same_node (states.Down stopped) = (refl, (refl, ((refl, refl), (refl, refl))))
 
 -- refused before the first turn
 pub none_taken : {D : Type 0} (told : Type 0) (state : D → DiskState) (own size : D → ℕ) (ends : List NodeEnds) (seat : Seat D)
