@@ -71,7 +71,7 @@ module _ {D : Type 0} (told : Type 0) (state : D → DiskState) (own size : D �
 
   ready_down : (stopped : Stopped D) (ready : NodeState D) → IsSameNode (states.Down stopped) ready → IsDownAs stopped ready
   ready_down stopped (states.Up running) same = absurd same
-  ready_down stopped (states.Down again) same = record { again = again; is = refl; cause = same.1.1.0 }
+  ready_down stopped (states.Down again) same = record { again = again; is = refl; cause = same.1.1.0.0 }
 
   pub turn_down : (stopped : Stopped D) (ready : NodeState D) (source : _) (ends : List NodeEnds) (mid : Seat D) → ready ≡ states.Down stopped
       → TakesTurn told state own size (due source ready ends) (left_by source ready ends) (record { node = ready; ends = ends }) mid → mid.node ≡ states.Down stopped
