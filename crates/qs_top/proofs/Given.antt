@@ -11,16 +11,17 @@ use Rattle.qs_may_begin.specs.Scripts.{Fits, ScriptFits}
 use Rattle.qs_rounds.specs.Seats.{node_count}
 use Rattle.qs_script.specs.Script.{script_of}
 use Rattle.qs_statements.specs.declared.script.Script.{Script}
+use Rattle.qs_statements.specs.declared.status.ScriptFault.{ScriptFault}
 use Rattle.qs_statements.specs.declared.status.Status.{Status}
 use Rattle.qs_statements.specs.declared.status.Status.TheVariants as statuses
 use Rattle.qs_step.specs.declared.trace.Step.{Step}
 use Rattle.qs_disk.specs.Moments.{Keeps}
 use Rattle.qs_incarnation.specs.Incarnation.{IsTouched}
-use Rattle.qs_top.specs.Disks.{OfFirst, Leaves}
+use Rattle.qs_top.specs.Disks.{IsDamageOver, OfFirst, Leaves}
 use Rattle.qs_top.specs.Inner.Giving.{IsNoScript, IsGiven, IsGivenOf}
 use Rattle.qs_top.specs.Inner.Over.{IsOver, IsOutput}
-use Rattle.qs_top.specs.Run.{HasLawful, IsNotBegun, IsWhole, IsShort, IsRefused, machine_over, output_of}
-use Rattle.qs_top.specs.Statuses.{IsEnd, IsOfRounds}
+use Rattle.qs_top.specs.Run.{HasLawful, IsNothing, IsNotBegun, IsWhole, IsShort, IsRefused, machine_over, output_of}
+use Rattle.qs_top.specs.Statuses.{IfNot, IsEnd, IsOfRounds, Tells}
 use Rattle.qs_top.specs.Texts.{ReadWhole, OfScript}
 use Rattle.qs_top.specs.declared.outcome.Run.{Run}
 use Rattle.qs_top.specs.declared.whole.Made.{Made}
@@ -185,6 +186,20 @@ module _ {D K : Type 0} (told : Type 0) (state : D → DiskState) (own size : D 
 
   pub given_refused : (line clause : ℕ) → run.status ≡ statuses.Unlawful line clause → IsRefused told state own size seed script line clause disk end
   given_refused line clause is = over.refused fits line clause (made_status (statuses.Unlawful line clause) is (λ same. absurd (cc (same))))
+
+  pub given_damaged : (node : NodeNo) (at : ℕ) → run.status ≡ statuses.Damaged node at → IsDamageOver told state node at disk end
+  given_damaged node at is = over.damage node at (made_status (statuses.Damaged node at) is (λ same. absurd (cc (same))))
+
+  -- a script was read
+  pub given_script : (line : ℕ) (fault : ScriptFault) → run.status ≡ statuses.Script line fault → ⊥
+  given_script line fault is = subst IsOfRounds (made_status (statuses.Script line fault) is (λ same. absurd (cc (same)))) over.built
+
+  pub given_empty : IfNot (Tells run.status) (IsNothing run.journal run.trace)
+  given_empty untold = by status_or
+    where
+      by : (run.status ≡ made.status) ⊎ ((run.status ≡ statuses.WriteFault) × ((bytes : List ℕ) × (made.output ≡ Some bytes))) → IsNothing run.journal run.trace
+      by (inl same) = let none : IsNothing made.journal made.trace = over.empty (λ tells. untold (subst Tells (sym same) tells)) in record { entries = gave.entries ∙ none.entries; steps = gave.steps ∙ none.steps }
+      by (inr cut) = absurd (untold (subst Tells (sym cut.0) tt))
 
   pub given_leaves : Leaves told state run.status disk end
   given_leaves = by status_or
