@@ -20,16 +20,16 @@ use Rattle.qs_cell.specs.declared.stopped.Restarted.{Restarted}
 use Rattle.qs_cell.specs.declared.stopped.Restarted.TheVariants as restarts
 use Rattle.qs_cell.specs.declared.stopped.Stopped.{Stopped}
 
-module _ {D : Type 0} (told : Type 0) (state : D → DiskState) (own : D → ℕ) (alloc : Global) where
+module _ {D : Type 0} (told : Type 0) (state : D → DiskState) (own size : D → ℕ) (alloc : Global) where
   refused : (old : Stopped D) (new : NodeState D) (said : Result Bool RestartFault) (restarted : Restarted D Files NoServer) → IsRestarted own alloc old restarted
       → new ≡ state_after restarted → answer_after restarted ≡ Err restart_faults.DiskFailed → said ≡ Err restart_faults.NoMemory
       → (told → (a b : List Record) → EachImage (HasOneOf a b) (state old.disk.disk).now → Keeps (HasOneOf a b) (state old.disk.disk) (state (disk_of new).disk))
       → (told → Keeps (IsLeftOrRaised (state old.disk.disk)) (state old.disk.disk) (state (disk_of new).disk))
-      → GoesOn (mended old.disk.fuse) (disk_of new).fuse → Restarts told state own alloc old new said
-  refused old new said (restarts.Up running) is node failed said_is moments touched goes = absurd (cc failed)
-  refused old new said (restarts.Down stopped reopen_faults.Tripped) is node failed said_is moments touched goes = absurd (cc failed)
-  refused old new said (restarts.Down stopped reopen_faults.NoMemory) is node failed said_is moments touched goes = absurd (cc failed)
-  refused old new said (restarts.Down stopped reopen_faults.DiskFailed) is node failed said_is moments touched goes = record {
+      → GoesOn (mended old.disk.fuse) (disk_of new).fuse → size (disk_of new).disk ≡ size old.disk.disk → Restarts told state own size alloc old new said
+  refused old new said (restarts.Up running) is node failed said_is moments touched goes bytes = absurd (cc failed)
+  refused old new said (restarts.Down stopped reopen_faults.Tripped) is node failed said_is moments touched goes bytes = absurd (cc failed)
+  refused old new said (restarts.Down stopped reopen_faults.NoMemory) is node failed said_is moments touched goes bytes = absurd (cc failed)
+  refused old new said (restarts.Down stopped reopen_faults.DiskFailed) is node failed said_is moments touched goes bytes = record {
     restarted = restarts.Down stopped reopen_faults.NoMemory;
     is = (
       is.0,
@@ -46,11 +46,12 @@ module _ {D : Type 0} (told : Type 0) (state : D → DiskState) (own : D → ℕ
     stands = λ yes. tt;
     touched = touched;
     goes = goes;
+    bytes = bytes;
   }
 
-  pub starts_founded : (old new : NodeState D) (answer said : Result Bool RestartFault) → StartsAgain told state own alloc old new answer
-      → (said ≡ answer) ⊎ ((answer ≡ Err restart_faults.DiskFailed) × (said ≡ Err restart_faults.NoMemory)) → StartsAgain told state own alloc old new said
-  starts_founded old new answer said starts (inl same) = subst (StartsAgain told state own alloc old new) (sym same) starts
+  pub starts_founded : (old new : NodeState D) (answer said : Result Bool RestartFault) → StartsAgain told state own size alloc old new answer
+      → (said ≡ answer) ⊎ ((answer ≡ Err restart_faults.DiskFailed) × (said ≡ Err restart_faults.NoMemory)) → StartsAgain told state own size alloc old new said
+  starts_founded old new answer said starts (inl same) = subst (StartsAgain told state own size alloc old new) (sym same) starts
   starts_founded (states.Up running) new answer said starts (inr other) = absurd (cc (sym starts.1 ∙ other.0))
   starts_founded (states.Down stopped) new answer said starts (inr other) =
-      refused stopped new said starts.restarted starts.is starts.node (sym starts.said ∙ other.0) other.1 starts.moments starts.touched starts.goes
+      refused stopped new said starts.restarted starts.is starts.node (sym starts.said ∙ other.0) other.1 starts.moments starts.touched starts.goes starts.bytes

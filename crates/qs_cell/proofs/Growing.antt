@@ -124,9 +124,9 @@ restarted_grows : {D : Type 0} (own : D → ℕ) (alloc : Global) (old : Stopped
 restarted_grows own alloc old (restarts.Up running) is = grows_by _ _ _ _ (stamped_same _) (ap (λ (s : Seen). s.told.journal) is.seen)
 restarted_grows own alloc old (restarts.Down stopped why) is = grows_not _ _ (ap (λ (s : Seen). s.told.journal) is.0.seen)
 
-pub start_grows : {D : Type 0} (told : Type 0) (state : D → DiskState) (own : D → ℕ) (alloc : Global) (old new : NodeState D) (answer : Result Bool RestartFault)
-    → StartsAgain told state own alloc old new answer → Grows (entries_in old) (entries_in new)
-start_grows {D} told state own alloc (states.Up running) new answer is = grows_not _ _ (ap (λ (node : NodeState D). entries_in node) is.0)
-start_grows {D} told state own alloc (states.Down stopped) new answer is =
+pub start_grows : {D : Type 0} (told : Type 0) (state : D → DiskState) (own size : D → ℕ) (alloc : Global) (old new : NodeState D) (answer : Result Bool RestartFault)
+    → StartsAgain told state own size alloc old new answer → Grows (entries_in old) (entries_in new)
+start_grows {D} told state own size alloc (states.Up running) new answer is = grows_not _ _ (ap (λ (node : NodeState D). entries_in node) is.0)
+start_grows {D} told state own size alloc (states.Down stopped) new answer is =
     subst (λ (node : NodeState D). Grows stopped.carried.chronicle.told.journal (entries_in node)) (sym is.node)
     (restarted_grows own alloc stopped is.restarted is.is)

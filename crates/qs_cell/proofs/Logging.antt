@@ -96,11 +96,11 @@ again_on {D} opened before (restarts.Up running) logged reopened found = by (fou
     by (inr is) = subst (GoesOn opened) (sym is ∙ all) logged.other_on
 again_on opened before (restarts.Down stopped why) logged reopened found = tt
 
-pub restart_on : {D : Type 0} (told : Type 0) (state : D → DiskState) (own : D → ℕ) (alloc : Global) (opened : Opened) (old new : NodeState D) (answer : Result Bool RestartFault)
-    → StartsAgain told state own alloc old new answer → (told → IsLogged opened (state (disk_of old).disk).now) → (told → LogGoesOn opened old) → told → LogGoesOn opened new
-restart_on {D} told state own alloc opened (states.Up running) new answer starts logged on is_told =
+pub restart_on : {D : Type 0} (told : Type 0) (state : D → DiskState) (own size : D → ℕ) (alloc : Global) (opened : Opened) (old new : NodeState D) (answer : Result Bool RestartFault)
+    → StartsAgain told state own size alloc old new answer → (told → IsLogged opened (state (disk_of old).disk).now) → (told → LogGoesOn opened old) → told → LogGoesOn opened new
+restart_on {D} told state own size alloc opened (states.Up running) new answer starts logged on is_told =
     subst (λ (node : NodeState D). LogGoesOn opened node) (sym starts.0) (on is_told)
-restart_on {D} told state own alloc opened (states.Down stopped) new answer starts logged on is_told =
+restart_on {D} told state own size alloc opened (states.Down stopped) new answer starts logged on is_told =
     subst (λ (node : NodeState D). LogGoesOn opened node) (sym starts.node)
     (again_on opened (state stopped.disk.disk) starts.restarted (logged is_told) (starts.reopened is_told) (starts.found is_told))
 
@@ -146,11 +146,11 @@ logged_made {D} told state own size opened occasion (states.Down old) new answer
     subst (λ (node : NodeState D). IsLogged opened (state (disk_of node).disk).now) (sym makes.0) (logged is_told)
 
 -- a restart leaves no other records than those that images had
-pub logged_again : {D : Type 0} (told : Type 0) (state : D → DiskState) (own : D → ℕ) (alloc : Global) (opened : Opened) (old new : NodeState D) (answer : Result Bool RestartFault)
-    → StartsAgain told state own alloc old new answer → (told → IsLogged opened (state (disk_of old).disk).now) → told → IsLogged opened (state (disk_of new).disk).now
-logged_again {D} told state own alloc opened (states.Up running) new answer starts logged is_told =
+pub logged_again : {D : Type 0} (told : Type 0) (state : D → DiskState) (own size : D → ℕ) (alloc : Global) (opened : Opened) (old new : NodeState D) (answer : Result Bool RestartFault)
+    → StartsAgain told state own size alloc old new answer → (told → IsLogged opened (state (disk_of old).disk).now) → told → IsLogged opened (state (disk_of new).disk).now
+logged_again {D} told state own size alloc opened (states.Up running) new answer starts logged is_told =
     subst (λ (node : NodeState D). IsLogged opened (state (disk_of node).disk).now) (sym starts.0) (logged is_told)
-logged_again {D} told state own alloc opened (states.Down stopped) new answer starts logged is_told =
+logged_again {D} told state own size alloc opened (states.Down stopped) new answer starts logged is_told =
     let before = logged is_told in
     record {
       first = before.first;

@@ -89,7 +89,7 @@ one_log p q a b m n image left right =
     (subst (λ (r : Present). IsCounted r.value.format (live_area r.value.generation image) b n) (sym same) right.counted)
 
 -- it has room whichever way it is told
-room_as : (keep size : ℕ) (image : List ℕ) (present : Present) (records : List Record) (used : ℕ) → HasRoomyLog keep size image → IsLog present records used image
+pub room_as : (keep size : ℕ) (image : List ℕ) (present : Present) (records : List Record) (used : ℕ) → HasRoomyLog keep size image → IsLog present records used image
     → used + 1 + total (kept_of keep 0 records) ≤ half size
 room_as keep size image present records used has log =
     let same = one_log has.present present has.records records has.used used image has.log log in
@@ -97,7 +97,7 @@ room_as keep size image present records used has log =
 
 -- ---- a restart
 
-raised_roomy : (keep size : ℕ) (content image : List ℕ) → HasRoomyLog keep size content → IsOldOrRaised content image → HasRoomyLog keep size image
+pub raised_roomy : (keep size : ℕ) (content image : List ℕ) → HasRoomyLog keep size content → IsOldOrRaised content image → HasRoomyLog keep size image
 raised_roomy keep size content image has touched = by touched.says
   where
     room : touched.used + 1 + total (kept_of keep 0 touched.records) ≤ half size
@@ -114,23 +114,28 @@ touched_roomy keep size old a b here keeps = keeps_weaken (IsLeftOrRaised old) (
     each image (inl left) = here image left
     each image (inr raised) = raised_roomy keep size raised.content image (here raised.content raised.image) raised.says
 
--- the log that was opened has room where each image has
-rooms_of : {D : Type 0} (keep size : ℕ) (old : DiskState) (log : LogValue D) → EachImage (HasRoomyLog keep size) old.now → IsReopened old log
-    → HasRooms keep (half size) log.used log.forced log.waiting × (list_all is_short (records_of log) ≡ true)
-rooms_of {D} keep size old log here is = (
-  subst (λ (w : List Record). HasRooms keep (half size) log.used log.forced w) (sym is.raised.waiting) (record { on_disk = room; with_waiting = none }),
-  subst (λ (w : List Record). list_all is_short (log.forced ++ w) ≡ true) (sym is.raised.waiting)
-      (subst (λ (rs : List Record). list_all is_short rs ≡ true) (sym (append-nil log.forced)) (each_log_is_short is.raised.present log.forced log.used is.content is.raised.records)),
+-- the log that was opened has room where the content has
+pub rooms_in : {D : Type 0} (keep size : ℕ) (content : List ℕ) (present : Present) (log : LogValue D) → HasRoomyLog keep size content → IsLog present log.forced log.used content
+    → log.waiting ≡ [] → HasRooms keep (half size) log.used log.forced log.waiting × (list_all is_short (records_of log) ≡ true)
+rooms_in keep size content present log has is waiting = (
+  subst (λ (w : List Record). HasRooms keep (half size) log.used log.forced w) (sym waiting) (record { on_disk = room; with_waiting = none }),
+  subst (λ (w : List Record). list_all is_short (log.forced ++ w) ≡ true) (sym waiting)
+      (subst (λ (rs : List Record). list_all is_short rs ≡ true) (sym (append-nil log.forced)) (each_log_is_short present log.forced log.used content is)),
 )
   where
     room : log.used + 1 + total (kept_of keep 0 log.forced) ≤ half size
-    room = room_as keep size is.content is.raised.present log.forced log.used (here is.content is.image) is.raised.records
+    room = room_as keep size content present log.forced log.used has is
 
     zeros : (u t h : ℕ) → u + 1 + t ≤ h → u + 0 + 1 + t ≤ h
     zeros u t h all = grind (arith)
 
     none : log.used + 0 + 1 + total (kept_of keep 0 (log.forced ++ [])) ≤ half size
     none = subst (λ (rs : List Record). log.used + 0 + 1 + total (kept_of keep 0 rs) ≤ half size) (sym (append-nil log.forced)) (zeros log.used (total (kept_of keep 0 log.forced)) (half size) room)
+
+-- and so has that of an image, where each has
+pub rooms_of : {D : Type 0} (keep size : ℕ) (old : DiskState) (log : LogValue D) → EachImage (HasRoomyLog keep size) old.now → IsReopened old log
+    → HasRooms keep (half size) log.used log.forced log.waiting × (list_all is_short (records_of log) ≡ true)
+rooms_of keep size old log here is = rooms_in keep size is.content is.raised.present log (here is.content is.image) is.raised.records is.raised.waiting
 
 -- a node that begins over it is roomy
 pub begun_roomy : {D F X : Type 0} (own : D → ℕ) (alloc : Global) (keep size : ℕ) (old : DiskState) (log : LogValue (FusedValue D)) (rest : Rest) (before : Counts)
@@ -151,7 +156,7 @@ begun_roomy own alloc keep size old log rest before (restarts.Down stopped why) 
 
 -- ---- a node that is up, or down
 
-state_roomy : {D : Type 0} (keep size : ℕ) (outcome : Outcome D Files NoServer) → IsRoomyOutcome keep size outcome → IsRoomyNode keep size (state_of outcome)
+pub state_roomy : {D : Type 0} (keep size : ℕ) (outcome : Outcome D Files NoServer) → IsRoomyOutcome keep size outcome → IsRoomyNode keep size (state_of outcome)
 state_roomy keep size (outcomes.Whole running answers) is = is
 state_roomy keep size (outcomes.Followed stopped answers) is = is
 state_roomy keep size (outcomes.Replaced stopped) is = is

@@ -76,8 +76,8 @@ pub makes_of : {D : Type 0} (told : Type 0) (state : D → DiskState) (own size 
     → answers ≡ answers_of outcome
     → (told → IfStands outcome (λ disk. StandsAfter (out_of (size old.host.log.disk.disk) occasion old) old.host.log disk (state disk.disk)))
     → (told → Keeps (IsOldOrAfter (out_of (size old.host.log.disk.disk) occasion old) old.host.log) (state old.host.log.disk.disk) (state (disk_after outcome).disk))
-    → Makes told state own size occasion old new answers
-makes_of {D} told state own size occasion old outcome new answers is node said stands moments = record {
+    → size (disk_after outcome).disk ≡ size old.host.log.disk.disk → Makes told state own size occasion old new answers
+makes_of {D} told state own size occasion old outcome new answers is node said stands moments bytes = record {
   outcome = outcome;
   is = is;
   node = node;
@@ -85,8 +85,12 @@ makes_of {D} told state own size occasion old outcome new answers is node said s
   stands = stands;
   moments = λ yes. subst (λ (d : FusedValue D).
       Keeps (IsOldOrAfter (out_of (size old.host.log.disk.disk) occasion old) old.host.log) (state old.host.log.disk.disk) (state d.disk))
-      (disk_made outcome ∙ ap (λ (n : NodeState D). disk_of n) (sym node)) (moments yes);
+      same (moments yes);
+  bytes = subst (λ (d : FusedValue D). size d.disk ≡ size old.host.log.disk.disk) same bytes;
 }
+  where
+    same : disk_after outcome ≡ disk_of new
+    same = disk_made outcome ∙ ap (λ (n : NodeState D). disk_of n) (sym node)
 
 -- a node that a crash stopped is down, and answers nobody
 pub left_down : {D : Type 0} (fate : Fate) (cause : CrashCause) (is_full : Bool) (running : Up D)
@@ -101,12 +105,13 @@ pub makes_by : {D : Type 0} (told : Type 0) (state : D → DiskState) (own size 
     → answers ≡ answers_of (outcome_of fate running)
     → (told → IfStands (outcome_of fate running) (λ disk. StandsAfter (out_of (size old.host.log.disk.disk) occasion old) old.host.log disk (state disk.disk)))
     → (told → Keeps (IsOldOrAfter (out_of (size old.host.log.disk.disk) occasion old) old.host.log) (state old.host.log.disk.disk) (state running.host.log.disk.disk))
-    → MakesIn told state own size occasion from new answers
-makes_by {D} told state own size occasion from new old running fate answers up is node said stands moments =
+    → size running.host.log.disk.disk ≡ size old.host.log.disk.disk → MakesIn told state own size occasion from new answers
+makes_by {D} told state own size occasion from new old running fate answers up is node said stands moments bytes =
     subst (λ (before : NodeState D). MakesIn told state own size occasion before new answers) (sym up)
     (makes_of told state own size occasion old (outcome_of fate running) new answers is node said stands (λ yes.
     subst (λ (d : FusedValue D). Keeps (IsOldOrAfter (out_of (size old.host.log.disk.disk) occasion old) old.host.log) (state old.host.log.disk.disk) (state d.disk))
-    (sym (disk_left fate running)) (moments yes)))
+    (sym (disk_left fate running)) (moments yes))
+    (subst (λ (d : FusedValue D). size d.disk ≡ size old.host.log.disk.disk) (sym (disk_left fate running)) bytes))
 
 -- what is seen changes alone
 pub sound_seen : {D : Type 0} (told : Type 0) (state : D → DiskState) (opened : Opened) (f : Seen → Seen) (old new : NodeState D) → IsSeenAs f old new → IsSound told state opened old
@@ -216,7 +221,7 @@ found_all log P none found a b p = elim (found a b p) [ inl left ↦ inl (all �
     all : records_of log ≡ log.forced
     all = ap (λ (waiting : List Record). log.forced ++ waiting) none ∙ append-nil log.forced
 
-pub restarts_of : {D : Type 0} (told : Type 0) (state : D → DiskState) (own : D → ℕ) (alloc : Global) (old : Stopped D) (restarted : Restarted D Files NoServer)
+pub restarts_of : {D : Type 0} (told : Type 0) (state : D → DiskState) (own size : D → ℕ) (alloc : Global) (old : Stopped D) (restarted : Restarted D Files NoServer)
     (new : NodeState D) (answer : Result Bool RestartFault) → IsRestarted own alloc old restarted → new ≡ state_after restarted → answer ≡ answer_after restarted
     → (told → IfUp restarted (IsReopened (state old.disk.disk)))
     → (told → IfUp restarted (λ log. (a b : List Record) → EachImage (HasOneOf a b) (state old.disk.disk).now → (records_of log ≡ a) ⊎ (records_of log ≡ b)))
@@ -224,8 +229,8 @@ pub restarts_of : {D : Type 0} (told : Type 0) (state : D → DiskState) (own : 
     → Keeps (HasOneOf a b) (state old.disk.disk) (state (restarted_disk restarted).disk))
     → (told → IfUp restarted (λ log. Stands log (state log.disk.disk)))
     → (told → Keeps (IsLeftOrRaised (state old.disk.disk)) (state old.disk.disk) (state (restarted_disk restarted).disk))
-    → GoesOnFuse (mended old.disk.fuse) (restarted_disk restarted).fuse → Restarts told state own alloc old new answer
-restarts_of {D} told state own alloc old restarted new answer is node said reopened found moments stands touched goes = record {
+    → GoesOnFuse (mended old.disk.fuse) (restarted_disk restarted).fuse → size (restarted_disk restarted).disk ≡ size old.disk.disk → Restarts told state own size alloc old new answer
+restarts_of {D} told state own size alloc old restarted new answer is node said reopened found moments stands touched goes bytes = record {
   restarted = restarted;
   is = is;
   node = node;
@@ -236,6 +241,7 @@ restarts_of {D} told state own alloc old restarted new answer is node said reope
   stands = stands;
   touched = λ yes. subst (λ (d : FusedValue D). Keeps (IsLeftOrRaised (state old.disk.disk)) (state old.disk.disk) (state d.disk)) same (touched yes);
   goes = subst (λ (d : FusedValue D). GoesOnFuse (mended old.disk.fuse) d.fuse) same goes;
+  bytes = subst (λ (d : FusedValue D). size d.disk ≡ size old.disk.disk) same bytes;
 }
   where
     same : restarted_disk restarted ≡ disk_of new

@@ -104,9 +104,9 @@ answer_after (restarts.Up running) = Ok true
 answer_after (restarts.Down stopped why) = answer_of why
 
 -- the node that was down is started again, over what a power cut leaves: each image keeps the records that images had, and is changed at most by the
--- raise of the incarnation; the log of a node that is up stands there and has the records of one; and the fuse, which the power cut mends, trips at
--- planned calls alone
-pub record Restarts {D : Type 0} (told : Type 0) (state : D → DiskState) (own : D → ℕ) (alloc : Global) (old : Stopped D) (new : NodeState D) (answer : Result Bool RestartFault) : Type 0 where
+-- raise of the incarnation; the log of a node that is up stands there and has the records of one; the fuse, which the power cut mends, trips at
+-- planned calls alone; and the disk has as many bytes as before
+pub record Restarts {D : Type 0} (told : Type 0) (state : D → DiskState) (own size : D → ℕ) (alloc : Global) (old : Stopped D) (new : NodeState D) (answer : Result Bool RestartFault) : Type 0 where
   pub restarted : Restarted D Files NoServer
   pub is : IsRestarted own alloc old restarted
   pub node : new ≡ state_after restarted
@@ -118,11 +118,12 @@ pub record Restarts {D : Type 0} (told : Type 0) (state : D → DiskState) (own 
       → Keeps (HasOneOf a b) (state old.disk.disk) (state (disk_of new).disk)
   pub touched : told → Keeps (IsLeftOrRaised (state old.disk.disk)) (state old.disk.disk) (state (disk_of new).disk)
   pub goes : GoesOn (mended old.disk.fuse) (disk_of new).fuse
+  pub bytes : size (disk_of new).disk ≡ size old.disk.disk
 
 -- a node that is up is left alone
-abbrev pub StartsAgain : {D : Type 0} → Type 0 → (D → DiskState) → (D → ℕ) → Global → NodeState D → NodeState D → Result Bool RestartFault → Type 0
-StartsAgain told state own alloc (states.Up running) new answer = (new ≡ states.Up running) × (answer ≡ Ok true)
-StartsAgain told state own alloc (states.Down stopped) new answer = Restarts told state own alloc stopped new answer
+abbrev pub StartsAgain : {D : Type 0} → Type 0 → (D → DiskState) → (D → ℕ) → (D → ℕ) → Global → NodeState D → NodeState D → Result Bool RestartFault → Type 0
+StartsAgain told state own size alloc (states.Up running) new answer = (new ≡ states.Up running) × (answer ≡ Ok true)
+StartsAgain told state own size alloc (states.Down stopped) new answer = Restarts told state own size alloc stopped new answer
 
 -- ---- what holds of each
 

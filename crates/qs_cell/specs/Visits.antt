@@ -81,7 +81,7 @@ all_delivered answers ends = fold deliver ends answers
 -- ---- an event
 
 -- the node made it: where the step stands the log stands on the disk with it, and at each moment each image has the records of before the step, or
--- those of after it
+-- those of after it; the disk has as many bytes as before
 pub record Makes {D : Type 0} (told : Type 0) (state : D → DiskState) (own size : D → ℕ) (occasion : Occasion) (old : Up D) (new : NodeState D) (answers : List ClientAnswer) : Type 0 where
   pub outcome : Outcome D Files NoServer
   pub is : IsOutcome own (size old.host.log.disk.disk) occasion old outcome
@@ -90,6 +90,7 @@ pub record Makes {D : Type 0} (told : Type 0) (state : D → DiskState) (own siz
   pub stands : told → IfStands outcome (λ disk. StandsAfter (out_of (size old.host.log.disk.disk) occasion old) old.host.log disk (state disk.disk))
   pub moments : told → Keeps (IsOldOrAfter (out_of (size old.host.log.disk.disk) occasion old) old.host.log)
       (state old.host.log.disk.disk) (state (disk_of new).disk)
+  pub bytes : size (disk_of new).disk ≡ size old.host.log.disk.disk
 
 -- a node that is down makes nothing of it
 abbrev pub MakesIn : {D : Type 0} → Type 0 → (D → DiskState) → (D → ℕ) → (D → ℕ) → Occasion → NodeState D → NodeState D → List ClientAnswer → Type 0

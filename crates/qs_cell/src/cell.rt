@@ -204,7 +204,7 @@ impl<D: Disk> NodeCell<D> {
     /// in; `NoMemory` where memory was refused, the log is damaged, or a fault of the disk is not borne out by that count. The
     /// node is still down then. A node that is up is left alone.
     pub fn restart(&mut self) -> Result<bool, RestartFault>
-        ensures starts { StartsAgain D.told D.state D.fault_count self.old.alloc self.old.seat.node self.new.seat.node result }
+        ensures starts { StartsAgain D.told D.state D.fault_count D.byte_count self.old.alloc self.old.seat.node self.new.seat.node result }
         ensures failed { result ≡ Err restart_faults.DiskFailed → Rose self.old.faults (D.fault_count (disk_of self.new.seat.node).disk) }
         ensures grows { Grows (journal_of self.old) (journal_of self.new) }
         ensures ends { self.new.seat.ends ≡ self.old.seat.ends }
@@ -217,7 +217,7 @@ impl<D: Disk> NodeCell<D> {
             |state, alloc|
                 requires stands { D.told → LogStands D.state state }
                 requires allowed { IsAllowed (carried_of state) }
-                ensures starts { StartsAgain D.told D.state D.fault_count alloc state result.0 result.1 }
+                ensures starts { StartsAgain D.told D.state D.fault_count D.byte_count alloc state result.0 result.1 }
                 ensures stands { D.told → LogStands D.state result.0 }
                 ensures allowed { IsAllowed (carried_of result.0) }
             { state.restart(alloc) },

@@ -176,7 +176,7 @@ impl<D: Disk> NodeState<D> {
     pub fn restart(self, alloc: Global) -> (NodeState<D>, Result<bool, RestartFault>)
         requires stands { D.told → LogStands D.state self }
         requires allowed { IsAllowed (carried_of self) }
-        ensures starts { StartsAgain D.told D.state D.fault_count alloc self result.0 result.1 }
+        ensures starts { StartsAgain D.told D.state D.fault_count D.byte_count alloc self result.0 result.1 }
         ensures stands { D.told → LogStands D.state result.0 }
         ensures allowed { IsAllowed (carried_of result.0) }
         ensures rooms { D.told → (keep : ℕ) → IsSetToKeep keep (carried_of self).setting → IsRoomyNode keep (D.byte_count (disk_of self).disk) self

@@ -13,17 +13,17 @@ abbrev pub own_faults : {D : Type 0} → (D → ℕ) → CellValue D → ℕ
 own_faults own cell = own (disk_of cell.seat.node).disk
 
 -- the node was down, and could not be started again: its disk failed, which has counted that since it was handed in
-pub record NodeFails {D : Type 0} (told : Type 0) (state : D → DiskState) (own : D → ℕ) (old new : CellValue D) : Type 0 where
+pub record NodeFails {D : Type 0} (told : Type 0) (state : D → DiskState) (own size : D → ℕ) (old new : CellValue D) : Type 0 where
   pub down : is_up old ≡ false
-  pub starts : StartsAgain told state own old.alloc old.seat.node new.seat.node (Err restart_faults.DiskFailed)
+  pub starts : StartsAgain told state own size old.alloc old.seat.node new.seat.node (Err restart_faults.DiskFailed)
   pub rose : Rose old.faults (own_faults own new)
   pub ends : new.seat.ends ≡ old.seat.ends
   pub start : IsSameStart old new
 
 -- at the place of the node
-abbrev pub FailsAt : {D : Type 0} → Type 0 → (D → DiskState) → (D → ℕ) → ℕ → Cast D → Cast D → Type 0
-FailsAt told state own zero old new = NodeFails told state own old.node new.node × (new.clients ≡ old.clients)
-FailsAt told state own (suc at) old new = ⊥
+abbrev pub FailsAt : {D : Type 0} → Type 0 → (D → DiskState) → (D → ℕ) → (D → ℕ) → ℕ → Cast D → Cast D → Type 0
+FailsAt told state own size zero old new = NodeFails told state own size old.node new.node × (new.clients ≡ old.clients)
+FailsAt told state own size (suc at) old new = ⊥
 
 -- those before a place were visited, and this came of the visit there
 abbrev pub VisitsUntil : {D : Type 0} → Type 0 → (D → DiskState) → (D → ℕ) → (D → ℕ) → (ℕ → Cast D → Cast D → Type 0) → List ℕ → Cast D → Cast D → Type 0
@@ -33,7 +33,7 @@ VisitsUntil told state own size Comes (place ∷ places) old new =
     ⊎ ((mid : Cast _) × ((did : Bool) × (VisitAt told state own size place old mid did × VisitsUntil told state own size Comes places mid new)))
 
 abbrev pub VisitSome : {D : Type 0} → Type 0 → (D → DiskState) → (D → ℕ) → (D → ℕ) → List ℕ → Cast D → Cast D → Type 0
-VisitSome told state own size places old new = VisitsUntil told state own size (FailsAt told state own) places old new
+VisitSome told state own size places old new = VisitsUntil told state own size (FailsAt told state own size) places old new
 
 pub record BreaksRound {D : Type 0} (told : Type 0) (state : D → DiskState) (own size : D → ℕ) (order : List ℕ) (old new : Cast D) : Type 0 where
   pub carried : Cast D
@@ -47,7 +47,7 @@ pub record BreaksRound {D : Type 0} (told : Type 0) (state : D → DiskState) (o
 abbrev pub NodeRefusedIf : {D : Type 0} → Bool → Type 0 → (D → DiskState) → (D → ℕ) → (D → ℕ) → CellValue D → CellValue D → Type 0
 NodeRefusedIf true told state own size old new =
     Breaks told state own size old.seat new.seat ⊎ (Visits told state own size old.seat new.seat × (is_refused (cause_of new.seat.node) ≡ true))
-NodeRefusedIf false told state own size old new = StartsAgain told state own old.alloc old.seat.node new.seat.node (Err restart_faults.NoMemory)
+NodeRefusedIf false told state own size old new = StartsAgain told state own size old.alloc old.seat.node new.seat.node (Err restart_faults.NoMemory)
 
 -- at the place of the node, or at that of a client, where the node is as it was
 abbrev pub RefusedAt : {D : Type 0} → Type 0 → (D → DiskState) → (D → ℕ) → (D → ℕ) → ℕ → Cast D → Cast D → Type 0

@@ -66,14 +66,14 @@ pub record NodeActs {D : Type 0} (told : Type 0) (state : D → DiskState) (own 
   pub start : IsSameStart old new
 
 -- a node that is down is started again; it stays down where its fuse trips
-pub record NodeStarts {D : Type 0} (told : Type 0) (state : D → DiskState) (own : D → ℕ) (old new : CellValue D) (did : Bool) : Type 0 where
-  pub starts : StartsAgain told state own old.alloc old.seat.node new.seat.node (Ok did)
+pub record NodeStarts {D : Type 0} (told : Type 0) (state : D → DiskState) (own size : D → ℕ) (old new : CellValue D) (did : Bool) : Type 0 where
+  pub starts : StartsAgain told state own size old.alloc old.seat.node new.seat.node (Ok did)
   pub ends : new.seat.ends ≡ old.seat.ends
   pub start : IsSameStart old new
 
 abbrev pub NodeVisitIf : {D : Type 0} → Bool → Type 0 → (D → DiskState) → (D → ℕ) → (D → ℕ) → CellValue D → CellValue D → Bool → Type 0
 NodeVisitIf true told state own size old new did = NodeActs told state own size old new did
-NodeVisitIf false told state own size old new did = NodeStarts told state own old new did
+NodeVisitIf false told state own size old new did = NodeStarts told state own size old new did
 
 abbrev pub NodeVisit : {D : Type 0} → Type 0 → (D → DiskState) → (D → ℕ) → (D → ℕ) → CellValue D → CellValue D → Bool → Type 0
 NodeVisit told state own size old new did = NodeVisitIf (is_up old) told state own size old new did

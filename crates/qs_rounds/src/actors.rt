@@ -124,7 +124,7 @@ impl<D: Disk> Actors<D> {
     /// The visit of the actor at that place of the order, and whether anything was done in it.
     fn visit(&mut self, place: usize) -> Result<bool, RoundFault>
         ensures visits { IfOk result (VisitAt D.told D.state D.fault_count D.byte_count place self.old self.new) }
-        ensures broken { (node : NodeNo) → result ≡ Err (faults.DiskFault node) → FailsAt D.told D.state D.fault_count place self.old self.new }
+        ensures broken { (node : NodeNo) → result ≡ Err (faults.DiskFault node) → FailsAt D.told D.state D.fault_count D.byte_count place self.old self.new }
         ensures refused { result ≡ Err faults.NoMemory → RefusedAt D.told D.state D.fault_count D.byte_count place self.old self.new }
         ensures named { (node : NodeNo) → result ≡ Err (faults.DiskFault node) → node ≡ first_node }
         ensures start { IsSameStart self.old.node self.new.node }

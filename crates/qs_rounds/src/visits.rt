@@ -22,7 +22,7 @@ use qs_plans::NODE;
 /// A node that is up makes its events; one that is down is started again. It answers whether anything was done.
 pub fn visit_node<D: Disk>(node: &mut NodeCell<D>) -> Result<bool, RoundFault>
     ensures visits { IfOk result (NodeVisit D.told D.state D.fault_count D.byte_count node.old node.new) }
-    ensures broken { (at : NodeNo) → result ≡ Err (faults.DiskFault at) → NodeFails D.told D.state D.fault_count node.old node.new }
+    ensures broken { (at : NodeNo) → result ≡ Err (faults.DiskFault at) → NodeFails D.told D.state D.fault_count D.byte_count node.old node.new }
     ensures refused { result ≡ Err faults.NoMemory → NodeRefusedIf (is_up node.old) D.told D.state D.fault_count D.byte_count node.old node.new }
     ensures named { (at : NodeNo) → result ≡ Err (faults.DiskFault at) → at ≡ first_node }
     ensures start { IsSameStart node.old node.new }
@@ -62,8 +62,8 @@ fn is_refused(cause: Option<CrashCause>) -> bool
 /// A node that is down is started again; it stays down where its fuse trips.
 fn restart<D: Disk>(node: &mut NodeCell<D>) -> Result<bool, RoundFault>
     requires down { is_up node.old ≡ false }
-    ensures starts { IfOk result (NodeStarts D.told D.state D.fault_count node.old node.new) }
-    ensures broken { (at : NodeNo) → result ≡ Err (faults.DiskFault at) → NodeFails D.told D.state D.fault_count node.old node.new }
+    ensures starts { IfOk result (NodeStarts D.told D.state D.fault_count D.byte_count node.old node.new) }
+    ensures broken { (at : NodeNo) → result ≡ Err (faults.DiskFault at) → NodeFails D.told D.state D.fault_count D.byte_count node.old node.new }
     ensures refused { result ≡ Err faults.NoMemory → NodeRefusedIf false D.told D.state D.fault_count D.byte_count node.old node.new }
     ensures named { (at : NodeNo) → result ≡ Err (faults.DiskFault at) → at ≡ first_node }
     ensures start { IsSameStart node.old node.new }

@@ -20,6 +20,7 @@ use Rattle.qs_single.specs.Acting.{AreOfClients, StartsGoOn, TellsHistory, Visit
 use Rattle.qs_single.specs.Reached.{IsInWorld, ServesAll}
 use Rattle.qs_single.specs.Seats.{HasCell, OfClient, OfNode}
 use Rattle.qs_single.specs.Visiting.{IsOwn, IsTurnOf}
+use Rattle.qs_single.specs.Rooms.{Began}
 use Rattle.qs_single.proofs.Reaching.{each_restart}
 use Rattle.qs_single.proofs.Visited.{each_room, each_turn_goes, each_visit_begins}
 
@@ -27,7 +28,7 @@ own_if : (b : Bool) → IsOwn (if b then Some occasions.Queues else None)
 own_if true = refl
 own_if false = tt
 
-module _ {D : Type 0} (told : Type 0) (state : D → DiskState) (own size : D → ℕ) (start : World) (clients : List ClientCell) where
+module _ {D : Type 0} (told : Type 0) (state : D → DiskState) (own size : D → ℕ) (began : Began) (start : World) (clients : List ClientCell) where
   -- what is due of a client
   pub client_turn : (end : NodeEnds) → HasCell end.client clients → (ready : NodeState D) (ends : List NodeEnds) → IsTurnOf (OfClient end.client) ready ends clients (due (client_source end) ready ends) (left_by (client_source end) ready ends)
   client_turn end has (states.Up running) ends = record { cell = has; is = (refl, refl) }
@@ -93,40 +94,40 @@ module _ {D : Type 0} (told : Type 0) (state : D → DiskState) (own size : D �
       by (states.Down stopped) is = ap is_refused (sym (stays_down stopped sources mid new rest is)) ∙ granted
 
   own_turns : (sources : List _) (old new : Seat D) → TurnsAll told state own size sources old new → is_refused (cause_of new.node) ≡ false → AreOwn due left_by sources → ServesAll start
-      → IsInWorld told state start old.node old.ends clients → IsInWorld told state start new.node new.ends clients
-  own_turns [] old new turns granted all serves was = subst (λ (s : Seat D). IsInWorld told state start s.node s.ends clients) (sym turns) was
+      → IsInWorld told state size began start old.node old.ends clients → IsInWorld told state size began start new.node new.ends clients
+  own_turns [] old new turns granted all serves was = subst (λ (s : Seat D). IsInWorld told state size began start s.node s.ends clients) (sym turns) was
   own_turns (source ∷ sources) old new (mid, (turn, rest)) granted all serves was = own_turns sources mid new rest granted all.1 serves
-      (each_turn_goes told state own size start OfNode turn.ready old.ends mid clients (due source turn.ready old.ends) (left_by source turn.ready old.ends) (all.0 turn.ready old.ends) turn.turn (was_granted sources mid new rest granted) serves
-      (each_room told state start old.node turn.ready old.ends clients turn.same was))
+      (each_turn_goes told state own size began start OfNode turn.ready old.ends mid clients (due source turn.ready old.ends) (left_by source turn.ready old.ends) (all.0 turn.ready old.ends) turn.turn (was_granted sources mid new rest granted) serves
+      (each_room told state size began start old.node turn.ready old.ends clients turn.same was))
 
   all_turns : (ends : List NodeEnds) (old new : Seat D) → TurnsAll told state own size (map client_source ends ++ sources_of []) old new → is_refused (cause_of new.node) ≡ false → AreOfClients ends clients
-      → ServesAll start → IsInWorld told state start old.node old.ends clients → IsInWorld told state start new.node new.ends clients
+      → ServesAll start → IsInWorld told state size began start old.node old.ends clients → IsInWorld told state size began start new.node new.ends clients
   all_turns [] old new turns granted all serves was = own_turns (sources_of []) old new turns granted its_own serves was
   all_turns (end ∷ ends) old new (mid, (turn, rest)) granted all serves was = all_turns ends mid new rest granted (λ e there. all e (inr there)) serves
-      (each_turn_goes told state own size start (OfClient end.client) turn.ready old.ends mid clients (due (client_source end) turn.ready old.ends) (left_by (client_source end) turn.ready old.ends)
+      (each_turn_goes told state own size began start (OfClient end.client) turn.ready old.ends mid clients (due (client_source end) turn.ready old.ends) (left_by (client_source end) turn.ready old.ends)
       (client_turn end (all end (inl refl)) turn.ready old.ends) turn.turn (was_granted (map client_source ends ++ sources_of []) mid new rest granted) serves
-      (each_room told state start old.node turn.ready old.ends clients turn.same was))
+      (each_room told state size began start old.node turn.ready old.ends clients turn.same was))
 
-pub each_visit : {D : Type 0} (told : Type 0) (state : D → DiskState) (own size : D → ℕ) (start : World) (old new : Seat D) (clients : List ClientCell) → VisitsGoOn told state own size start old new clients
-each_visit told state own size start old new clients visits granted serves all was =
-    all_turns told state own size start clients old.ends (record { node = visits.begun; ends = old.ends }) new visits.turns granted all serves
-    (each_visit_begins told state start old.node visits.begun old.ends clients visits.round was)
+pub each_visit : {D : Type 0} (told : Type 0) (state : D → DiskState) (own size : D → ℕ) (began : Began) (start : World) (old new : Seat D) (clients : List ClientCell) → VisitsGoOn told state own size began start old new clients
+each_visit told state own size began start old new clients visits granted serves all was =
+    all_turns told state own size began start clients old.ends (record { node = visits.begun; ends = old.ends }) new visits.turns granted all serves
+    (each_visit_begins told state size began start old.node visits.begun old.ends clients visits.round was)
 
 -- whatever the restart answers
-pub starts_on : {D : Type 0} (told : Type 0) (state : D → DiskState) (own : D → ℕ) (start : World) (old new : CellValue D) (answer : Result Bool RestartFault) (clients : List ClientCell) → told
-    → StartsAgain told state own old.alloc old.seat.node new.seat.node answer → new.seat.ends ≡ old.seat.ends → IsInWorld told state start old.seat.node old.seat.ends clients
-    → IsInWorld told state start new.seat.node new.seat.ends clients
-starts_on told state own start old new answer clients t starts ends was =
-    subst (λ (lanes : List NodeEnds). IsInWorld told state start new.seat.node lanes clients) (sym ends) (by old.seat.node starts was)
+pub starts_on : {D : Type 0} (told : Type 0) (state : D → DiskState) (own size : D → ℕ) (began : Began) (start : World) (old new : CellValue D) (answer : Result Bool RestartFault) (clients : List ClientCell) → told
+    → StartsAgain told state own size old.alloc old.seat.node new.seat.node answer → new.seat.ends ≡ old.seat.ends → IsInWorld told state size began start old.seat.node old.seat.ends clients
+    → IsInWorld told state size began start new.seat.node new.seat.ends clients
+starts_on told state own size began start old new answer clients t starts ends was =
+    subst (λ (lanes : List NodeEnds). IsInWorld told state size began start new.seat.node lanes clients) (sym ends) (by old.seat.node starts was)
   where
-    by : (node : NodeState _) → StartsAgain told state own old.alloc node new.seat.node answer → IsInWorld told state start node old.seat.ends clients
-        → IsInWorld told state start new.seat.node old.seat.ends clients
-    by (states.Up running) again shown = subst (λ (n : NodeState _). IsInWorld told state start n old.seat.ends clients) (sym again.0) shown
-    by (states.Down stopped) again shown = each_restart told state own old.alloc start stopped new.seat.node old.seat.ends clients answer t again shown
+    by : (node : NodeState _) → StartsAgain told state own size old.alloc node new.seat.node answer → IsInWorld told state size began start node old.seat.ends clients
+        → IsInWorld told state size began start new.seat.node old.seat.ends clients
+    by (states.Up running) again shown = subst (λ (n : NodeState _). IsInWorld told state size began start n old.seat.ends clients) (sym again.0) shown
+    by (states.Down stopped) again shown = each_restart told state own size old.alloc began start stopped new.seat.node old.seat.ends clients answer t again shown
 
-pub each_start : {D : Type 0} (told : Type 0) (state : D → DiskState) (own : D → ℕ) (start : World) (old new : CellValue D) (did : Bool) (clients : List ClientCell) → StartsGoOn told state own start old new did clients
-each_start told state own start old new did clients t starts was = starts_on told state own start old new (Ok did) clients t starts.starts starts.ends was
+pub each_start : {D : Type 0} (told : Type 0) (state : D → DiskState) (own size : D → ℕ) (began : Began) (start : World) (old new : CellValue D) (did : Bool) (clients : List ClientCell) → StartsGoOn told state own size began start old new did clients
+each_start told state own size began start old new did clients t starts was = starts_on told state own size began start old new (Ok did) clients t starts.starts starts.ends was
 
-pub each_history : {D : Type 0} (told : Type 0) (state : D → DiskState) (start : World) (node : NodeState D) (ends : List NodeEnds) (clients : List ClientCell) → TellsHistory told state start node ends clients
-each_history told state start (states.Up running) ends clients was = record { moves = was.reached.moves; world = was.reached.world; run = was.reached.run; shows = was.reached.shows.node.told.journal }
-each_history told state start (states.Down stopped) ends clients was = record { moves = was.to_first.moves; world = was.to_first.world; run = was.to_first.run; shows = was.to_first.shows.node.told.journal }
+pub each_history : {D : Type 0} (told : Type 0) (state : D → DiskState) (size : D → ℕ) (began : Began) (start : World) (node : NodeState D) (ends : List NodeEnds) (clients : List ClientCell) → TellsHistory told state size began start node ends clients
+each_history told state size began start (states.Up running) ends clients was = record { moves = was.reached.moves; world = was.reached.world; run = was.reached.run; shows = was.reached.shows.node.told.journal }
+each_history told state size began start (states.Down stopped) ends clients was = record { moves = was.to_first.moves; world = was.to_first.world; run = was.to_first.run; shows = was.to_first.shows.node.told.journal }

@@ -37,67 +37,78 @@ use Rattle.qs_single.proofs.Refused.{IsShownDisk, round_leaves}
 use Rattle.qs_single.proofs.Rounded.{break_goes, round_goes, rounds_go}
 use Rattle.qs_single.proofs.SameStart.{IsOpenedAs, break_start, round_start, rounds_start}
 use Rattle.qs_single.proofs.ServedAlone.{serves_alone}
+use Rattle.qs_single.specs.Rooms.{Began, BeganRoomy, IsRoomyRun, began_over}
+use Rattle.qs_single.proofs.Roomed.{each_roomy}
+use Rattle.qs_single.proofs.RoomyAlone.{names_alone, news_alone}
 
 module _ {D : Type 0} (may : (o : Opening) → MayBegin o) (told : Type 0) (state : D → DiskState) (own size : D → ℕ) (alloc : Global) (script : Script) (disk : D) (cast : Cast D) (t : told)
     (begun : HasBegun told state own alloc script disk cast) (fits : Fits node_count script) (coherent : IsCoherentImage alloc (state disk).content) where
   abbrev o : Opening
   o = opening_over alloc script begun.started.running.host.log
 
+  abbrev first : Began
+  first = began_over state size disk cast.node.seat.node
+
   opened : IsOpenedOver alloc script cast.clients begun.started.running.host.log o
   opened = each_opening may told state own alloc script disk cast t begun fits coherent
 
-  was : IsCastIn told state (start o) cast
-  was = begins_in told state own alloc script disk cast o t begun opened.opens
+  was : IsCastIn told state size first (start o) cast
+  was = begins_in told state own size alloc script disk cast o t begun opened.opens
 
   serves : ServesAll (start o)
   serves = serves_alone o opened.may_begin opened.opens.node.size
 
+  with_room : BeganRoomy first → IsRoomyRun first (start o)
+  with_room roomy = record { roomy = roomy; names = names_alone o opened.may_begin opened.opens.node.size; begins = news_alone o opened.may_begin }
+
   -- whatever the rounds led to
-  holds : (new : Cast D) → IsOpenedAs cast.node new.node → IsCastIn told state (start o) new → HoldsAtEnd state o new.node
+  holds : (new : Cast D) → IsOpenedAs cast.node new.node → IsCastIn told state size first (start o) new → HoldsAtEnd state size first o new.node
   holds new same now = record {
-    of_world = each_history told state (start o) new.node.seat.node new.node.seat.ends new.clients now.carried.shows;
-    lawful = subst (λ (b : BookValue). IsLawful b (journal_of new.node)) book_is (lawful_in told state o opened.may_begin new now);
-    logged = each_logged told state o opened.may_begin t new.node.seat.ends new.clients new.node.seat.node now.carried.shows;
-    coherent = each_coherent told state o opened.may_begin t new.node.seat.ends new.clients new.node.seat.node now.carried.shows;
+    of_world = each_history told state size first (start o) new.node.seat.node new.node.seat.ends new.clients now.carried.shows;
+    lawful = subst (λ (b : BookValue). IsLawful b (journal_of new.node)) book_is (lawful_in told state size first o opened.may_begin new now);
+    logged = each_logged told state size first o opened.may_begin t new.node.seat.ends new.clients new.node.seat.node now.carried.shows;
+    coherent = each_coherent told state size first o opened.may_begin t new.node.seat.ends new.clients new.node.seat.node now.carried.shows;
     stands = subst (λ (b : BookValue). DiskStandsFor (book_after b (journal_of new.node)) (is_none (cause_of new.node.seat.node)) (state (disk_of new.node.seat.node).disk)) book_is
-        (each_stands told state o opened.may_begin t new.node.seat.ends new.clients new.node.seat.node now.carried.shows);
+        (each_stands told state size first o opened.may_begin t new.node.seat.ends new.clients new.node.seat.node now.carried.shows);
+    roomy = λ roomy. (each_roomy told state size first (start o) new.node.seat.node new.node.seat.ends new.clients now.carried.shows t (with_room roomy)).disk;
   }
     where
       book_is : book_of o ≡ first_book new.node
       book_is = each_book told state own alloc script disk cast o t begun opened.opens ∙ ap (λ (x : Opened). opening (x ∷ [])) (sym same)
 
-  pub ended : (rng : Lcg) (n : ℕ) (new : Cast D) (quiet : Bool) → EndsWith told state own size rng n cast new quiet → HoldsAtEnd state o new.node
+  pub ended : (rng : Lcg) (n : ℕ) (new : Cast D) (quiet : Bool) → EndsWith told state own size rng n cast new quiet → HoldsAtEnd state size first o new.node
   ended rng n new quiet ends = holds new
       (round_start told state own size (drawn_order (count_of ends.before) ends.drawn).0 ends.before new quiet ends.last ∙ rounds_start told state own size rng (n - 1) cast ends.before ends.drawn ends.earlier)
-      (round_goes told state own size (start o) t serves (drawn_order (count_of ends.before) ends.drawn).0 ends.before new quiet ends.last
-      (rounds_go told state own size (start o) t serves rng (n - 1) cast ends.before ends.drawn ends.earlier was))
+      (round_goes told state own size first (start o) t serves (drawn_order (count_of ends.before) ends.drawn).0 ends.before new quiet ends.last
+      (rounds_go told state own size first (start o) t serves rng (n - 1) cast ends.before ends.drawn ends.earlier was))
 
-  pub broken : (seed : ℕ) (new : Cast D) → IsCutShort told state own size seed cast new → HoldsAtEnd state o new.node
+  pub broken : (seed : ℕ) (new : Cast D) → IsCutShort told state own size seed cast new → HoldsAtEnd state size first o new.node
   broken seed new cut = holds new
       (break_start told state own size (drawn_order (count_of cut.before) cut.drawn).0 cut.before new cut.broken ∙ rounds_start told state own size (seeded seed) cut.rounds cast cut.before cut.drawn cut.earlier)
-      (break_goes told state own size (start o) t serves (drawn_order (count_of cut.before) cut.drawn).0 cut.before new cut.broken
-      (rounds_go told state own size (start o) t serves (seeded seed) cut.rounds cast cut.before cut.drawn cut.earlier was))
+      (break_goes told state own size first (start o) t serves (drawn_order (count_of cut.before) cut.drawn).0 cut.before new cut.broken
+      (rounds_go told state own size first (start o) t serves (seeded seed) cut.rounds cast cut.before cut.drawn cut.earlier was))
 
-  pub refused : (seed : ℕ) (new : Cast D) → IsOutOfMemory told state own size seed cast new → HoldsUntold (first_book cast.node) (state (disk_of new.node.seat.node).disk)
-  refused seed new out = subst (λ (d : D). HoldsUntold (first_book cast.node) (state d)) (sym left.disk) (record {
-    coherent = each_coherent told state o opened.may_begin t left.ends left.clients left.shown left.in_world;
+  pub refused : (seed : ℕ) (new : Cast D) → IsOutOfMemory told state own size seed cast new → HoldsUntold first (first_book cast.node) (size (disk_of new.node.seat.node).disk) (state (disk_of new.node.seat.node).disk)
+  refused seed new out = subst (λ (d : D). HoldsUntold first (first_book cast.node) (size d) (state d)) (sym left.disk) (record {
+    coherent = each_coherent told state size first o opened.may_begin t left.ends left.clients left.shown left.in_world;
     journal = journal;
     lawful = subst (λ (l : List Entry). IsLawful (first_book cast.node) l) history.shows
         (subst (λ (b : BookValue). IsLawful b history.world.journal) first_is (each_run_lawful AlongRun runs_go o history.moves history.world opened.may_begin history.run));
     up = is_none (cause_of left.shown);
     stands = subst (λ (b : BookValue). DiskStandsFor (book_after b journal) (is_none (cause_of left.shown)) (state (disk_of left.shown).disk)) first_is
-        (each_stands told state o opened.may_begin t left.ends left.clients left.shown left.in_world);
+        (each_stands told state size first o opened.may_begin t left.ends left.clients left.shown left.in_world);
+    roomy = λ roomy. (each_roomy told state size first (start o) left.shown left.ends left.clients left.in_world t (with_room roomy)).disk;
   })
     where
-      left : IsShownDisk told state (start o) new.node.seat.node
-      left = round_leaves told state own size (start o) t serves (drawn_order (count_of out.before) out.drawn).0 out.before new out.refused
-          (rounds_go told state own size (start o) t serves (seeded seed) out.rounds cast out.before out.drawn out.earlier was)
+      left : IsShownDisk told state size first (start o) new.node.seat.node
+      left = round_leaves told state own size first (start o) t serves (drawn_order (count_of out.before) out.drawn).0 out.before new out.refused
+          (rounds_go told state own size first (start o) t serves (seeded seed) out.rounds cast out.before out.drawn out.earlier was)
 
       journal : List Entry
       journal = (carried_of left.shown).chronicle.told.journal
 
       history : Reached (start o) (λ world. world.journal ≡ journal)
-      history = each_history told state (start o) left.shown left.ends left.clients left.in_world
+      history = each_history told state size first (start o) left.shown left.ends left.clients left.in_world
 
       first_is : book_of o ≡ first_book cast.node
       first_is = each_book told state own alloc script disk cast o t begun opened.opens

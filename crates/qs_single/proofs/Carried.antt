@@ -28,6 +28,7 @@ use Rattle.qs_single.specs.Clients.{ShowsClient}
 use Rattle.qs_single.specs.Reached.{IsInWorld, Reached}
 use Rattle.qs_single.specs.Seats.{HasCell, SeatDown, ShowsEach}
 use Rattle.qs_single.specs.Showing.{ShowsIn, held_for}
+use Rattle.qs_single.specs.Rooms.{Began}
 use Rattle.qs_single.proofs.Clients.{each_answers_carried, each_commands_carried, each_turn}
 use Rattle.qs_single.proofs.Handing.{found_changed, found_other}
 
@@ -143,10 +144,10 @@ apart_on old new (b ∷ bs) (a ∷ more) (mid, (both, rest)) apart = (far, apart
 
 -- ---- the cell goes on in the world, where each client is shown as before
 
-pub moved_in : {D : Type 0} (told : Type 0) (state : D → DiskState) (start : World) (node : NodeState D) (olds news : List NodeEnds) (befores afters : List ClientCell)
+pub moved_in : {D : Type 0} (told : Type 0) (state : D → DiskState) (size : D → ℕ) (began : Began) (start : World) (node : NodeState D) (olds news : List NodeEnds) (befores afters : List ClientCell)
     → ((inc : ℕ) (now : Option ℕ) (commands : Commands) (shown : ℕ → Client) → ShowsEach inc now commands olds shown befores → ShowsEach inc now commands news shown afters)
-    → IsInWorld told state start node olds befores → IsInWorld told state start node news afters
-moved_in told state start (states.Up running) olds news befores afters on was = record {
+    → IsInWorld told state size began start node olds befores → IsInWorld told state size began start node news afters
+moved_in told state size began start (states.Up running) olds news befores afters on was = record {
   reached = record {
     moves = was.reached.moves;
     world = was.reached.world;
@@ -160,14 +161,16 @@ moved_in told state start (states.Up running) olds news befores afters on was = 
   };
   inc = was.inc;
   stands = was.stands;
+  roomy = was.roomy;
 }
-moved_in told state start (states.Down stopped) olds news befores afters on was = record {
+moved_in told state size began start (states.Down stopped) olds news befores afters on was = record {
   first = was.first;
   other = was.other;
   to_first = go was.first was.to_first;
   to_other = go was.other was.to_other;
   images = was.images;
   incs = was.incs;
+  roomy = was.roomy;
 }
   where
     go : (log : List Record) → Reached start (SeatDown stopped olds befores log) → Reached start (SeatDown stopped news afters log)
@@ -178,11 +181,11 @@ moved_in told state start (states.Down stopped) olds news befores afters on was 
       shows = record { node = r.shows.node; rising = r.shows.rising; each = on stopped.carried.setting.inc None stopped.carried.commands r.world.clients r.shows.each };
     }
 
-pub each_carries : {D : Type 0} (told : Type 0) (state : D → DiskState) (start : World) (old new : CellValue D) (befores afters : List ClientCell) → CarriesGoOn told state start old new befores afters
-each_carries told state start old new befores afters carries apart was = record {
+pub each_carries : {D : Type 0} (told : Type 0) (state : D → DiskState) (size : D → ℕ) (began : Began) (start : World) (old new : CellValue D) (befores afters : List ClientCell) → CarriesGoOn told state size began start old new befores afters
+each_carries told state size began start old new befores afters carries apart was = record {
   apart = apart_on old new befores afters carries apart;
-  shows = subst (λ (n : NodeState _). IsInWorld told state start n new.seat.ends afters) (sym (node_same old new befores afters carries))
-      (moved_in told state start old.seat.node old.seat.ends new.seat.ends befores afters (λ inc now commands shown each. all_carried inc now commands shown old new befores afters carries apart each) was);
+  shows = subst (λ (n : NodeState _). IsInWorld told state size began start n new.seat.ends afters) (sym (node_same old new befores afters carries))
+      (moved_in told state size began start old.seat.node old.seat.ends new.seat.ends befores afters (λ inc now commands shown each. all_carried inc now commands shown old new befores afters carries apart each) was);
 }
 
 -- ---- a client has its turn
@@ -242,15 +245,15 @@ apart_set (c ∷ clients) (suc at) old new got same apart = ((λ o there. by o (
     by o (inl is) = ap (λ (k : ClientNo). k.0 == c.client.0) (ap (λ (x : ClientCell). x.client) (sym is) ∙ same) ∙ apart.0 old (among_get clients at old got)
     by o (inr there) = apart.0 o there
 
-pub each_client_turn : {D : Type 0} (told : Type 0) (state : D → DiskState) (start : World) (cell : CellValue D) (clients new : List ClientCell) (at : ℕ) (did : Bool) → TurnsGoOn told state start cell clients new at did
-each_client_turn told state start cell clients new at did turns apart was = by (slice_get clients at) refl turns
+pub each_client_turn : {D : Type 0} (told : Type 0) (state : D → DiskState) (size : D → ℕ) (began : Began) (start : World) (cell : CellValue D) (clients new : List ClientCell) (at : ℕ) (did : Bool) → TurnsGoOn told state size began start cell clients new at did
+each_client_turn told state size began start cell clients new at did turns apart was = by (slice_get clients at) refl turns
   where
-    by : (o : Option ClientCell) → slice_get clients at ≡ o → ClientVisitAt at o clients new did → IsCarried told state start cell new
-    by None got (same, none) = record { apart = subst AreApart (sym same) apart; shows = subst (λ (l : List ClientCell). IsInWorld told state start cell.seat.node cell.seat.ends l) (sym same) was }
+    by : (o : Option ClientCell) → slice_get clients at ≡ o → ClientVisitAt at o clients new did → IsCarried told state size began start cell new
+    by None got (same, none) = record { apart = subst AreApart (sym same) apart; shows = subst (λ (l : List ClientCell). IsInWorld told state size began start cell.seat.node cell.seat.ends l) (sym same) was }
     by (Some client) got (after, (visit, is)) = record {
       apart = subst AreApart (sym is) (apart_set clients at client after got visit.client apart);
-      shows = subst (λ (l : List ClientCell). IsInWorld told state start cell.seat.node cell.seat.ends l) (sym is)
-          (moved_in told state start cell.seat.node cell.seat.ends cell.seat.ends clients (slice_set clients at after) on was);
+      shows = subst (λ (l : List ClientCell). IsInWorld told state size began start cell.seat.node cell.seat.ends l) (sym is)
+          (moved_in told state size began start cell.seat.node cell.seat.ends cell.seat.ends clients (slice_set clients at after) on was);
     }
       where
         on : (inc : ℕ) (now : Option ℕ) (commands : Commands) (shown : ℕ → Client) → ShowsEach inc now commands cell.seat.ends shown clients → ShowsEach inc now commands cell.seat.ends shown (slice_set clients at after)

@@ -26,6 +26,7 @@ use Rattle.qs_single.specs.Reached.{Reached}
 use Rattle.qs_every_run.specs.AlongRun.{AlongRun}
 use Rattle.qs_every_run.proofs.JoinedOver.{each_run_lawful}
 use Rattle.qs_every_run.proofs.RunsGoOn.{runs_go}
+use Rattle.qs_single.specs.Rooms.{Began, began_over}
 use Rattle.qs_single.specs.Rounding.{IsCastIn}
 use Rattle.qs_single.specs.Seats.{HasCell}
 use Rattle.qs_single.specs.Whole.{IsLawfulFromLog, IsRunOfWorld, OpensAsTold}
@@ -45,19 +46,20 @@ seats_of script (c ∷ clients) (e ∷ ends) seats end (inr there) =
     record { cell = it.cell; there = inr it.there; is = it.is }
 
 -- it begins so
-pub begins_in : {D : Type 0} (told : Type 0) (state : D → DiskState) (own : D → ℕ) (alloc : Global) (script : Script) (disk : D) (cast : Cast D) (o : Opening) → told
-    → (begun : HasBegun told state own alloc script disk cast) → OpensScript alloc script cast.clients begun.started.running.host.log o → IsCastIn told state (start o) cast
-begins_in told state own alloc script disk cast o t begun opens = record {
-  carried = each_cast told state own alloc script disk cast o t begun opens;
+pub begins_in : {D : Type 0} (told : Type 0) (state : D → DiskState) (own size : D → ℕ) (alloc : Global) (script : Script) (disk : D) (cast : Cast D) (o : Opening) → told
+    → (begun : HasBegun told state own alloc script disk cast) → OpensScript alloc script cast.clients begun.started.running.host.log o
+    → IsCastIn told state size (began_over state size disk cast.node.seat.node) (start o) cast
+begins_in told state own size alloc script disk cast o t begun opens = record {
+  carried = each_cast told state own size alloc script disk cast o t begun opens;
   lanes = seats_of script cast.clients cast.node.seat.ends begun.seats;
 }
 
 pub each_run : {D : Type 0} (told : Type 0) (state : D → DiskState) (own size : D → ℕ) (alloc : Global) (script : Script) (disk : D) (cast : Cast D) (o : Opening) (rng : Lcg) (n : ℕ) (new : Cast D) (later : Lcg)
     → IsRunOfWorld told state own size alloc script disk cast o rng n new later
 each_run told state own size alloc script disk cast o rng n new later t begun opens rounds is_opening =
-    let now : IsCastIn told state (start o) new = each_rounds told state own size (start o) rng n cast new later t rounds (serves_alone o is_opening opens.node.size)
-    (begins_in told state own alloc script disk cast o t begun opens) in
-    each_history told state (start o) new.node.seat.node new.node.seat.ends new.clients now.carried.shows
+    let now : IsCastIn told state size (began_over state size disk cast.node.seat.node) (start o) new = each_rounds told state own size (began_over state size disk cast.node.seat.node) (start o) rng n cast new later t rounds (serves_alone o is_opening opens.node.size)
+    (begins_in told state own size alloc script disk cast o t begun opens) in
+    each_history told state size (began_over state size disk cast.node.seat.node) (start o) new.node.seat.node new.node.seat.ends new.clients now.carried.shows
 
 pub each_book : {D : Type 0} (told : Type 0) (state : D → DiskState) (own : D → ℕ) (alloc : Global) (script : Script) (disk : D) (cast : Cast D) (o : Opening) → OpensAsTold told state own alloc script disk cast o
 each_book told state own alloc script disk cast o t begun opens =
@@ -76,14 +78,14 @@ each_book told state own alloc script disk cast o t begun opens =
     all_forced = sym (ap (λ (l : List Record). begun.started.running.host.log.forced ++ l) (begun.started.raised t).waiting ∙ append-nil begun.started.running.host.log.forced)
 
 -- where the cast is in the world, what its cell tells is lawful
-pub lawful_in : {D : Type 0} (told : Type 0) (state : D → DiskState) (o : Opening) → IsOpening o → (cast : Cast D) → IsCastIn told state (start o) cast → IsLawful (book_of o) (journal_of cast.node)
-lawful_in told state o is_opening cast now =
-    let run : Reached (start o) (λ world. world.journal ≡ journal_of cast.node) = each_history told state (start o) cast.node.seat.node cast.node.seat.ends cast.clients now.carried.shows in
+pub lawful_in : {D : Type 0} (told : Type 0) (state : D → DiskState) (size : D → ℕ) (began : Began) (o : Opening) → IsOpening o → (cast : Cast D) → IsCastIn told state size began (start o) cast → IsLawful (book_of o) (journal_of cast.node)
+lawful_in told state size began o is_opening cast now =
+    let run : Reached (start o) (λ world. world.journal ≡ journal_of cast.node) = each_history told state size began (start o) cast.node.seat.node cast.node.seat.ends cast.clients now.carried.shows in
     subst (λ (l : List Entry). IsLawful (book_of o) l) run.shows (each_run_lawful AlongRun runs_go o run.moves run.world is_opening run.run)
 
 pub each_lawful : {D : Type 0} (told : Type 0) (state : D → DiskState) (own size : D → ℕ) (alloc : Global) (script : Script) (disk : D) (cast : Cast D) (o : Opening) (rng : Lcg) (n : ℕ) (new : Cast D) (later : Lcg)
     → IsLawfulFromLog told state own size alloc script disk cast o rng n new later
 each_lawful told state own size alloc script disk cast o rng n new later t begun opens rounds is_opening =
     subst (λ (b : BookValue). IsLawful b (journal_of new.node)) (each_book told state own alloc script disk cast o t begun opens)
-    (lawful_in told state o is_opening new (each_rounds told state own size (start o) rng n cast new later t rounds (serves_alone o is_opening opens.node.size)
-    (begins_in told state own alloc script disk cast o t begun opens)))
+    (lawful_in told state size (began_over state size disk cast.node.seat.node) o is_opening new (each_rounds told state own size (began_over state size disk cast.node.seat.node) (start o) rng n cast new later t rounds (serves_alone o is_opening opens.node.size)
+    (begins_in told state own size alloc script disk cast o t begun opens)))

@@ -27,6 +27,11 @@ pub mod Taking
 pub mod InHand
 -- A cell and its clients through an event and a restart.
 pub mod Seated
+-- What its log says is of transactions.
+pub mod Named
+pub mod RoomyAlone
+-- Its log has room.
+pub mod Roomed
 -- Runs are made longer.
 pub mod Reaching
 -- Lanes are carried, and clients have their turns.

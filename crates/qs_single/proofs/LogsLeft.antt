@@ -34,6 +34,7 @@ use Rattle.qs_single.proofs.NextOver.{is_next, over_log}
 use Rattle.qs_single.proofs.Reaching.{reaches, same_present}
 use Rattle.qs_single.proofs.Stamps.{ordered}
 use Rattle.qs_single.proofs.StandsOver.{stands_down, stands_up}
+use Rattle.qs_single.specs.Rooms.{Began}
 
 -- a world of one node with this log, up or down, in an incarnation up to this one; and its history, behind which its node may stop or restart
 record HasItsLog (up : Bool) (journal : List Entry) (log : List Record) (inc : ℕ) (world : World) : Type 0 where
@@ -74,9 +75,9 @@ module _ (o : Opening) (opens : IsOpening o) (up : Bool) (journal : List Entry) 
 
 -- ---- the disk of a cell
 
-module _ {D : Type 0} (told : Type 0) (state : D → DiskState) (o : Opening) (opens : IsOpening o) (t : told) (ends : List NodeEnds) (clients : List ClientCell) where
+module _ {D : Type 0} (told : Type 0) (state : D → DiskState) (size : D → ℕ) (began : Began) (o : Opening) (opens : IsOpening o) (t : told) (ends : List NodeEnds) (clients : List ClientCell) where
   -- it is up: the log stands there
-  module _ (running : Up D) (was : IsRunning told state (start o) running ends clients) (image : List ℕ) (at : IsImage (state running.host.log.disk.disk).now image) where
+  module _ (running : Up D) (was : IsRunning told state size began (start o) running ends clients) (image : List ℕ) (at : IsImage (state running.host.log.disk.disk).now image) where
     own : IsLog running.host.log.slots.present running.host.log.forced running.host.log.used image
     own = subst (λ (c : List ℕ). IsLog running.host.log.slots.present running.host.log.forced running.host.log.used c) (sym (stands.still image at)) stands.forced
       where
@@ -101,7 +102,7 @@ module _ {D : Type 0} (told : Type 0) (state : D → DiskState) (o : Opening) (o
     }
 
   -- it is down: the log of the image is one of the two
-  module _ (stopped : Stopped D) (was : IsHalted told state (start o) stopped ends clients) (image : List ℕ) (at : IsImage (state stopped.disk.disk).now image) where
+  module _ (stopped : Stopped D) (was : IsHalted told state size began (start o) stopped ends clients) (image : List ℕ) (at : IsImage (state stopped.disk.disk).now image) where
     world_down : (present : Present) (records : List Record) (used : ℕ) → IsLog present records used image → HasOneOf was.first was.other image → Reached (start o) (HasItsLog false stopped.carried.chronicle.told.journal records present.value.inc)
     world_down present records used log one = elim one [ inl has ↦ of_log was.first was.to_first has | inr has ↦ of_log was.other was.to_other has ]
       where
@@ -125,17 +126,17 @@ module _ {D : Type 0} (told : Type 0) (state : D → DiskState) (o : Opening) (o
           };
         }
 
-  pub each_logged : (node : NodeState D) → IsInWorld told state (start o) node ends clients → EachImage HasLog (state (disk_of node).disk).now
+  pub each_logged : (node : NodeState D) → IsInWorld told state size began (start o) node ends clients → EachImage HasLog (state (disk_of node).disk).now
   each_logged (states.Up running) was image at = (running.host.log.forced, record { present = running.host.log.slots.present; used = running.host.log.used; log = own running was image at })
   each_logged (states.Down stopped) was image at = elim (was.images t image at) [ inl has ↦ (was.first, has) | inr has ↦ (was.other, has) ]
 
-  pub each_coherent : (node : NodeState D) → IsInWorld told state (start o) node ends clients → IsCoherentDisk (state (disk_of node).disk)
+  pub each_coherent : (node : NodeState D) → IsInWorld told state size began (start o) node ends clients → IsCoherentDisk (state (disk_of node).disk)
   each_coherent (states.Up running) was alloc image at present records used log =
       may_follow o opens true running.carried.chronicle.told.journal records present.value.inc (world_up running was image at present records used log) alloc
   each_coherent (states.Down stopped) was alloc image at present records used log =
       may_follow o opens false stopped.carried.chronicle.told.journal records present.value.inc (world_down stopped was image at present records used log (was.images t image at)) alloc
 
-  pub each_stands : (node : NodeState D) → IsInWorld told state (start o) node ends clients → DiskStandsFor (book_after (book_of o) (carried_of node).chronicle.told.journal) (is_none (cause_of node)) (state (disk_of node).disk)
+  pub each_stands : (node : NodeState D) → IsInWorld told state size began (start o) node ends clients → DiskStandsFor (book_after (book_of o) (carried_of node).chronicle.told.journal) (is_none (cause_of node)) (state (disk_of node).disk)
   each_stands (states.Up running) was image at present records used log =
       stands_for o opens true running.carried.chronicle.told.journal records present.value.inc (world_up running was image at present records used log)
   each_stands (states.Down stopped) was image at present records used log =

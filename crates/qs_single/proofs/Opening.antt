@@ -4,6 +4,7 @@ use Rattle.std.proofs.lemmas.Bool.Decides.{nat_tests}
 use Rattle.std.specs.Global.{Global}
 use Rattle.std.specs.Prelude.{⊤}
 use Rattle.qs_base.specs.declared.identifiers.ClientNo.{ClientNo}
+use Rattle.qs_cell.specs.State.{disk_of}
 use Rattle.qs_cell.specs.declared.state.NodeState.{NodeState}
 use Rattle.qs_channels.specs.Network.{Among}
 use Rattle.qs_chronicle.specs.Carried.{Commands, Seen}
@@ -32,6 +33,9 @@ use Rattle.qs_single.specs.Reached.{IsInWorld}
 use Rattle.qs_single.specs.Showing.{ShowsIn}
 use Rattle.qs_single.proofs.Begins.{each_begins}
 use Rattle.qs_single.proofs.InHand.{none_waits}
+use Rattle.qs_single.specs.Rooms.{began_over}
+use Rattle.qs_single.specs.Shown.{ShowsUp}
+use Rattle.qs_single.proofs.Roomed.{started_roomy}
 
 -- ---- the numbers of those who have a seat
 
@@ -157,7 +161,7 @@ smaller n few many less within = grind (arith, nat_tests)
 
 -- ---- the cast
 
-module _ {D : Type 0} (told : Type 0) (state : D → DiskState) (own : D → ℕ) (alloc : Global) (script : Script) (disk : D) (cast : Cast D) (o : Opening) (t : told) (begun : HasBegun told state own alloc script disk cast)
+module _ {D : Type 0} (told : Type 0) (state : D → DiskState) (own size : D → ℕ) (alloc : Global) (script : Script) (disk : D) (cast : Cast D) (o : Opening) (t : told) (begun : HasBegun told state own alloc script disk cast)
     (opens : OpensScript alloc script cast.clients begun.started.running.host.log o) where
   apart : AreApart cast.clients
   unfolding seated
@@ -196,16 +200,16 @@ module _ {D : Type 0} (told : Type 0) (state : D → DiskState) (own : D → ℕ
       has : HasSeat script client cast.node.seat.ends
       has = its_seat script cast.clients cast.node.seat.ends begun.seats apart client there
 
-  pub begins : IsCarried told state (start o) cast.node cast.clients
+  pub begins : IsCarried told state size (began_over state size disk cast.node.seat.node) (start o) cast.node cast.clients
   begins = record {
     apart = apart;
-    shows = subst (λ (n : NodeState D). IsInWorld told state (start o) n cast.node.seat.ends cast.clients) (sym begun.started.node) (record {
+    shows = subst (λ (n : NodeState D). IsInWorld told state size (began_over state size disk cast.node.seat.node) (start o) n cast.node.seat.ends cast.clients) (sym begun.started.node) (record {
       reached = record {
         moves = [];
         world = start o;
         run = refl;
         shows = record {
-          node = each_begins alloc _ _ _ begun.started.running.host.log begun.started.running o begun.started.begins refl (begun.started.raised t).waiting opens.node;
+          node = shown_node;
           rising = subst (λ (c : Commands). IsRising client_cmp c) (sym no_commands) tt;
           held = none_waits begun.started.running.host.node.commands begun.started.running.carried.commands (ap (λ (h : HostValue (FusedValue D)). h.node.commands) begun.started.begins.host);
           each = shown;
@@ -213,8 +217,13 @@ module _ {D : Type 0} (told : Type 0) (state : D → DiskState) (own : D → ℕ
       };
       inc = sym (ap (λ (s : Setting). s.inc) begun.started.begins.setting);
       stands = begun.started.stands;
+      roomy = λ again run. started_roomy state size alloc script _ _ begun.started.running (began_over state size disk cast.node.seat.node) (start o) begun.started.begins (begun.started.raised t) (begun.started.stands t)
+          (ap (λ (n : NodeState D). size (disk_of n).disk) (sym begun.started.node)) shown_node run;
     });
   }
+    where
+      shown_node : ShowsUp begun.started.running (start o)
+      shown_node = each_begins alloc _ _ _ begun.started.running.host.log begun.started.running o begun.started.begins refl (begun.started.raised t).waiting opens.node
 
-pub each_cast : {D : Type 0} (told : Type 0) (state : D → DiskState) (own : D → ℕ) (alloc : Global) (script : Script) (disk : D) (cast : Cast D) (o : Opening) → CastBegins told state own alloc script disk cast o
-each_cast told state own alloc script disk cast o t begun opens = begins told state own alloc script disk cast o t begun opens
+pub each_cast : {D : Type 0} (told : Type 0) (state : D → DiskState) (own size : D → ℕ) (alloc : Global) (script : Script) (disk : D) (cast : Cast D) (o : Opening) → CastBegins told state own size alloc script disk cast o
+each_cast told state own size alloc script disk cast o t begun opens = begins told state own size alloc script disk cast o t begun opens

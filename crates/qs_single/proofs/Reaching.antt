@@ -1,5 +1,5 @@
 -- Each event and each restart of a cell goes on in the world: a run is made longer, and where a step is cut off two runs are kept.
-use Rattle.std.proofs.Common.{◌≡◌, ◌⊎◌, ◌∙◌, ap, inl, inr, refl, subst, sym, ℕ, ◌+◌, ◌<◌, ◌≤◌, Bool, true, false, List, [], ◌∷◌, ◌++◌, None, Some, Result, Ok, append-nil, arith}
+use Rattle.std.proofs.Common.{◌≡◌, ◌⊎◌, ◌∙◌, ap, inl, inr, refl, subst, sym, ℕ, ◌+◌, ◌<◌, ◌≤◌, Bool, true, false, List, [], ◌∷◌, ◌++◌, Some, Result, Ok, append-nil, arith}
 use Rattle.std.specs.Global.{Global}
 use Rattle.std.specs.Prelude.{⊤}
 use Rattle.qs_cell.specs.Cell.{IfStands, IsOutcome, StandsAfter, out_of}
@@ -13,8 +13,6 @@ use Rattle.qs_cell.specs.declared.state.RestartFault.{RestartFault}
 use Rattle.qs_cell.specs.declared.stopped.Restarted.{Restarted}
 use Rattle.qs_cell.specs.declared.stopped.Restarted.TheVariants as restarts
 use Rattle.qs_cell.specs.declared.stopped.Stopped.{Stopped}
-use Rattle.qs_chronicle.specs.Carried.{Commands, Seen}
-use Rattle.qs_chronicle.specs.Chronicle.{Told, in_round}
 use Rattle.qs_chronicle.specs.declared.occasion.Occasion.{Occasion}
 use Rattle.qs_client.specs.declared.cell.ClientCell.{ClientCell}
 use Rattle.qs_disk.specs.Disk.{DiskState, EachImage}
@@ -23,7 +21,6 @@ use Rattle.qs_files.specs.declared.files.Files.{Files}
 use Rattle.qs_host.specs.Host.{HostValue, IsOldOrAfter, appended, forced_if, log_after}
 use Rattle.qs_incarnation.specs.Incarnation.{HasOneOf, IsLeftOrRaised, IsReopened}
 use Rattle.qs_lanes.specs.declared.ends.NodeEnds.{NodeEnds}
-use Rattle.qs_laws.proofs.Rising.{IsRising}
 use Rattle.qs_local.proofs.AsHost.{stepped as stepped_as_host}
 use Rattle.qs_local.specs.InWorld.{host_of}
 use Rattle.qs_log.specs.Image.{IsLog}
@@ -33,7 +30,6 @@ use Rattle.qs_record.specs.declared.record.Record.{Record}
 use Rattle.qs_rounds.specs.Rounds.{is_refused}
 use Rattle.qs_slot.specs.Slot.{Present}
 use Rattle.qs_slot.specs.Turning.{SlotsValue}
-use Rattle.qs_step.specs.State.{client_cmp}
 use Rattle.qs_step.specs.declared.event.ClientAnswer.{ClientAnswer}
 use Rattle.qs_step.specs.declared.event.Effects.{Effects}
 use Rattle.qs_step.specs.declared.setting.Setting.{Setting}
@@ -45,9 +41,10 @@ use Rattle.qs_single.specs.Events.{MovesTo, cut_of, source_of, step_of, stop_beh
 use Rattle.qs_single.specs.Beginnings.{rise_of}
 use Rattle.qs_single.specs.Reached.{EventsGoOn, HasReached, IsHalted, IsInWorld, IsRunning, Reached, RestartsGoOn, ServesAll}
 use Rattle.qs_single.specs.Seats.{From, IsDueFrom, IsGiven, SeatDown, SeatUp, left}
-use Rattle.qs_single.specs.Showing.{ShowsIn}
-use Rattle.qs_single.specs.Shown.{ShowsTold}
+use Rattle.qs_single.specs.Rooms.{Began}
 use Rattle.qs_single.proofs.Seated as seated
+use Rattle.qs_disk.specs.Moments.{Keeps}
+use Rattle.qs_single.proofs.Roomed.{made_roomy, risen_roomy, still_roomy}
 
 -- ---- runs
 
@@ -99,12 +96,15 @@ granted_by (outcomes.Whole running said) granted = tt
 granted_by (outcomes.Followed stopped said) granted = tt
 granted_by (outcomes.CutOff stopped) granted = tt
 
-module _ {D : Type 0} (told : Type 0) (state : D → DiskState) (own : D → ℕ) (start : World) where
+module _ {D : Type 0} (told : Type 0) (state : D → DiskState) (own size : D → ℕ) (began : Began) (start : World) where
   -- ---- each event
 
-  module _ (size : ℕ) (source : From) (occasion : Occasion) (old : Up D) (ends : List NodeEnds) (clients : List ClientCell) (due_is : IsDueFrom source occasion old ends clients) (was : IsRunning told state start old ends clients) where
+  module _ (source : From) (occasion : Occasion) (old : Up D) (ends : List NodeEnds) (clients : List ClientCell) (due_is : IsDueFrom source occasion old ends clients) (was : IsRunning told state size began start old ends clients) where
+    abbrev bytes : ℕ
+    bytes = size old.host.log.disk.disk
+
     abbrev out : Effects
-    out = out_of size occasion old
+    out = out_of bytes occasion old
 
     abbrev kept_log : List Record
     kept_log = (log_after out old.host.log).forced
@@ -136,104 +136,78 @@ module _ {D : Type 0} (told : Type 0) (state : D → DiskState) (own : D → ℕ
         → EachImage (HasReached stopped.carried.setting.inc) (state stopped.disk.disk).now
     incs_of stopped same images image at = subst (λ (s : Setting). HasReached s.inc image) (sym same) (none_behind image (images image at))
 
-    pub goes_on : (o : Outcome D Files NoServer) → IsOutcome own size occasion old o → IsGranted o → IsGiven occasion old
+    pub goes_on : (o : Outcome D Files NoServer) → IsOutcome own bytes occasion old o → IsGranted o → IsGiven occasion old
         → (told → IfStands o (λ disk. StandsAfter out old.host.log disk (state disk.disk)))
-        → (told → EachImage (IsOldOrAfter out old.host.log) (state (disk_of (state_of o)).disk).now)
-        → IsInWorld told state start (state_of o) (all_delivered (answers_of o) (left source old ends)) clients
-    goes_on (outcomes.Whole running said) is granted given stands images = record {
-      reached = reach start (step_of size occasion old) was.reached (λ world seat. seated.whole size source occasion old ends clients world due_is seat given running said is);
+        → (told → Keeps (IsOldOrAfter out old.host.log) (state old.host.log.disk.disk) (state (disk_of (state_of o)).disk)) → size (disk_of (state_of o)).disk ≡ bytes
+        → IsInWorld told state size began start (state_of o) (all_delivered (answers_of o) (left source old ends)) clients
+    goes_on (outcomes.Whole running said) is granted given stands moments same = record {
+      reached = reach start (step_of bytes occasion old) was.reached (λ world seat. seated.whole bytes source occasion old ends clients world due_is seat given running said is);
       inc = ap (λ (l : LogValue (FusedValue D)). inc_of l) is.log ∙ (inc_after ∙ sym (ap (λ (s : Setting). s.inc) is.setting));
       stands = λ t. subst (λ (l : LogValue (FusedValue D)). Stands l (state running.host.log.disk.disk)) (sym is.log) (stands t);
+      roomy = λ t. made_roomy state own size began start source occasion old ends clients due_is was.reached given (outcomes.Whole running said) is same (moments t) (was.roomy t);
     }
-    goes_on (outcomes.Followed stopped said) is granted given stands images = record {
+    goes_on (outcomes.Followed stopped said) is granted given stands moments same = record {
       first = kept_log;
       other = kept_log;
       to_first = reached;
       to_other = reached;
       images = λ t. one_log (record (log_after out old.host.log) { disk = stopped.disk }) (state stopped.disk.disk) (stands t);
-      incs = λ t. incs_of stopped is.setting (images t);
+      incs = λ t. incs_of stopped is.setting (moments t).here;
+      roomy = λ t. made_roomy state own size began start source occasion old ends clients due_is was.reached given (outcomes.Followed stopped said) is same (moments t) (was.roomy t);
     }
       where
         reached : Reached start (SeatDown stopped (all_delivered said (left source old ends)) clients kept_log)
-        reached = reach_then start (step_of size occasion old) (stop_behind old stopped.cause)
-            (reach start (step_of size occasion old) was.reached (λ world seat. seated.followed size source occasion old ends clients world due_is seat given stopped said is))
-    goes_on (outcomes.Replaced stopped) is granted given stands images = record {
+        reached = reach_then start (step_of bytes occasion old) (stop_behind old stopped.cause)
+            (reach start (step_of bytes occasion old) was.reached (λ world seat. seated.followed bytes source occasion old ends clients world due_is seat given stopped said is))
+    goes_on (outcomes.Replaced stopped) is granted given stands moments same = record {
       first = lost_log;
       other = lost_log;
       to_first = reached;
       to_other = reached;
       images = λ t. subst (λ (d : FusedValue D). EachImage (HasOneOf lost_log lost_log) (state d.disk).now) (sym is.disk) (one_log old.host.log (state old.host.log.disk.disk) (was.stands t));
-      incs = λ t. incs_of stopped is.setting (images t);
+      incs = λ t. incs_of stopped is.setting (moments t).here;
+      roomy = λ t. made_roomy state own size began start source occasion old ends clients due_is was.reached given (outcomes.Replaced stopped) is same (moments t) (was.roomy t);
     }
       where
         reached : Reached start (SeatDown stopped (left source old ends) clients lost_log)
-        reached = reach start (stop_of old stopped.cause) was.reached (λ world seat. seated.replaced size source occasion old ends clients world due_is seat stopped is granted)
-    goes_on (outcomes.CutOff stopped) is granted given stands images = record {
+        reached = reach start (stop_of old stopped.cause) was.reached (λ world seat. seated.replaced bytes source occasion old ends clients world due_is seat stopped is granted)
+    goes_on (outcomes.CutOff stopped) is granted given stands moments same = record {
       first = lost_log;
       other = kept_log;
-      to_first = reach start (cut_of size occasion old false stopped.cause) was.reached (λ world seat. cut_with world seat false lost_log (cut_lost old.carried.chronicle.told.stamp old.host out (world.hosts 0) seat.node.host));
-      to_other = reach start (cut_of size occasion old true stopped.cause) was.reached (λ world seat. cut_with world seat true kept_log (cut_kept old.carried.chronicle.told.stamp old.host out (world.hosts 0) seat.node.host));
-      images = λ t image at. either image (images t image at);
-      incs = λ t. incs_of stopped is.setting (images t);
+      to_first = reach start (cut_of bytes occasion old false stopped.cause) was.reached (λ world seat. cut_with world seat false lost_log (cut_lost old.carried.chronicle.told.stamp old.host out (world.hosts 0) seat.node.host));
+      to_other = reach start (cut_of bytes occasion old true stopped.cause) was.reached (λ world seat. cut_with world seat true kept_log (cut_kept old.carried.chronicle.told.stamp old.host out (world.hosts 0) seat.node.host));
+      images = λ t image at. either image ((moments t).here image at);
+      incs = λ t. incs_of stopped is.setting (moments t).here;
+      roomy = λ t. made_roomy state own size began start source occasion old ends clients due_is was.reached given (outcomes.CutOff stopped) is same (moments t) (was.roomy t);
     }
       where
         cut_with : (world : World) → SeatUp old ends clients world → (is_kept : Bool) (log : List Record) → cut_log (world.hosts 0) is_kept out ≡ log
-            → MovesTo (SeatDown stopped (left source old ends) clients log) (cut_of size occasion old is_kept stopped.cause) world
+            → MovesTo (SeatDown stopped (left source old ends) clients log) (cut_of bytes occasion old is_kept stopped.cause) world
         cut_with world seat is_kept log same =
-            subst (λ (l : List Record). MovesTo (SeatDown stopped (left source old ends) clients l) (cut_of size occasion old is_kept stopped.cause) world) same
-            (seated.cut size source occasion old ends clients world due_is seat own stopped given.counted is is_kept)
+            subst (λ (l : List Record). MovesTo (SeatDown stopped (left source old ends) clients l) (cut_of bytes occasion old is_kept stopped.cause) world) same
+            (seated.cut bytes source occasion old ends clients world due_is seat own stopped given.counted is is_kept)
 
 -- the run leads to a world whose host has the node
-pub given_in : {D : Type 0} (told : Type 0) (state : D → DiskState) (start : World) (occasion : Occasion) (old : Up D) (ends : List NodeEnds) (clients : List ClientCell)
-    → IsRunning told state start old ends clients → ServesAll start → IsGiven occasion old
-given_in told state start occasion old ends clients was serves = record {
+pub given_in : {D : Type 0} (told : Type 0) (state : D → DiskState) (size : D → ℕ) (began : Began) (start : World) (occasion : Occasion) (old : Up D) (ends : List NodeEnds) (clients : List ClientCell)
+    → IsRunning told state size began start old ends clients → ServesAll start → IsGiven occasion old
+given_in told state size began start occasion old ends clients was serves = record {
   counted = ap (λ (h : Host). may_serve h.node (source_of occasion)) (sym was.reached.shows.node.host)
       ∙ serves was.reached.moves was.reached.world was.reached.run was.reached.shows.node.up (source_of occasion);
 }
 
-pub each_event : {D : Type 0} (told : Type 0) (state : D → DiskState) (own size : D → ℕ) (start : World) (source : From) (occasion : Occasion) (old : Up D) (new : NodeState D) (ends : List NodeEnds) (clients : List ClientCell) (answers : List ClientAnswer)
-    → EventsGoOn told state own size start source occasion old new ends clients answers
-each_event told state own size start source occasion old new ends clients answers makes granted serves due_is was =
-    subst (λ (n : NodeState _). IsInWorld told state start n (all_delivered answers (left source old ends)) clients) (sym makes.node)
-    (subst (λ (a : List ClientAnswer). IsInWorld told state start (state_of makes.outcome) (all_delivered a (left source old ends)) clients) (sym makes.said)
-    (goes_on told state own start (size old.host.log.disk.disk) source occasion old ends clients due_is was makes.outcome makes.is
-    (granted_by makes.outcome (subst (λ (n : NodeState _). is_refused (cause_of n) ≡ false) makes.node granted)) (given_in told state start occasion old ends clients was serves) makes.stands
-    (λ t. subst (λ (n : NodeState _). EachImage (IsOldOrAfter (out_of (size old.host.log.disk.disk) occasion old) old.host.log) (state (disk_of n).disk).now) makes.node (makes.moments t).here)))
+pub each_event : {D : Type 0} (told : Type 0) (state : D → DiskState) (own size : D → ℕ) (began : Began) (start : World) (source : From) (occasion : Occasion) (old : Up D) (new : NodeState D) (ends : List NodeEnds) (clients : List ClientCell) (answers : List ClientAnswer)
+    → EventsGoOn told state own size began start source occasion old new ends clients answers
+each_event told state own size began start source occasion old new ends clients answers makes granted serves due_is was =
+    subst (λ (n : NodeState _). IsInWorld told state size began start n (all_delivered answers (left source old ends)) clients) (sym makes.node)
+    (subst (λ (a : List ClientAnswer). IsInWorld told state size began start (state_of makes.outcome) (all_delivered a (left source old ends)) clients) (sym makes.said)
+    (goes_on told state own size began start source occasion old ends clients due_is was makes.outcome makes.is
+    (granted_by makes.outcome (subst (λ (n : NodeState _). is_refused (cause_of n) ≡ false) makes.node granted)) (given_in told state size began start occasion old ends clients was serves) makes.stands
+    (λ t. subst (λ (n : NodeState _). Keeps (IsOldOrAfter (out_of (size old.host.log.disk.disk) occasion old) old.host.log) (state old.host.log.disk.disk) (state (disk_of n).disk)) makes.node (makes.moments t))
+    (subst (λ (n : NodeState _). size (disk_of n).disk ≡ size old.host.log.disk.disk) makes.node makes.bytes)))
 
 -- ---- a restart
 
--- a node that is still down shows as before
-seat_still : {D : Type 0} (old new : Stopped D) (ends : List NodeEnds) (clients : List ClientCell) (log : List Record) (world : World) → IsStillDown old new → SeatDown old ends clients log world → SeatDown new ends clients log world
-seat_still old new ends clients log world is seat = record {
-  node = record {
-    told = subst (λ (t : Told). ShowsTold t world) (sym told_is) (record {
-      size = seat.node.told.size;
-      node = seat.node.told.node;
-      within = seat.node.told.within;
-      last = seat.node.told.last;
-      journal = seat.node.told.journal;
-    });
-    down = seat.node.down;
-    inc = seat.node.inc ∙ sym (ap (λ (s : Setting). s.inc) is.setting);
-    setting = seat.node.setting ∙ sym is.setting;
-    kept = seat.node.kept ∙ sym is.kept;
-    log_is = seat.node.log_is;
-    none = seat.node.none;
-    stamp = seat.node.stamp ∙ ap (λ (t : Told). t.stamp) (sym told_is);
-  };
-  rising = subst (λ (c : Commands). IsRising client_cmp c) (sym commands_are) seat.rising;
-  each = λ client there.
-      subst (λ (s : Setting). ShowsIn s.inc None new.carried.commands ends world.clients client) (sym is.setting)
-      (subst (λ (c : Commands). ShowsIn old.carried.setting.inc None c ends world.clients client) (sym commands_are) (seat.each client there));
-}
-  where
-    told_is : new.carried.chronicle.told ≡ in_round old.carried.chronicle.told
-    told_is = ap (λ (s : Seen). s.told) is.seen
-
-    commands_are : new.carried.commands ≡ old.carried.commands
-    commands_are = ap (λ (s : Seen). s.commands) is.seen
-
-module _ {D : Type 0} (told : Type 0) (state : D → DiskState) (own : D → ℕ) (alloc : Global) (start : World) (old : Stopped D) (ends : List NodeEnds) (clients : List ClientCell) (was : IsHalted told state start old ends clients) where
+module _ {D : Type 0} (told : Type 0) (state : D → DiskState) (own size : D → ℕ) (alloc : Global) (began : Began) (start : World) (old : Stopped D) (ends : List NodeEnds) (clients : List ClientCell) (was : IsHalted told state size began start old ends clients) where
   -- the log that was found is one of the two
   rises_with : (running : Up D) → IsUp alloc old running → running.host.log.waiting ≡ [] → old.carried.setting.inc < inc_of running.host.log
       → (records_of running.host.log ≡ was.first) ⊎ (records_of running.host.log ≡ was.other) → Reached start (SeatUp running ends clients)
@@ -269,16 +243,17 @@ module _ {D : Type 0} (told : Type 0) (state : D → DiskState) (own : D → ℕ
       by (inr log) = record { present = raised_of raised.says.present; slots = log.slots; reached = more old.carried.setting.inc raised.says.present.value.inc reached }
 
   still : (stopped : Stopped D) → IsStillDown old stopped → (log : List Record) → Reached start (SeatDown old ends clients log) → Reached start (SeatDown stopped ends clients log)
-  still stopped is log r = record { moves = r.moves; world = r.world; run = r.run; shows = seat_still old stopped ends clients log r.world is r.shows }
+  still stopped is log r = record { moves = r.moves; world = r.world; run = r.run; shows = seated.seat_still old stopped ends clients log r.world is r.shows }
 
-  restarted : (t : told) (new : NodeState D) (answer : Result Bool RestartFault) (r : Restarts told state own alloc old new answer) (o : Restarted D Files NoServer) → new ≡ state_after o → IsRestarted own alloc old o
+  restarted : (t : told) (new : NodeState D) (answer : Result Bool RestartFault) (r : Restarts told state own size alloc old new answer) (o : Restarted D Files NoServer) → new ≡ state_after o → IsRestarted own alloc old o
       → IfUp o (IsReopened (state old.disk.disk))
       → IfUp o (λ log. (a b : List Record) → EachImage (HasOneOf a b) (state old.disk.disk).now → (records_of log ≡ a) ⊎ (records_of log ≡ b))
-      → (told → IfUp o (λ log. Stands log (state log.disk.disk))) → IsInWorld told state start (state_after o) ends clients
+      → (told → IfUp o (λ log. Stands log (state log.disk.disk))) → IsInWorld told state size began start (state_after o) ends clients
   restarted t new answer r (restarts.Up running) same is reopened found stands = record {
     reached = rises_with running is reopened.raised.waiting (is_later t running.host.log reopened) (found was.first was.other (was.images t));
     inc = sym (ap (λ (s : Setting). s.inc) is.setting);
     stands = stands;
+    roomy = λ again run. risen_roomy told state own size alloc began start old ends clients was again new answer r running same is reopened (found was.first was.other (was.images t)) run;
   }
   restarted t new answer r (restarts.Down stopped why) same is reopened found stands = record {
     first = was.first;
@@ -288,10 +263,11 @@ module _ {D : Type 0} (told : Type 0) (state : D → DiskState) (own : D → ℕ
     images = λ again. subst (λ (n : NodeState D). EachImage (HasOneOf was.first was.other) (state (disk_of n).disk).now) same (r.moments t was.first was.other (was.images t)).here;
     incs = λ again. subst (λ (s : Setting). EachImage (HasReached s.inc) (state stopped.disk.disk).now) (sym is.0.setting)
         (λ image at. none_fell again image (subst (λ (n : NodeState D). EachImage (IsLeftOrRaised (state old.disk.disk)) (state (disk_of n).disk).now) same (r.touched again).here image at));
+    roomy = λ again run. still_roomy told state own size alloc began start old ends clients was again new answer r stopped same is.0 run;
   }
 
-pub each_restart : {D : Type 0} (told : Type 0) (state : D → DiskState) (own : D → ℕ) (alloc : Global) (start : World) (old : Stopped D) (new : NodeState D) (ends : List NodeEnds) (clients : List ClientCell) (answer : Result Bool RestartFault)
-    → RestartsGoOn told state own alloc start old new ends clients answer
-each_restart told state own alloc start old new ends clients answer t r was =
-    subst (λ (n : NodeState _). IsInWorld told state start n ends clients) (sym r.node)
-    (restarted told state own alloc start old ends clients was t new answer r r.restarted r.node r.is (r.reopened t) (r.found t) r.stands)
+pub each_restart : {D : Type 0} (told : Type 0) (state : D → DiskState) (own size : D → ℕ) (alloc : Global) (began : Began) (start : World) (old : Stopped D) (new : NodeState D) (ends : List NodeEnds) (clients : List ClientCell) (answer : Result Bool RestartFault)
+    → RestartsGoOn told state own size alloc began start old new ends clients answer
+each_restart told state own size alloc began start old new ends clients answer t r was =
+    subst (λ (n : NodeState _). IsInWorld told state size began start n ends clients) (sym r.node)
+    (restarted told state own size alloc began start old ends clients was t new answer r r.restarted r.node r.is (r.reopened t) (r.found t) r.stands)

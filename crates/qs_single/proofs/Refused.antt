@@ -13,7 +13,8 @@ use Rattle.qs_cell.specs.declared.state.RestartFault.TheVariants as restart_faul
 use Rattle.qs_cell.specs.declared.stopped.Stopped.{Stopped}
 use Rattle.qs_chronicle.specs.declared.occasion.Occasion.{Occasion}
 use Rattle.qs_client.specs.declared.cell.ClientCell.{ClientCell}
-use Rattle.qs_disk.specs.Disk.{DiskState, EachImage}
+use Rattle.qs_disk.specs.Disk.{DiskState}
+use Rattle.qs_disk.specs.Moments.{Keeps}
 use Rattle.qs_disk.specs.Fuse.{FusedValue}
 use Rattle.qs_files.specs.declared.files.Files.{Files}
 use Rattle.qs_host.specs.Host.{IsOldOrAfter}
@@ -28,17 +29,18 @@ use Rattle.qs_single.specs.Reached.{IsInWorld, IsRunning, ServesAll}
 use Rattle.qs_single.specs.Rounding.{IsCastIn}
 use Rattle.qs_single.specs.Seats.{From, IsDueFrom, OfClient, OfNode}
 use Rattle.qs_single.specs.Visiting.{IsOwn, IsTurnOf}
+use Rattle.qs_single.specs.Rooms.{Began}
 use Rattle.qs_single.proofs.Acted.{client_turn, its_own, starts_on, turn_down}
 use Rattle.qs_single.proofs.Reaching.{given_in, goes_on}
 use Rattle.qs_single.proofs.Rounded.{carries_go, visit_goes}
 use Rattle.qs_single.proofs.Visited.{each_room, each_turn_goes, each_visit_begins}
 
 -- the disk is that of a node that a run of the world shows
-pub record IsShownDisk {D : Type 0} (told : Type 0) (state : D → DiskState) (start : World) (node : NodeState D) : Type 0 where
+pub record IsShownDisk {D : Type 0} (told : Type 0) (state : D → DiskState) (size : D → ℕ) (began : Began) (start : World) (node : NodeState D) : Type 0 where
   pub shown : NodeState D
   pub ends : List NodeEnds
   pub clients : List ClientCell
-  pub in_world : IsInWorld told state start shown ends clients
+  pub in_world : IsInWorld told state size began start shown ends clients
   pub disk : (disk_of node).disk ≡ (disk_of shown).disk
 
 -- what is due of a source, and what it leaves of the lanes
@@ -47,36 +49,38 @@ due_from : {D : Type 0} (from : From) (running : Up D) (ends : List NodeEnds) (c
 due_from (OfClient number) running ends clients is_due left occasion turn is = (sym turn.is.0 ∙ is, turn.cell)
 due_from OfNode running ends clients is_due left occasion turn is = subst IsOwn is turn.0
 
-module _ {D : Type 0} (told : Type 0) (state : D → DiskState) (own size : D → ℕ) (start : World) (clients : List ClientCell) (serves : ServesAll start) where
+module _ {D : Type 0} (told : Type 0) (state : D → DiskState) (own size : D → ℕ) (began : Began) (start : World) (clients : List ClientCell) (serves : ServesAll start) where
   abbrev Shown : NodeState D → Type 0
-  Shown node = IsShownDisk told state start node
+  Shown node = IsShownDisk told state size began start node
 
-  itself : (node : NodeState D) (ends : List NodeEnds) → IsInWorld told state start node ends clients → Shown node
+  itself : (node : NodeState D) (ends : List NodeEnds) → IsInWorld told state size began start node ends clients → Shown node
   itself node ends was = record { shown = node; ends = ends; clients = clients; in_world = was; disk = refl }
 
   -- ---- an event, whatever the cause for which it was not made
 
   event_leaves : (from : From) (occasion : Occasion) (old : Up D) (new : NodeState D) (ends : List NodeEnds) (answers : List ClientAnswer) → IsDueFrom from occasion old ends clients
-      → IsRunning told state start old ends clients → Makes told state own size occasion old new answers → Shown new
+      → IsRunning told state size began start old ends clients → Makes told state own size occasion old new answers → Shown new
   event_leaves from occasion old new ends answers due_is was makes = subst Shown (sym makes.node)
-      (by makes.outcome makes.is makes.stands (λ t. subst (λ (n : NodeState D). EachImage (IsOldOrAfter (out_of (size old.host.log.disk.disk) occasion old) old.host.log) (state (disk_of n).disk).now) makes.node (makes.moments t).here))
+      (by makes.outcome makes.is makes.stands (λ t. subst (λ (n : NodeState D). Keeps (IsOldOrAfter (out_of (size old.host.log.disk.disk) occasion old) old.host.log) (state old.host.log.disk.disk) (state (disk_of n).disk)) makes.node (makes.moments t))
+      (subst (λ (n : NodeState D). size (disk_of n).disk ≡ size old.host.log.disk.disk) makes.node makes.bytes))
     where
       by : (o : Outcome D Files NoServer) → IsOutcome own (size old.host.log.disk.disk) occasion old o
           → (told → IfStands o (λ disk. StandsAfter (out_of (size old.host.log.disk.disk) occasion old) old.host.log disk (state disk.disk)))
-          → (told → EachImage (IsOldOrAfter (out_of (size old.host.log.disk.disk) occasion old) old.host.log) (state (disk_of (state_of o)).disk).now) → Shown (state_of o)
-      by (outcomes.Replaced stopped) is stands images = record {
+          → (told → Keeps (IsOldOrAfter (out_of (size old.host.log.disk.disk) occasion old) old.host.log) (state old.host.log.disk.disk) (state (disk_of (state_of o)).disk))
+          → size (disk_of (state_of o)).disk ≡ size old.host.log.disk.disk → Shown (state_of o)
+      by (outcomes.Replaced stopped) is stands moments same = record {
         shown = states.Up old;
         ends = ends;
         clients = clients;
         in_world = was;
         disk = ap (λ (d : FusedValue D). d.disk) is.disk;
       }
-      by (outcomes.Whole running said) is stands images =
-          itself (states.Up running) _ (goes_on told state own start (size old.host.log.disk.disk) from occasion old ends clients due_is was (outcomes.Whole running said) is tt (given_in told state start occasion old ends clients was serves) stands images)
-      by (outcomes.Followed stopped said) is stands images =
-          itself (states.Down stopped) _ (goes_on told state own start (size old.host.log.disk.disk) from occasion old ends clients due_is was (outcomes.Followed stopped said) is tt (given_in told state start occasion old ends clients was serves) stands images)
-      by (outcomes.CutOff stopped) is stands images =
-          itself (states.Down stopped) _ (goes_on told state own start (size old.host.log.disk.disk) from occasion old ends clients due_is was (outcomes.CutOff stopped) is tt (given_in told state start occasion old ends clients was serves) stands images)
+      by (outcomes.Whole running said) is stands moments same =
+          itself (states.Up running) _ (goes_on told state own size began start from occasion old ends clients due_is was (outcomes.Whole running said) is tt (given_in told state size began start occasion old ends clients was serves) stands moments same)
+      by (outcomes.Followed stopped said) is stands moments same =
+          itself (states.Down stopped) _ (goes_on told state own size began start from occasion old ends clients due_is was (outcomes.Followed stopped said) is tt (given_in told state size began start occasion old ends clients was serves) stands moments same)
+      by (outcomes.CutOff stopped) is stands moments same =
+          itself (states.Down stopped) _ (goes_on told state own size began start from occasion old ends clients due_is was (outcomes.CutOff stopped) is tt (given_in told state size began start occasion old ends clients was serves) stands moments same)
 
   -- ---- turns: the node goes on in the world while it is up, and once it is down its disk stays
 
@@ -86,7 +90,7 @@ module _ {D : Type 0} (told : Type 0) (state : D → DiskState) (own size : D �
     left : Shown node
 
   abbrev Stands : Seat D → Type 0
-  Stands seat = IsInWorld told state start seat.node seat.ends clients ⊎ IsLost seat.node
+  Stands seat = IsInWorld told state size began start seat.node seat.ends clients ⊎ IsLost seat.node
 
   shown_of : (seat : Seat D) → Stands seat → Shown seat.node
   shown_of seat (inl was) = itself seat.node seat.ends was
@@ -108,7 +112,7 @@ module _ {D : Type 0} (told : Type 0) (state : D → DiskState) (own size : D �
   module _ (from : From) (old mid : Seat D) where
     -- the turn of a source of a node that is up; where it is down then, the event was made or not
     down_after : (running : Up D) (is_due : Option Occasion) (left : List NodeEnds) (stopped : Stopped D) → IsTurnOf from (states.Up running) old.ends clients is_due left
-        → TakesTurn told state own size is_due left (record { node = states.Up running; ends = old.ends }) mid → IsInWorld told state start (states.Up running) old.ends clients
+        → TakesTurn told state own size is_due left (record { node = states.Up running; ends = old.ends }) mid → IsInWorld told state size began start (states.Up running) old.ends clients
         → mid.node ≡ states.Down stopped → Shown mid.node
     down_after running None left stopped turn taken now is = absurd (up_down (sym (ap (λ (s : Seat D). s.node) taken) ∙ is))
       where
@@ -118,23 +122,23 @@ module _ {D : Type 0} (told : Type 0) (state : D → DiskState) (own size : D �
         event_leaves from occasion running mid.node old.ends answers (due_from from running old.ends clients (Some occasion) left occasion turn refl) now makes
 
     up_turn : (running : Up D) (is_due : Option Occasion) (left : List NodeEnds) → IsTurnOf from (states.Up running) old.ends clients is_due left
-        → TakesTurn told state own size is_due left (record { node = states.Up running; ends = old.ends }) mid → IsInWorld told state start (states.Up running) old.ends clients → Stands mid
+        → TakesTurn told state own size is_due left (record { node = states.Up running; ends = old.ends }) mid → IsInWorld told state size began start (states.Up running) old.ends clients → Stands mid
     up_turn running is_due left turn taken now = by mid.node refl
       where
         by : (node : NodeState D) → mid.node ≡ node → Stands mid
-        by (states.Up after) is = inl (each_turn_goes told state own size start from (states.Up running) old.ends mid clients is_due left turn taken (ap (λ (n : NodeState D). is_refused (cause_of n)) is) serves now)
+        by (states.Up after) is = inl (each_turn_goes told state own size began start from (states.Up running) old.ends mid clients is_due left turn taken (ap (λ (n : NodeState D). is_refused (cause_of n)) is) serves now)
         by (states.Down stopped) is = inr (record { stopped = stopped; is = is; left = down_after running is_due left stopped turn taken now is })
 
   turn_stands : (source : _) (from : From) → ((ready : NodeState D) (ends : List NodeEnds) → IsTurnOf from ready ends clients (due source ready ends) (left_by source ready ends))
       → (old mid : Seat D) (ready : NodeState D) → IsSameNode old.node ready
       → TakesTurn told state own size (due source ready old.ends) (left_by source ready old.ends) (record { node = ready; ends = old.ends }) mid → Stands old → Stands mid
   turn_stands source from known old mid (states.Up running) same taken (inl was) =
-      up_turn from old mid running (due source (states.Up running) old.ends) (left_by source (states.Up running) old.ends) (known (states.Up running) old.ends) taken (each_room told state start old.node (states.Up running) old.ends clients same was)
+      up_turn from old mid running (due source (states.Up running) old.ends) (left_by source (states.Up running) old.ends) (known (states.Up running) old.ends) taken (each_room told state size began start old.node (states.Up running) old.ends clients same was)
   turn_stands source from known old mid (states.Up running) same taken (inr lost) = absurd (subst (λ (n : NodeState D). IsSameNode n (states.Up running)) lost.is same)
   turn_stands source from known old mid (states.Down stopped) same taken s = inr (record {
     stopped = stopped;
-    is = turn_down told state own size start clients stopped (states.Down stopped) source old.ends mid refl taken;
-    left = subst Shown (sym (turn_down told state own size start clients stopped (states.Down stopped) source old.ends mid refl taken)) (room_leaves old.node (states.Down stopped) same (shown_of old s));
+    is = turn_down told state own size began start clients stopped (states.Down stopped) source old.ends mid refl taken;
+    left = subst Shown (sym (turn_down told state own size began start clients stopped (states.Down stopped) source old.ends mid refl taken)) (room_leaves old.node (states.Down stopped) same (shown_of old s));
   })
 
   broken_leaves : (source : _) (from : From) → ((ready : NodeState D) (ends : List NodeEnds) → IsTurnOf from ready ends clients (due source ready ends) (left_by source ready ends))
@@ -145,7 +149,7 @@ module _ {D : Type 0} (told : Type 0) (state : D → DiskState) (own size : D �
       by : (r : NodeState D) → IsSameNode old.node r → due source r old.ends ≡ Some occasion → MakesIn told state own size occasion r new.node answers → Stands old → Shown new.node
       by (states.Up running) same is makes (inl was) = event_leaves from occasion running new.node old.ends answers
           (due_from from running old.ends clients (due source (states.Up running) old.ends) (left_by source (states.Up running) old.ends) occasion (known (states.Up running) old.ends) is)
-          (each_room told state start old.node (states.Up running) old.ends clients same was) makes
+          (each_room told state size began start old.node (states.Up running) old.ends clients same was) makes
       by (states.Up running) same is makes (inr lost) = absurd (subst (λ (n : NodeState D). IsSameNode n (states.Up running)) lost.is same)
       by (states.Down stopped) same is makes s = subst Shown (sym makes.0) (room_leaves old.node (states.Down stopped) same (shown_of old s))
 
@@ -158,8 +162,8 @@ module _ {D : Type 0} (told : Type 0) (state : D → DiskState) (own size : D �
       ((from : From) × ((ready : NodeState D) (ends : List NodeEnds) → IsTurnOf from ready ends clients (is_due source ready ends) (left source ready ends))) × AreTurns is_due left sources
 
   its_turns : (ends : List NodeEnds) → AreOfClients ends clients → AreTurns due left_by (map client_source ends ++ sources_of [])
-  its_turns [] all = let own_turns = its_own told state own size start clients in ((OfNode, own_turns.0), ((OfNode, own_turns.1.0), tt))
-  its_turns (end ∷ ends) all = ((OfClient end.client, client_turn told state own size start clients end (all end (inl refl))), its_turns ends (λ e there. all e (inr there)))
+  its_turns [] all = let own_turns = its_own told state own size began start clients in ((OfNode, own_turns.0), ((OfNode, own_turns.1.0), tt))
+  its_turns (end ∷ ends) all = ((OfClient end.client, client_turn told state own size began start clients end (all end (inl refl))), its_turns ends (λ e there. all e (inr there)))
 
   turns_stand : (sources : List _) (old new : Seat D) → TurnsAll told state own size sources old new → AreTurns due left_by sources → Stands old → Stands new
   turns_stand [] old new turns all s = subst Stands (sym turns) s
@@ -171,30 +175,30 @@ module _ {D : Type 0} (told : Type 0) (state : D → DiskState) (own size : D �
   some_leave (source ∷ sources) old new (inr (mid, (turn, rest))) all s = some_leave sources mid new rest all.1 (turn_stands source all.0.0 all.0.1 old mid turn.ready turn.same turn.turn s)
 
   node_leaves : told → (up : Bool) (old new : CellValue D) → NodeRefusedIf up told state own size old new → AreOfClients old.seat.ends clients
-      → IsInWorld told state start old.seat.node old.seat.ends clients → Shown new.seat.node
+      → IsInWorld told state size began start old.seat.node old.seat.ends clients → Shown new.seat.node
   node_leaves t true old new (inl breaks) all was = some_leave (sources_of old.seat.ends) (record { node = breaks.begun; ends = old.seat.ends }) new.seat breaks.turns (its_turns old.seat.ends all)
-      (inl (each_visit_begins told state start old.seat.node breaks.begun old.seat.ends clients breaks.round was))
+      (inl (each_visit_begins told state size began start old.seat.node breaks.begun old.seat.ends clients breaks.round was))
   node_leaves t true old new (inr (visits, refused)) all was = shown_of new.seat (turns_stand (sources_of old.seat.ends) (record { node = visits.begun; ends = old.seat.ends }) new.seat visits.turns
-      (its_turns old.seat.ends all) (inl (each_visit_begins told state start old.seat.node visits.begun old.seat.ends clients visits.round was)))
+      (its_turns old.seat.ends all) (inl (each_visit_begins told state size began start old.seat.node visits.begun old.seat.ends clients visits.round was)))
   node_leaves t false old new starts all was = itself new.seat.node old.seat.ends
-      (starts_on told state own start old (record new { seat = record { node = new.seat.node; ends = old.seat.ends } }) (Err restart_faults.NoMemory) clients t starts refl was)
+      (starts_on told state own size began start old (record new { seat = record { node = new.seat.node; ends = old.seat.ends } }) (Err restart_faults.NoMemory) clients t starts refl was)
 
 -- ---- the round
 
-module _ {D : Type 0} (told : Type 0) (state : D → DiskState) (own size : D → ℕ) (start : World) (t : told) (serves : ServesAll start) where
-  cast_leaves : (cast : Cast D) → IsCastIn told state start cast → IsShownDisk told state start cast.node.seat.node
+module _ {D : Type 0} (told : Type 0) (state : D → DiskState) (own size : D → ℕ) (began : Began) (start : World) (t : told) (serves : ServesAll start) where
+  cast_leaves : (cast : Cast D) → IsCastIn told state size began start cast → IsShownDisk told state size began start cast.node.seat.node
   cast_leaves cast was = record { shown = cast.node.seat.node; ends = cast.node.seat.ends; clients = cast.clients; in_world = was.carried.shows; disk = refl }
 
-  at_leaves : (place : ℕ) (old new : Cast D) → RefusedAt told state own size place old new → IsCastIn told state start old → IsShownDisk told state start new.node.seat.node
-  at_leaves zero old new refused was = node_leaves told state own size start old.clients serves t (is_up old.node) old.node new.node refused was.lanes was.carried.shows
-  at_leaves (suc at) old new same was = subst (λ (c : CellValue D). IsShownDisk told state start c.seat.node) (sym same) (cast_leaves old was)
+  at_leaves : (place : ℕ) (old new : Cast D) → RefusedAt told state own size place old new → IsCastIn told state size began start old → IsShownDisk told state size began start new.node.seat.node
+  at_leaves zero old new refused was = node_leaves told state own size began start old.clients serves t (is_up old.node) old.node new.node refused was.lanes was.carried.shows
+  at_leaves (suc at) old new same was = subst (λ (c : CellValue D). IsShownDisk told state size began start c.seat.node) (sym same) (cast_leaves old was)
 
-  until_leaves : (places : List ℕ) (old new : Cast D) → VisitsUntil told state own size (RefusedAt told state own size) places old new → IsCastIn told state start old
-      → IsShownDisk told state start new.node.seat.node
+  until_leaves : (places : List ℕ) (old new : Cast D) → VisitsUntil told state own size (RefusedAt told state own size) places old new → IsCastIn told state size began start old
+      → IsShownDisk told state size began start new.node.seat.node
   until_leaves [] old new visits was = absurd visits
   until_leaves (place ∷ places) old new (inl refused) was = at_leaves place old new refused was
-  until_leaves (place ∷ places) old new (inr (mid, (did, (visit, rest)))) was = until_leaves places mid new rest (visit_goes told state own size start t serves place old mid did visit was)
+  until_leaves (place ∷ places) old new (inr (mid, (did, (visit, rest)))) was = until_leaves places mid new rest (visit_goes told state own size began start t serves place old mid did visit was)
 
-  pub round_leaves : (order : List ℕ) (old new : Cast D) → RefusesRound told state own size order old new → IsCastIn told state start old → IsShownDisk told state start new.node.seat.node
-  round_leaves order old new (inl same) was = subst (IsShownDisk told state start) (sym same) (cast_leaves old was)
-  round_leaves order old new (inr (carried, (carries, visits))) was = until_leaves order carried new visits (carries_go told state own size start t serves old carried carries was)
+  pub round_leaves : (order : List ℕ) (old new : Cast D) → RefusesRound told state own size order old new → IsCastIn told state size began start old → IsShownDisk told state size began start new.node.seat.node
+  round_leaves order old new (inl same) was = subst (IsShownDisk told state size began start) (sym same) (cast_leaves old was)
+  round_leaves order old new (inr (carried, (carries, visits))) was = until_leaves order carried new visits (carries_go told state own size began start t serves old carried carries was)

@@ -38,7 +38,7 @@ module _ {D : Type 0} (told : Type 0) (state : D → DiskState) (own size : D �
   rounds_start rng (suc n) old new later (mid, (quiet, (round, rest))) =
       rounds_start (drawn_order (count_of old) rng).1 n mid new later rest ∙ round_start (drawn_order (count_of old) rng).0 old mid quiet round
 
-  fails_start : (place : ℕ) (old new : Cast D) → FailsAt told state own place old new → IsOpenedAs old.node new.node
+  fails_start : (place : ℕ) (old new : Cast D) → FailsAt told state own size place old new → IsOpenedAs old.node new.node
   fails_start zero old new fails = fails.0.start.opened
   fails_start (suc at) old new fails = absurd fails
 

@@ -3,11 +3,12 @@ use Rattle.std.proofs.Common.{◌≡◌, ◌⊎◌, ◌∙◌, ap, inl, inr, ref
 use Rattle.std.proofs.lemmas.Bool.Decides.{nat_tests}
 use Rattle.std.specs.Global.{Global}
 use Rattle.qs_cell.specs.Cell.{IsAsPlanned, IsCutOff, IsFollowed, IsReplaced, IsWhole, out_of}
-use Rattle.qs_cell.specs.Restart.{inc_of}
+use Rattle.qs_cell.specs.Restart.{IsStillDown, inc_of}
 use Rattle.qs_cell.specs.State.{Up}
 use Rattle.qs_cell.specs.Visits.{all_delivered}
 use Rattle.qs_cell.specs.declared.stopped.Stopped.{Stopped}
 use Rattle.qs_chronicle.specs.Carried.{Commands, Seen, answered}
+use Rattle.qs_chronicle.specs.Chronicle.{Told, in_round}
 use Rattle.qs_chronicle.specs.Occasions.{event_of, taken}
 use Rattle.qs_chronicle.specs.declared.occasion.Occasion.{Occasion}
 use Rattle.qs_chronicle.specs.declared.occasion.Occasion.TheVariants as occasions
@@ -17,6 +18,7 @@ use Rattle.qs_journal.specs.declared.entry.CrashCause.{CrashCause}
 use Rattle.qs_journal.specs.declared.entry.CrashCause.TheVariants as causes
 use Rattle.qs_lanes.specs.declared.ends.NodeEnds.{NodeEnds}
 use Rattle.qs_laws.proofs.Rising.{IsRising}
+use Rattle.qs_record.specs.declared.record.Record.{Record}
 use Rattle.qs_rounds.specs.Rounds.{is_refused}
 use Rattle.qs_step.specs.State.{NodeValue, client_cmp}
 use Rattle.qs_step.specs.declared.event.ClientAnswer.{ClientAnswer}
@@ -30,7 +32,7 @@ use Rattle.qs_single.specs.Clients.{ShowsClient}
 use Rattle.qs_single.specs.Events.{Comes, MovesTo, cut_of, source_of, stamp_at, step_of, stop_behind, stop_of}
 use Rattle.qs_single.specs.Seats.{From, IsDueFrom, IsGiven, RisesInSeat, SeatDown, SeatUp, ShowsEach, left}
 use Rattle.qs_single.specs.Showing.{AnswersRight, IsInHand, ShowsIn, held_for}
-use Rattle.qs_single.specs.Shown.{ShowsDown, ShowsUp}
+use Rattle.qs_single.specs.Shown.{ShowsDown, ShowsTold, ShowsUp}
 use Rattle.qs_single.proofs.AnswersOut.{each_answers, each_handed_back, each_hands}
 use Rattle.qs_single.proofs.Begins.{each_rises}
 use Rattle.qs_single.proofs.Handing.{itself}
@@ -82,7 +84,7 @@ module _ {D : Type 0} (size : ℕ) (source : From) (occasion : Occasion) (old : 
   it : IsTaken source occasion old ends clients world
   it = event_taken source occasion old ends clients world due_is seat
 
-  comes_with : may_serve old.host.node (source_of occasion) ≡ true → Comes occasion world
+  pub comes_with : may_serve old.host.node (source_of occasion) ≡ true → Comes occasion world
   comes_with counted = record { comes = it.comes; served = ap (λ (h : Host). may_serve h.node (source_of occasion)) seat.node.host ∙ counted }
 
   -- each is answered who has a command in hand, and what waits on is in hand
@@ -238,3 +240,34 @@ each_rises_seated alloc old new ends clients world is none later seat = record {
     shown client s =
         subst (λ (i : ℕ). ShowsIn i (Some i) new.carried.commands ends world.clients client) (sym inc_is)
         (subst (λ (c : Commands). ShowsIn (inc_of new.host.log) (Some (inc_of new.host.log)) c ends world.clients client) (sym commands_are) s)
+
+-- a node that is still down shows as before
+pub seat_still : {D : Type 0} (old new : Stopped D) (ends : List NodeEnds) (clients : List ClientCell) (log : List Record) (world : World) → IsStillDown old new → SeatDown old ends clients log world → SeatDown new ends clients log world
+seat_still old new ends clients log world is seat = record {
+  node = record {
+    told = subst (λ (t : Told). ShowsTold t world) (sym told_is) (record {
+      size = seat.node.told.size;
+      node = seat.node.told.node;
+      within = seat.node.told.within;
+      last = seat.node.told.last;
+      journal = seat.node.told.journal;
+    });
+    down = seat.node.down;
+    inc = seat.node.inc ∙ sym (ap (λ (s : Setting). s.inc) is.setting);
+    setting = seat.node.setting ∙ sym is.setting;
+    kept = seat.node.kept ∙ sym is.kept;
+    log_is = seat.node.log_is;
+    none = seat.node.none;
+    stamp = seat.node.stamp ∙ ap (λ (t : Told). t.stamp) (sym told_is);
+  };
+  rising = subst (λ (c : Commands). IsRising client_cmp c) (sym commands_are) seat.rising;
+  each = λ client there.
+      subst (λ (s : Setting). ShowsIn s.inc None new.carried.commands ends world.clients client) (sym is.setting)
+      (subst (λ (c : Commands). ShowsIn old.carried.setting.inc None c ends world.clients client) (sym commands_are) (seat.each client there));
+}
+  where
+    told_is : new.carried.chronicle.told ≡ in_round old.carried.chronicle.told
+    told_is = ap (λ (s : Seen). s.told) is.seen
+
+    commands_are : new.carried.commands ≡ old.carried.commands
+    commands_are = ap (λ (s : Seen). s.commands) is.seen

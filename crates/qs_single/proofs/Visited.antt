@@ -34,10 +34,12 @@ use Rattle.qs_single.specs.Seats.{From, IsDueFrom, OfClient, OfNode, SeatDown, S
 use Rattle.qs_single.specs.Showing.{IsInHand, ShowsIn, held_for}
 use Rattle.qs_single.specs.Shown.{ShowsTold}
 use Rattle.qs_single.specs.Visiting.{IsTurnOf, RoomGoesOn, TurnGoesOn, VisitBegins}
+use Rattle.qs_single.specs.Rooms.{Began}
 use Rattle.qs_single.proofs.Carried.{moved_in}
 use Rattle.qs_single.proofs.Clients.{stands_on}
 use Rattle.qs_single.proofs.Handing.{found_changed, found_other, same_or}
 use Rattle.qs_single.proofs.Reaching.{each_event}
+use Rattle.qs_single.proofs.Roomed.{seen_roomy}
 
 -- ---- nothing is due of a client
 
@@ -84,47 +86,47 @@ each_still number own_inc None ends clients none inc now commands shown each cli
 
 -- ---- a turn
 
-module _ {D : Type 0} (told : Type 0) (state : D → DiskState) (own size : D → ℕ) (start : World) (clients : List ClientCell) where
+module _ {D : Type 0} (told : Type 0) (state : D → DiskState) (own size : D → ℕ) (began : Began) (start : World) (clients : List ClientCell) where
   -- an event is made
   made : (source : From) (running : Up D) (occasion : Occasion) (ends left : List NodeEnds) (new : Seat D) → IsDueFrom source occasion running ends clients → left ≡ left_for source running ends
       → TakesTurn told state own size (Some occasion) left (record { node = states.Up running; ends = ends }) new → is_refused (cause_of new.node) ≡ false → ServesAll start
-      → IsRunning told state start running ends clients → IsInWorld told state start new.node new.ends clients
+      → IsRunning told state size began start running ends clients → IsInWorld told state size began start new.node new.ends clients
   made source running occasion ends left new due_is left_is (answers, (makes, ends_are)) granted serves was =
-      subst (λ (l : List NodeEnds). IsInWorld told state start new.node l clients) (sym (ends_are ∙ ap (all_delivered answers) left_is))
-      (each_event told state own size start source occasion running new.node ends clients answers makes granted serves due_is was)
+      subst (λ (l : List NodeEnds). IsInWorld told state size began start new.node l clients) (sym (ends_are ∙ ap (all_delivered answers) left_is))
+      (each_event told state own size began start source occasion running new.node ends clients answers makes granted serves due_is was)
 
   -- nothing is due
-  idle : (node : NodeState D) (ends left : List NodeEnds) (new : Seat D) → new ≡ record { node = node; ends = left } → IsInWorld told state start node left clients → IsInWorld told state start new.node new.ends clients
-  idle node ends left new is was = subst (λ (s : Seat D). IsInWorld told state start s.node s.ends clients) (sym is) was
+  idle : (node : NodeState D) (ends left : List NodeEnds) (new : Seat D) → new ≡ record { node = node; ends = left } → IsInWorld told state size began start node left clients → IsInWorld told state size began start new.node new.ends clients
+  idle node ends left new is was = subst (λ (s : Seat D). IsInWorld told state size began start s.node s.ends clients) (sym is) was
 
   -- a node that is down makes nothing
   down : (stopped : Stopped D) (due : Option Occasion) (ends : List NodeEnds) (new : Seat D) → due ≡ None → TakesTurn told state own size due ends (record { node = states.Down stopped; ends = ends }) new
-      → IsInWorld told state start (states.Down stopped) ends clients → IsInWorld told state start new.node new.ends clients
+      → IsInWorld told state size began start (states.Down stopped) ends clients → IsInWorld told state size began start new.node new.ends clients
   down stopped None ends new e turn was = idle (states.Down stopped) ends ends new turn was
   down stopped (Some occasion) ends new e turn was = absurd (cc e)
 
   pub goes : (source : From) (ready : NodeState D) (ends : List NodeEnds) (new : Seat D) (due : Option Occasion) (left : List NodeEnds) → IsTurnOf source ready ends clients due left
       → TakesTurn told state own size due left (record { node = ready; ends = ends }) new → is_refused (cause_of new.node) ≡ false → ServesAll start
-      → IsInWorld told state start ready ends clients → IsInWorld told state start new.node new.ends clients
+      → IsInWorld told state size began start ready ends clients → IsInWorld told state size began start new.node new.ends clients
   goes (OfClient number) (states.Up running) ends new (Some occasion) left it turn granted serves was = made (OfClient number) running occasion ends left new (sym it.is.0, it.cell) it.is.1 turn granted serves was
   goes (OfClient number) (states.Up running) ends new None left it turn granted serves was =
-      idle (states.Up running) ends left new turn (subst (λ (l : List NodeEnds). IsInWorld told state start (states.Up running) l clients) (sym it.is.1)
-      (moved_in told state start (states.Up running) ends (left_of number (held_by number running.carried) ends) clients clients
+      idle (states.Up running) ends left new turn (subst (λ (l : List NodeEnds). IsInWorld told state size began start (states.Up running) l clients) (sym it.is.1)
+      (moved_in told state size began start (states.Up running) ends (left_of number (held_by number running.carried) ends) clients clients
       (each_still number running.carried.setting.inc (held_by number running.carried) ends clients (sym it.is.0)) was))
   goes (OfClient number) (states.Down stopped) ends new due left it turn granted serves was =
       down stopped due ends new it.is.0 (subst (λ (l : List NodeEnds). TakesTurn told state own size due l (record { node = states.Down stopped; ends = ends }) new) it.is.1 turn) was
   goes OfNode (states.Up running) ends new (Some occasion) left it turn granted serves was = made OfNode running occasion ends left new it.0 it.1 turn granted serves was
   goes OfNode (states.Up running) ends new None left it turn granted serves was =
-      idle (states.Up running) ends left new turn (subst (λ (l : List NodeEnds). IsInWorld told state start (states.Up running) l clients) (sym it.1) was)
+      idle (states.Up running) ends left new turn (subst (λ (l : List NodeEnds). IsInWorld told state size began start (states.Up running) l clients) (sym it.1) was)
   goes OfNode (states.Down stopped) ends new None left it turn granted serves was =
-      idle (states.Down stopped) ends left new turn (subst (λ (l : List NodeEnds). IsInWorld told state start (states.Down stopped) l clients) (sym it.1) was)
+      idle (states.Down stopped) ends left new turn (subst (λ (l : List NodeEnds). IsInWorld told state size began start (states.Down stopped) l clients) (sym it.1) was)
   goes OfNode (states.Down stopped) ends new (Some occasion) left it (answers, (makes, ends_are)) granted serves was =
-      subst (λ (n : NodeState D). IsInWorld told state start n new.ends clients) (sym makes.0)
-      (subst (λ (l : List NodeEnds). IsInWorld told state start (states.Down stopped) l clients) (sym (ends_are ∙ (ap (λ (a : List ClientAnswer). all_delivered a left) makes.1 ∙ it.1))) was)
+      subst (λ (n : NodeState D). IsInWorld told state size began start n new.ends clients) (sym makes.0)
+      (subst (λ (l : List NodeEnds). IsInWorld told state size began start (states.Down stopped) l clients) (sym (ends_are ∙ (ap (λ (a : List ClientAnswer). all_delivered a left) makes.1 ∙ it.1))) was)
 
-pub each_turn_goes : {D : Type 0} (told : Type 0) (state : D → DiskState) (own size : D → ℕ) (start : World) (source : From) (ready : NodeState D) (ends : List NodeEnds) (new : Seat D) (clients : List ClientCell)
-    → TurnGoesOn told state own size start source ready ends new clients
-each_turn_goes told state own size start source ready ends new clients due left it turn granted serves was = goes told state own size start clients source ready ends new due left it turn granted serves was
+pub each_turn_goes : {D : Type 0} (told : Type 0) (state : D → DiskState) (own size : D → ℕ) (began : Began) (start : World) (source : From) (ready : NodeState D) (ends : List NodeEnds) (new : Seat D) (clients : List ClientCell)
+    → TurnGoesOn told state own size began start source ready ends new clients
+each_turn_goes told state own size began start source ready ends new clients due left it turn granted serves was = goes told state own size began start clients source ready ends new due left it turn granted serves was
 
 -- ---- what is told else of the cell
 
@@ -150,7 +152,7 @@ each_alike old new olds news up ends shown clients same same_commands each clien
     subst (λ (s : Setting). ShowsIn s.inc (up s.inc) news ends shown client) (sym same)
     (subst (λ (c : Commands). ShowsIn old.inc (up old.inc) c ends shown client) (sym same_commands) (each client there))
 
-module _ {D : Type 0} (told : Type 0) (state : D → DiskState) (start : World) (f : Seen → Seen) (alike : (s : Seen) → IsAlike s (f s)) (ends : List NodeEnds) (clients : List ClientCell) where
+module _ {D : Type 0} (told : Type 0) (state : D → DiskState) (size : D → ℕ) (began : Began) (start : World) (f : Seen → Seen) (alike : (s : Seen) → IsAlike s (f s)) (ends : List NodeEnds) (clients : List ClientCell) where
   as_seen : (s new : Seen) → new ≡ f s → IsAlike s new
   as_seen s new e = subst (IsAlike s) (sym e) (alike s)
 
@@ -189,11 +191,12 @@ module _ {D : Type 0} (told : Type 0) (state : D → DiskState) (start : World) 
         each = each_alike old.carried.setting new.carried.setting old.carried.commands new.carried.commands (λ i. None) ends world.clients clients setting same.commands seat.each;
       }
 
-  pub seen_on : (old new : NodeState D) → IsSeenAs f old new → IsInWorld told state start old ends clients → IsInWorld told state start new ends clients
+  pub seen_on : (old new : NodeState D) → IsSeenAs f old new → IsInWorld told state size began start old ends clients → IsInWorld told state size began start new ends clients
   seen_on (states.Up old) (states.Up new) is was = record {
     reached = record { moves = was.reached.moves; world = was.reached.world; run = was.reached.run; shows = seat_up old new was.reached.world is was.reached.shows };
     inc = ap (λ (h : HostValue (FusedValue D)). inc_of h.log) is.0 ∙ (was.inc ∙ sym (ap (λ (s : Setting). s.inc) is.1.1));
     stands = λ t. subst (λ (h : HostValue (FusedValue D)). Stands h.log (state h.log.disk.disk)) (sym is.0) (was.stands t);
+    roomy = λ t run. seen_roomy f state size began (states.Up old) (states.Up new) is (was.roomy t run);
   }
   seen_on (states.Down old) (states.Down new) is was = record {
     first = was.first;
@@ -203,6 +206,7 @@ module _ {D : Type 0} (told : Type 0) (state : D → DiskState) (start : World) 
     images = λ t. subst (λ (d : FusedValue D). EachImage (HasOneOf was.first was.other) (state d.disk).now) (sym is.0) (was.images t);
     incs = λ t. subst (λ (s : Setting). EachImage (HasReached s.inc) (state new.disk.disk).now) (sym is.1.1.1.1)
         (subst (λ (d : FusedValue D). EachImage (HasReached old.carried.setting.inc) (state d.disk).now) (sym is.0) (was.incs t));
+    roomy = λ t run. seen_roomy f state size began (states.Down old) (states.Down new) is (was.roomy t run);
   }
     where
       go : (log : List Record) → Reached start (SeatDown old ends clients log) → Reached start (SeatDown new ends clients log)
@@ -210,8 +214,8 @@ module _ {D : Type 0} (told : Type 0) (state : D → DiskState) (start : World) 
   seen_on (states.Up old) (states.Down new) is was = absurd is
   seen_on (states.Down old) (states.Up new) is was = absurd is
 
-pub each_room : {D : Type 0} (told : Type 0) (state : D → DiskState) (start : World) (old ready : NodeState D) (ends : List NodeEnds) (clients : List ClientCell) → RoomGoesOn told state start old ready ends clients
-each_room told state start old ready ends clients is was = seen_on told state start (λ s. s) (λ s. record { node = refl; stamp = refl; journal = refl; commands = refl }) ends clients old ready is was
+pub each_room : {D : Type 0} (told : Type 0) (state : D → DiskState) (size : D → ℕ) (began : Began) (start : World) (old ready : NodeState D) (ends : List NodeEnds) (clients : List ClientCell) → RoomGoesOn told state size began start old ready ends clients
+each_room told state size began start old ready ends clients is was = seen_on told state size began start (λ s. s) (λ s. record { node = refl; stamp = refl; journal = refl; commands = refl }) ends clients old ready is was
 
-pub each_visit_begins : {D : Type 0} (told : Type 0) (state : D → DiskState) (start : World) (old begun : NodeState D) (ends : List NodeEnds) (clients : List ClientCell) → VisitBegins told state start old begun ends clients
-each_visit_begins told state start old begun ends clients is was = seen_on told state start in_round_as (λ s. record { node = refl; stamp = refl; journal = refl; commands = refl }) ends clients old begun is was
+pub each_visit_begins : {D : Type 0} (told : Type 0) (state : D → DiskState) (size : D → ℕ) (began : Began) (start : World) (old begun : NodeState D) (ends : List NodeEnds) (clients : List ClientCell) → VisitBegins told state size began start old begun ends clients
+each_visit_begins told state size began start old begun ends clients is was = seen_on told state size began start in_round_as (λ s. record { node = refl; stamp = refl; journal = refl; commands = refl }) ends clients old begun is was

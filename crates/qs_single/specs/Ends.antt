@@ -1,5 +1,5 @@
--- What stands as a run of one node ends, after its rounds or after one that was cut short: its journal is lawful, another run may begin over its disk, and
--- what the disk has stands for the machine.
+-- What stands as a run of one node ends, after its rounds or after one that was cut short: its journal is lawful, another run may begin over its disk,
+-- what the disk has stands for the machine, and its log has room where it had as the run began.
 use Rattle.std.specs.Prelude.{◌≡◌, ℕ, Bool, List, [], ◌∷◌, is_none}
 use Rattle.std.specs.Global.{Global}
 use Rattle.qs_cell.specs.Starts.{CellValue, journal_of}
@@ -21,6 +21,7 @@ use Rattle.qs_statements.specs.declared.script.Script.{Script}
 use Rattle.qs_world.specs.World.{Opening, start}
 use Rattle.qs_single.specs.OverLog.{opening_over}
 use Rattle.qs_single.specs.Reached.{Reached}
+use Rattle.qs_single.specs.Rooms.{Began, BeganRoomy, IsRoomyDisk, began_over}
 use Rattle.qs_single.specs.StandsFor.{DiskStandsFor}
 
 -- ---- all that stands
@@ -35,36 +36,38 @@ first_book cell = opening (cell.opened ∷ [])
 abbrev pub last_book : {D : Type 0} → CellValue D → BookValue
 last_book cell = book_after (first_book cell) (journal_of cell)
 
-pub record HoldsAtEnd {D : Type 0} (state : D → DiskState) (o : Opening) (cell : CellValue D) : Type 0 where
+pub record HoldsAtEnd {D : Type 0} (state : D → DiskState) (size : D → ℕ) (began : Began) (o : Opening) (cell : CellValue D) : Type 0 where
   pub of_world : Reached (start o) (λ world. world.journal ≡ journal_of cell)  -- a run of the world of one node has that history
   pub lawful : IsLawful (first_book cell) (journal_of cell)
   pub logged : EachImage HasLog (state (disk_of cell.seat.node).disk).now  -- whatever stopped the node
   pub coherent : IsCoherentDisk (state (disk_of cell.seat.node).disk)  -- another run may begin over it
   pub stands : DiskStandsFor (last_book cell) (is_none (cause_of cell.seat.node)) (state (disk_of cell.seat.node).disk)  -- whether the node is up or down
+  pub roomy : BeganRoomy began → IsRoomyDisk (size (disk_of cell.seat.node).disk) (state (disk_of cell.seat.node).disk)  -- each step found room, and leaves as much as the next may need
 
 -- a run of which nothing is told leaves so much: some lawful history, for whose machine the disk stands
-pub record HoldsUntold (book : BookValue) (disk : DiskState) : Type 0 where
+pub record HoldsUntold (began : Began) (book : BookValue) (size : ℕ) (disk : DiskState) : Type 0 where
   pub coherent : IsCoherentDisk disk
   pub journal : List Entry
   pub lawful : IsLawful book journal
   pub up : Bool  -- whether its node was up
   pub stands : DiskStandsFor (book_after book journal) up disk
+  pub roomy : BeganRoomy began → IsRoomyDisk size disk
 
 -- ---- the laws: where the disk tells what is on it, of a script that fits, over a disk whose content has a coherent log
 
 abbrev pub EndsLawful : {D : Type 0} → Type 0 → (D → DiskState) → (D → ℕ) → (D → ℕ) → Global → Script → D → Cast D → ℕ → Cast D → Ending → Type 0
 EndsLawful told state own size alloc script disk cast seed new ending =
     told → (begun : HasBegun told state own alloc script disk cast) → Fits node_count script → IsCoherentImage alloc (state disk).content
-    → IsEnding told state own size script seed cast new ending → HoldsAtEnd state (opening_over alloc script begun.started.running.host.log) new.node
+    → IsEnding told state own size script seed cast new ending → HoldsAtEnd state size (began_over state size disk cast.node.seat.node) (opening_over alloc script begun.started.running.host.log) new.node
 
 -- and where a round was cut short
 abbrev pub BreaksLawful : {D : Type 0} → Type 0 → (D → DiskState) → (D → ℕ) → (D → ℕ) → Global → Script → D → Cast D → ℕ → Cast D → Type 0
 BreaksLawful told state own size alloc script disk cast seed new =
     told → (begun : HasBegun told state own alloc script disk cast) → Fits node_count script → IsCoherentImage alloc (state disk).content
-    → IsCutShort told state own size seed cast new → HoldsAtEnd state (opening_over alloc script begun.started.running.host.log) new.node
+    → IsCutShort told state own size seed cast new → HoldsAtEnd state size (began_over state size disk cast.node.seat.node) (opening_over alloc script begun.started.running.host.log) new.node
 
 -- and where memory was refused, of which nothing is told
 abbrev pub RefusedUntold : {D : Type 0} → Type 0 → (D → DiskState) → (D → ℕ) → (D → ℕ) → Global → Script → D → Cast D → ℕ → Cast D → Type 0
 RefusedUntold told state own size alloc script disk cast seed new =
     told → HasBegun told state own alloc script disk cast → Fits node_count script → IsCoherentImage alloc (state disk).content
-    → IsOutOfMemory told state own size seed cast new → HoldsUntold (first_book cast.node) (state (disk_of new.node.seat.node).disk)
+    → IsOutOfMemory told state own size seed cast new → HoldsUntold (began_over state size disk cast.node.seat.node) (first_book cast.node) (size (disk_of new.node.seat.node).disk) (state (disk_of new.node.seat.node).disk)

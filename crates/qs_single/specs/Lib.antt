@@ -12,6 +12,8 @@ pub mod Turns
 pub mod Showing
 -- A cell and its clients, and what becomes of both.
 pub mod Seats
+-- Room in the log of a node's disk.
+pub mod Rooms
 -- What a run leads to.
 pub mod Reached
 -- As a round begins, and as a client has its turn.

@@ -16,6 +16,7 @@ use Rattle.qs_step.specs.declared.setting.Setting.{Setting}
 use Rattle.qs_world.specs.World.{Opening, start}
 use Rattle.qs_single.specs.Beginnings.{OpensWith}
 use Rattle.qs_single.specs.Carrying.{IsCarried}
+use Rattle.qs_single.specs.Rooms.{began_over}
 
 -- the setting of the one node of a script
 abbrev pub setting_by : Script → Setting
@@ -27,6 +28,7 @@ pub record OpensScript {D : Type 0} (alloc : Global) (script : Script) (clients 
   pub scripts : (client : ClientCell) → Among clients client → o.clients client.client.0 ≡ (0, commands_of client.client script.lines)
 
 -- where the disk tells what is on it
-abbrev pub CastBegins : {D : Type 0} → Type 0 → (D → DiskState) → (D → ℕ) → Global → Script → D → Cast D → Opening → Type 0
-CastBegins told state own alloc script disk cast o =
-    told → (begun : HasBegun told state own alloc script disk cast) → OpensScript alloc script cast.clients begun.started.running.host.log o → IsCarried told state (start o) cast.node cast.clients
+abbrev pub CastBegins : {D : Type 0} → Type 0 → (D → DiskState) → (D → ℕ) → (D → ℕ) → Global → Script → D → Cast D → Opening → Type 0
+CastBegins told state own size alloc script disk cast o =
+    told → (begun : HasBegun told state own alloc script disk cast) → OpensScript alloc script cast.clients begun.started.running.host.log o
+    → IsCarried told state size (began_over state size disk cast.node.seat.node) (start o) cast.node cast.clients

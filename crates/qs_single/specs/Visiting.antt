@@ -14,6 +14,7 @@ use Rattle.qs_rounds.specs.Rounds.{is_refused}
 use Rattle.qs_world.specs.World.{World}
 use Rattle.qs_single.specs.Reached.{IsInWorld, ServesAll}
 use Rattle.qs_single.specs.Seats.{From, HasCell, OfClient, OfNode, is_of_node}
+use Rattle.qs_single.specs.Rooms.{Began}
 
 -- ---- what is due of a source, and the lanes that it leaves
 
@@ -36,16 +37,16 @@ IsTurnOf OfNode node ends clients due left = IsOwn due × (left ≡ ends)
 
 -- ---- a turn
 
-abbrev pub TurnGoesOn : {D : Type 0} → Type 0 → (D → DiskState) → (D → ℕ) → (D → ℕ) → World → From → NodeState D → List NodeEnds → Seat D → List ClientCell → Type 0
-TurnGoesOn told state own size start source ready ends new clients =
+abbrev pub TurnGoesOn : {D : Type 0} → Type 0 → (D → DiskState) → (D → ℕ) → (D → ℕ) → Began → World → From → NodeState D → List NodeEnds → Seat D → List ClientCell → Type 0
+TurnGoesOn told state own size began start source ready ends new clients =
     (due : Option Occasion) (left : List NodeEnds) → IsTurnOf source ready ends clients due left
     → TakesTurn told state own size due left (record { node = ready; ends = ends }) new → is_refused (cause_of new.node) ≡ false → ServesAll start
-    → IsInWorld told state start ready ends clients → IsInWorld told state start new.node new.ends clients
+    → IsInWorld told state size began start ready ends clients → IsInWorld told state size began start new.node new.ends clients
 
 -- ---- nothing happens as room is made, and as a visit begins
 
-abbrev pub RoomGoesOn : {D : Type 0} → Type 0 → (D → DiskState) → World → NodeState D → NodeState D → List NodeEnds → List ClientCell → Type 0
-RoomGoesOn told state start old ready ends clients = IsSameNode old ready → IsInWorld told state start old ends clients → IsInWorld told state start ready ends clients
+abbrev pub RoomGoesOn : {D : Type 0} → Type 0 → (D → DiskState) → (D → ℕ) → Began → World → NodeState D → NodeState D → List NodeEnds → List ClientCell → Type 0
+RoomGoesOn told state size began start old ready ends clients = IsSameNode old ready → IsInWorld told state size began start old ends clients → IsInWorld told state size began start ready ends clients
 
-abbrev pub VisitBegins : {D : Type 0} → Type 0 → (D → DiskState) → World → NodeState D → NodeState D → List NodeEnds → List ClientCell → Type 0
-VisitBegins told state start old begun ends clients = IsSeenAs in_round_as old begun → IsInWorld told state start old ends clients → IsInWorld told state start begun ends clients
+abbrev pub VisitBegins : {D : Type 0} → Type 0 → (D → DiskState) → (D → ℕ) → Began → World → NodeState D → NodeState D → List NodeEnds → List ClientCell → Type 0
+VisitBegins told state size began start old begun ends clients = IsSeenAs in_round_as old begun → IsInWorld told state size began start old ends clients → IsInWorld told state size began start begun ends clients

@@ -8,13 +8,14 @@ ghost use Rattle.qs_world.specs.World.{World};
 ghost use Rattle.qs_single.specs.Ends.{BreaksLawful, EndsLawful, RefusedUntold};
 ghost use Rattle.qs_single.specs.OverLog.{HasOpening};
 ghost use Rattle.qs_single.specs.Rounding.{BreaksGoOn};
+ghost use Rattle.qs_single.specs.Rooms.{Began};
 
 use qs_disk::Disk;
 use qs_may_begin::what_fits_may_begin;
 
 /// The cast goes on in the world through a round that is cut short too, since a restart that fails leaves both logs that the disk may have.
 pub fn broken_rounds_go_on<D: Disk>()
-    ensures { (start : World) (order : List ℕ) (old new : Cast D) → BreaksGoOn D.told D.state D.fault_count D.byte_count start order old new }
+    ensures { (began : Began) (start : World) (order : List ℕ) (old new : Cast D) → BreaksGoOn D.told D.state D.fault_count D.byte_count began start order old new }
 {}
 
 /// A run of the world may begin with a script that fits, over the log that the node raised as it began, where the log of the disk's content is coherent.

@@ -23,6 +23,7 @@ ghost use Rattle.qs_single.specs.Rounding.{RoundsGoOn};
 ghost use Rattle.qs_single.specs.Seats.{From};
 ghost use Rattle.qs_single.specs.Whole.{IsLawfulFromLog, IsRunOfWorld, OpensAsTold};
 ghost use Rattle.qs_single.specs.Visiting.{RoomGoesOn, TurnGoesOn, VisitBegins};
+ghost use Rattle.qs_single.specs.Rooms.{Began};
 
 use qs_disk::Disk;
 
@@ -30,45 +31,45 @@ use qs_disk::Disk;
 /// waits can be served in each world that a run from there leads to. Where the event is cut off two runs do, with its batch kept and lost, until a
 /// restart finds which of the two logs the disk has: it goes on in the world of that log, and one that fails leaves both.
 pub fn cells_go_on<D: Disk>()
-    ensures events { (source : From) (start : World) (occasion : Occasion) (old : Up D) (new : NodeState D) (ends : List NodeEnds) (clients : List ClientCell) (answers : List ClientAnswer)
-        → EventsGoOn D.told D.state D.fault_count D.byte_count start source occasion old new ends clients answers }
-    ensures restarts { (alloc : Global) (start : World) (old : Stopped D) (new : NodeState D) (ends : List NodeEnds) (clients : List ClientCell) (answer : Result Bool RestartFault)
-        → RestartsGoOn D.told D.state D.fault_count alloc start old new ends clients answer }
+    ensures events { (source : From) (began : Began) (start : World) (occasion : Occasion) (old : Up D) (new : NodeState D) (ends : List NodeEnds) (clients : List ClientCell) (answers : List ClientAnswer)
+        → EventsGoOn D.told D.state D.fault_count D.byte_count began start source occasion old new ends clients answers }
+    ensures restarts { (alloc : Global) (began : Began) (start : World) (old : Stopped D) (new : NodeState D) (ends : List NodeEnds) (clients : List ClientCell) (answer : Result Bool RestartFault)
+        → RestartsGoOn D.told D.state D.fault_count D.byte_count alloc began start old new ends clients answer }
 {}
 
 /// As a round begins and the lanes are carried, and as a client has its turn, nothing happens in the world: what showed the cell and its clients shows
 /// them still.
 pub fn lanes_and_clients_go_on<D: Disk>()
-    ensures carries { (start : World) (old new : CellValue D) (befores afters : List ClientCell) → CarriesGoOn D.told D.state start old new befores afters }
-    ensures turns { (start : World) (cell : CellValue D) (clients new : List ClientCell) (at : ℕ) (did : Bool) → TurnsGoOn D.told D.state start cell clients new at did }
+    ensures carries { (began : Began) (start : World) (old new : CellValue D) (befores afters : List ClientCell) → CarriesGoOn D.told D.state D.byte_count began start old new befores afters }
+    ensures turns { (began : Began) (start : World) (cell : CellValue D) (clients new : List ClientCell) (at : ℕ) (did : Bool) → TurnsGoOn D.told D.state D.byte_count began start cell clients new at did }
 {}
 
 /// The cast as a run of a script begins is shown by the world of one node as that begins, over what the log of the disk held.
 pub fn casts_begin<D: Disk>()
-    ensures { (alloc : Global) (script : Script) (disk : D) (cast : Cast D) (o : Opening) → CastBegins D.told D.state D.fault_count alloc script disk cast o }
+    ensures { (alloc : Global) (script : Script) (disk : D) (cast : Cast D) (o : Opening) → CastBegins D.told D.state D.fault_count D.byte_count alloc script disk cast o }
 {}
 
 /// A source's turn in a visit: the event that is due of it is made, if what waits can be served in each world that a run leads to, or nothing happens.
 /// And nothing happens as a visit begins, and as room is made.
 pub fn turns_go_on<D: Disk>()
-    ensures turns { (source : From) (start : World) (ready : NodeState D) (ends : List NodeEnds) (new : Seat D) (clients : List ClientCell)
-        → TurnGoesOn D.told D.state D.fault_count D.byte_count start source ready ends new clients }
-    ensures room { (start : World) (old ready : NodeState D) (ends : List NodeEnds) (clients : List ClientCell) → RoomGoesOn D.told D.state start old ready ends clients }
-    ensures begins { (start : World) (old begun : NodeState D) (ends : List NodeEnds) (clients : List ClientCell) → VisitBegins D.told D.state start old begun ends clients }
+    ensures turns { (source : From) (began : Began) (start : World) (ready : NodeState D) (ends : List NodeEnds) (new : Seat D) (clients : List ClientCell)
+        → TurnGoesOn D.told D.state D.fault_count D.byte_count began start source ready ends new clients }
+    ensures room { (began : Began) (start : World) (old ready : NodeState D) (ends : List NodeEnds) (clients : List ClientCell) → RoomGoesOn D.told D.state D.byte_count began start old ready ends clients }
+    ensures begins { (began : Began) (start : World) (old begun : NodeState D) (ends : List NodeEnds) (clients : List ClientCell) → VisitBegins D.told D.state D.byte_count began start old begun ends clients }
 {}
 
 /// A visit of a node that is up goes on in the world turn by turn, if what waits can be served in each world that a run leads to, and one of a node
 /// that is down by a restart. And what a cell that is shown tells is the history of a run.
 pub fn visits_go_on<D: Disk>()
-    ensures visits { (start : World) (old new : Seat D) (clients : List ClientCell) → VisitsGoOn D.told D.state D.fault_count D.byte_count start old new clients }
-    ensures starts { (start : World) (old new : CellValue D) (did : Bool) (clients : List ClientCell) → StartsGoOn D.told D.state D.fault_count start old new did clients }
-    ensures history { (start : World) (node : NodeState D) (ends : List NodeEnds) (clients : List ClientCell) → TellsHistory D.told D.state start node ends clients }
+    ensures visits { (began : Began) (start : World) (old new : Seat D) (clients : List ClientCell) → VisitsGoOn D.told D.state D.fault_count D.byte_count began start old new clients }
+    ensures starts { (began : Began) (start : World) (old new : CellValue D) (did : Bool) (clients : List ClientCell) → StartsGoOn D.told D.state D.fault_count D.byte_count began start old new did clients }
+    ensures history { (began : Began) (start : World) (node : NodeState D) (ends : List NodeEnds) (clients : List ClientCell) → TellsHistory D.told D.state D.byte_count began start node ends clients }
 {}
 
 /// The rounds of a run: where the disk tells what is on it, and what waits can be served in each world that a run leads to, the cast goes on in the
 /// world.
 pub fn rounds_go_on<D: Disk>()
-    ensures { (start : World) (rng : Lcg) (n : ℕ) (old new : Cast D) (later : Lcg) → RoundsGoOn D.told D.state D.fault_count D.byte_count start rng n old new later }
+    ensures { (began : Began) (start : World) (rng : Lcg) (n : ℕ) (old new : Cast D) (later : Lcg) → RoundsGoOn D.told D.state D.fault_count D.byte_count began start rng n old new later }
 {}
 
 /// A run of one node is a run of the world of one node, where a run may begin with what the log of its disk held (`IsOpening`): what the cell tells

@@ -1,6 +1,7 @@
--- Where the log of a disk was coherent it is so where a run did not begin, and what the judge refuses of a lawful journal is for a rule of the script.
+-- Where the log of a disk was coherent, or had room, it is so where a run did not begin, and what the judge refuses of a lawful journal is for a rule of the script.
 use Rattle.std.proofs.Common.{◌≡◌, ◌∙◌, ◌≤◌, ◌⊎◌, inl, inr, ℕ, ◌+◌, List, [], ◌∷◌, Option, Some, None, ap, subst, sym, arith}
 use Rattle.std.specs.Global.{Global}
+use Rattle.qs_cell.proofs.Rooms.{raised_roomy}
 use Rattle.qs_conformance.specs.Begun.{at_start}
 use Rattle.qs_conformance.specs.Conforming.{fault_from, first_misfit_from}
 use Rattle.qs_conformance.specs.Course.{CourseValue}
@@ -11,6 +12,7 @@ use Rattle.qs_conformance.specs.declared.fault.Misfit.{Misfit}
 use Rattle.qs_conformance.specs.declared.fault.Rule.{Rule}
 use Rattle.qs_disk.specs.Disk.{DiskState, IsImage}
 use Rattle.qs_disk.specs.Moments.{Keeps}
+use Rattle.qs_host.specs.Roomy.{HasRoomyLog}
 use Rattle.qs_incarnation.proofs.Beginning.{one_log}
 use Rattle.qs_incarnation.specs.Incarnation.{IsOldOrRaised, IsTouched}
 use Rattle.qs_journal.specs.declared.entry.Entry.{Entry}
@@ -22,6 +24,7 @@ use Rattle.qs_may_begin.specs.Coherent.{AreCoherentLogs, IsCoherentDisk, IsCoher
 use Rattle.qs_may_begin.specs.Scripts.{StayCoherent}
 use Rattle.qs_record.specs.declared.record.Record.{Record}
 use Rattle.qs_single.proofs.Reaching.{same_present}
+use Rattle.qs_single.specs.Rooms.{IsRoomyDisk}
 use Rattle.qs_slot.specs.Slot.{Present}
 use Rattle.qs_statements.specs.declared.script.Script.{Script}
 use Rattle.qs_verdict.specs.Verdicts.{IsRefusedAt, TellsMisfit, rule_of_script}
@@ -63,6 +66,15 @@ touched_coherent stay old new image keeps coherent = λ alloc c left. by alloc c
     by alloc c (inl was) = coherent alloc c was
     by alloc c (inr (inl same)) = subst (IsCoherentImage alloc) (sym same) (coherent alloc old.content image)
     by alloc c (inr (inr raised)) = raised_coherent stay alloc old.content c raised (coherent alloc old.content image)
+
+-- and where the log had room it has
+pub touched_roomy : (size : ℕ) (old new : DiskState) → IsImage old.now old.content → Keeps (IsTouched old) old new → IsRoomyDisk size old → IsRoomyDisk size new
+touched_roomy size old new image keeps roomy = λ c left. by c (keeps.here c left)
+  where
+    by : (c : List ℕ) → IsTouched old c → HasRoomyLog 128 size c
+    by c (inl was) = roomy c was
+    by c (inr (inl same)) = subst (HasRoomyLog 128 size) (sym same) (roomy old.content image)
+    by c (inr (inr raised)) = raised_roomy 128 size old.content c (roomy old.content image) raised
 
 -- ---- what is refused of a lawful journal
 

@@ -20,13 +20,14 @@ use Rattle.qs_rounds.specs.Seats.{HasBegun, first_node, node_count}
 use Rattle.qs_rounds.specs.declared.rounds.Ending.{Ending}
 use Rattle.qs_single.specs.Ends.{HoldsAtEnd, HoldsUntold}
 use Rattle.qs_single.specs.OverLog.{opening_over}
+use Rattle.qs_single.specs.Rooms.{BeganRoomy, IsRoomyDisk, began_over}
 use Rattle.qs_statements.specs.declared.script.Script.{Script}
 use Rattle.qs_statements.specs.declared.status.Status.{Status}
 use Rattle.qs_step.specs.declared.trace.Step.{Step}
 use Rattle.qs_plans.specs.Waiting.{waiting_of}
 use Rattle.qs_verdict.specs.Ends.{status_of}
 use Rattle.qs_verdict.specs.Verdicts.{IsRefusal}
-use Rattle.qs_top.specs.Disks.{IsHeldIn, IsLogged, IsUntold, Leaves, StaysCoherent}
+use Rattle.qs_top.specs.Disks.{IsHeldIn, IsLogged, IsUntold, Leaves, StaysCoherent, StaysRoomy}
 use Rattle.qs_top.specs.Inner.Making.{IsFailed, IsJudgedEnd, IsJudgedShort, IsPassed, IsPassedEnd, IsPassedShort}
 use Rattle.qs_top.specs.Inner.Over.{HasLawfulOver, IsOver}
 use Rattle.qs_top.specs.Run.{HasRun, HasRunShort, IsLasting, IsLeftBy, IsTold, machine_over, output_of}
@@ -50,16 +51,19 @@ nothing_lawful told state script disk opened journal is = record {
 
 -- ---- all rounds were made
 
-module _ {D : Type 0} (told : Type 0) (state : D → DiskState) (own size : D → ℕ) (seed : ℕ) (script : Script) (shown : Bool) (alloc : Global) (disk after : D) (first last : Cast D) (begins : HasBegun told state own alloc script disk first) (start : IsSameStart first.node last.node) (each : told → EachImage (HasLog last.node.opened) (state after).now) (left : IsLeftBy told state last.node after) (made : Made) where
+module _ {D : Type 0} (told : Type 0) (state : D → DiskState) (own size : D → ℕ) (seed : ℕ) (script : Script) (shown : Bool) (alloc : Global) (disk after : D) (first last : Cast D) (begins : HasBegun told state own alloc script disk first) (room : told → IsRoomyDisk (size disk) (state disk) → BeganRoomy (began_over state size disk first.node.seat.node)) (start : IsSameStart first.node last.node) (each : told → EachImage (HasLog last.node.opened) (state after).now) (left : IsLeftBy told state last.node after) (made : Made) where
   -- what stands at the end, where the log was coherent
   abbrev EndHolds : Type 0
-  EndHolds = Fits node_count script → told → IsCoherentDisk (state disk) → HoldsAtEnd state (opening_over alloc script begins.started.running.host.log) last.node
+  EndHolds = Fits node_count script → told → IsCoherentDisk (state disk) → HoldsAtEnd state size (began_over state size disk first.node.seat.node) (opening_over alloc script begins.started.running.host.log) last.node
 
   stays : EndHolds → Fits node_count script → StaysCoherent told state disk after
   stays holds fits = λ yes coherent. subst (λ (d : D). IsCoherentDisk (state d)) (sym left.disk) (holds fits yes coherent).coherent
 
+  stays_roomy : EndHolds → Fits node_count script → StaysRoomy told state size disk after
+  stays_roomy holds fits = λ yes coherent roomy. subst (λ (d : D). IsRoomyDisk (size d) (state d)) (sym left.disk) ((holds fits yes coherent).roomy (room yes roomy))
+
   -- and so what lasts, where this much of it is told
-  lasting : (journal : List Entry) → journal ≡ journal_of last.node → told → HoldsAtEnd state (opening_over alloc script begins.started.running.host.log) last.node → IsLasting state script disk last.node journal after
+  lasting : (journal : List Entry) → journal ≡ journal_of last.node → told → HoldsAtEnd state size (began_over state size disk first.node.seat.node) (opening_over alloc script begins.started.running.host.log) last.node → IsLasting state script disk last.node journal after
   lasting journal entries t at_end = subst (λ (l : List Entry). IsLasting state script disk last.node l after) (sym entries)
       (subst (λ (d : D). IsLasting state script disk last.node (journal_of last.node) d) (sym left.disk) (record {
         of_world = world_in told state own alloc script disk first begins t (journal_of last.node) at_end.of_world;
@@ -73,15 +77,15 @@ module _ {D : Type 0} (told : Type 0) (state : D → DiskState) (own size : D �
   over_kept is_told = record { script = script; opened = last.node.opened; held = held is_told; each = each is_told }
 
   -- whatever stood at the end, where nothing of it is told
-  pub over_untold : (told → IsCoherentDisk (state disk) → HoldsUntold (machine_over last.node.opened) (state (disk_of last.node.seat.node).disk)) → IsUntold told state disk after
+  pub over_untold : (told → IsCoherentDisk (state disk) → HoldsUntold (began_over state size disk first.node.seat.node) (machine_over last.node.opened) (size (disk_of last.node.seat.node).disk) (state (disk_of last.node.seat.node).disk)) → IsUntold told state disk after
   over_untold holds = record {
     logged = over_kept;
-    stands = λ yes coherent. let left_so : HoldsUntold (machine_over last.node.opened) (state after) = subst (λ (d : D). HoldsUntold (machine_over last.node.opened) (state d)) (sym left.disk) (holds yes coherent) in
+    stands = λ yes coherent. let left_so : HoldsUntold (began_over state size disk first.node.seat.node) (machine_over last.node.opened) (size after) (state after) = subst (λ (d : D). HoldsUntold (began_over state size disk first.node.seat.node) (machine_over last.node.opened) (size d) (state d)) (sym left.disk) (holds yes coherent) in
         record { script = script; opened = last.node.opened; held = held yes; journal = left_so.journal; lawful = left_so.lawful; up = left_so.up; stands = left_so.stands };
   }
 
-  pub at_end_untold : HoldsAtEnd state (opening_over alloc script begins.started.running.host.log) last.node → HoldsUntold (machine_over last.node.opened) (state (disk_of last.node.seat.node).disk)
-  at_end_untold at_end = record { coherent = at_end.coherent; journal = journal_of last.node; lawful = at_end.lawful; up = is_none (cause_of last.node.seat.node); stands = at_end.stands }
+  pub at_end_untold : HoldsAtEnd state size (began_over state size disk first.node.seat.node) (opening_over alloc script begins.started.running.host.log) last.node → HoldsUntold (began_over state size disk first.node.seat.node) (machine_over last.node.opened) (size (disk_of last.node.seat.node).disk) (state (disk_of last.node.seat.node).disk)
+  at_end_untold at_end = record { coherent = at_end.coherent; journal = journal_of last.node; lawful = at_end.lawful; up = is_none (cause_of last.node.seat.node); stands = at_end.stands; roomy = at_end.roomy }
 
   told_all : (made_journal : List Entry) (made_trace : List Step) → made_journal ≡ journal_of last.node → made_trace ≡ trace_of last.node → Conforms script (machine_over last.node.opened) (journal_of last.node)
       → IsTold told state script disk last.node made_journal made_trace
@@ -119,6 +123,7 @@ module _ {D : Type 0} (told : Type 0) (state : D → DiskState) (own size : D �
     };
     leaves = λ fits. refusal_leaves told state disk after made.status f.refusal (over_untold (λ yes coherent. at_end_untold (holds fits yes coherent)));
     coherent = stays holds;
+    roomy = stays_roomy holds;
     silent = λ not_end. f.nothing.output;
     empty = λ untold. f.nothing.nothing;
     built = refusal_built made.status f.refusal;
@@ -144,6 +149,7 @@ module _ {D : Type 0} (told : Type 0) (state : D → DiskState) (own size : D �
     refused = λ fits line clause is. absurd (subst IsEnd is end);
     leaves = λ fits. end_leaves told state disk after made.status end over_kept;
     coherent = stays holds;
+    roomy = stays_roomy holds;
     silent = λ not_end. absurd (not_end end);
     empty = λ untold. absurd (untold (subst Tells (sym j.status) (status_tells ending.rounds ending.settled (waiting_of script (journal_of last.node)))));
     built = end_built made.status end;
@@ -174,6 +180,7 @@ module _ {D : Type 0} (told : Type 0) (state : D → DiskState) (own size : D �
     refused = λ fits line clause status. absurd (subst IsFaultStatus (sym j.status ∙ status) tt);
     leaves = λ fits. subst (λ (status : Status). Leaves told state status disk after) (sym j.status) (inr over_kept);
     coherent = stays holds;
+    roomy = stays_roomy holds;
     silent = λ not_end. j.output;
     empty = λ untold. absurd (untold (subst Tells (sym j.status) tt));
     built = subst IsOfRounds (sym j.status) tt;

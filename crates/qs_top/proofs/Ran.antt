@@ -8,6 +8,7 @@ use Rattle.qs_cell.specs.Logged.{HasLog}
 use Rattle.qs_cell.specs.Starts.{CellValue, journal_of, trace_of}
 use Rattle.qs_cell.specs.State.{LogStands, disk_of}
 use Rattle.qs_disk.specs.Disk.{DiskState, EachImage, IsImage}
+use Rattle.qs_host.specs.Roomy.{HasRoomyLog}
 use Rattle.qs_journal.specs.declared.entry.Entry.{Entry}
 use Rattle.qs_machine.specs.declared.opened.Opened.{Opened}
 use Rattle.qs_may_begin.specs.Coherent.{IsCoherentDisk}
@@ -20,6 +21,7 @@ use Rattle.qs_rounds.specs.declared.faults.RoundFault.TheVariants as faults
 use Rattle.qs_rounds.specs.declared.rounds.Ending.{Ending}
 use Rattle.qs_single.specs.Ends.{BreaksLawful, EndsLawful, HoldsAtEnd, HoldsUntold, RefusedUntold}
 use Rattle.qs_single.specs.OverLog.{opening_over}
+use Rattle.qs_single.specs.Rooms.{BeganRoomy, IsRoomyDisk, began_over}
 use Rattle.qs_statements.specs.declared.script.Script.{Script}
 use Rattle.qs_step.specs.declared.trace.Step.{Step}
 use Rattle.qs_statements.specs.declared.status.Status.TheVariants as statuses
@@ -45,7 +47,7 @@ pub record IsLeft {D : Type 0} (told : Type 0) (state : D → DiskState) (last :
   pub stands : told → LogStands state node.seat.node
   pub logged : told → EachImage (HasLog node.opened) (state after).now
 
-module _ {D : Type 0} (told : Type 0) (state : D → DiskState) (own size : D → ℕ) (seed : ℕ) (script : Script) (shown : Bool) (alloc : Global) (disk after : D) (first last : Cast D) (begins : HasBegun told state own alloc script disk first) (start : IsSameStart first.node last.node) (made : Made) (node : CellValue D) (journal : List Entry) (trace : List Step) (left : IsLeft told state last node journal trace after) (laws : RunLaws told state own size) (image : told → IsImage (state disk).now (state disk).content) where
+module _ {D : Type 0} (told : Type 0) (state : D → DiskState) (own size : D → ℕ) (seed : ℕ) (script : Script) (shown : Bool) (alloc : Global) (disk after : D) (first last : Cast D) (begins : HasBegun told state own alloc script disk first) (bytes : size (disk_of first.node.seat.node).disk ≡ size disk) (start : IsSameStart first.node last.node) (made : Made) (node : CellValue D) (journal : List Entry) (trace : List Step) (left : IsLeft told state last node journal trace after) (laws : RunLaws told state own size) (image : told → IsImage (state disk).now (state disk).content) where
   after_is : after ≡ (disk_of last.node.seat.node).disk
   after_is = left.disk ∙ ap (λ (cell : CellValue D). (disk_of cell.seat.node).disk) left.node_is
 
@@ -61,42 +63,50 @@ module _ {D : Type 0} (told : Type 0) (state : D → DiskState) (own size : D �
   trace_is : trace ≡ trace_of last.node
   trace_is = left.steps ∙ ap (λ (cell : CellValue D). trace_of cell) left.node_is
 
-  at_end : (ending : Ending) → IsEnding told state own size script seed first last ending → Fits node_count script → told → IsCoherentDisk (state disk) → HoldsAtEnd state (opening_over alloc script begins.started.running.host.log) last.node
+  -- the content is an image
+  room : told → IsRoomyDisk (size disk) (state disk) → BeganRoomy (began_over state size disk first.node.seat.node)
+  room t roomy = subst (λ (n : ℕ). HasRoomyLog 128 n (state disk).content) (sym bytes) (roomy (state disk).content (image t))
+
+  at_end : (ending : Ending) → IsEnding told state own size script seed first last ending → Fits node_count script → told → IsCoherentDisk (state disk) → HoldsAtEnd state size (began_over state size disk first.node.seat.node) (opening_over alloc script begins.started.running.host.log) last.node
   at_end ending ends fits t coherent = laws.ends alloc script disk first seed last ending t begins fits (coherent alloc (state disk).content (image t)) ends
 
-  at_cut : IsCutShort told state own size seed first last → Fits node_count script → told → IsCoherentDisk (state disk) → HoldsAtEnd state (opening_over alloc script begins.started.running.host.log) last.node
+  at_cut : IsCutShort told state own size seed first last → Fits node_count script → told → IsCoherentDisk (state disk) → HoldsAtEnd state size (began_over state size disk first.node.seat.node) (opening_over alloc script begins.started.running.host.log) last.node
   at_cut cut fits t coherent = laws.cut_short alloc script disk first seed last t begins fits (coherent alloc (state disk).content (image t)) cut
 
   left_coherent : IsCoherentDisk (state (disk_of last.node.seat.node).disk) → IsCoherentDisk (state after)
   left_coherent coherent = subst (λ (d : D). IsCoherentDisk (state d)) (sym after_is) coherent
 
+  left_roomy : IsRoomyDisk (size (disk_of last.node.seat.node).disk) (state (disk_of last.node.seat.node).disk) → IsRoomyDisk (size after) (state after)
+  left_roomy roomy = subst (λ (d : D). IsRoomyDisk (size d) (state d)) (sym after_is) roomy
+
   -- where nothing is told
   abbrev LeftUntold : Type 0
-  LeftUntold = Fits node_count script → told → IsCoherentDisk (state disk) → HoldsUntold (machine_over last.node.opened) (state (disk_of last.node.seat.node).disk)
+  LeftUntold = Fits node_count script → told → IsCoherentDisk (state disk) → HoldsUntold (began_over state size disk first.node.seat.node) (machine_over last.node.opened) (size (disk_of last.node.seat.node).disk) (state (disk_of last.node.seat.node).disk)
 
   at_refusal : IsOutOfMemory told state own size seed first last → LeftUntold
-  at_refusal out fits is_told coherent = subst (λ (found : Opened). HoldsUntold (machine_over found) (state (disk_of last.node.seat.node).disk)) (sym start.opened)
+  at_refusal out fits is_told coherent = subst (λ (found : Opened). HoldsUntold (began_over state size disk first.node.seat.node) (machine_over found) (size (disk_of last.node.seat.node).disk) (state (disk_of last.node.seat.node).disk)) (sym start.opened)
       (laws.refused alloc script disk first seed last is_told begins fits (coherent alloc (state disk).content (image is_told)) out)
 
   at_end_so : (ending : Ending) → IsEnding told state own size script seed first last ending → LeftUntold
-  at_end_so ending ends fits is_told coherent = at_end_untold told state own size seed script shown alloc disk after first last begins start logged left_by made (at_end ending ends fits is_told coherent)
+  at_end_so ending ends fits is_told coherent = at_end_untold told state own size seed script shown alloc disk after first last begins room start logged left_by made (at_end ending ends fits is_told coherent)
 
   at_cut_so : IsCutShort told state own size seed first last → LeftUntold
-  at_cut_so cut fits is_told coherent = at_end_untold told state own size seed script shown alloc disk after first last begins start logged left_by made (at_cut cut fits is_told coherent)
+  at_cut_so cut fits is_told coherent = at_end_untold told state own size seed script shown alloc disk after first last begins room start logged left_by made (at_cut cut fits is_told coherent)
 
   refused_so : IsNothingMade made → made.status ≡ statuses.NoMemory → LeftUntold → IsOver told state own size seed script shown made disk after
   refused_so nothing is holds = over_refused told state own size seed script shown disk after made nothing
-      (λ fits. inr (over_untold told state own size seed script shown alloc disk after first last begins start logged left_by made (holds fits)))
-      (λ fits yes coherent. left_coherent (holds fits yes coherent).coherent) is
+      (λ fits. inr (over_untold told state own size seed script shown alloc disk after first last begins room start logged left_by made (holds fits)))
+      (λ fits yes coherent. left_coherent (holds fits yes coherent).coherent)
+      (λ fits yes coherent roomy. left_roomy ((holds fits yes coherent).roomy (room yes roomy))) is
 
   pub over_ran : (ending : Result Ending RoundFault) (opened : Result Opened NoMemory) → IfOk ending (IsEnding told state own size script seed first last) → ((n : NodeNo) → ending ≡ Err (faults.DiskFault n) → IsCutShort told state own size seed first last)
       → (ending ≡ Err faults.NoMemory → IsOutOfMemory told state own size seed first last)
       → ((n : NodeNo) → ending ≡ Err (faults.DiskFault n) → n ≡ first_node) → IfOk opened (λ found. found ≡ node.opened) → IsMadeOf script shown ending opened journal trace made → IsOver told state own size seed script shown made disk after
-  over_ran (Ok ending) (Ok opened) ends cut out named is j = over_end told state own size seed script shown alloc disk after first last begins start logged left_by made (at_end ending ends) ending ends
+  over_ran (Ok ending) (Ok opened) ends cut out named is j = over_end told state own size seed script shown alloc disk after first last begins room start logged left_by made (at_end ending ends) ending ends
       (subst (λ (steps : List Step). IsJudgedEnd script shown ending last.node.opened (journal_of last.node) steps made) trace_is
       (subst (λ (entries : List Entry). IsJudgedEnd script shown ending last.node.opened entries trace made) journal_is
       (subst (λ (found : Opened). IsJudgedEnd script shown ending found journal trace made) (is ∙ ap (λ (cell : CellValue D). cell.opened) left.node_is) j)))
-  over_ran (Err (faults.DiskFault n)) (Ok opened) ends cut out named is j = over_short told state own size seed script shown alloc disk after first last begins start logged left_by made (at_cut (cut n refl)) n (named n refl)
+  over_ran (Err (faults.DiskFault n)) (Ok opened) ends cut out named is j = over_short told state own size seed script shown alloc disk after first last begins room start logged left_by made (at_cut (cut n refl)) n (named n refl)
       (subst (λ (d : D). Rose (own disk) (own d)) (sym after_is) (subst (λ (before : ℕ). Rose before (own (disk_of last.node.seat.node).disk)) begins.faults (cut n refl).rose)) (cut n refl)
       (subst (λ (steps : List Step). IsJudgedShort script n last.node.opened (journal_of last.node) steps made) trace_is
       (subst (λ (entries : List Entry). IsJudgedShort script n last.node.opened entries trace made) journal_is

@@ -11,17 +11,18 @@ use Rattle.qs_machine.specs.declared.opened.Opened.{Opened}
 use Rattle.qs_may_begin.specs.Scripts.{Fits}
 use Rattle.qs_plans.specs.Plan.{setting_of}
 use Rattle.qs_rounds.specs.Seats.{node_count, first_node}
+use Rattle.qs_single.specs.Rooms.{IsRoomyDisk}
 use Rattle.qs_statements.specs.declared.script.Script.{Script}
 use Rattle.qs_statements.specs.declared.status.Status.{Status}
 use Rattle.qs_statements.specs.declared.status.Status.TheVariants as statuses
 use Rattle.qs_step.specs.Opening.{recovered_of}
 use Rattle.qs_world.specs.Histories.{opened_with}
-use Rattle.qs_top.specs.Disks.{IsFaultOver, IsDamageOver, IsOnlyTouched, IsUntold, Leaves, StaysCoherent}
+use Rattle.qs_top.specs.Disks.{IsFaultOver, IsDamageOver, IsOnlyTouched, IsUntold, Leaves, StaysCoherent, StaysRoomy}
 use Rattle.qs_top.specs.Inner.Making.{IsNothingMade, not_opened}
 use Rattle.qs_top.specs.Inner.Over.{IsOver}
 use Rattle.qs_top.specs.Statuses.{IsEnd, IsOfRounds}
 use Rattle.qs_top.specs.declared.whole.Made.{Made}
-use Rattle.qs_top.proofs.Coherent.{Later, touched_coherent}
+use Rattle.qs_top.proofs.Coherent.{Later, touched_coherent, touched_roomy}
 use Rattle.qs_top.proofs.Overs.{nothing_lawful}
 use Rattle.qs_top.proofs.StatusLemmas.{IsFaultStatus, same_node}
 
@@ -83,9 +84,9 @@ pub nothing_opened : Opened
 nothing_opened = opened_with (setting_of (record { seats = []; quotas = []; audit = None; faults = []; lines = []; count = 0 }) node_count first_node 1) (recovered_of [])
 
 module _ {D : Type 0} (told : Type 0) (state : D → DiskState) (own size : D → ℕ) (seed : ℕ) (script : Script) (shown : Bool) (disk after : D) (made : Made) (nothing : IsNothingMade made) where
-  over_unopened : IsUnopened made.status → (Fits node_count script → Leaves told state made.status disk after) → (Fits node_count script → StaysCoherent told state disk after) → ((node : NodeNo) → made.status ≡ statuses.DiskFault node → IsOnlyTouched told state disk after) → ((node : NodeNo) → made.status ≡ statuses.DiskFault node → IsFaultOver own node disk after) → ((node : NodeNo) (at : ℕ) → made.status ≡ statuses.Damaged node at → IsDamageOver told state node at disk after)
+  over_unopened : IsUnopened made.status → (Fits node_count script → Leaves told state made.status disk after) → (Fits node_count script → StaysCoherent told state disk after) → (Fits node_count script → StaysRoomy told state size disk after) → ((node : NodeNo) → made.status ≡ statuses.DiskFault node → IsOnlyTouched told state disk after) → ((node : NodeNo) → made.status ≡ statuses.DiskFault node → IsFaultOver own node disk after) → ((node : NodeNo) (at : ℕ) → made.status ≡ statuses.Damaged node at → IsDamageOver told state node at disk after)
       → IsOver told state own size seed script shown made disk after
-  over_unopened unopened leaves stays touched fault damage = record {
+  over_unopened unopened leaves stays spacious touched fault damage = record {
     lawful = nothing_lawful told state script disk nothing_opened made.journal nothing.nothing.entries;
     fault = fault;
     damage = damage;
@@ -94,6 +95,7 @@ module _ {D : Type 0} (told : Type 0) (state : D → DiskState) (own size : D �
     refused = λ fits line clause is. absurd (subst IsUnopened is unopened);
     leaves = leaves;
     coherent = stays;
+    roomy = spacious;
     silent = λ not_end. nothing.output;
     empty = λ untold. nothing.nothing;
     built = unopened_built made.status unopened;
@@ -103,22 +105,26 @@ module _ {D : Type 0} (told : Type 0) (state : D → DiskState) (own size : D �
   leaves_as status is leaves = subst (λ (s : Status). Leaves told state s disk after) (sym is) leaves
 
   -- memory was refused
-  pub over_refused : (Fits node_count script → IsOnlyTouched told state disk after ⊎ IsUntold told state disk after) → (Fits node_count script → StaysCoherent told state disk after) → made.status ≡ statuses.NoMemory → IsOver told state own size seed script shown made disk after
-  over_refused left stays is = over_unopened (subst IsUnopened (sym is) tt) (λ fits. leaves_as statuses.NoMemory is (left fits)) stays
+  pub over_refused : (Fits node_count script → IsOnlyTouched told state disk after ⊎ IsUntold told state disk after) → (Fits node_count script → StaysCoherent told state disk after) → (Fits node_count script → StaysRoomy told state size disk after) → made.status ≡ statuses.NoMemory → IsOver told state own size seed script shown made disk after
+  over_refused left stays spacious is = over_unopened (subst IsUnopened (sym is) tt) (λ fits. leaves_as statuses.NoMemory is (left fits)) stays spacious
       (λ node fault. absurd (subst IsRefusedMemory (sym is ∙ fault) tt))
       (λ node fault. absurd (subst IsRefusedMemory (sym is ∙ fault) tt))
       (λ node at damage. absurd (subst IsRefusedMemory (sym is ∙ damage) tt))
 
+  -- what is touched has room where it had
+  touched_spacious : (told → IsImage (state disk).now (state disk).content) → IsOnlyTouched told state disk after → size after ≡ size disk → StaysRoomy told state size disk after
+  touched_spacious image touched bytes = λ yes coherent roomy. subst (λ (n : ℕ). IsRoomyDisk n (state after)) (sym bytes) (touched_roomy (size disk) (state disk) (state after) (image yes) (touched yes) roomy)
+
   -- the log was not opened
-  pub over_closed : Later → (told → IsImage (state disk).now (state disk).content) → (why : OpenFault) → made.status ≡ not_opened why → IsOnlyTouched told state disk after → (told → (at : ℕ) → why ≡ faults.Damaged at → IsDamaged (2 ^ 61) (state disk).content at) → (why ≡ faults.DiskFailed → Rose (own disk) (own after))
+  pub over_closed : Later → (told → IsImage (state disk).now (state disk).content) → (why : OpenFault) → made.status ≡ not_opened why → IsOnlyTouched told state disk after → (told → (at : ℕ) → why ≡ faults.Damaged at → IsDamaged (2 ^ 61) (state disk).content at) → (why ≡ faults.DiskFailed → Rose (own disk) (own after)) → size after ≡ size disk
       → IsOver told state own size seed script shown made disk after
-  over_closed stay image faults.NoMemory is touched damaged failed = over_refused (λ fits. inl touched) (λ fits yes. touched_coherent stay (state disk) (state after) (image yes) (touched yes)) is
-  over_closed stay image faults.DiskFailed is touched damaged failed = over_unopened (subst IsUnopened (sym is) tt) (λ fits. leaves_as (statuses.DiskFault first_node) is (inl touched))
-      (λ fits yes. touched_coherent stay (state disk) (state after) (image yes) (touched yes)) (λ node fault. touched)
+  over_closed stay image faults.NoMemory is touched damaged failed bytes = over_refused (λ fits. inl touched) (λ fits yes. touched_coherent stay (state disk) (state after) (image yes) (touched yes)) (λ fits. touched_spacious image touched bytes) is
+  over_closed stay image faults.DiskFailed is touched damaged failed bytes = over_unopened (subst IsUnopened (sym is) tt) (λ fits. leaves_as (statuses.DiskFault first_node) is (inl touched))
+      (λ fits yes. touched_coherent stay (state disk) (state after) (image yes) (touched yes)) (λ fits. touched_spacious image touched bytes) (λ node fault. touched)
       (λ node fault. record { node_is = sym (same_node (sym is ∙ fault)); rose = failed refl })
       (λ node at damage. absurd (subst IsFaultStatus (sym is ∙ damage) tt))
-  over_closed stay image (faults.Damaged at) is touched damaged failed = over_unopened (subst IsUnopened (sym is) tt) (λ fits. leaves_as (statuses.Damaged first_node at) is touched)
-      (λ fits yes. touched_coherent stay (state disk) (state after) (image yes) (touched yes)) (λ node fault. touched)
+  over_closed stay image (faults.Damaged at) is touched damaged failed bytes = over_unopened (subst IsUnopened (sym is) tt) (λ fits. leaves_as (statuses.Damaged first_node at) is touched)
+      (λ fits yes. touched_coherent stay (state disk) (state after) (image yes) (touched yes)) (λ fits. touched_spacious image touched bytes) (λ node fault. touched)
       (λ node fault. absurd (subst IsDamageStatus (sym is ∙ fault) tt))
       (λ node place damage. by (sym is ∙ damage))
     where

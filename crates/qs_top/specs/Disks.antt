@@ -14,6 +14,7 @@ use Rattle.qs_may_begin.specs.Coherent.{IsCoherentDisk}
 use Rattle.qs_plans.specs.Plan.{setting_of}
 use Rattle.qs_record.specs.declared.record.Record.{Record}
 use Rattle.qs_rounds.specs.Seats.{node_count, first_node}
+use Rattle.qs_single.specs.Rooms.{IsRoomyDisk}
 use Rattle.qs_single.specs.StandsFor.{DiskStandsFor}
 use Rattle.qs_slot.specs.Slot.{Present}
 use Rattle.qs_statements.specs.declared.script.Script.{Script}
@@ -98,6 +99,10 @@ Leaves told state status disk after = after ≡ disk
 -- where the log of each image was coherent, so is that of each image of what is left: another run may begin over it
 abbrev pub StaysCoherent : {D : Type 0} → Type 0 → (D → DiskState) → D → D → Type 0
 StaysCoherent told state disk after = told → IsCoherentDisk (state disk) → IsCoherentDisk (state after)
+
+-- and where that log had room for all that is kept there, so has the log of each image of what is left
+abbrev pub StaysRoomy : {D : Type 0} → Type 0 → (D → DiskState) → (D → ℕ) → D → D → Type 0
+StaysRoomy told state size disk after = told → IsCoherentDisk (state disk) → IsRoomyDisk (size disk) (state disk) → IsRoomyDisk (size after) (state after)
 
 -- the disks are as they were, but for the first of them at most
 abbrev pub AreBesides : {D : Type 0} → List D → List D → Type 0

@@ -11,7 +11,7 @@ ghost use Rattle.qs_script.specs.Words.{form_of};
 ghost use Rattle.qs_script.specs.declared.reading.ScriptFailed.TheVariants.{Fault};
 ghost use Rattle.qs_statements.specs.declared.status.ScriptFault.{ScriptFault};
 ghost use Rattle.qs_top.specs.Asking.{asked_by};
-ghost use Rattle.qs_top.specs.Disks.{OfFirst, IsFaultOver, IsDamageOver, Leaves, StaysCoherent, AreBesides};
+ghost use Rattle.qs_top.specs.Disks.{OfFirst, IsFaultOver, IsDamageOver, Leaves, StaysCoherent, StaysRoomy, AreBesides};
 ghost use Rattle.qs_top.specs.Inner.Giving.{IsGiven, IsGivenOf, IsNoScript};
 ghost use Rattle.qs_top.specs.Inner.Over.{IsOver};
 ghost use Rattle.qs_top.specs.Run.{HasLawful, IsNothing, IsNotBegun, IsWhole, IsShort, IsRefused};
@@ -178,6 +178,7 @@ fn run_source<S: Source, K: Sink, D: Disk>(
     ensures others { AreBesides disks.old.items disks.new.items }
     ensures left { OfFirst (Leaves D.told D.state result.status) disks.old.items disks.new.items }
     ensures coherent { OfFirst (StaysCoherent D.told D.state) disks.old.items disks.new.items }
+    ensures roomy { OfFirst (StaysRoomy D.told D.state D.byte_count) disks.old.items disks.new.items }
 {
     scripts_fit();
     let script = match script_from(alloc, source) {
@@ -276,8 +277,10 @@ pub fn run<R: Threads + Sync, S: Source, K: Sink, D: Disk>(
     ensures others { AreBesides disks.old.items disks.new.items }
     ensures left { asked_by (form_of words.now) ≢ Some Asked.Check → OfFirst (Leaves D.told D.state result.status) disks.old.items disks.new.items }
 
-    // Runs follow one another over a disk, whatever the status: where its log was coherent, it is so again.
+    // Runs follow one another over a disk, whatever the status: where its log was coherent, it is so again; and where it
+    // had room for all that is kept there, it has room again.
     ensures coherent { OfFirst (StaysCoherent D.told D.state) disks.old.items disks.new.items }
+    ensures roomy { OfFirst (StaysRoomy D.told D.state D.byte_count) disks.old.items disks.new.items }
 
     // Of a check: the text that was read is a history, and the verdict on it is what was given; no disk is opened.
     ensures unlawful { asked_by (form_of words.now) ≡ Some Asked.Check → (line clause : ℕ) → result.status ≡ Status.Unlawful line clause

@@ -9,7 +9,7 @@ use Rattle.qs_may_begin.specs.Scripts.{Fits}
 use Rattle.qs_rounds.specs.Seats.{node_count}
 use Rattle.qs_statements.specs.declared.script.Script.{Script}
 use Rattle.qs_statements.specs.declared.status.Status.TheVariants as statuses
-use Rattle.qs_top.specs.Disks.{IsHeldIn, IsFaultOver, IsDamageOver, Leaves, StaysCoherent}
+use Rattle.qs_top.specs.Disks.{IsHeldIn, IsFaultOver, IsDamageOver, Leaves, StaysCoherent, StaysRoomy}
 use Rattle.qs_top.specs.Run.{machine_over, IsNothing, IsNotBegun, IsWhole, IsShort, IsRefused}
 use Rattle.qs_top.specs.Statuses.{IfNot, IsEnd, Tells, IsOfRounds}
 use Rattle.qs_top.specs.declared.whole.Made.{Made}
@@ -33,6 +33,7 @@ pub record IsOver {D : Type 0} (told : Type 0) (state : D → DiskState) (own si
   pub refused : Fits node_count script → (line clause : ℕ) → made.status ≡ statuses.Unlawful line clause → IsRefused told state own size seed script line clause disk after
   pub leaves : Fits node_count script → Leaves told state made.status disk after
   pub coherent : Fits node_count script → StaysCoherent told state disk after
+  pub roomy : Fits node_count script → StaysRoomy told state size disk after
   pub silent : IfNot (IsEnd made.status) (made.output ≡ None)
   pub empty : IfNot (Tells made.status) (IsNothing made.journal made.trace)
   pub built : IsOfRounds made.status

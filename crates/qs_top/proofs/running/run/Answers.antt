@@ -1,6 +1,6 @@
 use Rattle.std.proofs.Common.{◌≡◌, ◌⊎◌, ℕ, refl, subst, sym}
 use Rattle.qs_statements.specs.declared.status.Status.{Status}
-use Rattle.qs_top.specs.Disks.{OfFirst, Leaves, StaysCoherent}
+use Rattle.qs_top.specs.Disks.{OfFirst, Leaves, StaysCoherent, StaysRoomy}
 use Rattle.qs_top.specs.Run.{IsNotBegun, IsShort, IsRefused}
 use Rattle.qs_top.specs.Texts.{ReadWhole, OfScript}
 use Rattle.qs_top.proofs.Given.{first_alone, nothing_lawful}
@@ -42,3 +42,9 @@ returns-in-Some-Check-clause-coherent g c = first_alone (StaysCoherent g.D.Disk.
 -- src/running.rt:206:1
 pub returns-in-None-clause-coherent : goal.returns-in-None-clause-coherent
 returns-in-None-clause-coherent g c = first_alone (StaysCoherent g.D.Disk.told g.D.Disk.state) (λ d yes coherent. coherent) c.args.disks.now.items c.requires.disks
+
+pub returns-in-Some-Check-clause-roomy : goal.returns-in-Some-Check-clause-roomy
+returns-in-Some-Check-clause-roomy g c = first_alone (StaysRoomy g.D.Disk.told g.D.Disk.state g.D.Disk.byte_count) (λ d yes coherent roomy. roomy) c.args.disks.now.items c.requires.disks
+
+pub returns-in-None-clause-roomy : goal.returns-in-None-clause-roomy
+returns-in-None-clause-roomy g c = first_alone (StaysRoomy g.D.Disk.told g.D.Disk.state g.D.Disk.byte_count) (λ d yes coherent roomy. roomy) c.args.disks.now.items c.requires.disks

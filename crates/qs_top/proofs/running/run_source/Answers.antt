@@ -1,5 +1,5 @@
 use Rattle.std.proofs.Common.{subst, sym}
-use Rattle.qs_top.specs.Disks.{Leaves, StaysCoherent}
+use Rattle.qs_top.specs.Disks.{Leaves, StaysCoherent, StaysRoomy}
 use Rattle.qs_top.specs.Inner.Giving.{IsNoScript}
 use Rattle.qs_top.proofs.Given.{fit, map_both, of_script, nothing_lawful, first_alone, unread_leaves, given_lawful, given_ended, given_cut_off, given_short, given_refused, given_damaged, given_script, given_empty, given_leaves}
 use Rattle.qs_top.proofs.Unopened.{nothing_opened}
@@ -81,3 +81,11 @@ pub returns-clause-coherent : goal.returns-clause-coherent
 returns-clause-coherent g c =
     let first = c.run_first-made.ensures.over in
     record { first = first.first; after = first.after; rest = first.rest; old_is = first.old_is; new_is = first.new_is; holds = first.holds.coherent (fit c.in-Ok.script c.scripts_fit.ensures c.in-Ok.ensures.read) }
+
+pub returns-in-Err-clause-roomy : goal.returns-in-Err-clause-roomy
+returns-in-Err-clause-roomy g c = first_alone (StaysRoomy g.D.Disk.told g.D.Disk.state g.D.Disk.byte_count) (λ d yes coherent roomy. roomy) c.args.disks.now.items c.requires.disks
+
+pub returns-clause-roomy : goal.returns-clause-roomy
+returns-clause-roomy g c =
+    let first = c.run_first-made.ensures.over in
+    record { first = first.first; after = first.after; rest = first.rest; old_is = first.old_is; new_is = first.new_is; holds = first.holds.roomy (fit c.in-Ok.script c.scripts_fit.ensures c.in-Ok.ensures.read) }

@@ -26,7 +26,7 @@ loop-place-preserved g c = record {
 pub returns-in_err-more-clause-broken : goal.returns-in_err-more-clause-broken
 returns-in_err-more-clause-broken g c = λ node is.
     let fails = c.in_err-more.ensures.broken node (search rules) in
-    visits_until g.D.Disk.told g.D.Disk.state g.D.Disk.fault_count g.D.Disk.byte_count (FailsAt g.D.Disk.told g.D.Disk.state g.D.Disk.fault_count) c.args.order.now c.loop-place.place-index _ _ c.args.self.now c.loop-place.self
+    visits_until g.D.Disk.told g.D.Disk.state g.D.Disk.fault_count g.D.Disk.byte_count (FailsAt g.D.Disk.told g.D.Disk.state g.D.Disk.fault_count g.D.Disk.byte_count) c.args.order.now c.loop-place.place-index _ _ c.args.self.now c.loop-place.self
     c.visit.new.self c.loop-place.did c.loop-place-test.true refl c.loop-place.invariant.visits fails
 
 pub returns-in_err-more-clause-refused : goal.returns-in_err-more-clause-refused
