@@ -5,7 +5,7 @@ use Rattle.qs_base.specs.declared.identifiers.Tid.{Tid}
 use Rattle.qs_ops.specs.Table.{TableValue, apply_change, apply_note}
 use Rattle.qs_ops.specs.declared.operation.Op.{Op}
 use Rattle.qs_ops.specs.declared.share.Share.{Share}
-use Rattle.qs_shares.specs.Shares.{total, change_count}
+use Rattle.qs_ops_shares.specs.Shares.{total, change_count}
 
 -- the notes are those that the committed changes make; a log may keep a change to a name too, which makes none
 abbrev pub audit_table : List Op → List (Tid × Share) → TableValue

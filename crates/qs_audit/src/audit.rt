@@ -5,16 +5,16 @@ ghost use Rattle.std.specs.Map.{remove_entry};
 ghost use Rattle.std.specs.BTreeMap.{is_at};
 ghost use Rattle.qs_base.specs.Order.{tid_cmp};
 ghost use Rattle.qs_ops.specs.Server.{is_own};
-ghost use Rattle.qs_ops.specs.declared.server.Kind.TheVariants as kinds;
+ghost use Rattle.qs_ops.specs.declared.server.ServerKind.TheVariants as kinds;
 ghost use Rattle.std.specs.List.{fold};
 ghost use Rattle.qs_ops.specs.Table.{apply_note, change_by, reply_to, released, committed, no_table};
 ghost use Rattle.qs_ops.specs.Timers.{no_timers};
-ghost use Rattle.qs_shares.specs.Shares.{share_in};
+ghost use Rattle.qs_ops_shares.specs.Shares.{share_in};
 
 use crate::notes::{add_notes, changes_of};
 use qs_base::{Bytes, Class, List, NoMemory, Tid};
 use qs_ops::{Changes, Notice, Op, Reply, Server, Vote, is_change};
-use qs_shares::Shares;
+use qs_ops_shares::Shares;
 use std::alloc::Global;
 use std::marker::Model;
 

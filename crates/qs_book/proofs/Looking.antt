@@ -13,10 +13,10 @@ use Rattle.std.proofs.lemmas.List.Folds.{list_any_more, list_any-append}
 use Rattle.qs_base.specs.Order.{tid_cmp, same_tid}
 use Rattle.qs_base.specs.declared.identifiers.Tid.{Tid}
 use Rattle.qs_base.proofs.TidOrder.{same_tid-cmp, tid_exact}
-use Rattle.qs_journal.specs.declared.entry.Found.{Found}
-use Rattle.qs_machine.specs.Nodes.{voter_cmp}
-use Rattle.qs_machine.specs.Restart.{is_among, is_found_as, voter_of}
-use Rattle.qs_machine.specs.declared.state.Voter.{Voter}
+use Rattle.qs_book_journal.specs.declared.entry.Found.{Found}
+use Rattle.qs_book_machine.specs.Nodes.{voter_cmp}
+use Rattle.qs_book_machine.specs.Restart.{is_among, is_found_as, voter_of}
+use Rattle.qs_book_machine.specs.declared.state.Voter.{Voter}
 use Rattle.qs_book.specs.Found.{is_within, greater_covers}
 
 -- ---- transactions

@@ -6,11 +6,11 @@ use Rattle.std.specs.Cmp.{unsigned_ties, both_tied}
 use Rattle.std.specs.BTreeMap.{is_at}
 use Rattle.std.proofs.lemmas.Bool.Decides.{nat_tests}
 use Rattle.qs_base.specs.Order.{same_tid}
-use Rattle.qs_journal.specs.declared.entry.Found.{Found}
+use Rattle.qs_book_journal.specs.declared.entry.Found.{Found}
 use Rattle.qs_base.proofs.TidOrder.{same_tid-cmp}
-use Rattle.qs_machine.specs.Nodes.{voter_cmp}
-use Rattle.qs_machine.specs.Restart.{is_same_vote, is_seen, voter_of, votes_once}
-use Rattle.qs_machine.specs.declared.state.Voter.{Voter}
+use Rattle.qs_book_machine.specs.Nodes.{voter_cmp}
+use Rattle.qs_book_machine.specs.Restart.{is_same_vote, is_seen, voter_of, votes_once}
+use Rattle.qs_book_machine.specs.declared.state.Voter.{Voter}
 
 -- none of these votes was seen
 abbrev pub all_new : List Voter → List Found → Bool

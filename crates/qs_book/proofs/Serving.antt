@@ -7,10 +7,10 @@ use Rattle.qs_base.specs.Order.{tid_cmp}
 use Rattle.qs_base.specs.declared.identifiers.Member.{Member}
 use Rattle.qs_base.specs.declared.identifiers.Tid.{Tid}
 use Rattle.qs_ops.specs.declared.reply.Reply.{Reply}
-use Rattle.qs_machine.specs.Book.{BookValue, changed_at, find_transaction, serve_node, with_node, with_transaction}
-use Rattle.qs_machine.specs.Nodes.{NodeValue}
-use Rattle.qs_machine.specs.Transaction.{TransactionValue}
-use Rattle.qs_machine.specs.declared.transaction.RequestNo.{RequestNo}
+use Rattle.qs_book_machine.specs.Book.{BookValue, changed_at, find_transaction, serve_node, with_node, with_transaction}
+use Rattle.qs_book_machine.specs.Nodes.{NodeValue}
+use Rattle.qs_book_machine.specs.Transaction.{TransactionValue}
+use Rattle.qs_book_machine.specs.declared.transaction.RequestNo.{RequestNo}
 
 unchanged : {A : Type 0} (place : ℕ) (xs : List A) → changed_at place (λ (x : A). x) xs ≡ xs
 unchanged place [] = refl

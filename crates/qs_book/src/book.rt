@@ -11,15 +11,15 @@ mod reviving;
 mod transactions;
 
 use crate::clauses::{
-    Ballot, Issue, NODE_IS_UP, STAMP_ORDER, Serve, broken_answer, broken_ask, broken_begin,
+    Issue, MemberVote, NODE_IS_UP, STAMP_ORDER, Serve, broken_answer, broken_ask, broken_begin,
     broken_counted, broken_crash, broken_decide, broken_ending, broken_issue, broken_learn,
     broken_loan, broken_serve, broken_vote, broken_yield,
 };
-use crate::node::NodeState;
+use crate::node::BookNode;
 use qs_base::{Bytes, List, NoMemory, NodeNo, Stamp, Tid};
+use qs_book_journal::{Act, Entry};
+use qs_book_machine::{Cell, Owner};
 use qs_book_transactions::Transaction;
-use qs_journal::{Act, Entry};
-use qs_machine::{Cell, Owner};
 use qs_ops::File;
 pub use restarting::is_new_vote;
 use std::alloc::Global;
@@ -55,14 +55,14 @@ pub struct Book {
     stamp: Stamp,
     node: NodeNo,
     place: u64,
-    nodes: Vec<NodeState>,
+    nodes: Vec<BookNode>,
     labels: BTreeMap<Bytes, Tid>,
     transactions: BTreeMap<Tid, Transaction>,
     owners: Vec<Owner>,
 }
 
 impl Model for Book {
-    ghost use Rattle.qs_machine.specs.Book.{BookValue};
+    ghost use Rattle.qs_book_machine.specs.Book.{BookValue};
 
     ghost Value = { BookValue };
 
@@ -78,8 +78,8 @@ impl Model for Book {
 }
 
 impl Book {
-    ghost use Rattle.qs_machine.specs.Book.{find_transaction, find_label, inc_of, files_of, notes_of, extra_of_node, cell_of_transaction, inc_at};
-    ghost use Rattle.qs_machine.specs.Lawful.{broken, broken_at, broken_node, broken_act, broken_end, is_in_order, effect, effect_act};
+    ghost use Rattle.qs_book_machine.specs.Book.{find_transaction, find_label, inc_of, files_of, notes_of, extra_of_node, cell_of_transaction, inc_at};
+    ghost use Rattle.qs_book_machine.specs.Lawful.{broken, broken_at, broken_node, broken_act, broken_end, is_in_order, effect, effect_act};
 
     /// The stamp of the last entry; 0 before the first.
     pub fn stamp(&self) -> Stamp
@@ -154,7 +154,7 @@ impl Book {
     }
 
     /// What is kept of a node; `None` exactly where it is none of the run's.
-    pub fn state(&self, node: NodeNo) -> Option<&NodeState>
+    pub fn state(&self, node: NodeNo) -> Option<&BookNode>
         ensures { option_copied result ≡ slice_get self.now.nodes node.0 }
     {
         self.nodes.get(usize::from(node.0))
@@ -194,7 +194,7 @@ impl Book {
         &self,
         stamp: Stamp,
         here: NodeNo,
-        node: Option<&NodeState>,
+        node: Option<&BookNode>,
         act: &Act,
     ) -> Result<Option<u16>, NoMemory>
         ensures { IfOk result (λ clause. clause ≡ broken_at self.now stamp here.0 (option_copied node.entry) act.now) }
@@ -209,7 +209,7 @@ impl Book {
         &self,
         stamp: Stamp,
         here: NodeNo,
-        node: &NodeState,
+        node: &BookNode,
         act: &Act,
     ) -> Result<Option<u16>, NoMemory>
         ensures { IfOk result (λ clause. clause ≡ broken_node self.now stamp here.0 node.now act.now) }
@@ -230,7 +230,7 @@ impl Book {
         &self,
         stamp: Stamp,
         here: NodeNo,
-        node: &NodeState,
+        node: &BookNode,
         act: &Act,
     ) -> Result<Option<u16>, NoMemory>
         ensures { IfOk result (λ clause. clause ≡ broken_act self.now stamp here.0 node.now act.now) }
@@ -278,7 +278,7 @@ impl Book {
                 vote,
                 covers,
             } => {
-                let ballot = Ballot {
+                let ballot = MemberVote {
                     member: *member,
                     vote,
                     covers: *covers,
@@ -290,7 +290,7 @@ impl Book {
     }
 
     /// The first clause that an act breaks by which a transaction ends.
-    fn broken_end(&self, stamp: Stamp, here: NodeNo, node: &NodeState, act: &Act) -> Option<u16>
+    fn broken_end(&self, stamp: Stamp, here: NodeNo, node: &BookNode, act: &Act) -> Option<u16>
         ensures { result ≡ broken_end self.now stamp here.0 node.now act.now }
     {
         match act {

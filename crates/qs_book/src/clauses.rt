@@ -13,7 +13,7 @@ pub use ending::{
 };
 pub use issuing::{Issue, broken_begin, broken_issue, files_note};
 pub use serving::{Serve, broken_serve};
-pub use voting::{Ballot, broken_vote, has_vote};
+pub use voting::{MemberVote, broken_vote, has_vote};
 
 pub const STAMP_ORDER: u16 = 1;
 

@@ -5,14 +5,14 @@ ghost use Rattle.std.specs.Map.{lookup};
 ghost use Rattle.std.specs.BTreeMap.{is_at};
 ghost use Rattle.qs_base.specs.Order.{tid_cmp};
 ghost use Rattle.qs_base.specs.declared.identifiers.Tid.{Tid};
-ghost use Rattle.qs_machine.specs.Nodes.{voter_cmp};
-ghost use Rattle.qs_machine.specs.Restart.{is_among, is_found, is_found_as, voter_of};
-ghost use Rattle.qs_machine.specs.declared.state.Voter.{Voter};
+ghost use Rattle.qs_book_machine.specs.Nodes.{voter_cmp};
+ghost use Rattle.qs_book_machine.specs.Restart.{is_among, is_found, is_found_as, voter_of};
+ghost use Rattle.qs_book_machine.specs.declared.state.Voter.{Voter};
 ghost use Rattle.qs_book.specs.Found.{is_within, greater_covers};
 
 use qs_base::{NoMemory, Tid};
-use qs_journal::Found;
-use qs_machine::Voter;
+use qs_book_journal::Found;
+use qs_book_machine::Voter;
 use std::alloc::Global;
 use std::collections::{BTreeMap, BTreeSet};
 use std::marker::Model;
@@ -30,7 +30,7 @@ impl Model for FoundCommits {
     ghost use Rattle.std.specs.BTreeMap.{is_at};
     ghost use Rattle.qs_base.specs.Order.{tid_cmp};
     ghost use Rattle.qs_base.specs.declared.identifiers.Tid.{Tid};
-    ghost use Rattle.qs_machine.specs.Restart.{is_among};
+    ghost use Rattle.qs_book_machine.specs.Restart.{is_among};
 
     ghost Value = { List Tid };
 
@@ -92,10 +92,10 @@ impl Model for FoundVotes {
     ghost use Rattle.std.specs.List.{list_any};
     ghost use Rattle.std.specs.Map.{lookup};
     ghost use Rattle.std.specs.BTreeMap.{is_at};
-    ghost use Rattle.qs_journal.specs.declared.entry.Found.{Found};
-    ghost use Rattle.qs_machine.specs.Nodes.{voter_cmp};
-    ghost use Rattle.qs_machine.specs.Restart.{is_found_as};
-    ghost use Rattle.qs_machine.specs.declared.state.Voter.{Voter};
+    ghost use Rattle.qs_book_journal.specs.declared.entry.Found.{Found};
+    ghost use Rattle.qs_book_machine.specs.Nodes.{voter_cmp};
+    ghost use Rattle.qs_book_machine.specs.Restart.{is_found_as};
+    ghost use Rattle.qs_book_machine.specs.declared.state.Voter.{Voter};
     ghost use Rattle.qs_book.specs.Found.{is_within};
 
     ghost Value = { List Found };

@@ -9,5 +9,5 @@ mod opening;
 
 pub use book::{Book, BookFault, is_new_vote};
 pub use clauses::files_note;
-pub use node::NodeState;
-pub use qs_machine::{Asking, Causes, OnRecord, Opened, Owner, Pending, Reopened, Voter};
+pub use node::BookNode;
+pub use qs_book_machine::{Asking, Causes, OnRecord, Opened, Owner, Pending, Reopened, Voter};

@@ -4,17 +4,17 @@ ghost use Rattle.std.specs.Prelude.{◌≡◌, ◌&&◌, ◌++◌, not, OnOk, On
 ghost use Rattle.std.specs.List.{list_any, filter};
 ghost use Rattle.qs_base.specs.Order.{same_tid, same_bytes};
 ghost use Rattle.std.specs.List.{fold};
-ghost use Rattle.qs_machine.specs.Opening.{opened_node};
-ghost use Rattle.qs_machine.specs.Restart.{with_vote, without_records, is_found, found_only, reopened_node, restarted_node};
-ghost use Rattle.qs_machine.specs.Nodes.{bound_name, bound_names, is_doubt};
-ghost use Rattle.qs_machine.specs.declared.state.OnRecord.{OnRecord};
-ghost use Rattle.qs_machine.specs.declared.state.Voter.{Voter};
+ghost use Rattle.qs_book_machine.specs.Opening.{opened_node};
+ghost use Rattle.qs_book_machine.specs.Restart.{with_vote, without_records, is_found, found_only, reopened_node, restarted_node};
+ghost use Rattle.qs_book_machine.specs.Nodes.{bound_name, bound_names, is_doubt};
+ghost use Rattle.qs_book_machine.specs.declared.state.OnRecord.{OnRecord};
+ghost use Rattle.qs_book_machine.specs.declared.state.Voter.{Voter};
 
 use crate::found::FoundVotes;
 use crate::opening::{opened_audit, opened_commits, opened_files, opened_records};
 use qs_base::{Bytes, Copied, List, NoMemory, Outcome, ServerNo, Stamp, Tid};
+use qs_book_machine::{OnRecord, Opened, Reopened, Voter};
 use qs_book_tables::{Table, TimerTable};
-use qs_machine::{OnRecord, Opened, Reopened, Voter};
 use qs_ops::servers::{AUDIT, EXTRA, FILES, NAMES, SCRATCH, TIMERS, WINDOWS};
 use qs_ops::{Changes, Op, Reply, Vote};
 use std::alloc::Global;
@@ -24,7 +24,7 @@ use std::mem;
 
 /// What the machine keeps of a node of the run.
 #[derive(Drop)]
-pub struct NodeState {
+pub struct BookNode {
     alloc: Global,
     up: bool,
     inc: u64,
@@ -45,8 +45,8 @@ pub struct NodeState {
     doubts: BTreeMap<Tid, List<Bytes>>,
 }
 
-impl Model for NodeState {
-    ghost use Rattle.qs_machine.specs.Nodes.{NodeValue};
+impl Model for BookNode {
+    ghost use Rattle.qs_book_machine.specs.Nodes.{NodeValue};
 
     ghost Value = { NodeValue };
 
@@ -71,7 +71,7 @@ impl Model for NodeState {
     } };
 }
 
-impl NodeState {
+impl BookNode {
     ghost use Rattle.std.specs.Prelude.{◌==◌};
     ghost use Rattle.std.specs.Map.{remove_entry};
     ghost use Rattle.std.specs.BTreeMap.{insert_entry, is_at};
@@ -79,14 +79,14 @@ impl NodeState {
     ghost use Rattle.qs_ops.specs.Table.{released, committed};
     ghost use Rattle.qs_ops.specs.Table.{with_vote as with_ballot};
     ghost use Rattle.qs_ops.specs.Timers.{timers_ended};
-    ghost use Rattle.qs_machine.specs.Book.{tick_node, crash_node, server_serve, vote_node, learn_node};
-    ghost use Rattle.qs_machine.specs.Nodes.{table_of, with_table, record_of, voter, voter_cmp, pending_at, extra_of, keep_of, is_doubtful, with_doubts, crossed_node, crossed_server, crossed_names, without_doubts, without_record};
+    ghost use Rattle.qs_book_machine.specs.Book.{tick_node, crash_node, server_serve, vote_node, learn_node};
+    ghost use Rattle.qs_book_machine.specs.Nodes.{table_of, with_table, record_of, voter, voter_cmp, pending_at, extra_of, keep_of, is_doubtful, with_doubts, crossed_node, crossed_server, crossed_names, without_doubts, without_record};
 
     /// The node as a run begins: up, with what its log holds.
-    pub fn opened(alloc: Global, opened: &Opened) -> Result<NodeState, NoMemory>
+    pub fn opened(alloc: Global, opened: &Opened) -> Result<BookNode, NoMemory>
         ensures { IfOk result (λ node. node ≡ opened_node opened.now) }
     {
-        Ok(NodeState {
+        Ok(BookNode {
             alloc,
             up: true,
             inc: opened.inc,
@@ -532,7 +532,7 @@ impl NodeState {
     }
 }
 
-fn forget_all(node: &mut NodeState, done: &[Tid])
+fn forget_all(node: &mut BookNode, done: &[Tid])
     ensures { node.new ≡ fold without_records node.old done.now }
 {
     for tid in done {

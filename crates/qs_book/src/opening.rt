@@ -2,24 +2,24 @@
 ghost use Rattle.std.specs.Prelude.{◌≡◌, ◌++◌, [], IfOk, OnOk, map, replicate};
 ghost use Rattle.std.specs.List.{flat_map, fold};
 ghost use Rattle.qs_ops.specs.Table.{no_table, restarted};
-ghost use Rattle.qs_machine.specs.Opening.{keep_pending, put_of, note_of, put_record, put_tid, opened_node, no_owner};
+ghost use Rattle.qs_book_machine.specs.Opening.{keep_pending, put_of, note_of, put_record, put_tid, opened_node, no_owner};
 
-use crate::node::NodeState;
+use crate::node::BookNode;
 use qs_base::{Bytes, Copied, List, NoMemory, ServerNo, Tid};
+use qs_book_machine::{Causes, OnRecord, Opened, Owner, Pending, Voter};
 use qs_book_tables::Table;
-use qs_machine::{Causes, OnRecord, Opened, Owner, Pending, Voter};
 use qs_ops::servers::{AUDIT, FILES};
-use qs_ops::{File, Kept, Op};
+use qs_ops::{File, KeptChanges, Op};
 use std::alloc::Global;
 use std::collections::{BTreeMap, BTreeSet};
 
 /// The nodes of a run, each as its log has it.
-pub fn opened_nodes(alloc: Global, opened: &[Opened]) -> Result<Vec<NodeState>, NoMemory>
+pub fn opened_nodes(alloc: Global, opened: &[Opened]) -> Result<Vec<BookNode>, NoMemory>
     ensures { IfOk result (λ nodes. nodes.items ≡ map opened_node opened.now) }
 {
     let mut nodes = Vec::new(alloc);
     for one in opened {
-        nodes.push(NodeState::opened(alloc, one)?)?;
+        nodes.push(BookNode::opened(alloc, one)?)?;
     }
     Ok(nodes)
 }
@@ -93,7 +93,11 @@ fn notes_of(alloc: Global, texts: &[Bytes]) -> Result<List<Op>, NoMemory>
     Ok(notes)
 }
 
-fn keeps_of(alloc: Global, server: ServerNo, pending: &[Pending]) -> Result<List<Kept>, NoMemory>
+fn keeps_of(
+    alloc: Global,
+    server: ServerNo,
+    pending: &[Pending],
+) -> Result<List<KeptChanges>, NoMemory>
     ensures { IfOk result (λ keeps. keeps ≡ flat_map (keep_pending server.0) pending.now) }
 {
     let mut keeps = List::new(alloc);
@@ -103,11 +107,11 @@ fn keeps_of(alloc: Global, server: ServerNo, pending: &[Pending]) -> Result<List
     Ok(keeps)
 }
 
-fn add_keep(keeps: &mut List<Kept>, server: ServerNo, vote: &Pending) -> Result<(), NoMemory>
+fn add_keep(keeps: &mut List<KeptChanges>, server: ServerNo, vote: &Pending) -> Result<(), NoMemory>
     ensures { OnOk result (keeps.new ≡ keeps.old ++ keep_pending server.0 vote.now) }
 {
     if vote.server == server {
-        keeps.push(Kept {
+        keeps.push(KeptChanges {
             tid: vote.tid,
             changes: vote.changes.copy()?,
         })?;

@@ -5,15 +5,15 @@ use Rattle.qs_base.specs.declared.identifiers.Tid.{Tid}
 use Rattle.qs_ops.specs.declared.operation.Op.{Op}
 use Rattle.qs_ops.specs.declared.file.File.{File}
 use Rattle.qs_ops.specs.declared.share.Share.{Share}
-use Rattle.qs_ops.specs.declared.share.Kept.{Kept}
+use Rattle.qs_ops.specs.declared.share.KeptChanges.{KeptChanges}
 use Rattle.qs_ops.specs.Table.{TableValue, apply_change, apply_note, applied, kept, restarted}
 use Rattle.qs_book_tables.specs.Restarts.{keep_share, kept_shares}
 
-fold-kept : (keeps : List Kept) (table : TableValue) → fold kept table keeps ≡ record table { shares = fold keep_share table.shares keeps }
+fold-kept : (keeps : List KeptChanges) (table : TableValue) → fold kept table keeps ≡ record table { shares = fold keep_share table.shares keeps }
 fold-kept [] table = refl
 fold-kept (k ∷ keeps) table = fold-kept keeps (kept table k)
 
-pub restarted-fields : (table : TableValue) (changes : List Op) (keeps : List Kept) (contents : List File) (notes : List (List ℕ)) (shares : List (Tid × Share))
+pub restarted-fields : (table : TableValue) (changes : List Op) (keeps : List KeptChanges) (contents : List File) (notes : List (List ℕ)) (shares : List (Tid × Share))
     → contents ≡ fold apply_change table.contents changes
     → notes ≡ fold apply_note table.notes changes
     → shares ≡ kept_shares keeps

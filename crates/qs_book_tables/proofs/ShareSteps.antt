@@ -15,7 +15,7 @@ use Rattle.qs_ops.specs.declared.reply.Reply.{Reply}
 use Rattle.qs_ops.specs.declared.reply.Reply.TheVariants.{Done, Value, Names, Busy, Absent, TooMany, TooLong}
 use Rattle.qs_ops.specs.declared.reply.Reply.TheVariants.{Left as LeftOf, Notes as NotesOf}
 use Rattle.qs_ops.specs.declared.share.Share.{Share}
-use Rattle.qs_ops.specs.declared.share.Kept.{Kept}
+use Rattle.qs_ops.specs.declared.share.KeptChanges.{KeptChanges}
 use Rattle.qs_book_tables.specs.Restarts.{kept_share, keep_share}
 use Rattle.qs_book_tables.specs.declared.locks.Locks.{Locks}
 use Rattle.qs_ops.specs.Files.{or_else}
@@ -152,7 +152,7 @@ follow_voted locks shares tid voted sorted f = record {
 
 -- ---- what a log kept
 
-pub follow_kept : (old new : Locks) (shares : List (Tid × Share)) (k : Kept) → IsStrictlySortedBy tid_cmp (keys_of shares)
+pub follow_kept : (old new : Locks) (shares : List (Tid × Share)) (k : KeptChanges) → IsStrictlySortedBy tid_cmp (keys_of shares)
     → lookup (is_at (tid_cmp k.tid)) shares ≡ None
     → FollowShares old shares
     → ChangesHolders (λ name. list_any (is_change_of name) k.changes) (with_tid k.tid) (changers old) (changers new)

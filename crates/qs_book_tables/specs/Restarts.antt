@@ -5,15 +5,15 @@ use Rattle.std.specs.List.{fold}
 use Rattle.qs_base.specs.Order.{tid_cmp}
 use Rattle.qs_base.specs.declared.identifiers.Tid.{Tid}
 use Rattle.qs_ops.specs.declared.share.Share.{Share}
-use Rattle.qs_ops.specs.declared.share.Kept.{Kept}
+use Rattle.qs_ops.specs.declared.share.KeptChanges.{KeptChanges}
 
 -- what a transaction holds whose changes are kept
-abbrev pub kept_share : Kept → Share
+abbrev pub kept_share : KeptChanges → Share
 kept_share k = record { changes = k.changes; reads = []; operations = length k.changes; voted = false }
 
-abbrev pub keep_share : List (Tid × Share) → Kept → List (Tid × Share)
+abbrev pub keep_share : List (Tid × Share) → KeptChanges → List (Tid × Share)
 keep_share shares k = insert_entry tid_cmp shares k.tid (kept_share k)
 
 -- what is held after a restart
-abbrev pub kept_shares : List Kept → List (Tid × Share)
+abbrev pub kept_shares : List KeptChanges → List (Tid × Share)
 kept_shares keeps = fold keep_share [] keeps

@@ -7,21 +7,21 @@ use qs_ops::Reply;
 
 /// The first refusal that holds.
 #[derive(Clone, Copy)]
-pub enum Refusal {
+pub enum RequestRefusal {
     /// The transaction had 1,024 operations served.
     Full,
     /// That other transaction holds the name.
     Held(Tid),
 }
 
-impl Refusal {
+impl RequestRefusal {
     /// The reply that says it.
     pub fn reply(self) -> Reply
         ensures { result ≡ refusal_reply self }
     {
         match self {
-            Refusal::Full => Reply::TooMany,
-            Refusal::Held(holder) => Reply::Busy { holder },
+            RequestRefusal::Full => Reply::TooMany,
+            RequestRefusal::Held(holder) => Reply::Busy { holder },
         }
     }
 }

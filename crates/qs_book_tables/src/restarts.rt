@@ -8,13 +8,13 @@ ghost use Rattle.qs_book_tables.specs.Restarts.{kept_share, keep_share, kept_sha
 use crate::locks::Locks;
 use crate::serving::release_share;
 use qs_base::{List, NoMemory, Tid};
-use qs_ops::{Kept, Share};
+use qs_ops::{KeptChanges, Share};
 use std::alloc::Global;
 use std::collections::BTreeMap;
 
 /// What a transaction holds whose changes are kept. A count of changes that passes a `u32` is a
 /// refusal of memory too.
-fn kept_share(alloc: Global, kept: &Kept) -> Result<Share, NoMemory>
+fn kept_share(alloc: Global, kept: &KeptChanges) -> Result<Share, NoMemory>
     ensures { IfOk result (λ share. share ≡ kept_share kept.now) }
 {
     let Ok(operations) = u32::try_from(kept.changes.len()) else {
@@ -33,7 +33,7 @@ fn keep(
     alloc: Global,
     locks: &mut Locks,
     shares: &mut BTreeMap<Tid, Share>,
-    kept: &Kept,
+    kept: &KeptChanges,
 ) -> Result<(), NoMemory>
     requires follows { FollowShares locks.old shares.old.entries }
     requires ordered { IsOrdered tid_cmp shares.old }
@@ -49,7 +49,10 @@ fn keep(
 }
 
 /// What the transactions hold once these changes are pending again, and the locks of it.
-pub fn keep_all(alloc: Global, keeps: &[Kept]) -> Result<(Locks, BTreeMap<Tid, Share>), NoMemory>
+pub fn keep_all(
+    alloc: Global,
+    keeps: &[KeptChanges],
+) -> Result<(Locks, BTreeMap<Tid, Share>), NoMemory>
     ensures value { IfOk result (λ held. held.1.entries ≡ kept_shares keeps.now) }
     ensures follows { IfOk result (λ held. FollowShares held.0 held.1.entries) }
 {

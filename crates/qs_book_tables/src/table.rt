@@ -12,13 +12,13 @@ use crate::contents::file_text;
 use crate::counts::has_prepare_length;
 use crate::free_reply::{free_reply, is_served};
 use crate::locks::Locks;
-use crate::refusal::Refusal;
+use crate::refusal::RequestRefusal;
 use crate::restarts::keep_all;
 use crate::serving::{release_share, serve_locked, vote_locked};
 use crate::shares::changes_of;
 use crate::staged::stage;
 use qs_base::{Bytes, List, NoMemory, Tid, copy_list};
-use qs_ops::{Changes, File, Kept, Op, Reply, Share};
+use qs_ops::{Changes, File, KeptChanges, Op, Reply, Share};
 use std::alloc::Global;
 use std::collections::BTreeMap;
 use std::marker::Model;
@@ -135,14 +135,14 @@ impl Table {
     }
 
     /// Why the operation is refused, if it is.
-    fn refusal(&self, tid: Tid, op: &Op) -> Option<Refusal>
+    fn refusal(&self, tid: Tid, op: &Op) -> Option<RequestRefusal>
         ensures { result ≡ refusal_of self.now tid op.now }
     {
         if self.operations(tid) >= 1024 {
-            return Some(Refusal::Full);
+            return Some(RequestRefusal::Full);
         }
         match self.holder(tid, op) {
-            Some(other) => Some(Refusal::Held(other)),
+            Some(other) => Some(RequestRefusal::Held(other)),
             None => None,
         }
     }
@@ -294,7 +294,7 @@ impl Table {
     /// What a restart makes of the table: all that was pending is gone, these changes are committed
     /// in order, and those are pending again, with their locks. The only error is a refusal of
     /// memory, and all is then as it was.
-    pub fn restart(&mut self, changes: &List<Op>, keeps: &List<Kept>) -> Result<(), NoMemory>
+    pub fn restart(&mut self, changes: &List<Op>, keeps: &List<KeptChanges>) -> Result<(), NoMemory>
         ensures ok { OnOk result (self.new ≡ restarted self.old changes.now keeps.now) }
         ensures err { OnErr result (self.new ≡ self.old) }
     {

@@ -15,14 +15,14 @@ use std::marker::Model;
 
 /// What a transaction holds at a timers server.
 #[derive(Drop)]
-struct TimerShare {
+struct BookTimers {
     /// Under each name the tick at which its timer stands at 0.
     timers: BTreeMap<Bytes, u64>,
     /// How many of its operations count.
     operations: u32,
 }
 
-impl Model for TimerShare {
+impl Model for BookTimers {
     ghost use Rattle.qs_ops.specs.Timers.{TimerShareValue};
 
     ghost Value = { TimerShareValue };
@@ -30,12 +30,12 @@ impl Model for TimerShare {
     ghost view = { λ s. record { timers = s.timers.entries; operations = s.operations } };
 }
 
-impl TimerShare {
+impl BookTimers {
     /// Nothing held. It takes no memory.
-    fn new(alloc: Global) -> TimerShare
+    fn new(alloc: Global) -> BookTimers
         ensures { result ≡ no_timer_share }
     {
-        TimerShare {
+        BookTimers {
             timers: BTreeMap::new(alloc),
             operations: 0,
         }
@@ -81,7 +81,7 @@ impl TimerShare {
 /// hold what they did.
 fn serve(
     alloc: Global,
-    shares: &mut BTreeMap<Tid, TimerShare>,
+    shares: &mut BTreeMap<Tid, BookTimers>,
     tid: Tid,
     now: u64,
     op: &Op,
@@ -93,7 +93,7 @@ fn serve(
     match shares.get_mut(&tid) {
         Some(share) => share.serve(now, op, reply),
         None => {
-            let mut share = TimerShare::new(alloc);
+            let mut share = BookTimers::new(alloc);
             share.serve(now, op, reply)?;
             shares.insert(tid, share)?;
             Ok(())
@@ -116,7 +116,7 @@ fn is_left_reply(now: u64, at: Option<u64>, reply: &Reply) -> bool
 #[derive(Drop)]
 pub struct TimerTable {
     ticks: u64,
-    shares: BTreeMap<Tid, TimerShare>,
+    shares: BTreeMap<Tid, BookTimers>,
     alloc: Global,
 }
 

@@ -4,8 +4,8 @@ use Rattle.std.specs.Prelude.{Bool, Some, None, true, false, not, cond, nat_lt}
 use Rattle.std.specs.List.{position, position_or_len}
 use Rattle.std.proofs.lemmas.Bool.Decides.{nat_tests}
 use Rattle.qs_base.specs.declared.identifiers.Member.{Member}
-use Rattle.qs_machine.specs.declared.transaction.Request.{Request}
-use Rattle.qs_machine.specs.Transaction.{is_standing, mark_served}
+use Rattle.qs_book_machine.specs.declared.transaction.Request.{Request}
+use Rattle.qs_book_machine.specs.Transaction.{is_standing, mark_served}
 
 pub mark_served_at : (member : Member) (xs : List Request) (i : ℕ) (r d : Request) → i < length xs → is_standing member (get_or xs i d) ≡ true → ((k : ℕ) → k < i → is_standing member (get_or xs k d) ≡ false) → r ≡ get_or xs i d → set xs i (record r { served = true }) ≡ mark_served member xs
 mark_served_at member [] i r d l is before e = absurd (omega arith)

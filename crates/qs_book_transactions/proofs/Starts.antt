@@ -5,8 +5,8 @@ use Rattle.std.specs.List.{list_any}
 use Rattle.std.proofs.lemmas.Bool.Decides.{nat_tests}
 use Rattle.qs_base.specs.Order.{same_member}
 use Rattle.qs_base.specs.declared.identifiers.Member.{Member}
-use Rattle.qs_machine.specs.declared.transaction.Start.{Start}
-use Rattle.qs_machine.specs.Transaction.{is_start}
+use Rattle.qs_book_machine.specs.declared.transaction.Start.{Start}
+use Rattle.qs_book_machine.specs.Transaction.{is_start}
 
 unequal : (a served covers : ℕ) → served < covers → (a + covers == served) ≡ false
 unequal a served covers less = grind (arith, nat_tests)

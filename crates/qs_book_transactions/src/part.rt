@@ -1,9 +1,9 @@
 //! What a member did for a transaction in an incarnation, and how it changes.
 ghost use Rattle.std.specs.Prelude.{◌≡◌, ◌+◌, IfOk};
-ghost use Rattle.qs_machine.specs.Transaction.{served_part, lent_part, serving_part, voted_part, made_part, yielded_part, agrees_in, learnt_part, ended_part, found_part, is_let_go, may_learn_still};
+ghost use Rattle.qs_book_machine.specs.Transaction.{served_part, lent_part, serving_part, voted_part, made_part, yielded_part, agrees_in, learnt_part, ended_part, found_part, is_let_go, may_learn_still};
 
 use qs_base::{Class, NoMemory, Outcome};
-use qs_machine::Part;
+use qs_book_machine::Part;
 use qs_ops::Vote;
 
 /// The part of a member that did nothing.

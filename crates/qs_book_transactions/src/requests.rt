@@ -2,10 +2,10 @@
 ghost use Rattle.std.specs.Prelude.{◌≡◌, ℕ, [], ◌∷◌, ◌++◌, length, take, IfOk, OnOk, OnErr};
 ghost use Rattle.std.specs.Option.{option_copied};
 ghost use Rattle.std.specs.List.{list_all, find, position};
-ghost use Rattle.qs_machine.specs.Transaction.{is_standing};
+ghost use Rattle.qs_book_machine.specs.Transaction.{is_standing};
 
 use qs_base::{Member, NoMemory};
-use qs_machine::Request;
+use qs_book_machine::Request;
 use std::alloc::Global;
 use std::marker::Model;
 
@@ -17,7 +17,7 @@ pub struct Requests {
 
 impl Model for Requests {
     ghost use Rattle.std.specs.Prelude.{List};
-    ghost use Rattle.qs_machine.specs.declared.transaction.Request.{Request};
+    ghost use Rattle.qs_book_machine.specs.declared.transaction.Request.{Request};
 
     ghost Value = { List Request };
 
@@ -25,7 +25,7 @@ impl Model for Requests {
 }
 
 impl Requests {
-    ghost use Rattle.qs_machine.specs.Transaction.{is_served, mark_served};
+    ghost use Rattle.qs_book_machine.specs.Transaction.{is_served, mark_served};
 
     /// A list of one request.
     pub fn one(alloc: Global, request: Request) -> Result<Requests, NoMemory>

@@ -1,9 +1,9 @@
 //! What a request changes of what was sent and of what is open towards a node.
 ghost use Rattle.std.specs.Prelude.{◌≡◌, IfOk};
-ghost use Rattle.qs_machine.specs.Transaction.{is_by_files, is_by_client, sent_more, reached_by, note_of, with_counted, heard_by, with_reached};
+ghost use Rattle.qs_book_machine.specs.Transaction.{is_by_files, is_by_client, sent_more, reached_by, note_of, with_counted, heard_by, with_reached};
 
 use qs_base::{Copied, NoMemory};
-use qs_machine::{Noted, Peer, Request, Sent};
+use qs_book_machine::{Noted, Peer, Request, Sent};
 use qs_ops::Op;
 use qs_ops::servers::{FILES, FIRST_CLIENT};
 

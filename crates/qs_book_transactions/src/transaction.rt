@@ -9,7 +9,9 @@ mod requesting;
 use crate::part::NO_PART;
 use crate::requests::Requests;
 use qs_base::{Bytes, ClientNo, List, Member, NodeNo};
-use qs_machine::{Cell, Life, Link, Noted, Part, Peer, Refusal, Request, RequestNo, Sent, Start};
+use qs_book_machine::{
+    Cell, Life, Link, Noted, Part, Peer, Refusal, Request, RequestNo, Sent, Start,
+};
 use qs_ops::Cause;
 use std::alloc::Global;
 use std::collections::{BTreeMap, BTreeSet};
@@ -38,7 +40,7 @@ pub struct Transaction {
 }
 
 impl Model for Transaction {
-    ghost use Rattle.qs_machine.specs.Transaction.{TransactionValue};
+    ghost use Rattle.qs_book_machine.specs.Transaction.{TransactionValue};
 
     ghost Value = { TransactionValue };
 
@@ -63,7 +65,7 @@ impl Model for Transaction {
 }
 
 impl Transaction {
-    ghost use Rattle.qs_machine.specs.Transaction.{at_first, begun, opened_as, part_of, sent_on, sent_in, next_number, requests_at, standing_request, has_note, is_crossed, has_learnt};
+    ghost use Rattle.qs_book_machine.specs.Transaction.{at_first, begun, opened_as, part_of, sent_on, sent_in, next_number, requests_at, standing_request, has_note, is_crossed, has_learnt};
 
     /// A transaction that its owner begins under this label, at the home's tick of that number. It
     /// takes no memory.

@@ -6,14 +6,14 @@ use Rattle.qs_disk.specs.Disk.{DiskState, EachImage}
 use Rattle.qs_disk.specs.Fuse.{GoesOn, mended}
 use Rattle.qs_disk.specs.Moments.{Keeps}
 use Rattle.qs_files.specs.declared.files.Files.{Files}
-use Rattle.qs_incarnation.specs.Incarnation.{HasOneOf, IsLeftOrRaised}
-use Rattle.qs_incarnation.specs.declared.incarnation.ReopenFault.TheVariants as reopen_faults
+use Rattle.qs_log_start.specs.Incarnation.{HasOneOf, IsLeftOrRaised}
+use Rattle.qs_log_start.specs.declared.incarnation.ReopenFault.TheVariants as reopen_faults
 use Rattle.qs_ops.specs.declared.no_server.NoServer.{NoServer}
 use Rattle.qs_record.specs.declared.record.Record.{Record}
 use Rattle.qs_cell.specs.Restart.{IsRestarted}
 use Rattle.qs_cell.specs.State.{Restarts, StartsAgain, answer_after, disk_of, state_after}
-use Rattle.qs_cell.specs.declared.state.NodeState.{NodeState}
-use Rattle.qs_cell.specs.declared.state.NodeState.TheVariants as states
+use Rattle.qs_cell.specs.declared.state.CellState.{CellState}
+use Rattle.qs_cell.specs.declared.state.CellState.TheVariants as states
 use Rattle.qs_cell.specs.declared.state.RestartFault.{RestartFault}
 use Rattle.qs_cell.specs.declared.state.RestartFault.TheVariants as restart_faults
 use Rattle.qs_cell.specs.declared.stopped.Restarted.{Restarted}
@@ -21,7 +21,7 @@ use Rattle.qs_cell.specs.declared.stopped.Restarted.TheVariants as restarts
 use Rattle.qs_cell.specs.declared.stopped.Stopped.{Stopped}
 
 module _ {D : Type 0} (told : Type 0) (state : D → DiskState) (own size : D → ℕ) (alloc : Global) where
-  refused : (old : Stopped D) (new : NodeState D) (said : Result Bool RestartFault) (restarted : Restarted D Files NoServer) → IsRestarted own alloc old restarted
+  refused : (old : Stopped D) (new : CellState D) (said : Result Bool RestartFault) (restarted : Restarted D Files NoServer) → IsRestarted own alloc old restarted
       → new ≡ state_after restarted → answer_after restarted ≡ Err restart_faults.DiskFailed → said ≡ Err restart_faults.NoMemory
       → (told → (a b : List Record) → EachImage (HasOneOf a b) (state old.disk.disk).now → Keeps (HasOneOf a b) (state old.disk.disk) (state (disk_of new).disk))
       → (told → Keeps (IsLeftOrRaised (state old.disk.disk)) (state old.disk.disk) (state (disk_of new).disk))
@@ -49,7 +49,7 @@ module _ {D : Type 0} (told : Type 0) (state : D → DiskState) (own size : D �
     bytes = bytes;
   }
 
-  pub starts_founded : (old new : NodeState D) (answer said : Result Bool RestartFault) → StartsAgain told state own size alloc old new answer
+  pub starts_founded : (old new : CellState D) (answer said : Result Bool RestartFault) → StartsAgain told state own size alloc old new answer
       → (said ≡ answer) ⊎ ((answer ≡ Err restart_faults.DiskFailed) × (said ≡ Err restart_faults.NoMemory)) → StartsAgain told state own size alloc old new said
   starts_founded old new answer said starts (inl same) = subst (StartsAgain told state own size alloc old new) (sym same) starts
   starts_founded (states.Up running) new answer said starts (inr other) = absurd (cc (sym starts.1 ∙ other.0))

@@ -6,25 +6,25 @@ use Rattle.qs_base.specs.Causes.{Rose}
 use Rattle.qs_disk.specs.Disk.{DiskState}
 use Rattle.qs_disk.specs.Fuse.{FusedValue, GoesOn, fused_count}
 use Rattle.qs_disk.specs.Moments.{Keeps}
-use Rattle.qs_host.proofs.Carrying.{unwritten}
-use Rattle.qs_host.specs.Host.{HostValue, HasBatch, IsLogAfter, IsOldOrAfter, log_after, effects_at, worked_node}
-use Rattle.qs_host.specs.Roomy.{LacksRoom}
-use Rattle.qs_host.specs.declared.fault.HostFault.{HostFault}
-use Rattle.qs_host.specs.declared.fault.HostFault.TheVariants as faults
-use Rattle.qs_journal.specs.declared.entry.Act.{Act}
-use Rattle.qs_journal.specs.declared.entry.CrashCause.{CrashCause}
-use Rattle.qs_journal.specs.declared.entry.CrashCause.TheVariants as causes
+use Rattle.qs_node_host.proofs.Carrying.{unwritten}
+use Rattle.qs_node_host.specs.Host.{HostValue, HasBatch, IsLogAfter, IsOldOrAfter, log_after, effects_at, worked_node}
+use Rattle.qs_node_host.specs.Roomy.{LacksRoom}
+use Rattle.qs_node_host.specs.declared.fault.HostFault.{HostFault}
+use Rattle.qs_node_host.specs.declared.fault.HostFault.TheVariants as faults
+use Rattle.qs_book_journal.specs.declared.entry.Act.{Act}
+use Rattle.qs_book_journal.specs.declared.entry.CrashCause.{CrashCause}
+use Rattle.qs_book_journal.specs.declared.entry.CrashCause.TheVariants as causes
 use Rattle.qs_log.specs.Log.{LogValue, Stands}
-use Rattle.qs_points.specs.Points.{stops_before}
-use Rattle.qs_points.specs.declared.points.Watched.{Watched}
-use Rattle.qs_step.specs.State.{NodeValue}
-use Rattle.qs_step.specs.Step.{accept}
-use Rattle.qs_step.specs.declared.event.Effects.{Effects}
-use Rattle.qs_chronicle.specs.Carried.{Seen, seen}
-use Rattle.qs_chronicle.specs.Chronicle.{crashed}
-use Rattle.qs_chronicle.specs.Occasions.{did_of, event_of}
-use Rattle.qs_chronicle.specs.declared.carried.Carried.{Carried}
-use Rattle.qs_chronicle.specs.declared.occasion.Occasion.{Occasion}
+use Rattle.qs_cell_chronicle.specs.Points.{stops_before}
+use Rattle.qs_cell_chronicle.specs.declared.points.Watched.{Watched}
+use Rattle.qs_node_step.specs.State.{NodeValue}
+use Rattle.qs_node_step.specs.Step.{accept}
+use Rattle.qs_node_step.specs.declared.event.Effects.{Effects}
+use Rattle.qs_cell_chronicle.specs.Carried.{Seen, seen}
+use Rattle.qs_cell_chronicle.specs.Chronicle.{crashed}
+use Rattle.qs_cell_chronicle.specs.Occasions.{did_of, event_of}
+use Rattle.qs_cell_chronicle.specs.declared.carried.Carried.{Carried}
+use Rattle.qs_cell_chronicle.specs.declared.occasion.Occasion.{Occasion}
 use Rattle.qs_cell.specs.Cell.{IfStands, IsCutOff, IsFaulted, IsRefused, StandsAfter, disk_after, fault_cause, ordered, planned, planned_after, out_of}
 use Rattle.qs_cell.specs.Within.{HasBegun, HasCrashed, IsWorkedOut, HasStepped, running_with}
 use Rattle.qs_cell.specs.Outcomes.{Outcome, outcome_of, stopped_of}

@@ -3,13 +3,13 @@ use Rattle.std.proofs.Common.{◌≡◌, ◌≢◌, ◌↔◌, ◌∙◌, ap, su
 use Rattle.std.specs.Global.{Global}
 use Rattle.qs_base.specs.Causes.{Rose}
 use Rattle.qs_disk.specs.Fuse.{FusedValue}
-use Rattle.qs_incarnation.specs.declared.counts.Counts.{Counts}
-use Rattle.qs_incarnation.specs.declared.incarnation.ReopenFault.TheVariants as reopen_faults
+use Rattle.qs_log_start.specs.declared.counts.FaultCounts.{FaultCounts}
+use Rattle.qs_log_start.specs.declared.incarnation.ReopenFault.TheVariants as reopen_faults
 use Rattle.qs_log.specs.Log.{LogValue}
-use Rattle.qs_points.specs.declared.points.Watched.{Watched}
-use Rattle.qs_chronicle.specs.Carried.{Commands, seen}
-use Rattle.qs_chronicle.specs.Chronicle.{Told}
-use Rattle.qs_chronicle.specs.declared.carried.Carried.{Carried}
+use Rattle.qs_cell_chronicle.specs.declared.points.Watched.{Watched}
+use Rattle.qs_cell_chronicle.specs.Carried.{Commands, seen}
+use Rattle.qs_cell_chronicle.specs.Chronicle.{Told}
+use Rattle.qs_cell_chronicle.specs.declared.carried.Carried.{Carried}
 use Rattle.qs_cell.specs.Within.{IsLeftDown, Begins}
 use Rattle.qs_cell.specs.declared.stopped.Rest.{Rest}
 use Rattle.qs_cell.specs.declared.stopped.Restarted.{Restarted}
@@ -22,7 +22,7 @@ seen_is a b told commands crashes points =
     ∙ ap (λ (planned : List ℕ). record { told = b.chronicle.told; commands = b.commands; crashes = planned; points = a.points.items }) crashes
     ∙ ap (λ (watched : List Watched). record { told = b.chronicle.told; commands = b.commands; crashes = b.crashes; points = watched }) points
 
-pub left_begins : {D F X : Type 0} (own : D → ℕ) (alloc : Global) (log : LogValue (FusedValue D)) (rest kept : Rest) (before : Counts) (back : LogValue (FusedValue D))
+pub left_begins : {D F X : Type 0} (own : D → ℕ) (alloc : Global) (log : LogValue (FusedValue D)) (rest kept : Rest) (before : FaultCounts) (back : LogValue (FusedValue D))
     (result : Restarted D F X) → back ≡ log → kept.kept ≡ rest.kept → kept.cause ≡ rest.cause → kept.is_full ≡ rest.is_full → kept.carried.setting ≡ rest.carried.setting
     → seen kept.carried ≡ seen rest.carried → IsLeftDown own kept before back.disk result → Begins own alloc log rest before result
 left_begins own alloc log rest kept before back (restarts.Up running) same is_kept cause full setting seen_same left = absurd left

@@ -6,20 +6,20 @@ use Rattle.std.specs.Global.{Global}
 use Rattle.qs_disk.specs.Disk.{DiskState, Frame, EachImage}
 use Rattle.qs_disk.specs.Fuse.{FusedValue}
 use Rattle.qs_files.specs.declared.files.Files.{Files}
-use Rattle.qs_host.specs.Host.{IsLogAfter, appended, forced_if, log_after}
-use Rattle.qs_incarnation.specs.Incarnation.{HasLogOf, HasOneOf, IsReopened}
+use Rattle.qs_node_host.specs.Host.{IsLogAfter, appended, forced_if, log_after}
+use Rattle.qs_log_start.specs.Incarnation.{HasLogOf, HasOneOf, IsReopened}
 use Rattle.qs_log.specs.Image.{IsLog}
 use Rattle.qs_log.specs.Log.{LogValue, Stands, records_of}
-use Rattle.qs_machine.specs.declared.opened.Opened.{Opened}
+use Rattle.qs_book_machine.specs.declared.opened.Opened.{Opened}
 use Rattle.qs_ops.specs.declared.no_server.NoServer.{NoServer}
 use Rattle.qs_record.specs.declared.record.Record.{Record}
 use Rattle.qs_slot.specs.Slot.{Present}
-use Rattle.qs_step.specs.Opening.{recovered_of}
-use Rattle.qs_step.specs.declared.event.ClientAnswer.{ClientAnswer}
-use Rattle.qs_step.specs.declared.event.Effects.{Effects}
-use Rattle.qs_step.specs.declared.setting.Setting.{Setting}
+use Rattle.qs_node_step.specs.Opening.{recovered_of}
+use Rattle.qs_node_step.specs.declared.event.ClientAnswer.{ClientAnswer}
+use Rattle.qs_node_step.specs.declared.event.Effects.{Effects}
+use Rattle.qs_node_step.specs.declared.setting.Setting.{Setting}
 use Rattle.qs_world.specs.Histories.{opened_with}
-use Rattle.qs_chronicle.specs.declared.occasion.Occasion.{Occasion}
+use Rattle.qs_cell_chronicle.specs.declared.occasion.Occasion.{Occasion}
 use Rattle.qs_cell.specs.Cell.{IsOutcome, out_of}
 use Rattle.qs_cell.specs.Logged.{GoesOn, HasLog, IsLogged}
 use Rattle.qs_cell.specs.Restart.{IfUp}
@@ -28,8 +28,8 @@ use Rattle.qs_cell.specs.State.{StartsAgain, Up, disk_of, state_after, state_of}
 use Rattle.qs_cell.specs.Visits.{MakesIn}
 use Rattle.qs_cell.specs.Outcomes.{Outcome}
 use Rattle.qs_cell.specs.Outcomes as outcomes
-use Rattle.qs_cell.specs.declared.state.NodeState.{NodeState}
-use Rattle.qs_cell.specs.declared.state.NodeState.TheVariants as states
+use Rattle.qs_cell.specs.declared.state.CellState.{CellState}
+use Rattle.qs_cell.specs.declared.state.CellState.TheVariants as states
 use Rattle.qs_cell.specs.declared.state.RestartFault.{RestartFault}
 use Rattle.qs_cell.specs.declared.stopped.Restarted.{Restarted}
 use Rattle.qs_cell.specs.declared.stopped.Restarted.TheVariants as restarts
@@ -73,12 +73,12 @@ outcome_on own size opened occasion old (outcomes.Followed stopped answers) is o
 outcome_on own size opened occasion old (outcomes.Replaced stopped) is on = tt
 outcome_on own size opened occasion old (outcomes.CutOff stopped) is on = tt
 
-pub made_on : {D : Type 0} (told : Type 0) (state : D → DiskState) (own size : D → ℕ) (opened : Opened) (occasion : Occasion) (old new : NodeState D) (answers : List ClientAnswer)
+pub made_on : {D : Type 0} (told : Type 0) (state : D → DiskState) (own size : D → ℕ) (opened : Opened) (occasion : Occasion) (old new : CellState D) (answers : List ClientAnswer)
     → MakesIn told state own size occasion old new answers → (told → LogGoesOn opened old) → told → LogGoesOn opened new
 made_on {D} told state own size opened occasion (states.Up old) new answers makes on is_told =
-    subst (λ (node : NodeState D). LogGoesOn opened node) (sym makes.node) (outcome_on own (size old.host.log.disk.disk) opened occasion old makes.outcome makes.is (on is_told))
+    subst (λ (node : CellState D). LogGoesOn opened node) (sym makes.node) (outcome_on own (size old.host.log.disk.disk) opened occasion old makes.outcome makes.is (on is_told))
 made_on {D} told state own size opened occasion (states.Down old) new answers makes on is_told =
-    subst (λ (node : NodeState D). LogGoesOn opened node) (sym makes.0) tt
+    subst (λ (node : CellState D). LogGoesOn opened node) (sym makes.0) tt
 
 -- a log that was opened again has the records of one of two
 again_on : {D : Type 0} (opened : Opened) (before : DiskState) (restarted : Restarted D Files NoServer) (logged : IsLogged opened before.now) → IfUp restarted (IsReopened before)
@@ -96,12 +96,12 @@ again_on {D} opened before (restarts.Up running) logged reopened found = by (fou
     by (inr is) = subst (GoesOn opened) (sym is ∙ all) logged.other_on
 again_on opened before (restarts.Down stopped why) logged reopened found = tt
 
-pub restart_on : {D : Type 0} (told : Type 0) (state : D → DiskState) (own size : D → ℕ) (alloc : Global) (opened : Opened) (old new : NodeState D) (answer : Result Bool RestartFault)
+pub restart_on : {D : Type 0} (told : Type 0) (state : D → DiskState) (own size : D → ℕ) (alloc : Global) (opened : Opened) (old new : CellState D) (answer : Result Bool RestartFault)
     → StartsAgain told state own size alloc old new answer → (told → IsLogged opened (state (disk_of old).disk).now) → (told → LogGoesOn opened old) → told → LogGoesOn opened new
 restart_on {D} told state own size alloc opened (states.Up running) new answer starts logged on is_told =
-    subst (λ (node : NodeState D). LogGoesOn opened node) (sym starts.0) (on is_told)
+    subst (λ (node : CellState D). LogGoesOn opened node) (sym starts.0) (on is_told)
 restart_on {D} told state own size alloc opened (states.Down stopped) new answer starts logged on is_told =
-    subst (λ (node : NodeState D). LogGoesOn opened node) (sym starts.node)
+    subst (λ (node : CellState D). LogGoesOn opened node) (sym starts.node)
     (again_on opened (state stopped.disk.disk) starts.restarted (logged is_told) (starts.reopened is_told) (starts.found is_told))
 
 -- ---- images
@@ -127,7 +127,7 @@ logged_stands opened log s stands on = record {
 }
 
 -- each image has the records of before the event, or those of after it
-pub logged_made : {D : Type 0} (told : Type 0) (state : D → DiskState) (own size : D → ℕ) (opened : Opened) (occasion : Occasion) (old new : NodeState D) (answers : List ClientAnswer)
+pub logged_made : {D : Type 0} (told : Type 0) (state : D → DiskState) (own size : D → ℕ) (opened : Opened) (occasion : Occasion) (old new : CellState D) (answers : List ClientAnswer)
     → MakesIn told state own size occasion old new answers → (told → LogGoesOn opened old) → (told → IsLogged opened (state (disk_of old).disk).now) → told → IsLogged opened (state (disk_of new).disk).now
 logged_made {D} told state own size opened occasion (states.Up old) new answers makes on logged is_told =
     let out = out_of (size old.host.log.disk.disk) occasion old in
@@ -143,13 +143,13 @@ logged_made {D} told state own size opened occasion (states.Up old) new answers 
       ];
     }
 logged_made {D} told state own size opened occasion (states.Down old) new answers makes on logged is_told =
-    subst (λ (node : NodeState D). IsLogged opened (state (disk_of node).disk).now) (sym makes.0) (logged is_told)
+    subst (λ (node : CellState D). IsLogged opened (state (disk_of node).disk).now) (sym makes.0) (logged is_told)
 
 -- a restart leaves no other records than those that images had
-pub logged_again : {D : Type 0} (told : Type 0) (state : D → DiskState) (own size : D → ℕ) (alloc : Global) (opened : Opened) (old new : NodeState D) (answer : Result Bool RestartFault)
+pub logged_again : {D : Type 0} (told : Type 0) (state : D → DiskState) (own size : D → ℕ) (alloc : Global) (opened : Opened) (old new : CellState D) (answer : Result Bool RestartFault)
     → StartsAgain told state own size alloc old new answer → (told → IsLogged opened (state (disk_of old).disk).now) → told → IsLogged opened (state (disk_of new).disk).now
 logged_again {D} told state own size alloc opened (states.Up running) new answer starts logged is_told =
-    subst (λ (node : NodeState D). IsLogged opened (state (disk_of node).disk).now) (sym starts.0) (logged is_told)
+    subst (λ (node : CellState D). IsLogged opened (state (disk_of node).disk).now) (sym starts.0) (logged is_told)
 logged_again {D} told state own size alloc opened (states.Down stopped) new answer starts logged is_told =
     let before = logged is_told in
     record {

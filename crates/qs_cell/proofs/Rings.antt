@@ -3,20 +3,20 @@ use Rattle.std.proofs.Common.{◌≡◌, ◌∙◌, ap, subst, sym, refl, Bool, 
 use Rattle.std.specs.Prelude.{Option, Some, None, Result, ◌==◌}
 use Rattle.qs_base.specs.declared.identifiers.ClientNo.{ClientNo}
 use Rattle.qs_base.specs.declared.memory.NoMemory.{NoMemory}
-use Rattle.qs_journal.specs.declared.script_line.LineAnswer.{LineAnswer}
-use Rattle.qs_journal.specs.declared.script_line.ScriptLine.{ScriptLine}
-use Rattle.qs_chronicle.specs.declared.carried.Held.{Held}
+use Rattle.qs_book_journal.specs.declared.script_line.LineAnswer.{LineAnswer}
+use Rattle.qs_book_journal.specs.declared.script_line.ScriptLine.{ScriptLine}
+use Rattle.qs_cell_chronicle.specs.declared.carried.HeldCommand.{HeldCommand}
 use Rattle.qs_link.specs.Lane.{FeedValue, DrawValue, IsLane}
-use Rattle.qs_lanes.specs.Lanes.{is_of, ends_of, at_client, with_answer, without_line, with_commands, with_answers, SendsTo, SendsFrom, CarriesIn, CarriesOut}
-use Rattle.qs_lanes.specs.declared.ends.NodeEnds.{NodeEnds}
+use Rattle.qs_link.specs.Lanes.{is_of, ends_of, at_client, with_answer, without_line, with_commands, with_answers, SendsTo, SendsFrom, CarriesIn, CarriesOut}
+use Rattle.qs_link.specs.declared.ends.NodeEnds.{NodeEnds}
 use Rattle.rtrb.specs.Ring.{SameProducer, SameConsumer}
-use Rattle.qs_step.specs.declared.event.ClientAnswer.{ClientAnswer}
+use Rattle.qs_node_step.specs.declared.event.ClientAnswer.{ClientAnswer}
 use Rattle.qs_cell.specs.Joined.{HasSameRings, HaveSameRings, StayJoined}
 use Rattle.qs_cell.specs.Visits.{left_by, left_of, held_by, deliver}
-use Rattle.qs_cell.specs.declared.cell.Source.{Source}
-use Rattle.qs_cell.specs.declared.cell.Source.TheVariants as sources
-use Rattle.qs_cell.specs.declared.state.NodeState.{NodeState}
-use Rattle.qs_cell.specs.declared.state.NodeState.TheVariants as states
+use Rattle.qs_cell.specs.declared.cell.EventSource.{EventSource}
+use Rattle.qs_cell.specs.declared.cell.EventSource.TheVariants as sources
+use Rattle.qs_cell.specs.declared.state.CellState.{CellState}
+use Rattle.qs_cell.specs.declared.state.CellState.TheVariants as states
 
 -- ---- the same rings
 
@@ -62,11 +62,11 @@ pub rings_delivered : (ends : List NodeEnds) (said : ClientAnswer) → HaveSameR
 rings_delivered ends said =
     rings_at said.client (with_answer said.answer) (λ end. record { client = refl; commands = refl; answers = refl }) ends
 
-rings_left_of : (client : ClientNo) (held : Option Held) (ends : List NodeEnds) → HaveSameRings ends (left_of client held ends)
+rings_left_of : (client : ClientNo) (held : Option HeldCommand) (ends : List NodeEnds) → HaveSameRings ends (left_of client held ends)
 rings_left_of client None ends = rings_at client without_line (λ end. record { client = refl; commands = refl; answers = refl }) ends
 rings_left_of client (Some held) ends = rings_same ends
 
-pub rings_left : {D : Type 0} (source : Source) (node : NodeState D) (ends : List NodeEnds) → HaveSameRings ends (left_by source node ends)
+pub rings_left : {D : Type 0} (source : EventSource) (node : CellState D) (ends : List NodeEnds) → HaveSameRings ends (left_by source node ends)
 rings_left (sources.Client client) (states.Up running) ends = rings_left_of client (held_by client running.carried) ends
 rings_left (sources.Client client) (states.Down stopped) ends = rings_same ends
 rings_left sources.Queues node ends = rings_same ends

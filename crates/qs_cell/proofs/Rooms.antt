@@ -4,32 +4,32 @@ use Rattle.std.proofs.lemmas.List.{append-nil}
 use Rattle.std.specs.Global.{Global}
 use Rattle.std.specs.List.{list_all}
 use Rattle.std.specs.Prelude.{Result, Ok}
-use Rattle.qs_batch.proofs.AreaLemmas.{counted_one}
-use Rattle.qs_batch.specs.Batch.{IsCounted}
+use Rattle.qs_log_batch.proofs.AreaLemmas.{counted_one}
+use Rattle.qs_log_batch.specs.Batch.{IsCounted}
 use Rattle.qs_disk.proofs.Moments.{keeps_weaken}
 use Rattle.qs_disk.specs.Disk.{DiskState, EachImage}
 use Rattle.qs_disk.specs.Fuse.{FusedValue}
 use Rattle.qs_disk.specs.Moments.{Keeps}
 use Rattle.qs_files.specs.declared.files.Files.{Files}
-use Rattle.qs_fits.proofs.Short.{each_log_is_short}
-use Rattle.qs_fits.specs.Kept.{kept_of, total}
-use Rattle.qs_fits.specs.Logs.{HasRooms}
-use Rattle.qs_fits.specs.Opens.{are_named, is_short}
-use Rattle.qs_host.proofs.Rooms.{after_roomy, images_roomy, lacks_none, opened_roomy, worked_roomy}
-use Rattle.qs_host.specs.Host.{HostValue, IsOldOrAfter, worked_node}
-use Rattle.qs_host.specs.Roomy.{HasRoomyLog, IsRoomyHost, IsWorkedRoomy}
-use Rattle.qs_incarnation.specs.Incarnation.{IsLeftOrRaised, IsOldOrRaised, IsReopened}
-use Rattle.qs_incarnation.specs.declared.counts.Counts.{Counts}
-use Rattle.qs_journal.specs.declared.entry.CrashCause.{CrashCause}
+use Rattle.qs_node_room.proofs.Short.{each_log_is_short}
+use Rattle.qs_node_room.specs.Kept.{kept_of, total}
+use Rattle.qs_node_room.specs.Logs.{HasRooms}
+use Rattle.qs_node_room.specs.Opens.{are_named, is_short}
+use Rattle.qs_node_host.proofs.Rooms.{after_roomy, images_roomy, lacks_none, opened_roomy, worked_roomy}
+use Rattle.qs_node_host.specs.Host.{HostValue, IsOldOrAfter, worked_node}
+use Rattle.qs_node_host.specs.Roomy.{HasRoomyLog, IsRoomyHost, IsWorkedRoomy}
+use Rattle.qs_log_start.specs.Incarnation.{IsLeftOrRaised, IsOldOrRaised, IsReopened}
+use Rattle.qs_log_start.specs.declared.counts.FaultCounts.{FaultCounts}
+use Rattle.qs_book_journal.specs.declared.entry.CrashCause.{CrashCause}
 use Rattle.qs_log.specs.Image.{IsLog, half, live_area}
 use Rattle.qs_log.specs.Log.{LogValue, raised_of, records_of}
 use Rattle.qs_ops.specs.declared.no_server.NoServer.{NoServer}
 use Rattle.qs_record.specs.declared.record.Record.{Record}
 use Rattle.qs_restart.specs.Recovery.{recovery}
 use Rattle.qs_slot.specs.Slot.{Present}
-use Rattle.qs_step.specs.declared.setting.Setting.{Setting}
-use Rattle.qs_chronicle.specs.Occasions.{event_of}
-use Rattle.qs_chronicle.specs.declared.occasion.Occasion.{Occasion}
+use Rattle.qs_node_step.specs.declared.setting.Setting.{Setting}
+use Rattle.qs_cell_chronicle.specs.Occasions.{event_of}
+use Rattle.qs_cell_chronicle.specs.declared.occasion.Occasion.{Occasion}
 use Rattle.qs_cell.specs.Cell.{IsFaulted, IsOutcome, IsRefused, out_of}
 use Rattle.qs_cell.specs.Outcomes.{Outcome, outcome_of}
 use Rattle.qs_cell.specs.Outcomes as outcomes
@@ -40,8 +40,8 @@ use Rattle.qs_cell.specs.Within.{Begins}
 use Rattle.qs_cell.specs.declared.running.Fate.{Fate}
 use Rattle.qs_cell.specs.declared.running.Fate.TheVariants as fates
 use Rattle.qs_cell.specs.declared.running.Running.{Running}
-use Rattle.qs_cell.specs.declared.state.NodeState.{NodeState}
-use Rattle.qs_cell.specs.declared.state.NodeState.TheVariants as states
+use Rattle.qs_cell.specs.declared.state.CellState.{CellState}
+use Rattle.qs_cell.specs.declared.state.CellState.TheVariants as states
 use Rattle.qs_cell.specs.declared.stopped.Rest.{Rest}
 use Rattle.qs_cell.specs.declared.stopped.Restarted.{Restarted}
 use Rattle.qs_cell.specs.declared.stopped.Restarted.TheVariants as restarts
@@ -138,7 +138,7 @@ pub rooms_of : {D : Type 0} (keep size : ℕ) (old : DiskState) (log : LogValue 
 rooms_of keep size old log here is = rooms_in keep size is.content is.raised.present log (here is.content is.image) is.raised.records is.raised.waiting
 
 -- a node that begins over it is roomy
-pub begun_roomy : {D F X : Type 0} (own : D → ℕ) (alloc : Global) (keep size : ℕ) (old : DiskState) (log : LogValue (FusedValue D)) (rest : Rest) (before : Counts)
+pub begun_roomy : {D F X : Type 0} (own : D → ℕ) (alloc : Global) (keep size : ℕ) (old : DiskState) (log : LogValue (FusedValue D)) (rest : Rest) (before : FaultCounts)
     (restarted : Restarted D F X) → Begins own alloc log rest before restarted → IsSetToKeep keep rest.carried.setting → EachImage (HasRoomyLog keep size) old.now
     → IsReopened old log → RisesRoomy keep size restarted
 begun_roomy {D} own alloc keep size old log rest before (restarts.Up running) is set here reopened =
@@ -163,13 +163,13 @@ state_roomy keep size (outcomes.Replaced stopped) is = is
 state_roomy keep size (outcomes.CutOff stopped) is = is
 
 -- by how the event left it
-pub node_roomy : {D : Type 0} (keep : ℕ) (size : D → ℕ) (occasion : Occasion) (from new : NodeState D) (old running : Up D) (fate : Fate) → from ≡ states.Up old
+pub node_roomy : {D : Type 0} (keep : ℕ) (size : D → ℕ) (occasion : Occasion) (from new : CellState D) (old running : Up D) (fate : Fate) → from ≡ states.Up old
     → new ≡ state_of (outcome_of fate running)
     → ((k : ℕ) → IsRoomyHost k (size old.host.log.disk.disk) old.host → ComesNew (size old.host.log.disk.disk) occasion old
     → IsRoomyOutcome k (size old.host.log.disk.disk) (outcome_of fate running))
     → IsRoomyNode keep (size (disk_of from).disk) from → ComesNewTo (size (disk_of from).disk) occasion from → IsRoomyNode keep (size (disk_of from).disk) new
 node_roomy {D} keep size occasion from new old running fate up node rooms =
-    subst (λ (n : NodeState D). IsRoomyNode keep (size (disk_of n).disk) n → ComesNewTo (size (disk_of n).disk) occasion n → IsRoomyNode keep (size (disk_of n).disk) new) (sym up)
+    subst (λ (n : CellState D). IsRoomyNode keep (size (disk_of n).disk) n → ComesNewTo (size (disk_of n).disk) occasion n → IsRoomyNode keep (size (disk_of n).disk) new) (sym up)
     (λ roomy fresh. subst (IsRoomyNode keep (size old.host.log.disk.disk)) (sym node) (state_roomy keep (size old.host.log.disk.disk) (outcome_of fate running) (rooms keep roomy fresh)))
 
 starts_roomy : {D : Type 0} (own : D → ℕ) (alloc : Global) (keep size : ℕ) (old : Stopped D) (restarted : Restarted D Files NoServer) → old.is_full ≡ false
@@ -177,17 +177,17 @@ starts_roomy : {D : Type 0} (own : D → ℕ) (alloc : Global) (keep size : ℕ)
 starts_roomy own alloc keep size old (restarts.Up running) none is rises = rises
 starts_roomy own alloc keep size old (restarts.Down stopped why) none is rises = is.0.full ∙ none
 
-pub restarted_roomy : {D : Type 0} (own : D → ℕ) (alloc : Global) (keep : ℕ) (size : D → ℕ) (state : D → DiskState) (from : NodeState D) (old : Stopped D)
-    (restarted : Restarted D Files NoServer) (new : NodeState D) → from ≡ states.Down old → new ≡ state_after restarted → IsRestarted own alloc old restarted
+pub restarted_roomy : {D : Type 0} (own : D → ℕ) (alloc : Global) (keep : ℕ) (size : D → ℕ) (state : D → DiskState) (from : CellState D) (old : Stopped D)
+    (restarted : Restarted D Files NoServer) (new : CellState D) → from ≡ states.Down old → new ≡ state_after restarted → IsRestarted own alloc old restarted
     → ((k : ℕ) → IsSetToKeep k old.carried.setting → EachImage (HasRoomyLog k (size old.disk.disk)) (state old.disk.disk).now → RisesRoomy k (size old.disk.disk) restarted)
     → IsSetToKeep keep (carried_of from).setting → IsRoomyNode keep (size (disk_of from).disk) from
     → EachImage (HasRoomyLog keep (size (disk_of from).disk)) (state (disk_of from).disk).now → StartsRoomy keep (size (disk_of from).disk) new
 restarted_roomy {D} own alloc keep size state from old restarted new down node is rises =
-    subst (λ (n : NodeState D). IsSetToKeep keep (carried_of n).setting → IsRoomyNode keep (size (disk_of n).disk) n
+    subst (λ (n : CellState D). IsSetToKeep keep (carried_of n).setting → IsRoomyNode keep (size (disk_of n).disk) n
     → EachImage (HasRoomyLog keep (size (disk_of n).disk)) (state (disk_of n).disk).now → StartsRoomy keep (size (disk_of n).disk) new) (sym down)
     (λ set none here. subst (StartsRoomy keep (size old.disk.disk)) (sym node) (starts_roomy own alloc keep (size old.disk.disk) old restarted none is (rises keep set here)))
 
 -- one that is left alone
-pub stays_roomy : {D : Type 0} (keep size : ℕ) (node : NodeState D) → IsRoomyNode keep size node → StartsRoomy keep size node
+pub stays_roomy : {D : Type 0} (keep size : ℕ) (node : CellState D) → IsRoomyNode keep size node → StartsRoomy keep size node
 stays_roomy keep size (states.Up running) is = λ named. is
 stays_roomy keep size (states.Down stopped) is = is

@@ -8,22 +8,22 @@ use Rattle.qs_disk.specs.Fuse.{FusedValue, mended}
 use Rattle.qs_disk.specs.Fuse.{GoesOn as GoesOnFuse}
 use Rattle.qs_disk.specs.Moments.{Keeps}
 use Rattle.qs_files.specs.declared.files.Files.{Files}
-use Rattle.qs_host.specs.Host.{HostValue, IsLogAfter, IsOldOrAfter}
-use Rattle.qs_incarnation.specs.Incarnation.{open_limit, IsLeftOrRaised, IsRaisedLog, IsReopened, IsArmed, HasOneOf}
-use Rattle.qs_journal.specs.declared.entry.CrashCause.{CrashCause}
-use Rattle.qs_journal.specs.declared.script_line.Point.{Point}
-use Rattle.qs_lanes.specs.declared.ends.NodeEnds.{NodeEnds}
+use Rattle.qs_node_host.specs.Host.{HostValue, IsLogAfter, IsOldOrAfter}
+use Rattle.qs_log_start.specs.Incarnation.{open_limit, IsLeftOrRaised, IsRaisedLog, IsReopened, IsArmed, HasOneOf}
+use Rattle.qs_book_journal.specs.declared.entry.CrashCause.{CrashCause}
+use Rattle.qs_book_journal.specs.declared.script_line.Point.{Point}
+use Rattle.qs_link.specs.declared.ends.NodeEnds.{NodeEnds}
 use Rattle.qs_log.specs.Log.{LogValue, Stands, records_of}
-use Rattle.qs_machine.specs.declared.opened.Opened.{Opened}
+use Rattle.qs_book_machine.specs.declared.opened.Opened.{Opened}
 use Rattle.qs_record.specs.declared.record.Record.{Record}
 use Rattle.qs_restart.specs.declared.recovered.Recovered.{Recovered}
 use Rattle.qs_ops.specs.declared.no_server.NoServer.{NoServer}
-use Rattle.qs_step.specs.declared.event.ClientAnswer.{ClientAnswer}
-use Rattle.qs_step.specs.declared.event.Effects.{Effects}
-use Rattle.qs_step.specs.declared.setting.Setting.{Setting}
+use Rattle.qs_node_step.specs.declared.event.ClientAnswer.{ClientAnswer}
+use Rattle.qs_node_step.specs.declared.event.Effects.{Effects}
+use Rattle.qs_node_step.specs.declared.setting.Setting.{Setting}
 use Rattle.qs_world.specs.Histories.{opened_with}
-use Rattle.qs_chronicle.specs.Carried.{Seen}
-use Rattle.qs_chronicle.specs.declared.occasion.Occasion.{Occasion}
+use Rattle.qs_cell_chronicle.specs.Carried.{Seen}
+use Rattle.qs_cell_chronicle.specs.declared.occasion.Occasion.{Occasion}
 use Rattle.qs_cell.specs.Logged.{GoesOn, IsLogged}
 use Rattle.qs_cell.proofs.Logging.{goes_on_first, logged_stands}
 use Rattle.qs_cell.specs.Cell.{IsOutcome, IfStands, StandsAfter, out_of, disk_after}
@@ -37,8 +37,8 @@ use Rattle.qs_cell.specs.Outcomes as outcomes
 use Rattle.qs_cell.specs.declared.running.Fate.{Fate}
 use Rattle.qs_cell.specs.declared.running.Fate.TheVariants as fates
 use Rattle.qs_cell.specs.declared.starting.NodePlan.{NodePlan}
-use Rattle.qs_cell.specs.declared.state.NodeState.{NodeState}
-use Rattle.qs_cell.specs.declared.state.NodeState.TheVariants as states
+use Rattle.qs_cell.specs.declared.state.CellState.{CellState}
+use Rattle.qs_cell.specs.declared.state.CellState.TheVariants as states
 use Rattle.qs_cell.specs.declared.state.RestartFault.{RestartFault}
 use Rattle.qs_cell.specs.declared.stopped.Restarted.{Restarted}
 use Rattle.qs_cell.specs.declared.stopped.Restarted.TheVariants as restarts
@@ -72,7 +72,7 @@ setting_made own size occasion old (outcomes.Replaced stopped) is = is.setting
 setting_made own size occasion old (outcomes.CutOff stopped) is = is.setting
 
 pub makes_of : {D : Type 0} (told : Type 0) (state : D → DiskState) (own size : D → ℕ) (occasion : Occasion) (old : Up D) (outcome : Outcome D Files NoServer)
-    (new : NodeState D) (answers : List ClientAnswer) → IsOutcome own (size old.host.log.disk.disk) occasion old outcome → new ≡ state_of outcome
+    (new : CellState D) (answers : List ClientAnswer) → IsOutcome own (size old.host.log.disk.disk) occasion old outcome → new ≡ state_of outcome
     → answers ≡ answers_of outcome
     → (told → IfStands outcome (λ disk. StandsAfter (out_of (size old.host.log.disk.disk) occasion old) old.host.log disk (state disk.disk)))
     → (told → Keeps (IsOldOrAfter (out_of (size old.host.log.disk.disk) occasion old) old.host.log) (state old.host.log.disk.disk) (state (disk_after outcome).disk))
@@ -90,7 +90,7 @@ makes_of {D} told state own size occasion old outcome new answers is node said s
 }
   where
     same : disk_after outcome ≡ disk_of new
-    same = disk_made outcome ∙ ap (λ (n : NodeState D). disk_of n) (sym node)
+    same = disk_made outcome ∙ ap (λ (n : CellState D). disk_of n) (sym node)
 
 -- a node that a crash stopped is down, and answers nobody
 pub left_down : {D : Type 0} (fate : Fate) (cause : CrashCause) (is_full : Bool) (running : Up D)
@@ -100,21 +100,21 @@ left_down fate cause is_full running (inl is) = rw (is.0, is.1) (refl, refl)
 left_down fate cause is_full running (inr is) = rw is (refl, refl)
 
 -- by how it left the node, and what it left of it
-pub makes_by : {D : Type 0} (told : Type 0) (state : D → DiskState) (own size : D → ℕ) (occasion : Occasion) (from new : NodeState D) (old running : Up D) (fate : Fate)
+pub makes_by : {D : Type 0} (told : Type 0) (state : D → DiskState) (own size : D → ℕ) (occasion : Occasion) (from new : CellState D) (old running : Up D) (fate : Fate)
     (answers : List ClientAnswer) → from ≡ states.Up old → IsOutcome own (size old.host.log.disk.disk) occasion old (outcome_of fate running) → new ≡ state_of (outcome_of fate running)
     → answers ≡ answers_of (outcome_of fate running)
     → (told → IfStands (outcome_of fate running) (λ disk. StandsAfter (out_of (size old.host.log.disk.disk) occasion old) old.host.log disk (state disk.disk)))
     → (told → Keeps (IsOldOrAfter (out_of (size old.host.log.disk.disk) occasion old) old.host.log) (state old.host.log.disk.disk) (state running.host.log.disk.disk))
     → size running.host.log.disk.disk ≡ size old.host.log.disk.disk → MakesIn told state own size occasion from new answers
 makes_by {D} told state own size occasion from new old running fate answers up is node said stands moments bytes =
-    subst (λ (before : NodeState D). MakesIn told state own size occasion before new answers) (sym up)
+    subst (λ (before : CellState D). MakesIn told state own size occasion before new answers) (sym up)
     (makes_of told state own size occasion old (outcome_of fate running) new answers is node said stands (λ yes.
     subst (λ (d : FusedValue D). Keeps (IsOldOrAfter (out_of (size old.host.log.disk.disk) occasion old) old.host.log) (state old.host.log.disk.disk) (state d.disk))
     (sym (disk_left fate running)) (moments yes))
     (subst (λ (d : FusedValue D). size d.disk ≡ size old.host.log.disk.disk) (sym (disk_left fate running)) bytes))
 
 -- what is seen changes alone
-pub sound_seen : {D : Type 0} (told : Type 0) (state : D → DiskState) (opened : Opened) (f : Seen → Seen) (old new : NodeState D) → IsSeenAs f old new → IsSound told state opened old
+pub sound_seen : {D : Type 0} (told : Type 0) (state : D → DiskState) (opened : Opened) (f : Seen → Seen) (old new : CellState D) → IsSeenAs f old new → IsSound told state opened old
     → IsSound told state opened new
 sound_seen told state opened f (states.Up old) (states.Up new) is sound = record {
   stands = λ yes. subst (λ h. Stands h.log (state h.log.disk.disk)) (sym is.0) (sound.stands yes);
@@ -138,7 +138,7 @@ sound_seen told state opened f (states.Up old) (states.Down new) is sound = absu
 sound_seen told state opened f (states.Down old) (states.Up new) is sound = absurd is
 
 -- and so does what an event leaves
-pub sound_after : {D : Type 0} (told : Type 0) (state : D → DiskState) (opened : Opened) (old new : NodeState D) → (told → LogStands state new)
+pub sound_after : {D : Type 0} (told : Type 0) (state : D → DiskState) (opened : Opened) (old new : CellState D) → (told → LogStands state new)
     → (told → LogGoesOn opened new) → (told → IsLogged opened (state (disk_of new).disk).now) → (carried_of new).setting ≡ (carried_of old).setting → IsSound told state opened old
     → IsSound told state opened new
 sound_after told state opened old new stands goes_on logged setting sound = record {
@@ -222,7 +222,7 @@ found_all log P none found a b p = elim (found a b p) [ inl left ↦ inl (all �
     all = ap (λ (waiting : List Record). log.forced ++ waiting) none ∙ append-nil log.forced
 
 pub restarts_of : {D : Type 0} (told : Type 0) (state : D → DiskState) (own size : D → ℕ) (alloc : Global) (old : Stopped D) (restarted : Restarted D Files NoServer)
-    (new : NodeState D) (answer : Result Bool RestartFault) → IsRestarted own alloc old restarted → new ≡ state_after restarted → answer ≡ answer_after restarted
+    (new : CellState D) (answer : Result Bool RestartFault) → IsRestarted own alloc old restarted → new ≡ state_after restarted → answer ≡ answer_after restarted
     → (told → IfUp restarted (IsReopened (state old.disk.disk)))
     → (told → IfUp restarted (λ log. (a b : List Record) → EachImage (HasOneOf a b) (state old.disk.disk).now → (records_of log ≡ a) ⊎ (records_of log ≡ b)))
     → (told → (a b : List Record) → EachImage (HasOneOf a b) (state old.disk.disk).now
@@ -245,7 +245,7 @@ restarts_of {D} told state own size alloc old restarted new answer is node said 
 }
   where
     same : restarted_disk restarted ≡ disk_of new
-    same = disk_restarted restarted ∙ ap (λ (n : NodeState D). disk_of n) (sym node)
+    same = disk_restarted restarted ∙ ap (λ (n : CellState D). disk_of n) (sym node)
 
 pub stands_restarted : {D : Type 0} (state : D → DiskState) (restarted : Restarted D Files NoServer) → IfUp restarted (λ log. Stands log (state log.disk.disk))
     → LogStands state (state_after restarted)

@@ -2,57 +2,57 @@
 use Rattle.std.proofs.Common.{◌≡◌, ◌∙◌, ◌<◌, ap, subst, sym, refl, inl, inr, ℕ, zero, suc, ◌+◌, List, [], ◌∷◌, ◌++◌, length, take, drop, get_or, arith}
 use Rattle.std.specs.Prelude.{Option, Some, None, Result, Ok, Err, OnOk, OnErr}
 use Rattle.qs_disk.specs.Disk.{DiskState}
-use Rattle.qs_step.specs.declared.event.ClientAnswer.{ClientAnswer}
-use Rattle.qs_chronicle.specs.declared.occasion.Occasion.{Occasion}
+use Rattle.qs_node_step.specs.declared.event.ClientAnswer.{ClientAnswer}
+use Rattle.qs_cell_chronicle.specs.declared.occasion.Occasion.{Occasion}
 use Rattle.qs_cell.specs.Joined.{HaveSameRings}
 use Rattle.qs_cell.specs.Visits.{Seat, Turns, TakesTurn, MakesIn, IsBroken, TurnsAll, TurnsSome, IsSameNode, sources_of, due, left_by, all_delivered}
-use Rattle.qs_cell.specs.declared.cell.Source.{Source}
-use Rattle.qs_cell.specs.declared.cell.Source.TheVariants as sources
-use Rattle.qs_cell.specs.declared.state.NodeState.{NodeState}
-use Rattle.qs_cell.specs.declared.state.NodeState.TheVariants as states
-use Rattle.qs_lanes.specs.declared.ends.NodeEnds.{NodeEnds}
+use Rattle.qs_cell.specs.declared.cell.EventSource.{EventSource}
+use Rattle.qs_cell.specs.declared.cell.EventSource.TheVariants as sources
+use Rattle.qs_cell.specs.declared.state.CellState.{CellState}
+use Rattle.qs_cell.specs.declared.state.CellState.TheVariants as states
+use Rattle.qs_link.specs.declared.ends.NodeEnds.{NodeEnds}
 
-take_more : (xs : List Source) (i : ℕ) (d : Source) → i < length xs → take (suc i) xs ≡ take i xs ++ get_or xs i d ∷ []
+take_more : (xs : List EventSource) (i : ℕ) (d : EventSource) → i < length xs → take (suc i) xs ≡ take i xs ++ get_or xs i d ∷ []
 take_more [] i d less = absurd (omega (arith, less))
 take_more (x ∷ xs) zero d less = refl
-take_more (x ∷ xs) (suc i) d less = ap (λ (l : List Source). x ∷ l) (take_more xs i d (omega (arith, less)))
+take_more (x ∷ xs) (suc i) d less = ap (λ (l : List EventSource). x ∷ l) (take_more xs i d (omega (arith, less)))
 
-split_at : (xs : List Source) (i : ℕ) (d : Source) → i < length xs → take i xs ++ get_or xs i d ∷ drop (suc i) xs ≡ xs
+split_at : (xs : List EventSource) (i : ℕ) (d : EventSource) → i < length xs → take i xs ++ get_or xs i d ∷ drop (suc i) xs ≡ xs
 split_at [] i d less = absurd (omega (arith, less))
 split_at (x ∷ xs) zero d less = refl
-split_at (x ∷ xs) (suc i) d less = ap (λ (l : List Source). x ∷ l) (split_at xs i d (omega (arith, less)))
+split_at (x ∷ xs) (suc i) d less = ap (λ (l : List EventSource). x ∷ l) (split_at xs i d (omega (arith, less)))
 
 one_more : (i : ℕ) → i + 1 ≡ suc i
 one_more i = omega arith
 
 module _ {D : Type 0} (told : Type 0) (state : D → DiskState) (own size : D → ℕ) where
-  more : (xs : List Source) (s : Source) (a b c : Seat D) → TurnsAll told state own size xs a b → Turns told state own size s b c
+  more : (xs : List EventSource) (s : EventSource) (a b c : Seat D) → TurnsAll told state own size xs a b → Turns told state own size s b c
       → TurnsAll told state own size (xs ++ s ∷ []) a c
   more [] s a b c all turn = (c, (subst (λ (x : Seat D). Turns told state own size s x c) all turn, refl))
   more (x ∷ xs) s a b c all turn = (all.0, (all.1.0, more xs s all.0 b c all.1.1 turn))
 
-  broken : (xs : List Source) (s : Source) (ys : List Source) (a b c : Seat D) → TurnsAll told state own size xs a b → IsBroken told state own size s b c
+  broken : (xs : List EventSource) (s : EventSource) (ys : List EventSource) (a b c : Seat D) → TurnsAll told state own size xs a b → IsBroken told state own size s b c
       → TurnsSome told state own size (xs ++ s ∷ ys) a c
   broken [] s ys a b c all turn = inl (subst (λ (x : Seat D). IsBroken told state own size s x c) all turn)
   broken (x ∷ xs) s ys a b c all turn = inr (all.0, (all.1.0, broken xs s ys all.0 b c all.1.1 turn))
 
   -- the turn of the next source
-  pub turns_more : (xs : List Source) (i : ℕ) (s d : Source) (a b c : Seat D) → i < length xs → s ≡ get_or xs i d → TurnsAll told state own size (take i xs) a b
+  pub turns_more : (xs : List EventSource) (i : ℕ) (s d : EventSource) (a b c : Seat D) → i < length xs → s ≡ get_or xs i d → TurnsAll told state own size (take i xs) a b
       → Turns told state own size s b c → TurnsAll told state own size (take (i + 1) xs) a c
   turns_more xs i s d a b c less is all turn =
-      subst (λ (l : List Source). TurnsAll told state own size l a c)
-      (sym (ap (λ (n : ℕ). take n xs) (one_more i) ∙ take_more xs i d less ∙ ap (λ (x : Source). take i xs ++ x ∷ []) (sym is)))
+      subst (λ (l : List EventSource). TurnsAll told state own size l a c)
+      (sym (ap (λ (n : ℕ). take n xs) (one_more i) ∙ take_more xs i d less ∙ ap (λ (x : EventSource). take i xs ++ x ∷ []) (sym is)))
       (more (take i xs) s a b c all turn)
 
   -- the turn in which memory was refused
-  pub turns_broken : (xs : List Source) (i : ℕ) (s d : Source) (a b c : Seat D) → i < length xs → s ≡ get_or xs i d → TurnsAll told state own size (take i xs) a b
+  pub turns_broken : (xs : List EventSource) (i : ℕ) (s d : EventSource) (a b c : Seat D) → i < length xs → s ≡ get_or xs i d → TurnsAll told state own size (take i xs) a b
       → IsBroken told state own size s b c → TurnsSome told state own size xs a c
   turns_broken xs i s d a b c less is all turn =
-      subst (λ (l : List Source). TurnsSome told state own size l a c) (ap (λ (x : Source). take i xs ++ x ∷ drop (suc i) xs) is ∙ split_at xs i d less)
+      subst (λ (l : List EventSource). TurnsSome told state own size l a c) (ap (λ (x : EventSource). take i xs ++ x ∷ drop (suc i) xs) is ∙ split_at xs i d less)
       (broken (take i xs) s (drop (suc i) xs) a b c all turn)
 
   -- one turn, in which nothing is due
-  pub turn_none : (source : Source) (seat : Seat D) (old ready : NodeState D) (ends left : List NodeEnds) → record { node = old; ends = ends } ≡ seat
+  pub turn_none : (source : EventSource) (seat : Seat D) (old ready : CellState D) (ends left : List NodeEnds) → record { node = old; ends = ends } ≡ seat
       → IsSameNode old ready → due source ready ends ≡ None → left ≡ left_by source ready ends
       → Turns told state own size source seat (record { node = ready; ends = left })
   turn_none source seat old ready ends left is same none left_is =
@@ -65,7 +65,7 @@ module _ {D : Type 0} (told : Type 0) (state : D → DiskState) (own size : D �
       })
 
   -- in which an event is made, and its answers go out
-  pub turn_made : (source : Source) (occasion : Occasion) (seat : Seat D) (old ready new : NodeState D) (ends left after : List NodeEnds) (answers : List ClientAnswer)
+  pub turn_made : (source : EventSource) (occasion : Occasion) (seat : Seat D) (old ready new : CellState D) (ends left after : List NodeEnds) (answers : List ClientAnswer)
       → record { node = old; ends = ends } ≡ seat → IsSameNode old ready → due source ready ends ≡ Some occasion → left ≡ left_by source ready ends
       → MakesIn told state own size occasion ready new answers → after ≡ all_delivered answers left
       → Turns told state own size source seat (record { node = new; ends = after })
@@ -79,7 +79,7 @@ module _ {D : Type 0} (told : Type 0) (state : D → DiskState) (own size : D �
       })
 
   -- or its answers do not
-  pub turn_broken : (source : Source) (occasion : Occasion) (seat new : Seat D) (old ready : NodeState D) (ends : List NodeEnds) (answers : List ClientAnswer)
+  pub turn_broken : (source : EventSource) (occasion : Occasion) (seat new : Seat D) (old ready : CellState D) (ends : List NodeEnds) (answers : List ClientAnswer)
       → record { node = old; ends = ends } ≡ seat → IsSameNode old ready → due source ready ends ≡ Some occasion
       → MakesIn told state own size occasion ready new.node answers → IsBroken told state own size source seat new
   turn_broken source occasion seat new old ready ends answers is same some makes =
@@ -91,7 +91,7 @@ module _ {D : Type 0} (told : Type 0) (state : D → DiskState) (own size : D �
 same_sources : (old new : List NodeEnds) → HaveSameRings old new → sources_of new ≡ sources_of old
 same_sources [] [] same = refl
 same_sources (x ∷ xs) (y ∷ ys) same =
-    ap (λ client. sources.Client client ∷ sources_of ys) same.0.client ∙ ap (λ (rest : List Source). sources.Client x.client ∷ rest) (same_sources xs ys same.1)
+    ap (λ client. sources.Client client ∷ sources_of ys) same.0.client ∙ ap (λ (rest : List EventSource). sources.Client x.client ∷ rest) (same_sources xs ys same.1)
 same_sources [] (y ∷ ys) same = absurd same
 same_sources (x ∷ xs) [] same = absurd same
 
@@ -110,7 +110,7 @@ pub on_ok_map : {T E A B : Type 0} (result : Result T E) → OnOk result A → (
 on_ok_map (Ok t) a f = f a
 on_ok_map (Err e) a f = a
 
-pub same_node : {D : Type 0} (node : NodeState D) → IsSameNode node node
+pub same_node : {D : Type 0} (node : CellState D) → IsSameNode node node
 same_node (states.Up running) = (refl, (refl, refl))
 same_node (states.Down stopped) = (refl, (refl, ((refl, refl), (refl, refl))))
 

@@ -3,10 +3,10 @@ use Rattle.std.proofs.Common.{◌≡◌, ap, subst, sym, refl, ℕ, zero, suc, L
 use Rattle.std.specs.Prelude.{Result}
 use Rattle.qs_base.specs.declared.identifiers.ClientNo.{ClientNo}
 use Rattle.qs_base.specs.declared.memory.NoMemory.{NoMemory}
-use Rattle.qs_journal.specs.declared.script_line.LineAnswer.{LineAnswer}
-use Rattle.qs_journal.specs.declared.script_line.ScriptLine.{ScriptLine}
-use Rattle.qs_lanes.specs.Lanes.{ends_of, CarriesIn, CarriesOut}
-use Rattle.qs_lanes.specs.declared.ends.NodeEnds.{NodeEnds}
+use Rattle.qs_book_journal.specs.declared.script_line.LineAnswer.{LineAnswer}
+use Rattle.qs_book_journal.specs.declared.script_line.ScriptLine.{ScriptLine}
+use Rattle.qs_link.specs.Lanes.{ends_of, CarriesIn, CarriesOut}
+use Rattle.qs_link.specs.declared.ends.NodeEnds.{NodeEnds}
 use Rattle.qs_link.specs.Lane.{FeedValue, DrawValue}
 
 whole : (len : ℕ) (new rest : List NodeEnds) → length new ≡ len → take len (new ++ rest) ≡ new

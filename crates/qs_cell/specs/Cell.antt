@@ -4,25 +4,25 @@ use Rattle.std.specs.List.{list_any}
 use Rattle.qs_base.specs.Causes.{Rose}
 use Rattle.qs_disk.specs.Disk.{DiskState}
 use Rattle.qs_disk.specs.Fuse.{FusedValue, GoesOn, fused_count}
-use Rattle.qs_host.specs.Host.{effects_at, node_after, log_after, IsLogAfter}
-use Rattle.qs_host.specs.Roomy.{LacksRoom}
-use Rattle.qs_journal.specs.declared.entry.CrashCause.{CrashCause}
-use Rattle.qs_journal.specs.declared.entry.CrashCause.TheVariants as causes
+use Rattle.qs_node_host.specs.Host.{effects_at, node_after, log_after, IsLogAfter}
+use Rattle.qs_node_host.specs.Roomy.{LacksRoom}
+use Rattle.qs_book_journal.specs.declared.entry.CrashCause.{CrashCause}
+use Rattle.qs_book_journal.specs.declared.entry.CrashCause.TheVariants as causes
 use Rattle.qs_log.specs.Log.{LogValue, Stands}
-use Rattle.qs_machine.specs.Clauses.{is_crash}
-use Rattle.qs_step.specs.declared.event.ClientAnswer.{ClientAnswer}
-use Rattle.qs_step.specs.declared.event.Effects.{Effects}
-use Rattle.qs_step.specs.declared.trace.Did.TheVariants as dids
-use Rattle.qs_chronicle.specs.declared.occasion.Occasion.{Occasion}
-use Rattle.qs_points.specs.declared.points.Watched.{Watched}
+use Rattle.qs_book_machine.specs.Clauses.{is_crash}
+use Rattle.qs_node_step.specs.declared.event.ClientAnswer.{ClientAnswer}
+use Rattle.qs_node_step.specs.declared.event.Effects.{Effects}
+use Rattle.qs_node_step.specs.declared.trace.Did.TheVariants as dids
+use Rattle.qs_cell_chronicle.specs.declared.occasion.Occasion.{Occasion}
+use Rattle.qs_cell_chronicle.specs.declared.points.Watched.{Watched}
 use Rattle.qs_cell.specs.Outcomes.{Outcome}
 use Rattle.qs_cell.specs.Outcomes as outcomes
 use Rattle.qs_cell.specs.declared.running.Running.{Running}
 use Rattle.qs_cell.specs.declared.stopped.Stopped.{Stopped}
-use Rattle.qs_chronicle.specs.Carried.{Seen, seen, answered, is_replaced}
-use Rattle.qs_chronicle.specs.Occasions.{event_of, did_of, taken}
-use Rattle.qs_chronicle.specs.Chronicle.{Told, counted, last_stamp, is_last, stamped, numbered, noted, crashed}
-use Rattle.qs_points.specs.Points.{stops_before, stops_after, spent, after_entries}
+use Rattle.qs_cell_chronicle.specs.Carried.{Seen, seen, answered, is_replaced}
+use Rattle.qs_cell_chronicle.specs.Occasions.{event_of, did_of, taken}
+use Rattle.qs_cell_chronicle.specs.Chronicle.{Told, counted, last_stamp, is_last, stamped, numbered, noted, crashed}
+use Rattle.qs_cell_chronicle.specs.Points.{stops_before, stops_after, spent, after_entries}
 
 -- ---- what it does to what the cell carries
 

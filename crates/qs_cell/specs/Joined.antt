@@ -1,10 +1,10 @@
 -- The lanes of a node stay those that its clients have the other ends of.
 use Rattle.std.specs.Prelude.{◌≡◌, ⊤, List, [], ◌∷◌}
 use Rattle.qs_base.specs.declared.identifiers.ClientNo.{ClientNo}
-use Rattle.qs_journal.specs.declared.script_line.LineAnswer.{LineAnswer}
-use Rattle.qs_journal.specs.declared.script_line.ScriptLine.{ScriptLine}
-use Rattle.qs_lanes.specs.Lanes.{ends_of, SendsTo, SendsFrom}
-use Rattle.qs_lanes.specs.declared.ends.NodeEnds.{NodeEnds}
+use Rattle.qs_book_journal.specs.declared.script_line.LineAnswer.{LineAnswer}
+use Rattle.qs_book_journal.specs.declared.script_line.ScriptLine.{ScriptLine}
+use Rattle.qs_link.specs.Lanes.{ends_of, SendsTo, SendsFrom}
+use Rattle.qs_link.specs.declared.ends.NodeEnds.{NodeEnds}
 use Rattle.qs_link.specs.Lane.{FeedValue, DrawValue}
 
 -- the ends of one client: nothing was pushed into a ring, and nothing popped

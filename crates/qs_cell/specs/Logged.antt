@@ -1,13 +1,13 @@
 -- Each image of a node's disk has a log, whatever stopped the node, and what the log held as the node was started is at its front.
 use Rattle.std.specs.Prelude.{◌≡◌, ℕ, List, ◌++◌}
 use Rattle.qs_disk.specs.Disk.{Frame, EachImage}
-use Rattle.qs_incarnation.specs.Incarnation.{HasOneOf}
+use Rattle.qs_log_start.specs.Incarnation.{HasOneOf}
 use Rattle.qs_log.specs.Image.{IsLog}
-use Rattle.qs_machine.specs.declared.opened.Opened.{Opened}
+use Rattle.qs_book_machine.specs.declared.opened.Opened.{Opened}
 use Rattle.qs_record.specs.declared.record.Record.{Record}
 use Rattle.qs_slot.specs.Slot.{Present}
-use Rattle.qs_step.specs.Opening.{recovered_of}
-use Rattle.qs_step.specs.declared.setting.Setting.{Setting}
+use Rattle.qs_node_step.specs.Opening.{recovered_of}
+use Rattle.qs_node_step.specs.declared.setting.Setting.{Setting}
 use Rattle.qs_world.specs.Histories.{opened_with}
 
 -- the records go on from those that say what the machine opens with

@@ -1,8 +1,8 @@
 -- What comes of an event: the node after it, or what is left of one that stopped.
 use Rattle.std.specs.Prelude.{Bool, false, List}
-use Rattle.qs_journal.specs.declared.entry.CrashCause.{CrashCause}
-use Rattle.qs_journal.specs.declared.entry.CrashCause.TheVariants as causes
-use Rattle.qs_step.specs.declared.event.ClientAnswer.{ClientAnswer}
+use Rattle.qs_book_journal.specs.declared.entry.CrashCause.{CrashCause}
+use Rattle.qs_book_journal.specs.declared.entry.CrashCause.TheVariants as causes
+use Rattle.qs_node_step.specs.declared.event.ClientAnswer.{ClientAnswer}
 use Rattle.qs_cell.specs.declared.running.Fate.{Fate}
 use Rattle.qs_cell.specs.declared.running.Fate.TheVariants as fates
 use Rattle.qs_cell.specs.declared.running.Running.{Running}

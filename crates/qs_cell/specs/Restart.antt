@@ -3,23 +3,23 @@ use Rattle.std.specs.Prelude.{◌≡◌, ◌↔◌, ℕ, [], ◌∷◌, map, Non
 use Rattle.std.specs.Global.{Global}
 use Rattle.qs_base.specs.Causes.{Rose}
 use Rattle.qs_disk.specs.Fuse.{FusedValue}
-use Rattle.qs_incarnation.specs.Incarnation.{HasTripped}
-use Rattle.qs_incarnation.specs.declared.incarnation.ReopenFault.{ReopenFault}
-use Rattle.qs_incarnation.specs.declared.incarnation.ReopenFault.TheVariants as reopen_faults
-use Rattle.qs_journal.specs.declared.entry.Act.{Act}
-use Rattle.qs_journal.specs.declared.entry.Act.TheVariants as acts
-use Rattle.qs_journal.specs.declared.entry.Found.{Found}
+use Rattle.qs_log_start.specs.Incarnation.{HasTripped}
+use Rattle.qs_log_start.specs.declared.incarnation.ReopenFault.{ReopenFault}
+use Rattle.qs_log_start.specs.declared.incarnation.ReopenFault.TheVariants as reopen_faults
+use Rattle.qs_book_journal.specs.declared.entry.Act.{Act}
+use Rattle.qs_book_journal.specs.declared.entry.Act.TheVariants as acts
+use Rattle.qs_book_journal.specs.declared.entry.Found.{Found}
 use Rattle.qs_log.specs.Log.{LogValue, records_of}
 use Rattle.qs_restart.specs.declared.recovered.OpenVote.{OpenVote}
 use Rattle.qs_restart.specs.declared.recovered.Recovered.{Recovered}
-use Rattle.qs_step.specs.Opening.{recovered_of, opened_node}
-use Rattle.qs_step.specs.declared.trace.Did.TheVariants as dids
+use Rattle.qs_node_step.specs.Opening.{recovered_of, opened_node}
+use Rattle.qs_node_step.specs.declared.trace.Did.TheVariants as dids
 use Rattle.qs_cell.specs.declared.running.Running.{Running}
 use Rattle.qs_cell.specs.declared.stopped.Restarted.{Restarted}
 use Rattle.qs_cell.specs.declared.stopped.Restarted.TheVariants as restarts
 use Rattle.qs_cell.specs.declared.stopped.Stopped.{Stopped}
-use Rattle.qs_chronicle.specs.Carried.{Seen, seen}
-use Rattle.qs_chronicle.specs.Chronicle.{stamped, in_round, noted}
+use Rattle.qs_cell_chronicle.specs.Carried.{Seen, seen}
+use Rattle.qs_cell_chronicle.specs.Chronicle.{stamped, in_round, noted}
 
 -- ---- what it makes of the cell
 

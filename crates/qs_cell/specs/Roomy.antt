@@ -1,18 +1,18 @@
 -- A node of a cell whose log has room for all that is kept there: what its events and restarts leave of that.
 use Rattle.std.specs.Prelude.{◌≡◌, ℕ, true, false, ⊤}
-use Rattle.qs_fits.specs.Fits.{IsEnough}
-use Rattle.qs_fits.specs.Opens.{are_named}
-use Rattle.qs_host.specs.Roomy.{BeginsNewAt, IsRoomyHost}
+use Rattle.qs_node_room.specs.Fits.{IsEnough}
+use Rattle.qs_node_room.specs.Opens.{are_named}
+use Rattle.qs_node_host.specs.Roomy.{BeginsNewAt, IsRoomyHost}
 use Rattle.qs_log.specs.Log.{records_of}
 use Rattle.qs_restart.specs.Recovery.{recovery}
-use Rattle.qs_step.specs.declared.setting.Setting.{Setting}
-use Rattle.qs_chronicle.specs.Occasions.{event_of}
-use Rattle.qs_chronicle.specs.declared.occasion.Occasion.{Occasion}
+use Rattle.qs_node_step.specs.declared.setting.Setting.{Setting}
+use Rattle.qs_cell_chronicle.specs.Occasions.{event_of}
+use Rattle.qs_cell_chronicle.specs.declared.occasion.Occasion.{Occasion}
 use Rattle.qs_cell.specs.Outcomes.{Outcome}
 use Rattle.qs_cell.specs.Outcomes as outcomes
 use Rattle.qs_cell.specs.declared.running.Running.{Running}
-use Rattle.qs_cell.specs.declared.state.NodeState.{NodeState}
-use Rattle.qs_cell.specs.declared.state.NodeState.TheVariants as states
+use Rattle.qs_cell.specs.declared.state.CellState.{CellState}
+use Rattle.qs_cell.specs.declared.state.CellState.TheVariants as states
 use Rattle.qs_cell.specs.declared.stopped.Restarted.{Restarted}
 use Rattle.qs_cell.specs.declared.stopped.Restarted.TheVariants as restarts
 
@@ -29,12 +29,12 @@ IsRoomyOutcome keep size (outcomes.Followed stopped answers) = stopped.is_full �
 IsRoomyOutcome keep size (outcomes.Replaced stopped) = stopped.is_full ≡ false
 IsRoomyOutcome keep size (outcomes.CutOff stopped) = stopped.is_full ≡ false
 
-abbrev pub IsRoomyNode : {D : Type 0} → ℕ → ℕ → NodeState D → Type 0
+abbrev pub IsRoomyNode : {D : Type 0} → ℕ → ℕ → CellState D → Type 0
 IsRoomyNode keep size (states.Up running) = IsRoomyHost keep size running.host
 IsRoomyNode keep size (states.Down stopped) = stopped.is_full ≡ false
 
 -- no event comes to a node that is down
-abbrev pub ComesNewTo : {D : Type 0} → ℕ → Occasion → NodeState D → Type 0
+abbrev pub ComesNewTo : {D : Type 0} → ℕ → Occasion → CellState D → Type 0
 ComesNewTo size occasion (states.Up running) = ComesNew size occasion running
 ComesNewTo size occasion (states.Down stopped) = ⊤
 
@@ -52,6 +52,6 @@ RisesRoomy keep size (restarts.Up running) = are_named (recovery (records_of run
 RisesRoomy keep size (restarts.Down stopped why) = ⊤
 
 -- and so is one that was roomy before, or down, but not as its log was full
-abbrev pub StartsRoomy : {D : Type 0} → ℕ → ℕ → NodeState D → Type 0
+abbrev pub StartsRoomy : {D : Type 0} → ℕ → ℕ → CellState D → Type 0
 StartsRoomy keep size (states.Up running) = are_named (recovery (records_of running.host.log)) ≡ true → IsRoomyHost keep size running.host
 StartsRoomy keep size (states.Down stopped) = stopped.is_full ≡ false

@@ -4,28 +4,28 @@ use Rattle.std.specs.Global.{Global}
 use Rattle.qs_base.specs.declared.identifiers.NodeNo.{NodeNo}
 use Rattle.qs_disk.specs.Disk.{DiskState}
 use Rattle.qs_disk.specs.Fuse.{FusedValue}
-use Rattle.qs_host.specs.Host.{opened_host}
-use Rattle.qs_incarnation.specs.Incarnation.{open_limit, IsRaisedLog, IsArmed}
-use Rattle.qs_journal.specs.declared.entry.Entry.{Entry}
-use Rattle.qs_journal.specs.declared.script_line.Point.{Point}
-use Rattle.qs_kept.specs.Keeping.{no_kept}
-use Rattle.qs_lanes.specs.declared.ends.NodeEnds.{NodeEnds}
+use Rattle.qs_node_host.specs.Host.{opened_host}
+use Rattle.qs_log_start.specs.Incarnation.{open_limit, IsRaisedLog, IsArmed}
+use Rattle.qs_book_journal.specs.declared.entry.Entry.{Entry}
+use Rattle.qs_book_journal.specs.declared.script_line.Point.{Point}
+use Rattle.qs_node_kept.specs.Keeping.{no_kept}
+use Rattle.qs_link.specs.declared.ends.NodeEnds.{NodeEnds}
 use Rattle.qs_log.specs.Log.{LogValue}
-use Rattle.qs_machine.specs.declared.opened.Opened.{Opened}
-use Rattle.qs_points.specs.declared.points.Watched.{Watched}
-use Rattle.qs_step.specs.declared.setting.Setting.{Setting}
-use Rattle.qs_step.specs.declared.trace.Step.{Step}
+use Rattle.qs_book_machine.specs.declared.opened.Opened.{Opened}
+use Rattle.qs_cell_chronicle.specs.declared.points.Watched.{Watched}
+use Rattle.qs_node_step.specs.declared.setting.Setting.{Setting}
+use Rattle.qs_node_step.specs.declared.trace.Step.{Step}
 use Rattle.qs_world.specs.Histories.{opened_with}
-use Rattle.qs_chronicle.specs.Carried.{Seen, seen}
-use Rattle.qs_chronicle.specs.Chronicle.{new_told}
+use Rattle.qs_cell_chronicle.specs.Carried.{Seen, seen}
+use Rattle.qs_cell_chronicle.specs.Chronicle.{new_told}
 use Rattle.qs_cell.specs.Logged.{GoesOn, IsLogged}
 use Rattle.qs_cell.specs.Restart.{inc_of, found_in}
 use Rattle.qs_cell.specs.State.{Up, LogStands, IsAllowed, carried_of, disk_of}
 use Rattle.qs_cell.specs.Visits.{Seat}
 use Rattle.qs_cell.specs.declared.starting.CellOpen.{CellOpen}
 use Rattle.qs_cell.specs.declared.starting.NodePlan.{NodePlan}
-use Rattle.qs_cell.specs.declared.state.NodeState.{NodeState}
-use Rattle.qs_cell.specs.declared.state.NodeState.TheVariants as states
+use Rattle.qs_cell.specs.declared.state.CellState.{CellState}
+use Rattle.qs_cell.specs.declared.state.CellState.TheVariants as states
 
 -- what contracts see of a cell
 pub record CellValue (D : Type 0) : Type 0 where
@@ -35,12 +35,12 @@ pub record CellValue (D : Type 0) : Type 0 where
   pub faults : ℕ  -- what the disk itself had counted as it was handed in
 
 -- the log of a node that is up goes on from what it was started with
-abbrev pub LogGoesOn : {D : Type 0} → Opened → NodeState D → Type 0
+abbrev pub LogGoesOn : {D : Type 0} → Opened → CellState D → Type 0
 LogGoesOn opened (states.Up running) = GoesOn opened running.host.log.forced
 LogGoesOn opened (states.Down stopped) = Unit {0}
 
 -- what holds of each
-pub record IsSound {D : Type 0} (told : Type 0) (state : D → DiskState) (opened : Opened) (node : NodeState D) : Type 0 where
+pub record IsSound {D : Type 0} (told : Type 0) (state : D → DiskState) (opened : Opened) (node : CellState D) : Type 0 where
   pub stands : told → LogStands state node
   pub allowed : IsAllowed (carried_of node)
   pub goes_on : told → LogGoesOn opened node

@@ -3,20 +3,20 @@ use Rattle.std.specs.Prelude.{◌≡◌, ◌≢◌, ◌↔◌, ℕ, [], ◌∷�
 use Rattle.std.specs.Global.{Global}
 use Rattle.qs_base.specs.Causes.{Rose}
 use Rattle.qs_disk.specs.Fuse.{FusedValue, GoesOn}
-use Rattle.qs_host.specs.Host.{HostValue, node_after, worked_node, opened_host, IsLogAfter}
-use Rattle.qs_incarnation.specs.declared.counts.Counts.{Counts}
-use Rattle.qs_incarnation.specs.declared.incarnation.ReopenFault.{ReopenFault}
-use Rattle.qs_incarnation.specs.declared.incarnation.ReopenFault.TheVariants as reopen_faults
-use Rattle.qs_journal.specs.declared.entry.CrashCause.{CrashCause}
+use Rattle.qs_node_host.specs.Host.{HostValue, node_after, worked_node, opened_host, IsLogAfter}
+use Rattle.qs_log_start.specs.declared.counts.FaultCounts.{FaultCounts}
+use Rattle.qs_log_start.specs.declared.incarnation.ReopenFault.{ReopenFault}
+use Rattle.qs_log_start.specs.declared.incarnation.ReopenFault.TheVariants as reopen_faults
+use Rattle.qs_book_journal.specs.declared.entry.CrashCause.{CrashCause}
 use Rattle.qs_log.specs.Log.{LogValue}
-use Rattle.qs_step.specs.declared.event.Effects.{Effects}
-use Rattle.qs_step.specs.declared.trace.Did.TheVariants as dids
-use Rattle.qs_step.specs.declared.trace.Did.{Did}
-use Rattle.qs_chronicle.specs.declared.occasion.Occasion.{Occasion}
-use Rattle.qs_chronicle.specs.declared.carried.Carried.{Carried}
-use Rattle.qs_chronicle.specs.Occasions.{event_of, taken}
-use Rattle.qs_chronicle.specs.Carried.{seen}
-use Rattle.qs_chronicle.specs.Chronicle.{crashed, noted, stamped}
+use Rattle.qs_node_step.specs.declared.event.Effects.{Effects}
+use Rattle.qs_node_step.specs.declared.trace.Did.TheVariants as dids
+use Rattle.qs_node_step.specs.declared.trace.Did.{Did}
+use Rattle.qs_cell_chronicle.specs.declared.occasion.Occasion.{Occasion}
+use Rattle.qs_cell_chronicle.specs.declared.carried.Carried.{Carried}
+use Rattle.qs_cell_chronicle.specs.Occasions.{event_of, taken}
+use Rattle.qs_cell_chronicle.specs.Carried.{seen}
+use Rattle.qs_cell_chronicle.specs.Chronicle.{crashed, noted, stamped}
 use Rattle.qs_cell.specs.declared.running.Running.{Running}
 use Rattle.qs_cell.specs.declared.stopped.Stopped.{Stopped}
 use Rattle.qs_cell.specs.Cell.{begun, out_of, IsUnplanned}
@@ -63,7 +63,7 @@ abbrev pub running_with : {D F X : Type 0} → HostValue (FusedValue D) → Carr
 running_with host carried = record { host = host; carried = carried }
 
 -- the node is still down with what it carries, over this disk
-pub record IsLeft {D : Type 0} (own : D → ℕ) (rest : Rest) (before : Counts) (left : FusedValue D) (stopped : Stopped D) (why : ReopenFault) : Type 0 where
+pub record IsLeft {D : Type 0} (own : D → ℕ) (rest : Rest) (before : FaultCounts) (left : FusedValue D) (stopped : Stopped D) (why : ReopenFault) : Type 0 where
   pub disk : stopped.disk ≡ left
   pub kept : stopped.kept ≡ rest.kept
   pub cause : stopped.cause ≡ rest.cause
@@ -73,7 +73,7 @@ pub record IsLeft {D : Type 0} (own : D → ℕ) (rest : Rest) (before : Counts)
   pub tripped : (why ≡ reopen_faults.Tripped) ↔ (left.fuse.trips ≢ before.trips)
   pub failed : why ≡ reopen_faults.DiskFailed → Rose before.own (own left.disk)
 
-abbrev pub IsLeftDown : {D F X : Type 0} → (D → ℕ) → Rest → Counts → FusedValue D → Restarted D F X → Type 0
+abbrev pub IsLeftDown : {D F X : Type 0} → (D → ℕ) → Rest → FaultCounts → FusedValue D → Restarted D F X → Type 0
 IsLeftDown own rest before disk (restarts.Up running) = ⊥
 IsLeftDown own rest before disk (restarts.Down stopped why) = IsLeft own rest before disk stopped why
 
@@ -86,6 +86,6 @@ pub record IsBegun {D F X : Type 0} (alloc : Global) (log : LogValue (FusedValue
   pub crashes : new.carried.crashes ≡ rest.carried.crashes
   pub points : new.carried.points.items ≡ rest.carried.points.items
 
-abbrev pub Begins : {D F X : Type 0} → (D → ℕ) → Global → LogValue (FusedValue D) → Rest → Counts → Restarted D F X → Type 0
+abbrev pub Begins : {D F X : Type 0} → (D → ℕ) → Global → LogValue (FusedValue D) → Rest → FaultCounts → Restarted D F X → Type 0
 Begins own alloc log rest before (restarts.Up running) = IsBegun alloc log rest running
 Begins own alloc log rest before (restarts.Down stopped why) = IsLeft own rest before log.disk stopped why

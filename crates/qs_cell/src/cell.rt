@@ -8,30 +8,29 @@ ghost use Rattle.qs_cell.specs.Starts.{IsStarted, started_disk, journal_of, trac
 ghost use Rattle.qs_cell.specs.Restart.{in_round_as};
 ghost use Rattle.qs_cell.specs.State.{IsSeenAs, LogStands, IsAllowed, StartsAgain, carried_of, cause_of, disk_of, has_undecided, is_settled_node};
 ghost use Rattle.qs_cell.specs.Visits.{Turns, IsBroken, TurnsAll, TurnsSome, Visits, Breaks, Grows, sources_of, due, left_by, held_by, as_command, due_command, due_again, left_of, all_delivered, deliver, has_noted, is_noted, MakesIn};
-ghost use Rattle.qs_chronicle.specs.Chronicle.{HasRoom};
+ghost use Rattle.qs_cell_chronicle.specs.Chronicle.{HasRoom};
 ghost use Rattle.qs_cell.specs.declared.state.RestartFault.TheVariants as restart_faults;
 ghost use Rattle.qs_disk.specs.Disk.{EachImage};
 ghost use Rattle.qs_disk.specs.Moments.{Keeps};
-ghost use Rattle.qs_incarnation.specs.Incarnation.{open_limit, IsTouched};
-ghost use Rattle.qs_lanes.specs.Lanes.{ends_of, SendsTo, SendsFrom, CarriesIn, CarriesOut};
+ghost use Rattle.qs_log_start.specs.Incarnation.{open_limit, IsTouched};
+ghost use Rattle.qs_link.specs.Lanes.{ends_of, SendsTo, SendsFrom, CarriesIn, CarriesOut};
 ghost use Rattle.qs_log.specs.Image.{IsDamaged};
 ghost use Rattle.qs_log.specs.declared.fault.OpenFault.TheVariants as open_faults;
 
+use crate::opened_with;
 use crate::starting::{CellOpen, NodePlan, Started, begin};
-use crate::state::{NodeState, RestartFault};
+use crate::state::{CellState, RestartFault};
 use core::mem;
 use qs_base::{ClientNo, Copied, List, NoMemory};
-use qs_chronicle::{Carried, Held, Occasion};
+use qs_book_journal::{Act, CrashCause, Entry, LineAnswer, ScriptLine};
+use qs_book_machine::Opened;
+use qs_cell_chronicle::{Carried, HeldCommand, Occasion};
 use qs_disk::{Disk, Fused};
-use qs_incarnation::begin_run;
-use qs_journal::{Act, CrashCause, Entry, LineAnswer, ScriptLine};
-use qs_lanes::{NodeEnds, carry_in, carry_out, deliver, take_line};
-use qs_link::{Draw, Feed};
+use qs_link::{Draw, Feed, NodeEnds, carry_in, carry_out, deliver, take_line};
 use qs_log::LogOpen;
-use qs_machine::Opened;
-use qs_opened::opened_with;
+use qs_log_start::begin_run;
+use qs_node_step::{ClientAnswer, Setting, Step};
 use qs_restart::Recovered;
-use qs_step::{ClientAnswer, Setting, Step};
 use std::alloc::Global;
 use std::marker::Model;
 
@@ -39,7 +38,7 @@ use std::marker::Model;
 #[derive(Drop)]
 pub struct NodeCell<D: Disk> {
     alloc: Global,
-    state: NodeState<D>,
+    state: CellState<D>,
     ends: Vec<NodeEnds>,
     /// What its log said as it was started, and for which setting.
     first: Setting,
@@ -62,7 +61,7 @@ const NODE_SOURCES: usize = 2;
 
 /// Where an event of a visit comes from.
 #[derive(Clone, Copy)]
-enum Source {
+enum EventSource {
     /// The commands of that client.
     Client { client: ClientNo },
     /// The requests that wait in the queues.
@@ -124,7 +123,7 @@ impl<D: Disk> NodeCell<D> {
         let first = running.carried.setting;
         Ok(NodeCell {
             alloc,
-            state: NodeState::Up { running },
+            state: CellState::Up { running },
             ends,
             first,
             found,
@@ -184,7 +183,7 @@ impl<D: Disk> NodeCell<D> {
     }
 
     /// The event of that source, if one is due, and its answers.
-    fn turn(&mut self, source: Source) -> Result<(), NoMemory>
+    fn turn(&mut self, source: EventSource) -> Result<(), NoMemory>
         ensures turns { OnOk result (Turns D.told D.state D.fault_count D.byte_count source self.old.seat self.new.seat) }
         ensures breaks { OnErr result (IsBroken D.told D.state D.fault_count D.byte_count source self.old.seat self.new.seat) }
         ensures opened { self.new.opened ≡ self.old.opened }
@@ -370,27 +369,27 @@ fn source_count(ends: &[NodeEnds]) -> usize
 }
 
 /// The source at a place: the clients in order, then the queues, then the clock.
-fn source_at(ends: &[NodeEnds], place: usize) -> Source
+fn source_at(ends: &[NodeEnds], place: usize) -> EventSource
     requires { place < length (sources_of ends.now) }
-    ensures { (other : Source) → result ≡ get_or (sources_of ends.now) place other }
+    ensures { (other : EventSource) → result ≡ get_or (sources_of ends.now) place other }
 {
     if place < ends.len() {
-        Source::Client {
+        EventSource::Client {
             client: ends[place].client,
         }
     } else if place == ends.len() {
-        Source::Queues
+        EventSource::Queues
     } else {
-        Source::Clock
+        EventSource::Clock
     }
 }
 
 /// The event that is due of that source; none of a node that is down. After `NoMemory`, which comes where memory was
 /// refused, all is as it was.
 fn next<D: Disk>(
-    state: &NodeState<D>,
+    state: &CellState<D>,
     ends: &mut Vec<NodeEnds>,
-    source: Source,
+    source: EventSource,
 ) -> Result<Option<Occasion>, NoMemory>
     ensures due { IfOk result (λ occasion. occasion ≡ due source state.now ends.old.items) }
     ensures left { OnOk result (ends.new.items ≡ left_by source state.now ends.old.items) }
@@ -400,10 +399,10 @@ fn next<D: Disk>(
         return Ok(None);
     }
     match source {
-        Source::Client { client } => next_command(state.carried(), ends, client),
-        Source::Queues if state.queued() => Ok(Some(Occasion::Queues)),
-        Source::Queues => Ok(None),
-        Source::Clock => Ok(Some(Occasion::Clock)),
+        EventSource::Client { client } => next_command(state.carried(), ends, client),
+        EventSource::Queues if state.queued() => Ok(Some(Occasion::Queues)),
+        EventSource::Queues => Ok(None),
+        EventSource::Clock => Ok(Some(Occasion::Clock)),
     }
 }
 
@@ -424,7 +423,7 @@ fn next_command(
 }
 
 /// A command in hand is due again where an earlier incarnation took it.
-fn held_command(held: &Held, inc: u64) -> Result<Option<Occasion>, NoMemory>
+fn held_command(held: &HeldCommand, inc: u64) -> Result<Option<Occasion>, NoMemory>
     ensures { IfOk result (λ occasion. occasion ≡ due_again inc held.now) }
 {
     if held.inc == inc {

@@ -2,14 +2,16 @@
 #![tactic(auto)]
 
 mod cell;
+mod opened;
 mod running;
 mod starting;
 mod state;
 mod stopped;
 
 pub use cell::{NodeCell, Visited};
-pub use qs_lanes::NodeEnds;
+pub use opened::opened_with;
+pub use qs_link::NodeEnds;
 pub use running::{Fate, Running};
 pub use starting::{CellOpen, NodePlan};
-pub use state::{NodeState, RestartFault};
+pub use state::{CellState, RestartFault};
 pub use stopped::{Restarted, Stopped};

@@ -2,16 +2,16 @@
 ghost use Rattle.std.specs.Prelude.{◌≡◌, ◌↔◌, ℕ, ◌+◌, true, None, map, length, OnOk, IfOk};
 ghost use Rattle.qs_disk.specs.Moments.{Keeps};
 ghost use Rattle.qs_disk.specs.Fuse.{FusedValue};
-ghost use Rattle.qs_host.specs.Host.{IsOldOrAfter, worked_node, effects_at};
-ghost use Rattle.qs_host.specs.Roomy.{HasRoomyLog, IsRoomyHost};
-ghost use Rattle.qs_host.specs.declared.fault.HostFault.TheVariants as faults;
-ghost use Rattle.qs_journal.specs.declared.entry.CrashCause.TheVariants as causes;
+ghost use Rattle.qs_node_host.specs.Host.{IsOldOrAfter, worked_node, effects_at};
+ghost use Rattle.qs_node_host.specs.Roomy.{HasRoomyLog, IsRoomyHost};
+ghost use Rattle.qs_node_host.specs.declared.fault.HostFault.TheVariants as faults;
+ghost use Rattle.qs_book_journal.specs.declared.entry.CrashCause.TheVariants as causes;
 ghost use Rattle.qs_log.specs.Log.{Stands};
-ghost use Rattle.qs_machine.specs.Clauses.{is_crash};
-ghost use Rattle.qs_chronicle.specs.Chronicle.{HasRoom, noted};
-ghost use Rattle.qs_chronicle.specs.Carried.{seen, answered};
-ghost use Rattle.qs_chronicle.specs.Occasions.{taken, event_of, did_of};
-ghost use Rattle.qs_points.specs.Points.{after_entries};
+ghost use Rattle.qs_book_machine.specs.Clauses.{is_crash};
+ghost use Rattle.qs_cell_chronicle.specs.Chronicle.{HasRoom, noted};
+ghost use Rattle.qs_cell_chronicle.specs.Carried.{seen, answered};
+ghost use Rattle.qs_cell_chronicle.specs.Occasions.{taken, event_of, did_of};
+ghost use Rattle.qs_cell_chronicle.specs.Points.{after_entries};
 ghost use Rattle.qs_cell.specs.Cell.{begun, ordered, why_not, fault_cause, out_of, IsOutcome, IfStands, StandsAfter};
 ghost use Rattle.qs_cell.specs.Outcomes.{stopped_of, outcome_of};
 ghost use Rattle.qs_cell.specs.Roomy.{ComesNew, IsRoomyOutcome};
@@ -20,14 +20,16 @@ ghost use Rattle.qs_cell.specs.declared.running.Fate.TheVariants as fates;
 
 use crate::stopped::Stopped;
 use qs_base::{ClientNo, List, NoMemory};
-use qs_chronicle::{Carried, Held, LAST_STAMP, Occasion, answer_all, is_replaced, take_in_hand};
+use qs_base_map::Map;
+use qs_book_journal::{Act, CrashCause};
+use qs_cell_chronicle::{
+    Carried, HeldCommand, LAST_STAMP, Occasion, answer_all, any_stops_after, any_stops_before,
+    is_replaced, pass, spend, take_in_hand,
+};
 use qs_disk::{Disk, Fused};
-use qs_host::{Host, HostFault};
-use qs_journal::{Act, CrashCause};
-use qs_map::Map;
+use qs_node_host::{Host, HostFault};
+use qs_node_step::{ClientAnswer, Did, Effects};
 use qs_ops::Server;
-use qs_points::{any_stops_after, any_stops_before, pass, spend};
-use qs_step::{ClientAnswer, Did, Effects};
 
 /// A node that is up, over the log of a disk behind a fuse, and what its cell carries.
 #[derive(Drop)]
@@ -136,7 +138,11 @@ fn why_not(is_last: bool, is_replaced: bool) -> Option<CrashCause>
     None
 }
 
-fn take(commands: &mut Map<ClientNo, Held>, occasion: &Occasion, inc: u64) -> Result<(), NoMemory>
+fn take(
+    commands: &mut Map<ClientNo, HeldCommand>,
+    occasion: &Occasion,
+    inc: u64,
+) -> Result<(), NoMemory>
     ensures ok { OnOk result (commands.new ≡ taken occasion.now inc commands.old) }
 {
     match occasion {

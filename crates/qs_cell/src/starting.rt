@@ -2,24 +2,23 @@
 ghost use Rattle.std.specs.Prelude.{◌≡◌, ◌≤◌, [], map, IfOk, IfErr};
 ghost use Rattle.qs_cell.specs.Restart.{inc_of, found_in};
 ghost use Rattle.qs_cell.specs.Starts.{Begins, seen_first, setting_in, watched_of};
-ghost use Rattle.qs_chronicle.specs.Carried.{seen};
-ghost use Rattle.qs_kept.specs.Keeping.{no_kept};
+ghost use Rattle.qs_cell_chronicle.specs.Carried.{seen};
+ghost use Rattle.qs_node_kept.specs.Keeping.{no_kept};
 ghost use Rattle.qs_log.specs.declared.fault.OpenFault.TheVariants as open_faults;
 
 use crate::running::Running;
 use qs_base::{List, NoMemory};
-use qs_chronicle::{Carried, Chronicle};
+use qs_base_map::Map;
+use qs_book_journal::Point;
+use qs_cell_chronicle::{Carried, Chronicle, Watched};
 use qs_disk::{Disk, Fused};
 use qs_files::Files;
-use qs_host::{Host, HostOpen};
-use qs_journal::Point;
-use qs_kept::Kept;
 use qs_log::{Log, OpenFault};
-use qs_map::Map;
+use qs_node_host::{Host, HostOpen};
+use qs_node_kept::Kept;
+use qs_node_step::Setting;
 use qs_ops::NoServer;
-use qs_points::Watched;
 use qs_restart::{Recovered, recover};
-use qs_step::Setting;
 use std::alloc::Global;
 
 /// What a script has planned for a node.

@@ -5,26 +5,26 @@ ghost use Rattle.qs_cell.specs.Visits.{MakesIn};
 ghost use Rattle.qs_cell.specs.Restart.{in_round_as};
 ghost use Rattle.qs_cell.specs.Roomy.{ComesNewTo, IsRoomyNode, IsSetToKeep, StartsRoomy};
 ghost use Rattle.qs_disk.specs.Disk.{EachImage};
-ghost use Rattle.qs_host.specs.Roomy.{HasRoomyLog};
-ghost use Rattle.qs_chronicle.specs.Chronicle.{HasRoom};
+ghost use Rattle.qs_node_host.specs.Roomy.{HasRoomyLog};
+ghost use Rattle.qs_cell_chronicle.specs.Chronicle.{HasRoom};
 
 use crate::running::{Fate, Running};
 use crate::stopped::{Restarted, Stopped};
 use core::mem;
 use qs_base::{List, NoMemory};
-use qs_chronicle::{Carried, Occasion};
+use qs_book_journal::{CrashCause, Entry};
+use qs_cell_chronicle::{Carried, Occasion};
 use qs_disk::{Disk, Fused};
 use qs_files::Files;
-use qs_incarnation::ReopenFault;
-use qs_journal::{CrashCause, Entry};
+use qs_log_start::ReopenFault;
+use qs_node_step::{ClientAnswer, Step};
 use qs_ops::NoServer;
-use qs_step::{ClientAnswer, Step};
 use std::alloc::Global;
 use thiserror::Error;
 
 /// A node that is up, or down.
 #[derive(Drop)]
-pub enum NodeState<D: Disk> {
+pub enum CellState<D: Disk> {
     Up {
         running: Running<D, Files, NoServer>,
     },
@@ -44,14 +44,14 @@ pub enum RestartFault {
     NoMemory,
 }
 
-impl<D: Disk> NodeState<D> {
+impl<D: Disk> CellState<D> {
     /// What the cell carries.
     pub fn carried(&self) -> &Carried
         ensures { result.now ≡ carried_of self.now }
     {
         match self {
-            NodeState::Up { running } => &running.carried,
-            NodeState::Down { stopped } => &stopped.carried,
+            CellState::Up { running } => &running.carried,
+            CellState::Down { stopped } => &stopped.carried,
         }
     }
 
@@ -60,8 +60,8 @@ impl<D: Disk> NodeState<D> {
         ensures { result ≡ cause_of self.now }
     {
         match self {
-            NodeState::Up { .. } => None,
-            NodeState::Down { stopped } => Some(stopped.cause),
+            CellState::Up { .. } => None,
+            CellState::Down { stopped } => Some(stopped.cause),
         }
     }
 
@@ -70,8 +70,8 @@ impl<D: Disk> NodeState<D> {
         ensures { result ≡ is_queued self.now }
     {
         match self {
-            NodeState::Up { running } => running.host.queued(),
-            NodeState::Down { .. } => false,
+            CellState::Up { running } => running.host.queued(),
+            CellState::Down { .. } => false,
         }
     }
 
@@ -80,8 +80,8 @@ impl<D: Disk> NodeState<D> {
         ensures { result ≡ has_undecided self.now }
     {
         match self {
-            NodeState::Up { running } => running.host.undecided(),
-            NodeState::Down { .. } => false,
+            CellState::Up { running } => running.host.undecided(),
+            CellState::Down { .. } => false,
         }
     }
 
@@ -90,8 +90,8 @@ impl<D: Disk> NodeState<D> {
         ensures { result ≡ is_settled_node self.now }
     {
         match self {
-            NodeState::Up { running } => running.host.settled(),
-            NodeState::Down { .. } => false,
+            CellState::Up { running } => running.host.settled(),
+            CellState::Down { .. } => false,
         }
     }
 
@@ -101,8 +101,8 @@ impl<D: Disk> NodeState<D> {
         ensures room { OnOk result (HasRoom 1 1 (carried_of self.new).chronicle) }
     {
         match self {
-            NodeState::Up { running } => running.carried.chronicle.make_room(1, 1),
-            NodeState::Down { stopped } => stopped.carried.chronicle.make_room(1, 1),
+            CellState::Up { running } => running.carried.chronicle.make_room(1, 1),
+            CellState::Down { stopped } => stopped.carried.chronicle.make_room(1, 1),
         }
     }
 
@@ -111,8 +111,8 @@ impl<D: Disk> NodeState<D> {
         ensures { IsSeenAs in_round_as self.old self.new }
     {
         match self {
-            NodeState::Up { running } => running.carried.chronicle.begin_round(),
-            NodeState::Down { stopped } => stopped.carried.chronicle.begin_round(),
+            CellState::Up { running } => running.carried.chronicle.begin_round(),
+            CellState::Down { stopped } => stopped.carried.chronicle.begin_round(),
         }
     }
 
@@ -127,8 +127,8 @@ impl<D: Disk> NodeState<D> {
             → ComesNewTo (D.byte_count (disk_of self.old).disk) occasion self.old → IsRoomyNode keep (D.byte_count (disk_of self.old).disk) self.new }
     {
         let fate = match self {
-            NodeState::Up { running } => running.event(occasion),
-            NodeState::Down { .. } => return List::new(alloc),
+            CellState::Up { running } => running.event(occasion),
+            CellState::Down { .. } => return List::new(alloc),
         };
         match fate {
             Fate::Whole { answers } => answers,
@@ -161,11 +161,11 @@ impl<D: Disk> NodeState<D> {
     }
 
     /// It takes no memory.
-    fn into_stopped(self, cause: CrashCause, is_full: bool) -> NodeState<D>
+    fn into_stopped(self, cause: CrashCause, is_full: bool) -> CellState<D>
         ensures { result ≡ stopped_state cause is_full self }
     {
         match self {
-            NodeState::Up { running } => NodeState::Down {
+            CellState::Up { running } => CellState::Down {
                 stopped: running.into_stopped(cause, is_full),
             },
             down => down,
@@ -173,7 +173,7 @@ impl<D: Disk> NodeState<D> {
     }
 
     /// A node that is down starts again, and the answer says whether it is up. A node that is up is left alone.
-    pub fn restart(self, alloc: Global) -> (NodeState<D>, Result<bool, RestartFault>)
+    pub fn restart(self, alloc: Global) -> (CellState<D>, Result<bool, RestartFault>)
         requires stands { D.told → LogStands D.state self }
         requires allowed { IsAllowed (carried_of self) }
         ensures starts { StartsAgain D.told D.state D.fault_count D.byte_count alloc self result.0 result.1 }
@@ -184,8 +184,8 @@ impl<D: Disk> NodeState<D> {
             → StartsRoomy keep (D.byte_count (disk_of self).disk) result.0 }
     {
         let stopped = match self {
-            NodeState::Up { .. } => return (self, Ok(true)),
-            NodeState::Down { stopped } => stopped,
+            CellState::Up { .. } => return (self, Ok(true)),
+            CellState::Down { stopped } => stopped,
         };
         let files = Files::new(alloc, stopped.carried.setting.quota);
         after_restart(stopped.restart(alloc, files, NoServer::new(alloc)))
@@ -196,11 +196,11 @@ impl<D: Disk> NodeState<D> {
         ensures { result ≡ disk_of self }
     {
         match self {
-            NodeState::Up { running } => {
+            CellState::Up { running } => {
                 let (disk, _, _) = running.host.into_parts();
                 disk
             }
-            NodeState::Down { stopped } => stopped.disk,
+            CellState::Down { stopped } => stopped.disk,
         }
     }
 
@@ -211,12 +211,12 @@ impl<D: Disk> NodeState<D> {
         ensures trace { result.2 ≡ (carried_of self).chronicle.told.trace }
     {
         match self {
-            NodeState::Up { running } => {
+            CellState::Up { running } => {
                 let Running { host, carried } = running;
                 let (disk, _, _) = host.into_parts();
                 parts(disk, carried)
             }
-            NodeState::Down { stopped } => parts(stopped.disk, stopped.carried),
+            CellState::Down { stopped } => parts(stopped.disk, stopped.carried),
         }
     }
 
@@ -225,8 +225,8 @@ impl<D: Disk> NodeState<D> {
         ensures { result ≡ D.fault_count (disk_of self.now).disk }
     {
         match self {
-            NodeState::Up { running } => running.host.disk().own_faults(),
-            NodeState::Down { stopped } => stopped.disk.own_faults(),
+            CellState::Up { running } => running.host.disk().own_faults(),
+            CellState::Down { stopped } => stopped.disk.own_faults(),
         }
     }
 }
@@ -243,13 +243,13 @@ fn parts<D: Disk>(disk: Fused<D>, carried: Carried) -> (Fused<D>, List<Entry>, L
 
 fn after_restart<D: Disk>(
     restarted: Restarted<D, Files, NoServer>,
-) -> (NodeState<D>, Result<bool, RestartFault>)
+) -> (CellState<D>, Result<bool, RestartFault>)
     ensures state { result.0 ≡ state_after restarted }
     ensures answer { result.1 ≡ answer_after restarted }
 {
     match restarted {
-        Restarted::Up { running } => (NodeState::Up { running }, Ok(true)),
-        Restarted::Down { stopped, why } => (NodeState::Down { stopped }, answer_of(why)),
+        Restarted::Up { running } => (CellState::Up { running }, Ok(true)),
+        Restarted::Down { stopped, why } => (CellState::Down { stopped }, answer_of(why)),
     }
 }
 

@@ -1,6 +1,6 @@
 //! A node that is down: how it stops, and how it starts again.
 ghost use Rattle.std.specs.Prelude.{◌≡◌, ◌⊎◌, ◌≤◌, ℕ, ◌∷◌, List, [], map, None, IfOk, OnOk};
-ghost use Rattle.qs_chronicle.specs.Chronicle.{HasRoom, noted, stamped};
+ghost use Rattle.qs_cell_chronicle.specs.Chronicle.{HasRoom, noted, stamped};
 ghost use Rattle.qs_cell.specs.Restart.{IsRestarted, IsWhyDown, IfUp, restarted_disk, found_of, restart_of};
 ghost use Rattle.qs_cell.specs.Roomy.{IsSetToKeep, RisesRoomy};
 ghost use Rattle.qs_cell.specs.Within.{IsLeftDown, Begins};
@@ -8,27 +8,27 @@ ghost use Rattle.qs_cell.specs.declared.stopped.Restarted.TheVariants as restart
 ghost use Rattle.qs_disk.specs.Disk.{EachImage};
 ghost use Rattle.qs_disk.specs.Fuse.{GoesOn, mended};
 ghost use Rattle.qs_disk.specs.Moments.{Keeps};
-ghost use Rattle.qs_host.specs.Roomy.{HasRoomyLog};
-ghost use Rattle.qs_incarnation.specs.Incarnation.{IsLeftOrRaised, IsReopened, HasOneOf};
+ghost use Rattle.qs_node_host.specs.Roomy.{HasRoomyLog};
+ghost use Rattle.qs_log_start.specs.Incarnation.{IsLeftOrRaised, IsReopened, HasOneOf};
 ghost use Rattle.qs_log.specs.Log.{Stands, records_of};
-ghost use Rattle.qs_ops.specs.declared.server.Kind.TheVariants as kinds;
+ghost use Rattle.qs_ops.specs.declared.server.ServerKind.TheVariants as kinds;
 ghost use Rattle.qs_record.specs.declared.record.Record.{Record};
-ghost use Rattle.qs_servers.specs.Kinds.{empty_server};
-ghost use Rattle.qs_step.specs.Opening.{recovered_of};
-ghost use Rattle.qs_step.specs.declared.trace.Did.TheVariants as dids;
+ghost use Rattle.qs_node_servers.specs.Kinds.{empty_server};
+ghost use Rattle.qs_node_step.specs.Opening.{recovered_of};
+ghost use Rattle.qs_node_step.specs.declared.trace.Did.TheVariants as dids;
 
 use crate::running::Running;
 use qs_base::{List, NoMemory};
-use qs_chronicle::Carried;
+use qs_book_journal::{Act, CrashCause, Found};
+use qs_cell_chronicle::Carried;
 use qs_disk::{Disk, Fused};
-use qs_host::Host;
-use qs_incarnation::{Counts, LogReopen, ReopenFault, begin_again, not_begun};
-use qs_journal::{Act, CrashCause, Found};
-use qs_kept::Kept;
 use qs_log::{Log, OpenFault};
+use qs_log_start::{FaultCounts, LogReopen, ReopenFault, begin_again, not_begun};
+use qs_node_host::Host;
+use qs_node_kept::Kept;
+use qs_node_step::{Did, Setting};
 use qs_ops::Server;
 use qs_restart::{OpenVote, Recovered, recover};
-use qs_step::{Did, Setting};
 use std::alloc::Global;
 
 /// A node that is down, and what its cell carries.
@@ -104,7 +104,7 @@ impl<D: Disk> Stopped<D> {
             is_full,
             mut carried,
         } = self;
-        let before = Counts::of(&disk);
+        let before = FaultCounts::of(&disk);
         carried.chronicle.begin_round();
         let rest = Rest {
             kept,
@@ -155,7 +155,7 @@ fn begin_incarnation<D: Disk, F: Server, X: Server>(
     files: F,
     extra: X,
     rest: Rest,
-    before: Counts,
+    before: FaultCounts,
 ) -> Restarted<D, F, X>
     requires files { F.state files ≡ empty_server (kinds.Files rest.carried.setting.quota) }
     requires extra { X.state extra ≡ empty_server kinds.Nothing }
@@ -202,7 +202,7 @@ fn begin_incarnation<D: Disk, F: Server, X: Server>(
 
 fn without_memory<D: Disk, F: Server, X: Server>(
     rest: Rest,
-    before: Counts,
+    before: FaultCounts,
     log: Log<Fused<D>>,
 ) -> Restarted<D, F, X>
     ensures { IsLeftDown D.fault_count rest before log.disk result }

@@ -1,9 +1,9 @@
 -- What a client lends.
 use Rattle.std.specs.Borrow.{Lends, MutBor, Fml}
-use Rattle.qs_journal.specs.contracts.script_line.LineAnswer as line_answer
-use Rattle.qs_journal.specs.contracts.script_line.ScriptLine as script_line
-use Rattle.qs_journal.specs.declared.script_line.LineAnswer.{LineAnswer}
-use Rattle.qs_journal.specs.declared.script_line.ScriptLine.{ScriptLine}
+use Rattle.qs_book_journal.specs.contracts.script_line.LineAnswer as line_answer
+use Rattle.qs_book_journal.specs.contracts.script_line.ScriptLine as script_line
+use Rattle.qs_book_journal.specs.declared.script_line.LineAnswer.{LineAnswer}
+use Rattle.qs_book_journal.specs.declared.script_line.ScriptLine.{ScriptLine}
 use Rattle.qs_link.specs.Lane.{FeedValue, DrawValue}
 use Rattle.qs_link.specs.contracts.lanes.Draw as draw
 use Rattle.qs_link.specs.contracts.lanes.Feed as feed

@@ -1,8 +1,8 @@
 -- A client: its lines, the place that it stands at, and whether the line there is out, which is sent and not answered.
 use Rattle.std.specs.Prelude.{◌+◌, ◌≤◌, ◌==◌, ◌&&◌, ℕ, Bool, true, false, List, length, take, Option, Some, None, slice_get, if◌then◌else◌}
 use Rattle.std.specs.Option.{option_map}
-use Rattle.qs_journal.specs.declared.script_line.LineAnswer.{LineAnswer}
-use Rattle.qs_journal.specs.declared.script_line.ScriptLine.{ScriptLine}
+use Rattle.qs_book_journal.specs.declared.script_line.LineAnswer.{LineAnswer}
+use Rattle.qs_book_journal.specs.declared.script_line.ScriptLine.{ScriptLine}
 use Rattle.qs_client.specs.declared.progress.Progress.{Progress}
 
 -- at its first line

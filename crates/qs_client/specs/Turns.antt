@@ -1,7 +1,7 @@
 -- A turn of a client: it sends the line that it stands at, where none is out, or else takes an answer.
 use Rattle.std.specs.Prelude.{◌≡◌, ◌↔◌, Bool, true, false, List, [], ◌∷◌, Option, Some, None, option_to_list}
-use Rattle.qs_journal.specs.declared.script_line.LineAnswer.{LineAnswer}
-use Rattle.qs_journal.specs.declared.script_line.ScriptLine.{ScriptLine}
+use Rattle.qs_book_journal.specs.declared.script_line.LineAnswer.{LineAnswer}
+use Rattle.qs_book_journal.specs.declared.script_line.ScriptLine.{ScriptLine}
 use Rattle.qs_link.specs.Lane.{Fed, Drawn}
 use Rattle.qs_client.specs.declared.cell.ClientCell.{ClientCell}
 use Rattle.qs_client.specs.Progress.{sent, heard}

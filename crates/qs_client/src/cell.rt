@@ -9,7 +9,7 @@ ghost use Rattle.qs_client.specs.Turns.{Turns};
 
 use crate::progress::Progress;
 use qs_base::{ClientNo, List, NoMemory};
-use qs_journal::{LineAnswer, ScriptLine};
+use qs_book_journal::{LineAnswer, ScriptLine};
 use qs_link::{Draw, Feed};
 
 /// A client's ends of its lanes: its commands go to its node, the answers come from there.

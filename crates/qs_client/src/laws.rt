@@ -2,8 +2,8 @@
 ghost use Rattle.std.specs.Prelude.{◌≡◌, ◌↔◌, ◌++◌, [], ◌∷◌, List, Option, Some, None};
 ghost use Rattle.qs_client.specs.Progress.{begun, to_send, number_at, sent, heard, sent_lines, IsEnded};
 ghost use Rattle.qs_client.specs.declared.progress.Progress.{Progress};
-ghost use Rattle.qs_journal.specs.declared.script_line.LineAnswer.{LineAnswer};
-ghost use Rattle.qs_journal.specs.declared.script_line.ScriptLine.{ScriptLine};
+ghost use Rattle.qs_book_journal.specs.declared.script_line.LineAnswer.{LineAnswer};
+ghost use Rattle.qs_book_journal.specs.declared.script_line.ScriptLine.{ScriptLine};
 
 /// What a client has sent is a front of its lines: nothing as it begins, a line more where it sends
 /// one, and the same where it takes an answer or none.

@@ -4,7 +4,7 @@ ghost use Rattle.std.specs.Option.{option_copied};
 ghost use Rattle.qs_client.specs.Progress.{begun, line_at, number_at, to_send, sent, is_number, awaits, answered, heard};
 
 use qs_base::{Copied, List, NoMemory};
-use qs_journal::{LineAnswer, ScriptLine};
+use qs_book_journal::{LineAnswer, ScriptLine};
 
 /// A client's lines, the place of the line that it stands at, from 0, and whether that line is out:
 /// sent and not answered.

@@ -2,9 +2,9 @@
 use Rattle.std.proofs.Common.{ℕ, List, sym, ◌∙◌}
 use Rattle.qs_base.specs.declared.identifiers.Tid.{Tid}
 use Rattle.qs_ops.specs.declared.share.Share.{Share}
-use Rattle.qs_shares.specs.Shares.{share_in}
-use Rattle.qs_contents.specs.Slots.{Entries, slot_or_new, text_at}
-use Rattle.qs_contents.specs.Sums.{ChangesAlone}
+use Rattle.qs_ops_shares.specs.Shares.{share_in}
+use Rattle.qs_files_contents.specs.Slots.{Entries, slot_or_new, text_at}
+use Rattle.qs_files_contents.specs.Sums.{ChangesAlone}
 use Rattle.qs_files.specs.Held.{Follows}
 use Rattle.qs_files.proofs.Following.{unchanged}
 use Rattle.qs_files.proofs.Prepares.{seen-edited}

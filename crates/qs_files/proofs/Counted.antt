@@ -13,8 +13,8 @@ use Rattle.qs_ops.specs.declared.reply.Reply.{Reply}
 use Rattle.qs_ops.specs.declared.reply.Reply.TheVariants.{Done, TooMany}
 use Rattle.qs_ops.specs.declared.share.Share.{Share}
 use Rattle.qs_ops.specs.Table.{after_serve}
-use Rattle.qs_shares.specs.Shares.{share_in}
-use Rattle.qs_shares.proofs.Sums.{sums-insert, sums-remove}
+use Rattle.qs_ops_shares.specs.Shares.{share_in}
+use Rattle.qs_ops_shares.proofs.Sums.{sums-insert, sums-remove}
 use Rattle.qs_files.specs.Held.{is_file_op}
 use Rattle.qs_files.specs.Noted.{AreNoted, notes_in, count_notes, note_count}
 

@@ -5,9 +5,9 @@ use Rattle.qs_base.proofs.TidOrder.{tid_total, tid_exact}
 use Rattle.std.proofs.lemmas.Map.Lookups.{exact_bytes}
 use Rattle.qs_ops.proofs.FileOrder.{bytes_total}
 use Rattle.qs_ops.specs.declared.share.Share.{Share}
-use Rattle.qs_contents.specs.Slots.{Entries}
-use Rattle.qs_contents.proofs.Maps.{sorted_none}
-use Rattle.qs_contents.proofs.Pieces.{joined-none}
+use Rattle.qs_files_contents.specs.Slots.{Entries}
+use Rattle.qs_files_contents.proofs.Maps.{sorted_none}
+use Rattle.qs_files_contents.proofs.Pieces.{joined-none}
 use Rattle.qs_files.specs.Held.{IsKept}
 
 kept_nothing : (capacity : ℕ) → IsKept [] [] 0 0 0 0 capacity

@@ -7,11 +7,11 @@ use Rattle.qs_base.specs.declared.identifiers.Tid.{Tid}
 use Rattle.qs_ops.specs.Table.{apply_change, nothing_held}
 use Rattle.qs_ops.specs.declared.operation.Op.{Op}
 use Rattle.qs_ops.specs.declared.share.Share.{Share}
-use Rattle.qs_shares.specs.Shares.{share_in, IsHeld, IsReplaced, change_count}
-use Rattle.qs_contents.specs.Slots.{Entries, slot_or_new, end_change, unread_name, files_in}
-use Rattle.qs_contents.specs.declared.slot.Slot.{Slot}
-use Rattle.qs_contents.proofs.Ends.{unreads}
-use Rattle.qs_contents.proofs.Folds.{AreSorted, when, fold-sorted, sorted-end, sorted-unread, slot-ends, slot-unreads}
+use Rattle.qs_ops_shares.specs.Shares.{share_in, IsHeld, IsReplaced, change_count}
+use Rattle.qs_files_contents.specs.Slots.{Entries, slot_or_new, end_change, unread_name, files_in}
+use Rattle.qs_files_contents.specs.declared.slot.FileText.{FileText}
+use Rattle.qs_files_contents.proofs.Ends.{unreads}
+use Rattle.qs_files_contents.proofs.Folds.{AreSorted, when, fold-sorted, sorted-end, sorted-unread, slot-ends, slot-unreads}
 use Rattle.qs_files.specs.Held.{Follows, AreCounted}
 use Rattle.qs_files.proofs.Following.{IsEnded, is_ended, ended_slot, follows-now, now-ended}
 use Rattle.qs_files.proofs.Seen.{files-committed, files-released}
@@ -45,10 +45,10 @@ module _ (old new : Entries) (shares : List (Tid × Share)) (tid : Tid) (commits
   at q =
       ap (λ (x : Entries). slot_or_new x q) is
       ∙ slot-unreads tid q own.reads first sorted_first
-      ∙ ap (λ (s : Slot). fold (when (λ x. same_bytes x q) (unreads tid)) s own.reads) (slot-ends tid q commits own.changes old f.names)
+      ∙ ap (λ (s : FileText). fold (when (λ x. same_bytes x q) (unreads tid)) s own.reads) (slot-ends tid q commits own.changes old f.names)
 
   ended : (q : List ℕ) → IsEnded tid commits own.changes own.reads q (slot_or_new old q) (slot_or_new new q)
-  ended q = subst (λ (s : Slot). IsEnded tid commits own.changes own.reads q (slot_or_new old q) s) (sym (at q)) (is_ended tid commits own.changes own.reads q (slot_or_new old q) (f.changers q) (f.readers q))
+  ended q = subst (λ (s : FileText). IsEnded tid commits own.changes own.reads q (slot_or_new old q) s) (sym (at q)) (is_ended tid commits own.changes own.reads q (slot_or_new old q) (f.changers q) (f.readers q))
 
   pub follows-ended : (after : List (Tid × Share)) (m : ℕ) → IsHeld tid nothing_held shares after → n ≤ m → (commits ≡ true → n + length own.changes ≤ m) → Follows new after m
   follows-ended after m held more all = follows-now old new shares after tid nothing_held n m f held (now-ended old new shares tid commits n m f ended sorted_new more all)

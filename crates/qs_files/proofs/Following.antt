@@ -11,17 +11,17 @@ use Rattle.qs_base.proofs.Same.{same_tid-true}
 use Rattle.qs_ops.specs.Table.{is_change_of, nothing_held, reads_name}
 use Rattle.qs_ops.specs.declared.operation.Op.{Op}
 use Rattle.qs_ops.specs.declared.share.Share.{Share}
-use Rattle.qs_shares.specs.Shares.{share_in, IsHeld}
-use Rattle.qs_shelf.specs.Changed.{changed_at}
-use Rattle.qs_contents.specs.Edits.{no_edit, seen_by}
-use Rattle.qs_contents.specs.Slots.{Entries, slot_or_new, edit_at, reader_at, ended}
-use Rattle.qs_contents.specs.Texts.{Pieces, piece_count}
-use Rattle.qs_contents.specs.declared.edit.Edit.{Edit}
-use Rattle.qs_contents.specs.declared.slot.Slot.{Slot}
-use Rattle.qs_contents.proofs.AtOnce.{done-ends, edit-ends, text-ends}
-use Rattle.qs_contents.proofs.Ends.{unreads, text_after, IsDone, IsUnread, unread-unreads, reader-unreads}
-use Rattle.qs_contents.proofs.Folds.{when, on_op}
-use Rattle.qs_contents.proofs.Pieces.{joined-none}
+use Rattle.qs_ops_shares.specs.Shares.{share_in, IsHeld}
+use Rattle.qs_ops_shelf.specs.Changed.{changed_at}
+use Rattle.qs_files_contents.specs.Edits.{no_edit, seen_by}
+use Rattle.qs_files_contents.specs.Slots.{Entries, slot_or_new, edit_at, reader_at, ended}
+use Rattle.qs_files_contents.specs.Texts.{Pieces, piece_count}
+use Rattle.qs_files_contents.specs.declared.edit.Edit.{Edit}
+use Rattle.qs_files_contents.specs.declared.slot.FileText.{FileText}
+use Rattle.qs_files_contents.proofs.AtOnce.{done-ends, edit-ends, text-ends}
+use Rattle.qs_files_contents.proofs.Ends.{unreads, text_after, IsDone, IsUnread, unread-unreads, reader-unreads}
+use Rattle.qs_files_contents.proofs.Folds.{when, on_op}
+use Rattle.qs_files_contents.proofs.Pieces.{joined-none}
 use Rattle.qs_files.specs.Held.{Follows}
 use Rattle.qs_files.proofs.Prepares.{count-edited}
 
@@ -94,7 +94,7 @@ any_name q (x ∷ names) = ap (λ (b : Bool). b || list_any (λ y. same_bytes y 
 
 -- ---- the end of a transaction, at one name
 
-pub record IsEnded (tid : Tid) (commits : Bool) (changes : List Op) (reads : List (List ℕ)) (q : List ℕ) (old new : Slot) : Type 0 where
+pub record IsEnded (tid : Tid) (commits : Bool) (changes : List Op) (reads : List (List ℕ)) (q : List ℕ) (old new : FileText) : Type 0 where
   pub text : new.text ≡ (if list_any (is_change_of q) changes then text_after tid commits old else old.text)
   pub edit : edit_at new.edits tid ≡ (if list_any (is_change_of q) changes then no_edit else edit_at old.edits tid)
   pub edits : (t : Tid) → same_tid tid t ≡ false → edit_at new.edits t ≡ edit_at old.edits t
@@ -103,10 +103,10 @@ pub record IsEnded (tid : Tid) (commits : Bool) (changes : List Op) (reads : Lis
   pub changers : IsStrictlySortedBy tid_cmp (keys_of new.edits)
   pub readers : IsStrictlySortedBy tid_cmp (keys_of new.readers)
 
-abbrev pub ended_slot : Tid → Bool → List Op → List (List ℕ) → List ℕ → Slot → Slot
+abbrev pub ended_slot : Tid → Bool → List Op → List (List ℕ) → List ℕ → FileText → FileText
 ended_slot tid commits changes reads q slot = fold (when (λ x. same_bytes x q) (unreads tid)) (fold (when (is_change_of q) (on_op (ended tid commits))) slot changes) reads
 
-pub is_ended : (tid : Tid) (commits : Bool) (changes : List Op) (reads : List (List ℕ)) (q : List ℕ) (slot : Slot) → IsStrictlySortedBy tid_cmp (keys_of slot.edits) → IsStrictlySortedBy tid_cmp (keys_of slot.readers)
+pub is_ended : (tid : Tid) (commits : Bool) (changes : List Op) (reads : List (List ℕ)) (q : List ℕ) (slot : FileText) → IsStrictlySortedBy tid_cmp (keys_of slot.edits) → IsStrictlySortedBy tid_cmp (keys_of slot.readers)
     → IsEnded tid commits changes reads q slot (ended_slot tid commits changes reads q slot)
 is_ended tid commits changes reads q slot changers readers =
     let done_slot = fold (when (is_change_of q) (on_op (ended tid commits))) slot changes in

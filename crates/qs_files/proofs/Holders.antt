@@ -13,8 +13,8 @@ use Rattle.std.proofs.lemmas.Map.Lookups.{btree_set_from_contains}
 use Rattle.qs_base.specs.Order.{tid_cmp, same_tid}
 use Rattle.qs_base.specs.declared.identifiers.Tid.{Tid}
 use Rattle.qs_base.proofs.TidOrder.{tid_total, tid_exact}
-use Rattle.qs_contents.specs.Slots.{first_other}
-use Rattle.qs_contents.proofs.Maps.{sorted_cons, sorted_none}
+use Rattle.qs_files_contents.specs.Slots.{first_other}
+use Rattle.qs_files_contents.proofs.Maps.{sorted_cons, sorted_none}
 
 abbrev pub value : {X : Type 0} → X → List (Tid × X) → Tid → X
 value d es t = unwrap_or (lookup (is_at (tid_cmp t)) es) d

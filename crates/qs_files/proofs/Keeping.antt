@@ -9,17 +9,17 @@ use Rattle.qs_base.specs.declared.identifiers.Tid.{Tid}
 use Rattle.qs_ops.specs.Table.{is_change_of}
 use Rattle.qs_ops.specs.declared.operation.Op.{Op}
 use Rattle.qs_ops.specs.declared.share.Share.{Share}
-use Rattle.qs_shares.specs.Shares.{share_in, kept_share}
-use Rattle.qs_shelf.specs.Changed.{changed_at}
-use Rattle.qs_contents.specs.Edits.{no_edit, seen_by, prepared_by}
-use Rattle.qs_contents.specs.Slots.{Entries, slot_or_new, edit_at, reader_at, finished, tidied, place_for, change_by, at_change, tidy_change, unread_name}
-use Rattle.qs_contents.specs.Texts.{Pieces, piece_count}
-use Rattle.qs_contents.specs.declared.edit.Edit.{Edit}
-use Rattle.qs_contents.specs.declared.prepared.Prepared.{Prepared}
-use Rattle.qs_contents.specs.declared.slot.Slot.{Slot}
-use Rattle.qs_contents.proofs.Ends.{unreads, IsDone, IsUnread, done-finishes, edit-finishes, text-finishes, unread-unreads, reader-unreads}
-use Rattle.qs_contents.proofs.Folds.{AreSorted, when, on_op, placing, changing, is_named, fold-keeps, fold-sorted, sorted-place, sorted-change, sorted-at_change, sorted-tidy, sorted-unread, slot-places, slot-changes, slot-finishes, slot-tidies, slot-unreads, Like, like_itself, like-places, like-tidies, IsChanged, room-places, edit-changes}
-use Rattle.qs_contents.proofs.Steps.{has_room, room-finished}
+use Rattle.qs_ops_shares.specs.Shares.{share_in, kept_share}
+use Rattle.qs_ops_shelf.specs.Changed.{changed_at}
+use Rattle.qs_files_contents.specs.Edits.{no_edit, seen_by, prepared_by}
+use Rattle.qs_files_contents.specs.Slots.{Entries, slot_or_new, edit_at, reader_at, finished, tidied, place_for, change_by, at_change, tidy_change, unread_name}
+use Rattle.qs_files_contents.specs.Texts.{Pieces, piece_count}
+use Rattle.qs_files_contents.specs.declared.edit.Edit.{Edit}
+use Rattle.qs_files_contents.specs.declared.prepared.Prepared.{Prepared}
+use Rattle.qs_files_contents.specs.declared.slot.FileText.{FileText}
+use Rattle.qs_files_contents.proofs.Ends.{unreads, IsDone, IsUnread, done-finishes, edit-finishes, text-finishes, unread-unreads, reader-unreads}
+use Rattle.qs_files_contents.proofs.Folds.{AreSorted, when, on_op, placing, changing, is_named, fold-keeps, fold-sorted, sorted-place, sorted-change, sorted-at_change, sorted-tidy, sorted-unread, slot-places, slot-changes, slot-finishes, slot-tidies, slot-unreads, Like, like_itself, like-places, like-tidies, IsChanged, room-places, edit-changes}
+use Rattle.qs_files_contents.proofs.Steps.{has_room, room-finished}
 use Rattle.qs_files.specs.Held.{Follows}
 use Rattle.qs_files.proofs.Following.{IsNow, nothing_seen, not_read, no_more, any_name}
 use Rattle.qs_files.proofs.Prepares.{edit_by, seen-all, count-all}
@@ -87,29 +87,29 @@ module _ (es new : Entries) (shares : List (Tid × Share)) (tid : Tid) (n : ℕ)
 
   -- ---- at one name
 
-  abbrev placed_slot : List ℕ → Slot
+  abbrev placed_slot : List ℕ → FileText
   placed_slot q = fold (when (is_named q) (placing tid)) (slot_or_new es q) ps
 
-  abbrev done_slot : List ℕ → Slot
+  abbrev done_slot : List ℕ → FileText
   done_slot q = fold (when (is_change_of q) (on_op (finished tid false))) (placed_slot q) own.changes
 
-  abbrev changed_slot : List ℕ → Slot
+  abbrev changed_slot : List ℕ → FileText
   changed_slot q = fold (when (is_named q) (changing tid)) (done_slot q) ps
 
-  abbrev tidy_slot : List ℕ → Slot
+  abbrev tidy_slot : List ℕ → FileText
   tidy_slot q = fold (when (is_change_of q) (on_op (tidied tid))) (changed_slot q) own.changes
 
   at : (q : List ℕ) → slot_or_new new q ≡ fold (when (λ x. same_bytes x q) (unreads tid)) (tidy_slot q) own.reads
   at q =
       ap (λ (x : Entries). slot_or_new x q) is
       ∙ slot-unreads tid q own.reads tidy_slots sorted_tidy
-      ∙ ap (λ (s : Slot). fold (when (λ x. same_bytes x q) (unreads tid)) s own.reads)
+      ∙ ap (λ (s : FileText). fold (when (λ x. same_bytes x q) (unreads tid)) s own.reads)
       (slot-tidies tid q own.changes changed_slots sorted_changed
-      ∙ ap (λ (s : Slot). fold (when (is_change_of q) (on_op (tidied tid))) s own.changes)
+      ∙ ap (λ (s : FileText). fold (when (is_change_of q) (on_op (tidied tid))) s own.changes)
       (slot-changes tid q ps done_slots sorted_done
-      ∙ ap (λ (s : Slot). fold (when (is_named q) (changing tid)) s ps)
+      ∙ ap (λ (s : FileText). fold (when (is_named q) (changing tid)) s ps)
       (slot-finishes tid q false own.changes placed_slots sorted_placed
-      ∙ ap (λ (s : Slot). fold (when (is_change_of q) (on_op (finished tid false))) s own.changes) (slot-places tid q ps es f.names))))
+      ∙ ap (λ (s : FileText). fold (when (is_change_of q) (on_op (finished tid false))) s own.changes) (slot-places tid q ps es f.names))))
 
   placed_like : (q : List ℕ) → Like (slot_or_new es q) (placed_slot q)
   placed_like q = like-places tid (is_named q) ps (slot_or_new es q) (slot_or_new es q) (like_itself (slot_or_new es q) (f.changers q))
@@ -130,7 +130,7 @@ module _ (es new : Entries) (shares : List (Tid × Share)) (tid : Tid) (n : ℕ)
   readers_sorted q = subst (λ (rs : List (Tid × Bool)). IsStrictlySortedBy tid_cmp (keys_of rs)) (sym (same_readers q)) (f.readers q)
 
   un : (q : List ℕ) → IsUnread tid (tidy_slot q) (slot_or_new new q)
-  un q = subst (λ (s : Slot). IsUnread tid (tidy_slot q) s) (sym (at q)) (unread-unreads tid (λ x. same_bytes x q) own.reads (tidy_slot q) (readers_sorted q))
+  un q = subst (λ (s : FileText). IsUnread tid (tidy_slot q) s) (sym (at q)) (unread-unreads tid (λ x. same_bytes x q) own.reads (tidy_slot q) (readers_sorted q))
 
   edit_done : (q : List ℕ) → edit_at (done_slot q).edits tid ≡ (if list_any (is_change_of q) own.changes then no_edit else edit_at (slot_or_new es q).edits tid)
   edit_done q = edit-finishes tid false (is_change_of q) own.changes (placed_slot q) ∙ ap (λ (e : Edit). if list_any (is_change_of q) own.changes then no_edit else e) ((placed_like q).edits tid)
@@ -167,7 +167,7 @@ module _ (es new : Entries) (shares : List (Tid × Share)) (tid : Tid) (n : ℕ)
     others = λ q t apart. (un q).others t apart ∙ ap (λ (rs : List (Tid × Bool)). reader_at rs t) (same_readers q);
     texts = λ q before. seen_new q before;
     reads = λ q.
-        ap (λ (s : Slot). reader_at s.readers tid) (at q)
+        ap (λ (s : FileText). reader_at s.readers tid) (at q)
         ∙ reader-unreads tid (λ x. same_bytes x q) own.reads (tidy_slot q) (readers_sorted q)
         ∙ ap (λ (b : Bool). if b then false else reader_at (tidy_slot q).readers tid) (any_name q own.reads)
         ∙ ap (λ (rs : List (Tid × Bool)). if list_any (same_bytes q) own.reads then false else reader_at rs tid) (same_readers q)

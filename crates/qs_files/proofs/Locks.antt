@@ -10,11 +10,11 @@ use Rattle.qs_ops.specs.declared.operation.Op.{Op}
 use Rattle.qs_ops.specs.declared.operation.Op.TheVariants.{Put, Append, Del, Bind, Window, Keep}
 use Rattle.qs_ops.specs.declared.share.Share.{Share}
 use Rattle.qs_ops.specs.Table.{is_change_of, nothing_held, changes_name, reads_name, least_other}
-use Rattle.qs_shares.specs.Shares.{share_in}
-use Rattle.qs_shelf.specs.Changed.{changed_at, text_by}
-use Rattle.qs_contents.specs.Edits.{no_edit, is_no_edit, seen_by}
-use Rattle.qs_contents.specs.Slots.{Entries, slot_or_new, edit_at, first_other, is_edit, is_read}
-use Rattle.qs_contents.specs.Texts.{Pieces}
+use Rattle.qs_ops_shares.specs.Shares.{share_in}
+use Rattle.qs_ops_shelf.specs.Changed.{changed_at, text_by}
+use Rattle.qs_files_contents.specs.Edits.{no_edit, is_no_edit, seen_by}
+use Rattle.qs_files_contents.specs.Slots.{Entries, slot_or_new, edit_at, first_other, is_edit, is_read}
+use Rattle.qs_files_contents.specs.Texts.{Pieces}
 use Rattle.qs_files.specs.Held.{Follows}
 use Rattle.qs_files.proofs.Following.{unchanged}
 use Rattle.qs_files.proofs.Holders.{first-same}

@@ -8,15 +8,15 @@ use Rattle.qs_base.specs.Order.{same_bytes}
 use Rattle.qs_base.specs.declared.identifiers.Tid.{Tid}
 use Rattle.qs_ops.specs.declared.operation.Op.{Op}
 use Rattle.qs_ops.specs.declared.operation.Op.TheVariants.{Put, Append, Del, Bind, Window, Keep}
-use Rattle.qs_shelf.specs.Changed.{changed_at}
-use Rattle.qs_contents.specs.Edits.{edited, seen_by, changed, changed_under, prepared_from, add_prepared}
-use Rattle.qs_contents.specs.Slots.{edit_at, seen_at}
-use Rattle.qs_contents.specs.Texts.{Pieces, flat, joined, linked, piece_count}
-use Rattle.qs_contents.specs.declared.edit.Edit.{Edit}
-use Rattle.qs_contents.specs.declared.edit.Change.TheVariants as changes
-use Rattle.qs_contents.specs.declared.prepared.Prepared.{Prepared}
-use Rattle.qs_contents.specs.declared.slot.Slot.{Slot}
-use Rattle.qs_contents.proofs.Pieces.{flat-linked, joined-assoc}
+use Rattle.qs_ops_shelf.specs.Changed.{changed_at}
+use Rattle.qs_files_contents.specs.Edits.{edited, seen_by, changed, changed_under, prepared_from, add_prepared}
+use Rattle.qs_files_contents.specs.Slots.{edit_at, seen_at}
+use Rattle.qs_files_contents.specs.Texts.{Pieces, flat, joined, linked, piece_count}
+use Rattle.qs_files_contents.specs.declared.edit.Edit.{Edit}
+use Rattle.qs_files_contents.specs.declared.edit.Change.TheVariants as changes
+use Rattle.qs_files_contents.specs.declared.prepared.Prepared.{Prepared}
+use Rattle.qs_files_contents.specs.declared.slot.FileText.{FileText}
+use Rattle.qs_files_contents.proofs.Pieces.{flat-linked, joined-assoc}
 
 -- ---- what becomes of a text
 
@@ -33,7 +33,7 @@ flat-edited edit before lt =
     flat-linked (if edit.replaces then None else before) edit.text (count-unless edit.replaces before (piece_count edit.text) lt)
     ∙ ap (λ (t : Option (List ℕ)). joined t (flat edit.text)) (flat-unless edit.replaces before)
 
-pub seen-edited : (slot : Slot) (tid : Tid) → seen_at slot tid ≡ seen_by (edit_at slot.edits tid) (flat slot.text)
+pub seen-edited : (slot : FileText) (tid : Tid) → seen_at slot tid ≡ seen_by (edit_at slot.edits tid) (flat slot.text)
 seen-edited slot tid = ap (λ (t : Option (List ℕ)). joined t (flat (edit_at slot.edits tid).text)) (flat-unless (edit_at slot.edits tid).replaces slot.text)
 
 -- ---- one change

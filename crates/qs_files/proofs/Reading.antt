@@ -13,17 +13,17 @@ use Rattle.qs_base.proofs.TidOrder.{tid_total, tid_exact, or-true, or-false}
 use Rattle.qs_ops.specs.Table.{reads_name}
 use Rattle.qs_ops.specs.declared.operation.Op.{Op}
 use Rattle.qs_ops.specs.declared.share.Share.{Share}
-use Rattle.qs_shares.specs.Shares.{share_in, IsHeld}
-use Rattle.qs_shelf.specs.Changed.{changed_at}
-use Rattle.qs_contents.specs.Edits.{seen_by}
-use Rattle.qs_contents.specs.Slots.{Entries, slot_or_new, edit_at, reader_at, slot_read, slot_unread, at_slot, put_slot, unread_name}
-use Rattle.qs_contents.specs.Texts.{Pieces, piece_count}
-use Rattle.qs_contents.specs.declared.edit.Edit.{Edit}
-use Rattle.qs_contents.specs.declared.slot.Slot.{Slot}
-use Rattle.qs_contents.proofs.Folds.{AreSorted, sorted-unread}
-use Rattle.qs_contents.proofs.Maps.{sorted-put, sorted-out}
-use Rattle.qs_contents.proofs.Named.{slot-put, slot-at, slot-swept, sorted-put_slot, sorted-at_slot}
-use Rattle.qs_contents.proofs.Steps.{reader-read, reader-unread}
+use Rattle.qs_ops_shares.specs.Shares.{share_in, IsHeld}
+use Rattle.qs_ops_shelf.specs.Changed.{changed_at}
+use Rattle.qs_files_contents.specs.Edits.{seen_by}
+use Rattle.qs_files_contents.specs.Slots.{Entries, slot_or_new, edit_at, reader_at, slot_read, slot_unread, at_slot, put_slot, unread_name}
+use Rattle.qs_files_contents.specs.Texts.{Pieces, piece_count}
+use Rattle.qs_files_contents.specs.declared.edit.Edit.{Edit}
+use Rattle.qs_files_contents.specs.declared.slot.FileText.{FileText}
+use Rattle.qs_files_contents.proofs.Folds.{AreSorted, sorted-unread}
+use Rattle.qs_files_contents.proofs.Maps.{sorted-put, sorted-out}
+use Rattle.qs_files_contents.proofs.Named.{slot-put, slot-at, slot-swept, sorted-put_slot, sorted-at_slot}
+use Rattle.qs_files_contents.proofs.Steps.{reader-read, reader-unread}
 use Rattle.qs_files.specs.Held.{Follows}
 use Rattle.qs_files.proofs.Following.{IsNow, follows-now}
 use Rattle.qs_files.proofs.Serving.{held-same}
@@ -35,14 +35,14 @@ any-snoc test [] x = or-false (test x)
 any-snoc test (y ∷ xs) x = elim (test y) as (λ b. b || list_any test (xs ++ x ∷ []) ≡ ((b || list_any test xs) || test x)) [ true ↦ refl | false ↦ any-snoc test xs x ]
 
 -- a step at one name that leaves text and edits
-pub record IsReader (tid : Tid) (reads : Bool → Bool) (old new : Slot) : Type 0 where
+pub record IsReader (tid : Tid) (reads : Bool → Bool) (old new : FileText) : Type 0 where
   pub text : new.text ≡ old.text
   pub edits : new.edits ≡ old.edits
   pub reader : reader_at new.readers tid ≡ reads (reader_at old.readers tid)
   pub others : (t : Tid) → same_tid tid t ≡ false → reader_at new.readers t ≡ reader_at old.readers t
   pub sorted : IsStrictlySortedBy tid_cmp (keys_of new.readers)
 
-pub reader_read : (tid : Tid) (slot : Slot) → IsStrictlySortedBy tid_cmp (keys_of slot.readers) → IsReader tid (λ b. true) slot (slot_read tid slot)
+pub reader_read : (tid : Tid) (slot : FileText) → IsStrictlySortedBy tid_cmp (keys_of slot.readers) → IsReader tid (λ b. true) slot (slot_read tid slot)
 reader_read tid slot sorted = record {
   text = refl;
   edits = refl;
@@ -51,7 +51,7 @@ reader_read tid slot sorted = record {
   sorted = sorted-put tid_total tid_exact slot.readers tid true sorted;
 }
 
-pub reader_unread : (tid : Tid) (slot : Slot) → IsStrictlySortedBy tid_cmp (keys_of slot.readers) → IsReader tid (λ b. false) slot (slot_unread tid slot)
+pub reader_unread : (tid : Tid) (slot : FileText) → IsStrictlySortedBy tid_cmp (keys_of slot.readers) → IsReader tid (λ b. false) slot (slot_unread tid slot)
 reader_unread tid slot sorted = record {
   text = refl;
   edits = refl;
@@ -60,7 +60,7 @@ reader_unread tid slot sorted = record {
   sorted = sorted-out tid_total tid_exact slot.readers (is_at (tid_cmp tid)) sorted;
 }
 
-pub reader_same : (tid : Tid) (slot : Slot) → IsStrictlySortedBy tid_cmp (keys_of slot.readers) → IsReader tid (λ b. b) slot slot
+pub reader_same : (tid : Tid) (slot : FileText) → IsStrictlySortedBy tid_cmp (keys_of slot.readers) → IsReader tid (λ b. b) slot slot
 reader_same tid slot sorted = record { text = refl; edits = refl; reader = refl; others = λ t apart. refl; sorted = sorted }
 
 pub now-read : (es new : Entries) (shares : List (Tid × Share)) (tid : Tid) (share : Share) (n : ℕ) → Follows es shares n → AreSorted new
@@ -102,7 +102,7 @@ module _ (es new : Entries) (shares : List (Tid × Share)) (tid : Tid) (n : ℕ)
 
   read_at : (q : List ℕ) → IsReader tid (read_here q) (slot_or_new es q) (slot_or_new new q)
   read_at q =
-      subst (λ (s : Slot). IsReader tid (read_here q) (slot_or_new es q) s) (sym (ap (λ (x : Entries). slot_or_new x q) is ∙ slot-put (slot_read tid) name es q))
+      subst (λ (s : FileText). IsReader tid (read_here q) (slot_or_new es q) s) (sym (ap (λ (x : Entries). slot_or_new x q) is ∙ slot-put (slot_read tid) name es q))
       (elim (same_bytes name q) as (λ b. IsReader tid (λ x. if b then true else x) (slot_or_new es q) (if b then slot_read tid (slot_or_new es q) else slot_or_new es q)) [
         | true ↦ reader_read tid (slot_or_new es q) (f.readers q)
         | false ↦ reader_same tid (slot_or_new es q) (f.readers q)
@@ -150,7 +150,7 @@ module _ (es new : Entries) (shares : List (Tid × Share)) (tid : Tid) (n : ℕ)
 
     back_at : (q : List ℕ) → IsReader tid (unread_here q) (slot_or_new es q) (slot_or_new last q)
     back_at q =
-        subst (λ (s : Slot). IsReader tid (unread_here q) (slot_or_new es q) s)
+        subst (λ (s : FileText). IsReader tid (unread_here q) (slot_or_new es q) s)
         (sym (ap (λ (x : Entries). slot_or_new x q) back ∙ slot-swept name (at_slot (slot_unread tid) name new) q (sorted-at_slot (slot_unread tid) name new sorted-read) ∙ slot-at (slot_unread tid) name new q refl))
         (taken_back q (same_bytes name q) (read_at q))
 

@@ -20,20 +20,20 @@ use Rattle.qs_ops.specs.Files.{file_text}
 use Rattle.qs_ops.specs.Places.{IsBelowAll, IsInOrder}
 use Rattle.qs_ops.specs.Table.{apply_change, is_change_of}
 use Rattle.qs_ops.proofs.FileOrder.{same_files, bytes_total}
-use Rattle.qs_shares.specs.Shares.{share_in}
-use Rattle.qs_shelf.specs.Changed.{changed_at}
-use Rattle.qs_shelf.proofs.Files.{file_text-fold, in_order-fold}
-use Rattle.qs_contents.specs.Slots.{Entries, slot_in, slot_or_new, new_slot, files_by, files_in, files_seen, text_at, seen_at, edit_at, add_name, add_entry}
-use Rattle.qs_contents.specs.Texts.{Pieces, flat, text_bytes, piece_count}
-use Rattle.qs_contents.specs.declared.slot.Slot.{Slot}
-use Rattle.qs_contents.proofs.Ends.{text_after}
+use Rattle.qs_ops_shares.specs.Shares.{share_in}
+use Rattle.qs_ops_shelf.specs.Changed.{changed_at}
+use Rattle.qs_ops_shelf.proofs.Files.{file_text-fold, in_order-fold}
+use Rattle.qs_files_contents.specs.Slots.{Entries, slot_in, slot_or_new, new_slot, files_by, files_in, files_seen, text_at, seen_at, edit_at, add_name, add_entry}
+use Rattle.qs_files_contents.specs.Texts.{Pieces, flat, text_bytes, piece_count}
+use Rattle.qs_files_contents.specs.declared.slot.FileText.{FileText}
+use Rattle.qs_files_contents.proofs.Ends.{text_after}
 use Rattle.qs_files.specs.Held.{Follows}
 use Rattle.qs_files.proofs.Following.{IsEnded, unchanged}
 use Rattle.qs_files.proofs.Prepares.{flat-edited, seen-edited}
 
 -- ---- files, as some see each slot
 
-module _ (text : Slot → Option (List ℕ)) (none : text new_slot ≡ None) where
+module _ (text : FileText → Option (List ℕ)) (none : text new_slot ≡ None) where
   below_all : (name : List ℕ) (es : Entries) → AllByRecursion (λ k. bytes_cmp name k ≡ Less) (keys_of es) → IsBelowAll name (files_by text es)
   below_all name [] all = tt
   below_all name (e ∷ es) all =
@@ -58,7 +58,7 @@ module _ (text : Slot → Option (List ℕ)) (none : text new_slot ≡ None) whe
       let apart : same_bytes f.name name ≡ false = texts_ties f.name name ∙ ap is_eq (bytes_total.antisymm f.name name ∙ ap ordering_reverse all.0) in
       rw apart (absent_below name fs all.1)
 
-  elsewhere : (e : List ℕ × Slot) (es : Entries) (q : List ℕ) → is_eq (bytes_cmp q e.0) ≡ false → file_text (files_by text (e ∷ es)) q ≡ file_text (files_by text es) q
+  elsewhere : (e : List ℕ × FileText) (es : Entries) (q : List ℕ) → is_eq (bytes_cmp q e.0) ≡ false → file_text (files_by text (e ∷ es)) q ≡ file_text (files_by text es) q
   elsewhere e es q apart =
       let not_it : same_bytes e.0 q ≡ false = nat_list_eq_equiv.symm e.0 q ∙ texts_ties q e.0 ∙ apart in
       elim (text e.1) as (λ o. file_text (elim o [ None ↦ files_by text es | Some t ↦ record { name = e.0; content = t } ∷ files_by text es ]) q ≡ file_text (files_by text es) q) [
@@ -66,7 +66,7 @@ module _ (text : Slot → Option (List ℕ)) (none : text new_slot ≡ None) whe
         | Some t ↦ rw not_it refl
       ]
 
-  here : (e : List ℕ × Slot) (es : Entries) (q : List ℕ) → q ≡ e.0 → AllByRecursion (λ k. bytes_cmp e.0 k ≡ Less) (keys_of es) → file_text (files_by text (e ∷ es)) q ≡ text e.1
+  here : (e : List ℕ × FileText) (es : Entries) (q : List ℕ) → q ≡ e.0 → AllByRecursion (λ k. bytes_cmp e.0 k ≡ Less) (keys_of es) → file_text (files_by text (e ∷ es)) q ≡ text e.1
   here e es q is below =
       rw is
       (elim (text e.1) as (λ o. file_text (elim o [ None ↦ files_by text es | Some t ↦ record { name = e.0; content = t } ∷ files_by text es ]) e.0 ≡ o) [

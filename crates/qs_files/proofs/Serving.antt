@@ -12,17 +12,17 @@ use Rattle.qs_base.proofs.Same.{same_tid-true}
 use Rattle.qs_ops.specs.Table.{is_change_of}
 use Rattle.qs_ops.specs.declared.operation.Op.{Op}
 use Rattle.qs_ops.specs.declared.share.Share.{Share}
-use Rattle.qs_shares.specs.Shares.{share_in, IsHeld, total, change_count}
-use Rattle.qs_shares.proofs.Sums.{sums-remove}
-use Rattle.qs_shelf.specs.Changed.{changed_at}
-use Rattle.qs_contents.specs.Edits.{seen_by, prepared_by}
-use Rattle.qs_contents.specs.Slots.{Entries, slot_or_new, edit_at, reader_at, tidied, place_for, change_by, tidy_change}
-use Rattle.qs_contents.specs.Texts.{Pieces, piece_count}
-use Rattle.qs_contents.specs.declared.edit.Edit.{Edit}
-use Rattle.qs_contents.specs.declared.prepared.Prepared.{Prepared}
-use Rattle.qs_contents.specs.declared.slot.Slot.{Slot}
-use Rattle.qs_contents.proofs.Folds.{AreSorted, when, on_op, placing, changing, is_named, fold-keeps, fold-sorted, sorted-place, sorted-change, sorted-tidy, slot-places, slot-changes, slot-tidies, Like, like_itself, like-places, like-tidies, IsChanged, room-places, edit-changes}
-use Rattle.qs_contents.proofs.Steps.{text-changed, readers-changed, sorted-changed, other-changed}
+use Rattle.qs_ops_shares.specs.Shares.{share_in, IsHeld, total, change_count}
+use Rattle.qs_ops_shares.proofs.Sums.{sums-remove}
+use Rattle.qs_ops_shelf.specs.Changed.{changed_at}
+use Rattle.qs_files_contents.specs.Edits.{seen_by, prepared_by}
+use Rattle.qs_files_contents.specs.Slots.{Entries, slot_or_new, edit_at, reader_at, tidied, place_for, change_by, tidy_change}
+use Rattle.qs_files_contents.specs.Texts.{Pieces, piece_count}
+use Rattle.qs_files_contents.specs.declared.edit.Edit.{Edit}
+use Rattle.qs_files_contents.specs.declared.prepared.Prepared.{Prepared}
+use Rattle.qs_files_contents.specs.declared.slot.FileText.{FileText}
+use Rattle.qs_files_contents.proofs.Folds.{AreSorted, when, on_op, placing, changing, is_named, fold-keeps, fold-sorted, sorted-place, sorted-change, sorted-tidy, slot-places, slot-changes, slot-tidies, Like, like_itself, like-places, like-tidies, IsChanged, room-places, edit-changes}
+use Rattle.qs_files_contents.proofs.Steps.{text-changed, readers-changed, sorted-changed, other-changed}
 use Rattle.qs_files.specs.Held.{Follows, AreCounted}
 use Rattle.qs_files.proofs.Following.{IsNow, follows-now}
 use Rattle.qs_files.proofs.Prepares.{edit_by, seen-all, count-all}
@@ -74,8 +74,8 @@ follows-tidied es new shares tid n ps ops f is =
     let start = like_itself (slot_or_new es q) (f.changers q) in
     let mid = like-places tid (is_named q) ps (slot_or_new es q) (slot_or_new es q) start in
     let end = like-tidies tid (is_change_of q) ops (slot_or_new es q) (fold (when (is_named q) (placing tid)) (slot_or_new es q) ps) mid in
-    subst (λ (s : Slot). Like (slot_or_new es q) s)
-    (sym (ap (λ (x : Entries). slot_or_new x q) is ∙ slot-tidies tid q ops placed_slots sorted_mid ∙ ap (λ (s : Slot). fold (when (is_change_of q) (on_op (tidied tid))) s ops) (slot-places tid q ps es f.names)))
+    subst (λ (s : FileText). Like (slot_or_new es q) s)
+    (sym (ap (λ (x : Entries). slot_or_new x q) is ∙ slot-tidies tid q ops placed_slots sorted_mid ∙ ap (λ (s : FileText). fold (when (is_change_of q) (on_op (tidied tid))) s ops) (slot-places tid q ps es f.names)))
     end)
     refl refl)
 
@@ -87,12 +87,12 @@ files-placed es new tid ps ops n shares f is q =
     let mid = like-places tid (is_named q) ps (slot_or_new es q) (slot_or_new es q) (like_itself (slot_or_new es q) (f.changers q)) in
     let end = like-tidies tid (is_change_of q) ops (slot_or_new es q) (fold (when (is_named q) (placing tid)) (slot_or_new es q) ps) mid in
     ap (λ (x : Entries). (slot_or_new x q).text) is
-    ∙ ap (λ (s : Slot). s.text) (slot-tidies tid q ops placed_slots sorted_mid ∙ ap (λ (s : Slot). fold (when (is_change_of q) (on_op (tidied tid))) s ops) (slot-places tid q ps es f.names))
+    ∙ ap (λ (s : FileText). s.text) (slot-tidies tid q ops placed_slots sorted_mid ∙ ap (λ (s : FileText). fold (when (is_change_of q) (on_op (tidied tid))) s ops) (slot-places tid q ps es f.names))
     ∙ end.text
 
 -- ---- changes
 
-pub changed-more : (tid : Tid) (ps : List Prepared) (q : List ℕ) (slot : Slot) → IsStrictlySortedBy tid_cmp (keys_of slot.edits) → IsChanged tid slot (fold (when (is_named q) (changing tid)) slot ps)
+pub changed-more : (tid : Tid) (ps : List Prepared) (q : List ℕ) (slot : FileText) → IsStrictlySortedBy tid_cmp (keys_of slot.edits) → IsChanged tid slot (fold (when (is_named q) (changing tid)) slot ps)
 changed-more tid ps q slot sorted =
     fold-keeps (λ s. IsChanged tid slot s) (is_named q) (changing tid)
     (λ s p c. record {
@@ -113,21 +113,21 @@ module _ (es new : Entries) (shares : List (Tid × Share)) (tid : Tid) (n : ℕ)
   sorted_mid : AreSorted mid
   sorted_mid = fold-sorted (place_for tid) (sorted-place tid) ps es f.names
 
-  abbrev placed_slot : List ℕ → Slot
+  abbrev placed_slot : List ℕ → FileText
   placed_slot q = fold (when (is_named q) (placing tid)) (slot_or_new es q) ps
 
   at : (q : List ℕ) → slot_or_new new q ≡ fold (when (is_named q) (changing tid)) (placed_slot q) ps
-  at q = ap (λ (x : Entries). slot_or_new x q) is ∙ slot-changes tid q ps mid sorted_mid ∙ ap (λ (s : Slot). fold (when (is_named q) (changing tid)) s ps) (slot-places tid q ps es f.names)
+  at q = ap (λ (x : Entries). slot_or_new x q) is ∙ slot-changes tid q ps mid sorted_mid ∙ ap (λ (s : FileText). fold (when (is_named q) (changing tid)) s ps) (slot-places tid q ps es f.names)
 
   like : (q : List ℕ) → Like (slot_or_new es q) (placed_slot q)
   like q = like-places tid (is_named q) ps (slot_or_new es q) (slot_or_new es q) (like_itself (slot_or_new es q) (f.changers q))
 
   more : (q : List ℕ) → IsChanged tid (placed_slot q) (slot_or_new new q)
-  more q = subst (λ (s : Slot). IsChanged tid (placed_slot q) s) (sym (at q)) (changed-more tid ps q (placed_slot q) (like q).sorted)
+  more q = subst (λ (s : FileText). IsChanged tid (placed_slot q) s) (sym (at q)) (changed-more tid ps q (placed_slot q) (like q).sorted)
 
   edit : (q : List ℕ) → edit_at (slot_or_new new q).edits tid ≡ edit_by q (edit_at (slot_or_new es q).edits tid) ps
   edit q =
-      ap (λ (s : Slot). edit_at s.edits tid) (at q)
+      ap (λ (s : FileText). edit_at s.edits tid) (at q)
       ∙ edit-changes tid q ps (placed_slot q) (room-places tid (is_named q) ps (slot_or_new es q))
       ∙ ap (λ (e : Edit). edit_by q e ps) ((like q).edits tid)
 

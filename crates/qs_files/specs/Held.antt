@@ -11,13 +11,13 @@ use Rattle.qs_ops.specs.declared.operation.Op.TheVariants.{Put, Append, Del, Get
 use Rattle.qs_ops.specs.declared.reply.Reply.{Reply}
 use Rattle.qs_ops.specs.declared.reply.Reply.TheVariants as replies
 use Rattle.qs_ops.specs.declared.share.Share.{Share}
-use Rattle.qs_shares.specs.Shares.{share_in, total, change_count}
-use Rattle.qs_shelf.specs.Changed.{changed_at}
-use Rattle.qs_contents.specs.Edits.{seen_by}
-use Rattle.qs_contents.specs.Slots.{Entries, slot_or_new, edit_at, reader_at}
-use Rattle.qs_contents.specs.Texts.{piece_count}
-use Rattle.qs_contents.specs.declared.slot.Look.{Look}
-use Rattle.qs_contents.specs.declared.slot.Look.TheVariants as looks
+use Rattle.qs_ops_shares.specs.Shares.{share_in, total, change_count}
+use Rattle.qs_ops_shelf.specs.Changed.{changed_at}
+use Rattle.qs_files_contents.specs.Edits.{seen_by}
+use Rattle.qs_files_contents.specs.Slots.{Entries, slot_or_new, edit_at, reader_at}
+use Rattle.qs_files_contents.specs.Texts.{piece_count}
+use Rattle.qs_files_contents.specs.declared.slot.Look.{Look}
+use Rattle.qs_files_contents.specs.declared.slot.Look.TheVariants as looks
 use Rattle.qs_files.specs.Noted.{AreNoted}
 
 -- what stands under each name follows what the transactions hold

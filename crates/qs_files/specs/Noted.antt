@@ -4,7 +4,7 @@ use Rattle.qs_base.specs.declared.identifiers.Tid.{Tid}
 use Rattle.qs_ops.specs.declared.operation.Op.{Op}
 use Rattle.qs_ops.specs.declared.operation.Op.TheVariants.{Note}
 use Rattle.qs_ops.specs.declared.share.Share.{Share}
-use Rattle.qs_shares.specs.Shares.{total}
+use Rattle.qs_ops_shares.specs.Shares.{total}
 
 -- how many notes a change makes
 abbrev pub notes_in : Op → ℕ

@@ -5,13 +5,13 @@ ghost use Rattle.qs_ops.specs.Server.{files_vote};
 ghost use Rattle.qs_ops.specs.Table.{no_table, holder, free_reply, share_of, reply_to, size_reply, del_reply, text_at, text_or_empty, view_contents};
 ghost use Rattle.qs_ops.specs.Timers.{no_timers};
 ghost use Rattle.qs_ops.specs.declared.reply.Reply.TheVariants as replies;
-ghost use Rattle.qs_ops.specs.declared.server.Kind.TheVariants as kinds;
+ghost use Rattle.qs_ops.specs.declared.server.ServerKind.TheVariants as kinds;
 ghost use Rattle.qs_ops.specs.declared.operation.Op.TheVariants as ops;
 ghost use Rattle.qs_files.specs.Held.{is_file_op, is_get};
 
 use crate::holdings::Holdings;
 use qs_base::{Bytes, Class, NoMemory, Tid};
-use qs_contents::Look;
+use qs_files_contents::Look;
 use qs_ops::{Changes, Notice, Op, Reason, Reply, Server, Vote};
 use std::alloc::Global;
 

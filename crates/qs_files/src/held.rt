@@ -6,14 +6,14 @@ ghost use Rattle.std.specs.Option.{option_copied};
 ghost use Rattle.std.specs.BTreeMap.{insert_entry, is_at};
 ghost use Rattle.qs_base.specs.Order.{tid_cmp};
 ghost use Rattle.qs_ops.specs.Table.{apply_change, after_serve};
-ghost use Rattle.qs_shares.specs.Shares.{share_in, kept_share};
-ghost use Rattle.qs_contents.specs.Slots.{files_in};
+ghost use Rattle.qs_ops_shares.specs.Shares.{share_in, kept_share};
+ghost use Rattle.qs_files_contents.specs.Slots.{files_in};
 ghost use Rattle.qs_files.specs.Held.{Follows, AreCounted, read_name, is_changing, is_file_op};
 
 use qs_base::{Bytes, List, NoMemory, Tid};
-use qs_contents::{Slots, prepare};
+use qs_files_contents::{FileTexts, prepare};
 use qs_ops::{Changes, Op, Reply, Share};
-use qs_shares::Shares;
+use qs_ops_shares::Shares;
 use std::alloc::Global;
 
 /// A text has fewer pieces than this, and so there are fewer changes, committed and pending.
@@ -21,21 +21,21 @@ const CHANGES: usize = 1 << 63;
 
 /// How many changes were committed, and how many are pending.
 #[derive(Clone, Copy)]
-pub struct Counts {
+pub struct ChangeCounts {
     pub committed: usize,
     pub pending: usize,
 }
 
-impl Counts {
+impl ChangeCounts {
     /// With so many pending changes more; a count past its end is a refusal of memory.
-    fn with(self, more: usize) -> Result<Counts, NoMemory>
+    fn with(self, more: usize) -> Result<ChangeCounts, NoMemory>
         ensures { IfOk result (λ counts. (counts.committed ≡ self.committed) × ((counts.pending ≡ self.pending + more) × (counts.committed + counts.pending < 2 ^ 63))) }
     {
         let Some(pending) = self.pending.checked_add(more) else {
             return Err(NoMemory);
         };
         match self.committed.checked_add(pending) {
-            Some(all) if all < CHANGES => Ok(Counts { pending, ..self }),
+            Some(all) if all < CHANGES => Ok(ChangeCounts { pending, ..self }),
             _ => Err(NoMemory),
         }
     }
@@ -44,9 +44,9 @@ impl Counts {
 /// The transaction holds nothing any more; where it commits, what it had pending is committed. It
 /// takes no memory.
 pub fn end(
-    slots: &mut Slots,
+    slots: &mut FileTexts,
     shares: &mut Shares,
-    counts: &mut Counts,
+    counts: &mut ChangeCounts,
     tid: Tid,
     commits: bool,
 ) -> Share
@@ -72,9 +72,9 @@ pub fn end(
 /// Takes in an operation that was served with this reply. After a refusal all is as it was.
 pub fn serve(
     alloc: Global,
-    slots: &mut Slots,
+    slots: &mut FileTexts,
     shares: &mut Shares,
-    counts: &mut Counts,
+    counts: &mut ChangeCounts,
     tid: Tid,
     op: &Op,
     reply: &Reply,
@@ -119,9 +119,9 @@ fn is_changing(op: &Op, reply: &Reply) -> bool
 
 /// The same for an operation that neither changes nor reads a file.
 fn serve_plain(
-    slots: &Slots,
+    slots: &FileTexts,
     shares: &mut Shares,
-    counts: &Counts,
+    counts: &ChangeCounts,
     tid: Tid,
     op: &Op,
     reply: &Reply,
@@ -144,9 +144,9 @@ fn serve_plain(
 
 /// The same for an operation that read the text under the name.
 fn serve_read(
-    slots: &mut Slots,
+    slots: &mut FileTexts,
     shares: &mut Shares,
-    counts: &Counts,
+    counts: &ChangeCounts,
     tid: Tid,
     op: &Op,
     reply: &Reply,
@@ -177,9 +177,9 @@ fn serve_read(
 /// The same for a change.
 fn serve_change(
     alloc: Global,
-    slots: &mut Slots,
+    slots: &mut FileTexts,
     shares: &mut Shares,
-    counts: &mut Counts,
+    counts: &mut ChangeCounts,
     tid: Tid,
     op: &Op,
     reply: &Reply,
@@ -215,9 +215,9 @@ fn serve_change(
 
 /// Keeps whether the transaction's last vote is volatile. After a refusal all is as it was.
 pub fn set_vote(
-    slots: &Slots,
+    slots: &FileTexts,
     shares: &mut Shares,
-    counts: &Counts,
+    counts: &ChangeCounts,
     tid: Tid,
     voted: bool,
 ) -> Result<(), NoMemory>
@@ -238,9 +238,9 @@ pub fn set_vote(
 /// After a refusal all is as it was.
 pub fn keep(
     alloc: Global,
-    slots: &mut Slots,
+    slots: &mut FileTexts,
     shares: &mut Shares,
-    counts: &mut Counts,
+    counts: &mut ChangeCounts,
     tid: Tid,
     changes: &Changes,
     before: &Before,
@@ -268,7 +268,7 @@ pub fn keep(
             slots.change_all(prepared, tid);
             slots.tidy_all(dropped, tid);
             slots.unread_all(before.reads.as_slice(), tid);
-            *counts = Counts {
+            *counts = ChangeCounts {
                 pending: after.pending - dropped.len(),
                 ..after
             };

@@ -4,21 +4,21 @@ ghost use Rattle.qs_ops.specs.Table.{no_table, text_at, view_contents, view_byte
 ghost use Rattle.qs_ops.specs.Server.{vote_in_room, AreFilesWritten};
 ghost use Rattle.qs_files.specs.Held.{is_file_op, look_in};
 
-use crate::held::{Before, Counts, end, keep, serve, set_vote};
+use crate::held::{Before, ChangeCounts, end, keep, serve, set_vote};
 use crate::notes::{add_notes, count_notes};
 use qs_base::{Bytes, List, NoMemory, Tid, copy_list};
-use qs_contents::{Look, Slots};
+use qs_files_contents::{FileTexts, Look};
 use qs_ops::{Changes, Op, Reply, Vote};
-use qs_shares::Shares;
+use qs_ops_shares::Shares;
 use std::alloc::Global;
 use std::marker::Model;
 
 /// Files, and what each transaction has pending, read and locked.
 #[derive(Drop)]
 pub struct Holdings {
-    slots: Slots,
+    slots: FileTexts,
     shares: Shares,
-    counts: Counts,
+    counts: ChangeCounts,
     /// The notes that were committed, with room for those that are pending.
     notes: Vec<Bytes>,
     /// How many notes are pending.
@@ -30,7 +30,7 @@ impl Model for Holdings {
     ghost use Rattle.std.specs.Prelude.{vec_len};
     ghost use Rattle.std.specs.Vec.{vec_capacity};
     ghost use Rattle.qs_ops.specs.Table.{TableValue};
-    ghost use Rattle.qs_contents.specs.Slots.{files_in};
+    ghost use Rattle.qs_files_contents.specs.Slots.{files_in};
     ghost use Rattle.qs_files.specs.Held.{IsKept};
 
     ghost Value = { TableValue };
@@ -46,9 +46,9 @@ impl Holdings {
         ensures { result ≡ no_table }
     {
         Holdings {
-            slots: Slots::new(alloc),
+            slots: FileTexts::new(alloc),
             shares: Shares::new(alloc),
-            counts: Counts {
+            counts: ChangeCounts {
                 committed: 0,
                 pending: 0,
             },
@@ -239,7 +239,7 @@ impl Holdings {
         self.shares.clear();
         self.notes.clear();
         self.waiting = 0;
-        self.counts = Counts {
+        self.counts = ChangeCounts {
             committed: 0,
             pending: 0,
         };

@@ -10,7 +10,7 @@ use Rattle.qs_base.specs.declared.identifiers.Tid.{Tid}
 use Rattle.qs_ops.specs.Operations.{server_of}
 use Rattle.qs_ops.specs.declared.operation.Op.{Op}
 use Rattle.qs_ipc.specs.declared.delivery.Delivery.{Delivery}
-use Rattle.qs_ipc.specs.declared.queue.Counts.{Counts}
+use Rattle.qs_ipc.specs.declared.queue.QueueCounts.{QueueCounts}
 
 -- the operation is one of that server's
 abbrev pub is_for : ServerNo → Op → Bool
@@ -18,15 +18,15 @@ is_for server op = elim (server_of op) [ None ↦ false | Some its ↦ its.0 == 
 
 pub record QueueValue : Type 0 where
   pub waiting : List Delivery  -- the requests that wait, the first to be served first
-  pub counts : List (Tid × Counts)  -- of each transaction of which a request came since it was forgotten
+  pub counts : List (Tid × QueueCounts)  -- of each transaction of which a request came since it was forgotten
 
 abbrev pub no_queue : QueueValue
 no_queue = record { waiting = []; counts = [] }
 
-abbrev pub no_counts : Counts
+abbrev pub no_counts : QueueCounts
 no_counts = record { waiting = 0; served = 0 }
 
-abbrev pub counts_at : List (Tid × Counts) → Tid → Counts
+abbrev pub counts_at : List (Tid × QueueCounts) → Tid → QueueCounts
 counts_at counts tid = unwrap_or (lookup (is_at (tid_cmp tid)) counts) no_counts
 
 -- ---- what waits
@@ -46,7 +46,7 @@ abbrev pub has_some : QueueValue → Bool
 has_some queue = not (length queue.waiting == 0)
 
 -- the counts are those of what waits, and fit a number of 32 bits
-pub record IsCounted (waiting : List Delivery) (counts : List (Tid × Counts)) : Type 0 where
+pub record IsCounted (waiting : List Delivery) (counts : List (Tid × QueueCounts)) : Type 0 where
   pub waits : (tid : Tid) → (counts_at counts tid).waiting ≡ count_of tid waiting
   pub fits : (tid : Tid) → (counts_at counts tid).waiting + (counts_at counts tid).served ≤ 4294967295
 
@@ -56,7 +56,7 @@ is_full_at tid queue = (count_of tid queue.waiting + (counts_at queue.counts tid
 
 -- ---- what calls do
 
-abbrev pub waits_more : Counts → Counts
+abbrev pub waits_more : QueueCounts → QueueCounts
 waits_more counts = record counts { waiting = counts.waiting + 1 }
 
 -- the request waits behind all others
@@ -66,7 +66,7 @@ added delivery queue = record {
   counts = insert_entry tid_cmp queue.counts delivery.tid (waits_more (counts_at queue.counts delivery.tid));
 }
 
-abbrev pub served_more : Counts → Counts
+abbrev pub served_more : QueueCounts → QueueCounts
 served_more counts = record { waiting = counts.waiting - 1; served = counts.served + 1 }
 
 abbrev pub changed_entry : {K V : Type 0} → (K → Bool) → (V → V) → List (K × V) → List (K × V)
@@ -80,7 +80,7 @@ first_of (delivery ∷ rest) = Some delivery
 abbrev pub first : QueueValue → Option Delivery
 first queue = first_of queue.waiting
 
-abbrev pub counts_after : List Delivery → List (Tid × Counts) → List (Tid × Counts)
+abbrev pub counts_after : List Delivery → List (Tid × QueueCounts) → List (Tid × QueueCounts)
 counts_after [] counts = counts
 counts_after (delivery ∷ rest) counts = changed_entry (is_at (tid_cmp delivery.tid)) served_more counts
 

@@ -8,14 +8,14 @@ ghost use Rattle.qs_ipc.specs.Queue.{no_queue, counts_at, is_full_at, added, fir
 
 use crate::delivery::Delivery;
 use qs_base::{List, NoMemory, NodeNo, ServerNo, Tid};
-use qs_map::newest_first;
+use qs_base_map::newest_first;
 use std::alloc::Global;
 use std::collections::{BTreeMap, VecDeque};
 use std::marker::Model;
 
 /// How many requests of one transaction wait at one server, and how many it served.
 #[derive(Clone, Copy)]
-pub struct Counts {
+pub struct QueueCounts {
     pub waiting: u32,
     pub served: u32,
 }
@@ -24,7 +24,7 @@ pub struct Counts {
 #[derive(Drop)]
 pub struct Queue {
     waiting: VecDeque<Delivery>,
-    counts: BTreeMap<Tid, Counts>,
+    counts: BTreeMap<Tid, QueueCounts>,
 }
 
 impl Model for Queue {
@@ -49,7 +49,7 @@ impl Queue {
     }
 
     /// How many requests of the transaction wait here, and how many were served.
-    pub fn counts(&self, tid: Tid) -> Counts
+    pub fn counts(&self, tid: Tid) -> QueueCounts
         ensures { result ≡ counts_at self.now.counts tid }
     {
         counts_at(&self.counts, tid)
@@ -105,7 +105,7 @@ impl Queue {
         let Ok(()) = self.waiting.reserve(1) else {
             return Err(delivery);
         };
-        let more = Counts {
+        let more = QueueCounts {
             waiting: counts.waiting + 1,
             ..counts
         };
@@ -159,12 +159,12 @@ fn mark(delivery: &mut Delivery, peer: NodeNo)
     }
 }
 
-fn counts_at(counts: &BTreeMap<Tid, Counts>, tid: Tid) -> Counts
+fn counts_at(counts: &BTreeMap<Tid, QueueCounts>, tid: Tid) -> QueueCounts
     ensures { result ≡ counts_at counts.now.entries tid }
 {
     match newest_first(counts, &tid) {
         Some(counts) => *counts,
-        None => Counts {
+        None => QueueCounts {
             waiting: 0,
             served: 0,
         },
@@ -172,7 +172,7 @@ fn counts_at(counts: &BTreeMap<Tid, Counts>, tid: Tid) -> Counts
 }
 
 /// One request of the transaction that waited is served.
-fn serve_one(counts: &mut BTreeMap<Tid, Counts>, tid: Tid)
+fn serve_one(counts: &mut BTreeMap<Tid, QueueCounts>, tid: Tid)
     requires waits { 1 ≤ (counts_at counts.old.entries tid).waiting }
     requires fits { (counts_at counts.old.entries tid).served < 4294967295 }
     ensures { counts.new.entries ≡ changed_entry (is_at (tid_cmp tid)) served_more counts.old.entries }

@@ -6,7 +6,7 @@ use Rattle.std.proofs.lemmas.List.{append_assoc, length-append, append-nil}
 use Rattle.std.proofs.lemmas.List.Elements.{filter-append}
 use Rattle.qs_link.specs.declared.outgoing.LinkFault.{LinkFault}
 use Rattle.qs_link.specs.declared.outgoing.LinkFault.TheVariants.{Drop, Again, Hold}
-use Rattle.qs_link.specs.declared.outgoing.Held.{Held}
+use Rattle.qs_link.specs.declared.outgoing.HeldPacket.{HeldPacket}
 use Rattle.qs_link.specs.Plan.{HoldsSome, fate, kept, due, early, is_due, is_early, item_of}
 use Rattle.qs_link.specs.Planned.{held_of, is_later, still_held}
 
@@ -17,7 +17,7 @@ held_append plan k (y ∷ xs) x =
     ∙ sym (append_assoc (kept (fate plan (k + 1)) y) (held_of plan (k + 1) xs) _)
     ∙ ap (λ n. (kept (fate plan (k + 1)) y ++ held_of plan (k + 1) xs) ++ kept (fate plan n) x) (grind arith)
 
-filter_twice : {T : Type 0} → (p q r : Held T → Bool) → ((h : Held T) → (if q h then p h else false) ≡ r h) → (hs : List (Held T)) → filter p (filter q hs) ≡ filter r hs
+filter_twice : {T : Type 0} → (p q r : HeldPacket T → Bool) → ((h : HeldPacket T) → (if q h then p h else false) ≡ r h) → (hs : List (HeldPacket T)) → filter p (filter q hs) ≡ filter r hs
 filter_twice p q r same [] = refl
 filter_twice p q r same (h ∷ hs) = grind (arith, same h, filter_twice p q r same hs)
 

@@ -3,3 +3,5 @@ pub mod Going
 pub mod Holding
 pub mod Planning
 pub mod Plans
+-- The lanes of a client, by their place.
+pub mod Places

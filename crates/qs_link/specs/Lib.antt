@@ -4,3 +4,5 @@ pub mod Link
 pub mod Parcel
 pub mod Plan
 pub mod Planned
+-- The lanes between a node and its clients: the commands that come by them, and the answers that go.
+pub mod Lanes

@@ -4,7 +4,7 @@ use Rattle.qs_link.specs.declared.outgoing.LinkFault.{LinkFault}
 use Rattle.qs_link.specs.declared.outgoing.LinkFault.TheVariants.{Drop, Again, Hold}
 use Rattle.qs_link.specs.declared.outgoing.Way.{Way}
 use Rattle.qs_link.specs.declared.outgoing.Way.TheVariants.{Passes, Lost, Twice, Kept}
-use Rattle.qs_link.specs.declared.outgoing.Held.{Held}
+use Rattle.qs_link.specs.declared.outgoing.HeldPacket.{HeldPacket}
 use Rattle.qs_link.specs.Lane.{FeedValue, Fed}
 use Rattle.qs_packet.specs.declared.packet.Packet.{Packet}
 
@@ -22,26 +22,26 @@ own Lost x = []
 own Twice x = x ∷ x ∷ []
 own (Kept until) x = []
 
-abbrev pub kept : {T : Type 0} → Way → T → List (Held T)
+abbrev pub kept : {T : Type 0} → Way → T → List (HeldPacket T)
 kept Passes x = []
 kept Lost x = []
 kept Twice x = []
 kept (Kept until) x = record { until = until; item = x } ∷ []
 
-abbrev pub is_due : {T : Type 0} → ℕ → Held T → Bool
+abbrev pub is_due : {T : Type 0} → ℕ → HeldPacket T → Bool
 is_due n h = h.until == n
 
-abbrev pub is_early : {T : Type 0} → ℕ → Held T → Bool
+abbrev pub is_early : {T : Type 0} → ℕ → HeldPacket T → Bool
 is_early n h = not (h.until == n)
 
-abbrev pub item_of : {T : Type 0} → Held T → T
+abbrev pub item_of : {T : Type 0} → HeldPacket T → T
 item_of h = h.item
 
 -- what is due once packet n was put, and what stays
-abbrev pub due : {T : Type 0} → ℕ → List (Held T) → List T
+abbrev pub due : {T : Type 0} → ℕ → List (HeldPacket T) → List T
 due n held = map item_of (filter (is_due n) held)
 
-abbrev pub early : {T : Type 0} → ℕ → List (Held T) → List (Held T)
+abbrev pub early : {T : Type 0} → ℕ → List (HeldPacket T) → List (HeldPacket T)
 early n held = filter (is_early n) held
 
 -- what a contract sees of the sending end: the lane's end, the plan, how many packets were put, and those that are held
@@ -49,7 +49,7 @@ pub record OutgoingValue : Type 0 where
   pub feed : FeedValue Packet
   pub plan : List LinkFault
   pub count : ℕ
-  pub held : List (Held Packet)
+  pub held : List (HeldPacket Packet)
 
 -- the number of the next packet
 abbrev pub next : ℕ → ℕ

@@ -1,13 +1,13 @@
 -- All that a link lets out, by its plan: said over the whole list of what was put.
 use Rattle.std.specs.Prelude.{◌≡◌, ℕ, ◌+◌, Bool, List, [], ◌∷◌, ◌++◌, length, filter, nat_lt}
 use Rattle.qs_link.specs.declared.outgoing.LinkFault.{LinkFault}
-use Rattle.qs_link.specs.declared.outgoing.Held.{Held}
+use Rattle.qs_link.specs.declared.outgoing.HeldPacket.{HeldPacket}
 use Rattle.qs_link.specs.Plan.{OutgoingValue, PutOne, PutNone, fate, own, kept, due}
 use Rattle.qs_link.specs.Lane.{DrawValue, on_way}
 use Rattle.qs_packet.specs.declared.packet.Packet.{Packet}
 
 -- the packets of xs, numbered from k + 1 on, that the plan holds back, in order
-abbrev pub held_of : {T : Type 0} → List LinkFault → ℕ → List T → List (Held T)
+abbrev pub held_of : {T : Type 0} → List LinkFault → ℕ → List T → List (HeldPacket T)
 held_of plan k [] = []
 held_of plan k (x ∷ xs) = kept (fate plan (k + 1)) x ++ held_of plan (k + 1) xs
 
@@ -17,10 +17,10 @@ goes_out plan before [] = []
 goes_out plan before (x ∷ xs) = own (fate plan (length before + 1)) x ++ due (length before + 1) (held_of plan 0 before) ++ goes_out plan (before ++ x ∷ []) xs
 
 -- what is still held once they were put
-abbrev pub is_later : {T : Type 0} → ℕ → Held T → Bool
+abbrev pub is_later : {T : Type 0} → ℕ → HeldPacket T → Bool
 is_later n h = nat_lt n h.until
 
-abbrev pub still_held : {T : Type 0} → List LinkFault → List T → List (Held T)
+abbrev pub still_held : {T : Type 0} → List LinkFault → List T → List (HeldPacket T)
 still_held plan before = filter (is_later (length before)) (held_of plan 0 before)
 
 -- these packets were put

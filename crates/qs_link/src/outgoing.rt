@@ -75,7 +75,7 @@ fn has_fault(faults: &[LinkFault], packet: u64) -> bool
 
 /// A packet that is held back until the one with number `until` was put.
 #[derive(Drop)]
-pub struct Held<T> {
+pub struct HeldPacket<T> {
     pub until: u64,
     pub item: T,
 }
@@ -95,7 +95,7 @@ pub struct Outgoing {
     pub(crate) feed: Feed<Parcel>,
     plan: LinkPlan,
     count: u64,
-    held: VecDeque<Held<Parcel>>,
+    held: VecDeque<HeldPacket<Parcel>>,
     alloc: Global,
 }
 
@@ -189,7 +189,7 @@ fn pass(
     goes: &mut VecDeque<Parcel>,
     way: Way,
     item: Parcel,
-) -> Result<Option<Held<Parcel>>, NoMemory>
+) -> Result<Option<HeldPacket<Parcel>>, NoMemory>
     ensures goes { OnOk result (goes.new.items ≡ goes.old.items ++ own way item) }
     ensures held { IfOk result (λ h. option_to_list h ≡ kept way item) }
 {
@@ -203,7 +203,7 @@ fn pass(
             add_twice(goes, item)?;
             Ok(None)
         }
-        Way::Kept { until } => Ok(Some(Held { until, item })),
+        Way::Kept { until } => Ok(Some(HeldPacket { until, item })),
     }
 }
 
@@ -219,7 +219,7 @@ fn add_twice(goes: &mut VecDeque<Parcel>, item: Parcel) -> Result<(), NoMemory>
 // Adds copies of what is due, in order.
 fn add_due(
     goes: &mut VecDeque<Parcel>,
-    held: &VecDeque<Held<Parcel>>,
+    held: &VecDeque<HeldPacket<Parcel>>,
     number: u64,
 ) -> Result<(), NoMemory>
     ensures { OnOk result (goes.new.items ≡ goes.old.items ++ due number held.now.items) }
@@ -233,7 +233,7 @@ fn add_due(
 // Adds a copy of a held packet if it is due.
 fn add_if_due(
     goes: &mut VecDeque<Parcel>,
-    packet: &Held<Parcel>,
+    packet: &HeldPacket<Parcel>,
     number: u64,
 ) -> Result<(), NoMemory>
     ensures { OnOk result (goes.new.items ≡ goes.old.items ++ due number (packet.now ∷ [])) }
@@ -245,7 +245,7 @@ fn add_if_due(
 }
 
 // Drops what is due, and keeps the order of the rest.
-fn drop_due(held: &mut VecDeque<Held<Parcel>>, number: u64)
+fn drop_due(held: &mut VecDeque<HeldPacket<Parcel>>, number: u64)
     ensures held { held.new.items ≡ early number held.old.items }
     ensures fewer { deque_len held.new ≤ deque_len held.old }
     ensures room { deque_capacity held.new ≡ deque_capacity held.old }
@@ -256,7 +256,7 @@ fn drop_due(held: &mut VecDeque<Held<Parcel>>, number: u64)
 }
 
 // Drops the first of what is held if it is due, or puts it behind the others.
-fn drop_if_due(held: &mut VecDeque<Held<Parcel>>, number: u64)
+fn drop_if_due(held: &mut VecDeque<HeldPacket<Parcel>>, number: u64)
     ensures held { held.new.items ≡ drop 1 held.old.items ++ early number (take 1 held.old.items) }
     ensures fewer { deque_len held.new ≤ deque_len held.old }
     ensures room { deque_capacity held.new ≡ deque_capacity held.old }
@@ -269,7 +269,7 @@ fn drop_if_due(held: &mut VecDeque<Held<Parcel>>, number: u64)
     }
 }
 
-fn hold(held: &mut VecDeque<Held<Parcel>>, keeps: Option<Held<Parcel>>)
+fn hold(held: &mut VecDeque<HeldPacket<Parcel>>, keeps: Option<HeldPacket<Parcel>>)
     requires { deque_len held.old < deque_capacity held.old }
     ensures { held.new.items ≡ held.old.items ++ option_to_list keeps }
 {

@@ -3,9 +3,9 @@ use Rattle.std.proofs.Common.{◌≡◌, ◌≢◌, ◌≤◌, ◌<◌, ◌+◌,
 use Rattle.std.proofs.lemmas.List.{length-append, take-append-drop, drop_more, get_or-drop, get_or_past, drop-drop}
 use Rattle.std.proofs.lemmas.List.Sums.{sum_by_push}
 use Rattle.std.proofs.lemmas.Bool.{cases_lt}
-use Rattle.qs_batch.specs.Batch.{SpellsBatch, IsCounted, IsBroken, batch_length}
+use Rattle.qs_log_batch.specs.Batch.{SpellsBatch, IsCounted, IsBroken, batch_length}
 use Rattle.qs_disk.specs.Disk.{range, Torn}
-use Rattle.qs_batch.proofs.AreaLemmas.{batches_long, counts_front, counts_behind, counts_more, joined-snoc}
+use Rattle.qs_log_batch.proofs.AreaLemmas.{batches_long, counts_front, counts_behind, counts_more, joined-snoc}
 use Rattle.qs_record.specs.declared.record.Record.{Record}
 
 -- the counted batches take the first bytes of an area

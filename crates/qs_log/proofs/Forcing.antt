@@ -2,8 +2,8 @@
 use Rattle.std.specs.Prelude.{OnOk}
 use Rattle.std.proofs.Common.{◌≡◌, ◌≤◌, ◌<◌, ◌+◌, ℕ, Result, Ok, Err, List, [], ◌∷◌, ◌++◌, length, get_or, refl, sym, ◌∙◌, ap, subst, arith, ◌⊎◌, inl}
 use Rattle.std.proofs.lemmas.List.{length-append}
-use Rattle.qs_batch.specs.Batch.{SpellsBatch, batch_length}
-use Rattle.qs_batch.specs.Gathering.{IsSealed}
+use Rattle.qs_log_batch.specs.Batch.{SpellsBatch, batch_length}
+use Rattle.qs_log_batch.specs.Gathering.{IsSealed}
 use Rattle.qs_disk.specs.Disk.{DiskState, IsStill, Torn, with_range}
 use Rattle.qs_disk.specs.Moments.{Keeps}
 use Rattle.qs_disk.proofs.Moments.{keeps_trans, keeps_weaken, torn_with_range}
@@ -11,7 +11,7 @@ use Rattle.qs_record.specs.declared.record.Record.{Record}
 use Rattle.qs_log.specs.Image.{half, area_start, IsLog}
 use Rattle.qs_log.specs.Log.{LogValue, Stands, IsOldOrWhole, IsReady, forced_of, waiting_length}
 use Rattle.qs_log.proofs.Areas.{area_within}
-use Rattle.qs_batch.proofs.BatchLemmas.{batch_long}
+use Rattle.qs_log_batch.proofs.BatchLemmas.{batch_long}
 use Rattle.qs_slot.proofs.Ranges.{put_get}
 use Rattle.qs_log.proofs.Images.{gate_of, IsStaged, log_behind, log_staged, log_whole, log_old_or_whole, holds_torn}
 

@@ -4,7 +4,7 @@ use Rattle.std.specs.Prelude.{OnOk, OnErr}
 use Rattle.std.proofs.lemmas.List.{append-nil, length-append, take-append-drop, take_all, drop_all, drop-append-le, take-append-le}
 use Rattle.std.proofs.lemmas.Bool.Decides.{nat_tests}
 use Rattle.std.proofs.lemmas.List.Sums.{sum_by-cons, sum_by_push}
-use Rattle.qs_batch.specs.Batch.{batch_length}
+use Rattle.qs_log_batch.specs.Batch.{batch_length}
 use Rattle.qs_disk.specs.Disk.{DiskState, IsSize, IsStill}
 use Rattle.qs_disk.specs.Moments.{Keeps}
 use Rattle.qs_disk.proofs.Moments.{keeps_none, each_still}

@@ -2,7 +2,7 @@
 use Rattle.std.proofs.Common.{◌≡◌, ◌≢◌, ◌≤◌, ◌<◌, ◌+◌, ◌-◌, ◌^◌, ◌==◌, ℕ, Bool, true, false, List, [], ◌∷◌, ◌++◌, length, get_or, take, drop, if◌then◌else◌, Ok, sym, ◌∙◌, ap, subst, arith, ◌⊎◌, inl, inr}
 use Rattle.std.proofs.lemmas.List.{length-append, length-drop, drop-drop, get_or-take, get_or-drop}
 use Rattle.std.proofs.lemmas.Bool.{cases_eq}
-use Rattle.qs_batch.specs.Batch.{SpellsBatch, IsCounted, batch_length}
+use Rattle.qs_log_batch.specs.Batch.{SpellsBatch, IsCounted, batch_length}
 use Rattle.qs_disk.specs.Disk.{range, with_range, Torn}
 use Rattle.qs_disk.proofs.Moments.{torn_with_range}
 use Rattle.qs_record.specs.declared.record.Record.{Record}

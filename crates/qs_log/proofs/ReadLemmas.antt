@@ -1,6 +1,6 @@
 -- What is read of a log's disk.
 use Rattle.std.proofs.Common.{◌≡◌, ◌+◌, ◌^◌, ℕ, List, length, Bool, Ok, refl, sym, ◌∙◌, ap, subst, ◌⊎◌, inl, inr}
-use Rattle.qs_batch.specs.Batch.{IsCounted, IsBroken}
+use Rattle.qs_log_batch.specs.Batch.{IsCounted, IsBroken}
 use Rattle.qs_disk.specs.Disk.{DiskState, IsImage, Syncs}
 use Rattle.qs_disk.specs.Moments.{Keeps}
 use Rattle.qs_disk.proofs.Moments.{keeps_trans, keeps_weaken, sync_keeps}

@@ -1,6 +1,6 @@
 -- The log of an image of a disk: the header slots, and the batches that the live area counts.
 use Rattle.std.specs.Prelude.{◌≡◌, ℕ, ◌+◌, ◌-◌, ◌/◌, ◌%◌, ◌==◌, ◌^◌, List, length, if◌then◌else◌, Ok, Err}
-use Rattle.qs_batch.specs.Batch.{IsCounted, IsBroken}
+use Rattle.qs_log_batch.specs.Batch.{IsCounted, IsBroken}
 use Rattle.qs_disk.specs.Disk.{range}
 use Rattle.qs_record.specs.declared.record.Record.{Record}
 use Rattle.qs_slot.specs.Slot.{Present, slots_in}

@@ -7,7 +7,7 @@ use Rattle.qs_record.specs.declared.record.Record.{Record}
 use Rattle.qs_record.specs.declared.record.Record.TheVariants.{Prepare, Commit, Aborted, End}
 use Rattle.qs_slot.specs.Slot.{Present}
 use Rattle.qs_slot.specs.Turning.{SlotsValue, HoldsSlots, turned}
-use Rattle.qs_batch.specs.Batch.{batch_length}
+use Rattle.qs_log_batch.specs.Batch.{batch_length}
 use Rattle.qs_log.specs.Image.{IsLog, half, area_start}
 use Rattle.qs_log.specs.declared.fault.LogOpen.{LogOpen}
 

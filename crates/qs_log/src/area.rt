@@ -1,10 +1,10 @@
 //! Where the areas of a disk are, and what a waiting batch takes of them.
 ghost use Rattle.std.specs.Prelude.{◌≡◌, ◌≤◌, ◌<◌, ◌+◌, ◌^◌};
-ghost use Rattle.qs_batch.specs.Batch.{batch_length};
+ghost use Rattle.qs_log_batch.specs.Batch.{batch_length};
 ghost use Rattle.qs_log.specs.Image.{half, area_start};
 ghost use Rattle.qs_log.specs.Log.{waiting_length};
 
-use qs_batch::Batch;
+use qs_log_batch::Batch;
 
 /// How many bytes both slots take.
 const SLOTS: u64 = 8192;

@@ -10,7 +10,7 @@ ghost use Rattle.qs_slot.specs.Opening.{IsWithin};
 ghost use Rattle.qs_slot.specs.Slot.{slots_in};
 ghost use Rattle.qs_log.specs.Image.{IsDamaged};
 ghost use Rattle.qs_log.specs.Log.{LogValue, Stands, IsOldOrWhole, IsOldOrRaised, records_of, room_of, need_of, top_of, raised_of, waiting_length, is_of, disk_of, IsFull, IsForced, HasSameRecords, IsReady, IsSameButFuse, forced_of};
-ghost use Rattle.qs_batch.specs.Batch.{batch_length};
+ghost use Rattle.qs_log_batch.specs.Batch.{batch_length};
 ghost use Rattle.qs_log.specs.declared.fault.OpenFault.TheVariants as open_faults;
 ghost use Rattle.qs_log.specs.declared.fault.AppendFault.TheVariants as append_faults;
 
@@ -18,8 +18,8 @@ use crate::area::{FRAME, area_start, half, waiting_length};
 use crate::fault::{AppendFault, LogOpen};
 use crate::opening::{Held, read_log};
 use qs_base::{Copied, List, NoMemory, ServerNo};
-use qs_batch::Batch;
 use qs_disk::{Disk, DiskFailed, Fused, write_through};
+use qs_log_batch::Batch;
 use qs_record::{Record, length};
 use qs_slot::{SlotValue, Slots};
 use std::alloc::Global;

@@ -1,7 +1,7 @@
 //! A log read from its disk.
 ghost use Rattle.std.specs.Prelude.{◌≡◌, ◌≤◌, ◌<◌, ◌+◌, ◌^◌, ◌⊎◌, ℕ, length, vec_len, min, is_ok, IfOk, OnOk, Ok, Err};
 ghost use Rattle.qs_base.specs.Causes.{HasCause, Rose};
-ghost use Rattle.qs_batch.specs.Batch.{IsCounted, IsBroken};
+ghost use Rattle.qs_log_batch.specs.Batch.{IsCounted, IsBroken};
 ghost use Rattle.qs_disk.specs.Disk.{IsImage, IsSize, IsStill, Syncs};
 ghost use Rattle.qs_disk.specs.Moments.{Keeps};
 ghost use Rattle.qs_slot.specs.Opening.{IsWithin};
@@ -14,8 +14,8 @@ ghost use Rattle.qs_slot.specs.declared.fault.SlotFault.TheVariants as slot_faul
 use crate::area::{area_start, half};
 use crate::fault::OpenFault;
 use qs_base::{List, NoMemory};
-use qs_batch::{BatchFault, Found, read_batches};
 use qs_disk::{Disk, DiskFailed};
+use qs_log_batch::{BatchFault, FoundBatches, read_batches};
 use qs_record::Record;
 use qs_slot::{SlotFault, SlotValue, Slots, open_slots};
 use std::alloc::Global;
@@ -102,7 +102,7 @@ fn read_held<D: Disk>(alloc: Global, disk: &mut D, limit: u64) -> Result<Held, O
     };
     let start = area_start(disk.size(), generation);
     match counted(alloc, area.as_slice(), format, start) {
-        Ok(Found { records, used }) => Ok(Held {
+        Ok(FoundBatches { records, used }) => Ok(Held {
             slots,
             records,
             used,
@@ -123,7 +123,7 @@ fn of_slot(fault: SlotFault) -> OpenFault
 }
 
 // What an area counts that begins at a place of the disk.
-fn counted(alloc: Global, area: &[u8], format: u32, start: u64) -> Result<Found, OpenFault>
+fn counted(alloc: Global, area: &[u8], format: u32, start: u64) -> Result<FoundBatches, OpenFault>
     requires known { format ≡ 1 }
     requires small { start + length area.now < 2 ^ 62 }
     ensures found { IfOk result (λ f. IsCounted format area.now f.records f.used) }

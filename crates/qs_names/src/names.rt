@@ -3,11 +3,11 @@ ghost use Rattle.std.specs.Prelude.{◌≡◌, IfOk};
 ghost use Rattle.std.specs.Option.{option_copied};
 ghost use Rattle.qs_ops.specs.Table.{no_table, taken_by, lesser, least_taken};
 ghost use Rattle.qs_ops.specs.Timers.{no_timers};
-ghost use Rattle.qs_ops.specs.declared.server.Kind.TheVariants as kinds;
+ghost use Rattle.qs_ops.specs.declared.server.ServerKind.TheVariants as kinds;
 
 use qs_base::{Bytes, Class, Copied, List, NoMemory, Tid};
 use qs_ops::{Changes, Notice, Op, Reason, Reply, Server, Vote};
-use qs_shelf::Shelf;
+use qs_ops_shelf::Shelf;
 use std::alloc::Global;
 use std::cmp::Ordering;
 

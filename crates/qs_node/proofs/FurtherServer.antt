@@ -6,7 +6,7 @@ use Rattle.qs_base.specs.declared.identifiers.Tid.{Tid}
 use Rattle.qs_ops.specs.Server.{ServerValue, after_keeping, is_logged}
 use Rattle.qs_ops.specs.Servers.{files_no, audit_no, names_no, timers_no, windows_no, scratch_no}
 use Rattle.qs_ops.specs.declared.operation.Op.{Op}
-use Rattle.qs_servers.specs.Servers.{ServersValue, with_server}
+use Rattle.qs_node_servers.specs.Servers.{ServersValue, with_server}
 
 in_both : {A : Type 0} (P : A → Type 0) (b : Bool) (x y : A) → P x → P y → P (if b then x else y)
 in_both P true x y px py = px

@@ -1,11 +1,11 @@
 -- Where the manager refuses a begin, its command is refused for the same cause.
 use Rattle.std.proofs.Common.{◌≡◌, ap, sym, subst, ℕ, Some}
-use Rattle.qs_journal.specs.declared.script_line.ScriptLine.{ScriptLine}
+use Rattle.qs_book_journal.specs.declared.script_line.ScriptLine.{ScriptLine}
 use Rattle.qs_tm.specs.Manager as tm
 use Rattle.qs_tm.specs.declared.manager.BeginFault.TheVariants as faults
 use Rattle.qs_tm.specs.declared.manager.Manager.{Manager}
-use Rattle.qs_step.specs.State.{Work, with_manager}
-use Rattle.qs_step.specs.Commands.{refuse_begin, begin_or_refuse, begin_command}
+use Rattle.qs_node_step.specs.State.{Work, with_manager}
+use Rattle.qs_node_step.specs.Commands.{refuse_begin, begin_or_refuse, begin_command}
 
 -- the manager is as it was
 abbrev pub beside : Manager → Work → Work

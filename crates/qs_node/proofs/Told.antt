@@ -3,12 +3,12 @@ use Rattle.std.proofs.Common.{◌≡◌, ap, Option, Some, None}
 use Rattle.qs_base.specs.declared.identifiers.ClientNo.{ClientNo}
 use Rattle.qs_base.specs.declared.identifiers.Tid.{Tid}
 use Rattle.qs_ops.specs.declared.answer.Answer.{Answer}
-use Rattle.qs_journal.specs.declared.script_line.Command.{Command}
-use Rattle.qs_kept.specs.declared.kept.Decided.{Decided}
-use Rattle.qs_step.specs.State.{Work}
-use Rattle.qs_step.specs.Bringing.{answer}
-use Rattle.qs_step.specs.Answering.{kept_outcome}
-use Rattle.qs_step.specs.Commands.{open_command, decided_answer, owner_command}
+use Rattle.qs_book_journal.specs.declared.script_line.Command.{Command}
+use Rattle.qs_node_kept.specs.declared.kept.Decided.{Decided}
+use Rattle.qs_node_step.specs.State.{Work}
+use Rattle.qs_node_step.specs.Bringing.{answer}
+use Rattle.qs_node_step.specs.Answering.{kept_outcome}
+use Rattle.qs_node_step.specs.Commands.{open_command, decided_answer, owner_command}
 use Rattle.qs_node.specs.Begun.{kept_answer}
 
 pub told : (client : ClientNo) (tid : Tid) (command : Command) (work : Work) (said : Answer)

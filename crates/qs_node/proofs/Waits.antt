@@ -6,22 +6,22 @@ use Rattle.std.specs.BTreeMap.{is_at}
 use Rattle.qs_base.specs.declared.identifiers.ClientNo.{ClientNo}
 use Rattle.qs_base.specs.declared.identifiers.Tid.{Tid}
 use Rattle.qs_ops.specs.declared.answer.Answer.TheVariants as answers
-use Rattle.qs_journal.specs.declared.script_line.Command.{Command}
-use Rattle.qs_journal.specs.declared.script_line.Command.TheVariants as commands
-use Rattle.qs_kept.specs.Loans.{first_untaken}
-use Rattle.qs_kept.specs.declared.kept.Begun.{Begun}
-use Rattle.qs_kept.specs.declared.kept.Decided.{Decided}
-use Rattle.qs_kept.specs.declared.kept.Lent.{Lent}
-use Rattle.qs_step.specs.State.{Work, client_cmp}
-use Rattle.qs_step.specs.declared.state.Issued.{Issued}
-use Rattle.qs_step.specs.declared.state.OpenCommand.{OpenCommand}
-use Rattle.qs_step.specs.Bringing.{answer}
-use Rattle.qs_step.specs.Serving.{label_at}
-use Rattle.qs_step.specs.Answering.{kept_outcome}
-use Rattle.qs_step.specs.Commands.{decided_answer}
-use Rattle.qs_step.specs.Borrowing.{is_aborted, take, borrower_command}
-use Rattle.qs_step.specs.Step.{is_owner, request_waits, owner_waits, borrower_waits, waits_at, wait_command, wait_on}
-use Rattle.qs_node.specs.declared.waiting.Due.TheVariants as dues
+use Rattle.qs_book_journal.specs.declared.script_line.Command.{Command}
+use Rattle.qs_book_journal.specs.declared.script_line.Command.TheVariants as commands
+use Rattle.qs_node_kept.specs.Loans.{first_untaken}
+use Rattle.qs_node_kept.specs.declared.kept.KeptLabel.{KeptLabel}
+use Rattle.qs_node_kept.specs.declared.kept.Decided.{Decided}
+use Rattle.qs_node_kept.specs.declared.kept.Lent.{Lent}
+use Rattle.qs_node_step.specs.State.{Work, client_cmp}
+use Rattle.qs_node_step.specs.declared.state.Issued.{Issued}
+use Rattle.qs_node_step.specs.declared.state.OpenCommand.{OpenCommand}
+use Rattle.qs_node_step.specs.Bringing.{answer}
+use Rattle.qs_node_step.specs.Serving.{label_at}
+use Rattle.qs_node_step.specs.Answering.{kept_outcome}
+use Rattle.qs_node_step.specs.Commands.{decided_answer}
+use Rattle.qs_node_step.specs.Borrowing.{is_aborted, take, borrower_command}
+use Rattle.qs_node_step.specs.Step.{is_owner, request_waits, owner_waits, borrower_waits, waits_at, wait_command, wait_on}
+use Rattle.qs_node.specs.declared.waiting.CommandDue.TheVariants as dues
 use Rattle.qs_node.specs.Due.{owner_due, request_due, take_due, lent_due, borrower_due, due_at, due_of, do_due}
 
 -- ---- each kind of command
@@ -65,7 +65,7 @@ borrower client None (Some tid) command work = lent client tid command work
 
 -- ---- the client's open command
 
-at : (client : ClientNo) (command : OpenCommand) (begun : Option Begun) (work : Work)
+at : (client : ClientNo) (command : OpenCommand) (begun : Option KeptLabel) (work : Work)
     → do_due client (due_at client command begun work.node) work ≡ elim begun [ None ↦ work | Some met ↦ waits_at client command met work ]
 at client command None work = refl
 at client command (Some begun) work = by (is_owner client begun.owner)

@@ -6,16 +6,16 @@ use Rattle.qs_engage.specs.Engage.{uncovered}
 use Rattle.qs_engage.specs.Nodes.{listed}
 use Rattle.qs_ops.specs.declared.answer.Answer.{Answer}
 use Rattle.qs_ops.specs.declared.answer.Answer.TheVariants as answers
-use Rattle.qs_journal.specs.declared.entry.Act.TheVariants as acts
-use Rattle.qs_journal.specs.declared.script_line.Command.{Command}
-use Rattle.qs_journal.specs.declared.script_line.ScriptLine.{ScriptLine}
+use Rattle.qs_book_journal.specs.declared.entry.Act.TheVariants as acts
+use Rattle.qs_book_journal.specs.declared.script_line.Command.{Command}
+use Rattle.qs_book_journal.specs.declared.script_line.ScriptLine.{ScriptLine}
 use Rattle.qs_tm.specs.Participant.{is_undecided}
 use Rattle.qs_tm.specs.declared.participant.Participant.{Participant}
-use Rattle.qs_step.specs.State.{NodeValue, Work, part_of}
-use Rattle.qs_step.specs.Bringing.{enter, answer}
-use Rattle.qs_step.specs.Serving.{put_label}
-use Rattle.qs_step.specs.Answering.{kept_outcome}
-use Rattle.qs_step.specs.Commands.{decided_answer}
+use Rattle.qs_node_step.specs.State.{NodeValue, Work, part_of}
+use Rattle.qs_node_step.specs.Bringing.{enter, answer}
+use Rattle.qs_node_step.specs.Serving.{put_label}
+use Rattle.qs_node_step.specs.Answering.{kept_outcome}
+use Rattle.qs_node_step.specs.Commands.{decided_answer}
 
 -- the manager has begun the transaction: its label is met, its entry stands, and its client is answered
 abbrev pub has_begun : ScriptLine → Tid → Work → Work

@@ -1,7 +1,7 @@
 -- Servers that take in what a log keeps of their contents.
 use Rattle.qs_restart.specs.declared.recovered.Recovered.{Recovered}
-use Rattle.qs_servers.specs.Kinds.{taken_in}
-use Rattle.qs_servers.specs.Servers.{ServersValue}
+use Rattle.qs_node_servers.specs.Kinds.{taken_in}
+use Rattle.qs_node_servers.specs.Servers.{ServersValue}
 
 -- files and audit, which have and hold nothing, take in their committed changes
 abbrev pub with_contents : Recovered → ServersValue → ServersValue

@@ -2,13 +2,13 @@
 use Rattle.std.specs.Prelude.{Option, Some, None, if◌then◌else◌}
 use Rattle.qs_base.specs.declared.identifiers.ClientNo.{ClientNo}
 use Rattle.qs_base.specs.declared.identifiers.Tid.{Tid}
-use Rattle.qs_journal.specs.declared.script_line.Command.{Command}
-use Rattle.qs_journal.specs.declared.script_line.ScriptLine.{ScriptLine}
-use Rattle.qs_step.specs.State.{Work}
-use Rattle.qs_step.specs.Serving.{label_at}
-use Rattle.qs_step.specs.Commands.{owner_command}
-use Rattle.qs_step.specs.Borrowing.{borrower_command}
-use Rattle.qs_step.specs.Step.{is_owner, labelled}
+use Rattle.qs_book_journal.specs.declared.script_line.Command.{Command}
+use Rattle.qs_book_journal.specs.declared.script_line.ScriptLine.{ScriptLine}
+use Rattle.qs_node_step.specs.State.{Work}
+use Rattle.qs_node_step.specs.Serving.{label_at}
+use Rattle.qs_node_step.specs.Commands.{owner_command}
+use Rattle.qs_node_step.specs.Borrowing.{borrower_command}
+use Rattle.qs_node_step.specs.Step.{is_owner, labelled}
 
 abbrev pub obeyed : ClientNo → Option ClientNo → Option Tid → Command → Work → Work
 obeyed client owner tid command work =

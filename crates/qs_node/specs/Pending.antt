@@ -3,8 +3,8 @@ use Rattle.std.specs.Prelude.{Bool, ◌||◌}
 use Rattle.std.specs.List.{list_any}
 use Rattle.qs_base.specs.declared.identifiers.ServerNo.{ServerNo}
 use Rattle.qs_ops.specs.Server.{holds_some}
-use Rattle.qs_servers.specs.Servers.{server_at}
-use Rattle.qs_step.specs.State.{NodeValue}
+use Rattle.qs_node_servers.specs.Servers.{server_at}
+use Rattle.qs_node_step.specs.State.{NodeValue}
 use Rattle.qs_tm.specs.Manager as tm
 use Rattle.qs_tm.specs.Members.{all_servers}
 

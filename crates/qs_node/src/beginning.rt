@@ -1,16 +1,16 @@
 //! How clients begin transactions.
 ghost use Rattle.std.specs.Prelude.{◌≡◌, OnOk};
-ghost use Rattle.qs_step.specs.Commands.{refuse_begin, begin_command};
+ghost use Rattle.qs_node_step.specs.Commands.{refuse_begin, begin_command};
 ghost use Rattle.qs_node.specs.Begun.{has_begun};
 
 use qs_base::{Copied, NoMemory, Tid};
-use qs_journal::{Act, ScriptLine};
-use qs_kept::Begun;
+use qs_book_journal::{Act, ScriptLine};
+use qs_node_kept::KeptLabel;
+use qs_node_servers::Servers;
+use qs_node_step::Work;
+use qs_node_work::{answer, enter, put_label};
 use qs_ops::{Answer, Server};
-use qs_servers::Servers;
-use qs_step::Work;
 use qs_tm::BeginFault;
-use qs_work::{answer, enter, put_label};
 
 /// The transaction has begun: its label is met, and its client is answered.
 fn has_begun<F: Server, X: Server>(
@@ -24,7 +24,7 @@ fn has_begun<F: Server, X: Server>(
     let ScriptLine { client, label, .. } = line;
     put_label(
         work,
-        Begun {
+        KeptLabel {
             label: label.copy()?,
             tid: Some(tid),
             owner: Some(client),
@@ -47,7 +47,7 @@ fn refuse_begin<F: Server, X: Server>(
     let ScriptLine { client, label, .. } = line;
     put_label(
         work,
-        Begun {
+        KeptLabel {
             label,
             tid: None,
             owner: Some(client),

@@ -1,15 +1,15 @@
 //! What a borrower commands.
 ghost use Rattle.std.specs.Prelude.{◌≡◌, OnOk};
-ghost use Rattle.qs_step.specs.Borrowing.{is_aborted, is_void, take, take_command, yield, lent_command, with_loan, loan_command, borrower_command};
+ghost use Rattle.qs_node_step.specs.Borrowing.{is_aborted, is_void, take, take_command, yield, lent_command, with_loan, loan_command, borrower_command};
 
 use crate::requesting::request_command;
 use qs_base::{ClientNo, NoMemory, Tid};
-use qs_journal::{Act, Command};
-use qs_kept::Lent;
+use qs_book_journal::{Act, Command};
+use qs_node_kept::Lent;
+use qs_node_servers::Servers;
+use qs_node_step::Work;
+use qs_node_work::{answer, enter, note_yielded};
 use qs_ops::{Answer, Server};
-use qs_servers::Servers;
-use qs_step::Work;
-use qs_work::{answer, enter, note_yielded};
 
 /// Whether the outcome is known here, and is abort.
 pub fn is_aborted<F: Server, X: Server>(work: &Work<Servers<F, X>>, tid: Tid) -> bool

@@ -2,20 +2,20 @@
 ghost use Rattle.std.specs.Prelude.{◌≡◌, map, IfOk, OnOk};
 ghost use Rattle.std.specs.List.{list_any};
 ghost use Rattle.qs_base.specs.Order.{same_tid};
-ghost use Rattle.qs_kept.specs.Keeping.{with_now};
+ghost use Rattle.qs_node_kept.specs.Keeping.{with_now};
 ghost use Rattle.qs_node.specs.Closed.{closed_by};
-ghost use Rattle.qs_step.specs.Opening.{outcome_in_log, is_left_open, close_tid, closed_kept};
+ghost use Rattle.qs_node_step.specs.Opening.{outcome_in_log, is_left_open, close_tid, closed_kept};
 
 use qs_base::{List, NoMemory, NodeNo, Outcome, Tid};
-use qs_kept::{Begun, Decided, Keeping};
+use qs_node_kept::{Decided, Keeping, KeptLabel};
+use qs_node_step::Setting;
 use qs_ops::Cause;
 use qs_restart::Recovered;
-use qs_step::Setting;
 use std::alloc::Global;
 
 /// The transactions of these labels, in order; `None` where a begin was refused.
-fn tids_begun(alloc: Global, labels: &[Begun]) -> Result<List<Option<Tid>>, NoMemory>
-    ensures { IfOk result (λ tids. tids ≡ map (λ (begun : Begun). begun.tid) labels.now) }
+fn tids_begun(alloc: Global, labels: &[KeptLabel]) -> Result<List<Option<Tid>>, NoMemory>
+    ensures { IfOk result (λ tids. tids ≡ map (λ (begun : KeptLabel). begun.tid) labels.now) }
 {
     let mut tids = List::new(alloc);
     for begun in labels {

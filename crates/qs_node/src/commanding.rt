@@ -1,17 +1,17 @@
 //! The commands of clients as they come.
 ghost use Rattle.std.specs.Prelude.{◌≡◌, OnOk};
-ghost use Rattle.qs_step.specs.Commands.{begin_command};
-ghost use Rattle.qs_step.specs.Step.{is_owner, with_command, command_came};
+ghost use Rattle.qs_node_step.specs.Commands.{begin_command};
+ghost use Rattle.qs_node_step.specs.Step.{is_owner, with_command, command_came};
 ghost use Rattle.qs_node.specs.Labelled.{obeyed, on_label};
 
 use crate::beginning::begin_command;
 use crate::borrowing::borrower_command;
 use crate::owning::owner_command;
 use qs_base::{ClientNo, Copied, NoMemory, Tid};
-use qs_journal::{Command, ScriptLine};
+use qs_book_journal::{Command, ScriptLine};
+use qs_node_servers::Servers;
+use qs_node_step::{OpenCommand, Work};
 use qs_ops::Server;
-use qs_servers::Servers;
-use qs_step::{OpenCommand, Work};
 
 /// Whether the client owns the transaction.
 pub fn is_owner(client: ClientNo, owner: Option<ClientNo>) -> bool

@@ -1,19 +1,19 @@
 //! What comes to a node is done.
 ghost use Rattle.std.specs.Prelude.{◌≡◌, fold, OnOk};
-ghost use Rattle.qs_step.specs.Step.{message_came, abort_old, age_rule, tick, happen};
+ghost use Rattle.qs_node_step.specs.Step.{message_came, abort_old, age_rule, tick, happen};
 
 use crate::commanding::command_came;
 use crate::restarting::peer_restarted;
 use qs_base::{List, NoMemory, NodeNo, Outcome, Tid};
-use qs_journal::{Act, ScriptLine};
-use qs_ops::{Cause, Server};
-use qs_packet::Message;
-use qs_servers::Servers;
-use qs_settling::{
+use qs_book_journal::{Act, ScriptLine};
+use qs_node_servers::Servers;
+use qs_node_settling::{
     ask_came, closer_came, decide, inquiry_came, refusal_came, tell_came, told_came,
 };
-use qs_step::{Event, Work};
-use qs_work::{enter, reply_came, request_came, serve_all};
+use qs_node_step::{Event, Work};
+use qs_node_work::{enter, reply_came, request_came, serve_all};
+use qs_ops::{Cause, Server};
+use qs_packet::Message;
 
 /// A message comes.
 fn message_came<F: Server, X: Server>(

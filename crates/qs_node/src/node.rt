@@ -1,18 +1,18 @@
 //! A node.
 ghost use Rattle.std.specs.Prelude.{◌≡◌, ◌≤◌, [], true, fold, OnOk, IfOk, IfErr};
 ghost use Rattle.qs_ops.specs.Server.{AreContents, cleared};
-ghost use Rattle.qs_ops.specs.declared.server.Kind.TheVariants as kinds;
+ghost use Rattle.qs_ops.specs.declared.server.ServerKind.TheVariants as kinds;
 ghost use Rattle.qs_ipc.specs.Ipc as ipc;
-ghost use Rattle.qs_kept.specs.Keeping.{with_now};
+ghost use Rattle.qs_node_kept.specs.Keeping.{with_now};
 ghost use Rattle.qs_tm.specs.Manager as tm;
-ghost use Rattle.qs_servers.specs.Kinds.{empty_server, new_servers};
-ghost use Rattle.qs_servers.specs.Servers.{server_at};
+ghost use Rattle.qs_node_servers.specs.Kinds.{empty_server, new_servers};
+ghost use Rattle.qs_node_servers.specs.Servers.{server_at};
 ghost use Rattle.qs_node.specs.Pending.{has_holders, is_pending};
-ghost use Rattle.qs_step.specs.State.{no_effects, work_on};
-ghost use Rattle.qs_step.specs.Opening.{opened_manager, keep_changes, opened_servers, closed_kept, opened_node};
-ghost use Rattle.qs_step.specs.Restarts.{begin_incarnation};
-ghost use Rattle.qs_step.specs.Settling.{settle};
-ghost use Rattle.qs_step.specs.Step.{happen, answer_waiting, step_work, effects_of, accept};
+ghost use Rattle.qs_node_step.specs.State.{no_effects, work_on};
+ghost use Rattle.qs_node_step.specs.Opening.{opened_manager, keep_changes, opened_servers, closed_kept, opened_node};
+ghost use Rattle.qs_node_step.specs.Restarts.{begin_incarnation};
+ghost use Rattle.qs_node_step.specs.Settling.{settle};
+ghost use Rattle.qs_node_step.specs.Step.{happen, answer_waiting, step_work, effects_of, accept};
 
 use crate::closing::close_kept;
 use crate::happening::happen;
@@ -20,14 +20,14 @@ use crate::resuming::begin_incarnation;
 use crate::taking_up::{open_servers, opened_manager};
 use crate::waiting::answer_waiting;
 use qs_base::{List, NoMemory, ServerNo};
+use qs_base_map::Map;
 use qs_ipc::Ipc;
-use qs_kept::{Keeping, Kept};
-use qs_map::Map;
+use qs_node_kept::{Keeping, Kept};
+use qs_node_servers::Servers;
+use qs_node_settling::settle;
+use qs_node_step::{Effects, Event, NodeState, Setting, Work};
 use qs_ops::{Changes, Server};
 use qs_restart::Recovered;
-use qs_servers::Servers;
-use qs_settling::settle;
-use qs_step::{Effects, Event, NodeState, Setting, Work};
 use qs_tm::{Manager, every_server};
 use std::alloc::Global;
 use std::marker::Model;
@@ -49,7 +49,7 @@ pub struct NodeOpen<X: Server> {
 }
 
 impl<F: Server, X: Server> Model for Node<F, X> {
-    ghost use Rattle.qs_step.specs.State.{NodeValue};
+    ghost use Rattle.qs_node_step.specs.State.{NodeValue};
 
     ghost Value = { NodeValue };
 

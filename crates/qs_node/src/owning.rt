@@ -3,21 +3,21 @@ ghost use Rattle.std.specs.Prelude.{◌≡◌, OnOk, IfOk, Some};
 ghost use Rattle.std.specs.Option.{option_copied};
 ghost use Rattle.qs_base.specs.declared.identifiers.Outcome.TheVariants as outcomes;
 ghost use Rattle.qs_ops.specs.declared.answer.Cause.TheVariants as causes;
-ghost use Rattle.qs_step.specs.Asking.{where_undecided};
-ghost use Rattle.qs_step.specs.Deciding.{decide};
-ghost use Rattle.qs_step.specs.Commands.{enter_ask, ask, open_command, aborted_answer, outcome_answer, decided_answer, owner_command};
+ghost use Rattle.qs_node_step.specs.Asking.{where_undecided};
+ghost use Rattle.qs_node_step.specs.Deciding.{decide};
+ghost use Rattle.qs_node_step.specs.Commands.{enter_ask, ask, open_command, aborted_answer, outcome_answer, decided_answer, owner_command};
 ghost use Rattle.qs_node.specs.Begun.{peers_of, peers_to_ask, kept_answer};
 
 use crate::requesting::request_command;
 use qs_base::{ClientNo, Copied, List, NoMemory, NodeNo, Outcome, Tid};
-use qs_journal::{Act, Command};
-use qs_kept::Decided;
+use qs_book_journal::{Act, Command};
+use qs_node_kept::Decided;
+use qs_node_servers::Servers;
+use qs_node_settling::{become_asked, decide};
+use qs_node_step::Work;
+use qs_node_work::{answer, enter, note_asked};
 use qs_ops::{Answer, Cause, Server};
-use qs_servers::Servers;
-use qs_settling::{become_asked, decide};
-use qs_step::Work;
 use qs_tm::Participant;
-use qs_work::{answer, enter, note_asked};
 use std::alloc::Global;
 
 /// The entry stands, and the step asked for the commit.

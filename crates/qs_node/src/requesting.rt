@@ -1,15 +1,15 @@
 //! How clients issue requests.
 ghost use Rattle.std.specs.Prelude.{◌≡◌, OnOk, IfOk};
-ghost use Rattle.qs_step.specs.Commands.{with_issued, request_as, request_command};
-ghost use Rattle.qs_servers.specs.Servers.{client_server};
+ghost use Rattle.qs_node_step.specs.Commands.{with_issued, request_as, request_command};
+ghost use Rattle.qs_node_servers.specs.Servers.{client_server};
 
 use qs_base::{ClientNo, Member, NoMemory, ServerNo, Tid};
+use qs_node_servers::Servers;
+use qs_node_step::{Issued, Work};
+use qs_node_work::{issue_as, next_number};
 use qs_ops::servers::FIRST_CLIENT;
 use qs_ops::{Op, Server};
-use qs_servers::Servers;
-use qs_step::{Issued, Work};
 use qs_tm::Outstanding;
-use qs_work::{issue_as, next_number};
 
 /// The client's open command was issued as that request.
 fn set_issued<F: Server, X: Server>(

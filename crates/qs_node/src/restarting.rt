@@ -4,18 +4,18 @@ ghost use Rattle.qs_ops.specs.declared.answer.Cause.TheVariants as causes;
 ghost use Rattle.qs_packet.specs.declared.message.Message.TheVariants as messages;
 ghost use Rattle.qs_tm.specs.Outcomes.{is_abort};
 ghost use Rattle.qs_engage.specs.Nodes.{same_node};
-ghost use Rattle.qs_step.specs.Bringing.{send};
-ghost use Rattle.qs_step.specs.Asking.{block};
-ghost use Rattle.qs_step.specs.Restarts.{awaits_word, is_orphaned_by, notice_tid, peer_restarted};
+ghost use Rattle.qs_node_step.specs.Bringing.{send};
+ghost use Rattle.qs_node_step.specs.Asking.{block};
+ghost use Rattle.qs_node_step.specs.Restarts.{awaits_word, is_orphaned_by, notice_tid, peer_restarted};
 
 use qs_base::{List, NoMemory, NodeNo, Outcome, Tid};
+use qs_node_servers::Servers;
+use qs_node_settling::block;
+use qs_node_step::Work;
+use qs_node_work::send;
 use qs_ops::{Cause, Server};
 use qs_packet::Message;
-use qs_servers::Servers;
-use qs_settling::block;
-use qs_step::Work;
 use qs_tm::Participant;
-use qs_work::send;
 
 /// Whether this node is to be told of the transaction, or answers to a node.
 fn awaits_word(part: &Participant) -> bool

@@ -1,14 +1,14 @@
 //! What a node does in the first step of an incarnation.
 ghost use Rattle.std.specs.Prelude.{◌≡◌, fold, map, IfOk, OnOk};
-ghost use Rattle.qs_step.specs.Restarts.{resume_tid, known_tids, begin_incarnation};
+ghost use Rattle.qs_node_step.specs.Restarts.{resume_tid, known_tids, begin_incarnation};
 
 use qs_base::{List, NoMemory, Outcome, Tid};
+use qs_node_servers::Servers;
+use qs_node_settling::{give_notices, record_learnt};
+use qs_node_step::Work;
+use qs_node_work::{log_if, send, send_each};
 use qs_ops::Server;
 use qs_packet::Message;
-use qs_servers::Servers;
-use qs_settling::{give_notices, record_learnt};
-use qs_step::Work;
-use qs_work::{log_if, send, send_each};
 
 /// A home that found a Prepare and no Commit has aborted; one that found a Commit with a list tells it.
 /// Elsewhere a Prepare is in doubt, and the home is asked.

@@ -2,14 +2,14 @@
 ghost use Rattle.std.specs.Prelude.{◌≡◌, ◌++◌, fold, IfOk, OnOk};
 ghost use Rattle.qs_ops.specs.Table.{no_table};
 ghost use Rattle.qs_node.specs.Contents.{with_contents};
-ghost use Rattle.qs_step.specs.Opening.{take_up, opened_manager, keep_changes};
+ghost use Rattle.qs_node_step.specs.Opening.{take_up, opened_manager, keep_changes};
 
 use qs_base::NoMemory;
+use qs_node_servers::Servers;
+use qs_node_step::Setting;
 use qs_ops::Server;
 use qs_record::Record;
 use qs_restart::Recovered;
-use qs_servers::Servers;
-use qs_step::Setting;
 use qs_tm::Manager;
 use std::alloc::Global;
 

@@ -1,23 +1,23 @@
 //! The commands of clients while they stay open.
 ghost use Rattle.std.specs.Prelude.{◌≡◌, fold, IfOk, OnOk};
 ghost use Rattle.std.specs.Option.{option_copied};
-ghost use Rattle.qs_step.specs.Step.{wait_on, answer_waiting};
+ghost use Rattle.qs_node_step.specs.Step.{wait_on, answer_waiting};
 ghost use Rattle.qs_node.specs.Due.{owner_due, request_due, take_due, lent_due, borrower_due, due_at, due_of, do_due, is_due};
 
 use crate::borrowing::{borrower_command, is_aborted};
 use crate::commanding::is_owner;
 use crate::owning::decided_answer;
 use qs_base::{ClientNo, Copied, List, NoMemory, Tid};
-use qs_journal::Command;
-use qs_kept::Begun;
+use qs_book_journal::Command;
+use qs_node_kept::KeptLabel;
+use qs_node_servers::Servers;
+use qs_node_step::{Issued, OpenCommand, Work};
+use qs_node_work::answer;
 use qs_ops::{Answer, Server};
-use qs_servers::Servers;
-use qs_step::{Issued, OpenCommand, Work};
-use qs_work::answer;
 
 /// What is to be done for a command that stays open.
 #[derive(Drop)]
-pub enum Due {
+pub enum CommandDue {
     Nothing,
     Answer(Answer),
     /// The borrower's command is obeyed as if it came now.
@@ -29,36 +29,40 @@ fn owner_due<F: Server, X: Server>(
     work: &Work<Servers<F, X>>,
     tid: Option<Tid>,
     command: &Command,
-) -> Result<Due, NoMemory>
+) -> Result<CommandDue, NoMemory>
     ensures { IfOk result (λ due. due ≡ owner_due tid command.now work.now.node) }
 {
     let Some(tid) = tid else {
-        return Ok(Due::Nothing);
+        return Ok(CommandDue::Nothing);
     };
     match work.node.kept.outcome_of(tid) {
-        None => Ok(Due::Nothing),
-        Some(decided) => Ok(Due::Answer(decided_answer(decided, command)?)),
+        None => Ok(CommandDue::Nothing),
+        Some(decided) => Ok(CommandDue::Answer(decided_answer(decided, command)?)),
     }
 }
 
 /// A request that was issued is answered once its node knows abort.
-fn request_due<F: Server, X: Server>(work: &Work<Servers<F, X>>, issued: Issued) -> Due
+fn request_due<F: Server, X: Server>(work: &Work<Servers<F, X>>, issued: Issued) -> CommandDue
     ensures { result ≡ request_due issued work.now.node }
 {
     if is_aborted(work, issued.tid) {
-        Due::Answer(Answer::Ended)
+        CommandDue::Answer(Answer::Ended)
     } else {
-        Due::Nothing
+        CommandDue::Nothing
     }
 }
 
 /// A take is answered once its loan is made.
-fn take_due<F: Server, X: Server>(work: &Work<Servers<F, X>>, client: ClientNo, tid: Tid) -> Due
+fn take_due<F: Server, X: Server>(
+    work: &Work<Servers<F, X>>,
+    client: ClientNo,
+    tid: Tid,
+) -> CommandDue
     ensures { result ≡ take_due client tid work.now.node }
 {
     match work.node.kept.first_untaken(client, tid) {
-        None => Due::Nothing,
-        Some(_) => Due::Obey {
+        None => CommandDue::Nothing,
+        Some(_) => CommandDue::Obey {
             tid,
             command: Command::Take,
         },
@@ -71,12 +75,12 @@ fn lent_due<F: Server, X: Server>(
     client: ClientNo,
     tid: Tid,
     command: &Command,
-) -> Result<Due, NoMemory>
+) -> Result<CommandDue, NoMemory>
     ensures { IfOk result (λ due. due ≡ lent_due client tid command.now work.now.node) }
 {
     match command {
         Command::Take => Ok(take_due(work, client, tid)),
-        _ => Ok(Due::Obey {
+        _ => Ok(CommandDue::Obey {
             tid,
             command: command.copy()?,
         }),
@@ -89,12 +93,12 @@ fn borrower_due<F: Server, X: Server>(
     issued: Option<Issued>,
     tid: Option<Tid>,
     command: &Command,
-) -> Result<Due, NoMemory>
+) -> Result<CommandDue, NoMemory>
     ensures { IfOk result (λ due. due ≡ borrower_due client issued tid command.now work.now.node) }
 {
     match (issued, tid) {
         (Some(issued), _) => Ok(request_due(work, issued)),
-        (None, None) => Ok(Due::Nothing),
+        (None, None) => Ok(CommandDue::Nothing),
         (None, Some(tid)) => lent_due(work, client, tid, command),
     }
 }
@@ -103,12 +107,12 @@ fn due_at<F: Server, X: Server>(
     work: &Work<Servers<F, X>>,
     client: ClientNo,
     command: &OpenCommand,
-    begun: Option<&Begun>,
-) -> Result<Due, NoMemory>
+    begun: Option<&KeptLabel>,
+) -> Result<CommandDue, NoMemory>
     ensures { IfOk result (λ due. due ≡ due_at client command.now (option_copied begun.entry) work.now.node) }
 {
     let Some(begun) = begun else {
-        return Ok(Due::Nothing);
+        return Ok(CommandDue::Nothing);
     };
     if is_owner(client, begun.owner) {
         owner_due(work, begun.tid, &command.line.command)
@@ -128,11 +132,11 @@ fn due_at<F: Server, X: Server>(
 fn due_of<F: Server, X: Server>(
     work: &Work<Servers<F, X>>,
     client: ClientNo,
-) -> Result<Due, NoMemory>
+) -> Result<CommandDue, NoMemory>
     ensures { IfOk result (λ due. due ≡ due_of client work.now.node) }
 {
     match work.node.commands.get(&client) {
-        None => Ok(Due::Nothing),
+        None => Ok(CommandDue::Nothing),
         Some(command) => due_at(
             work,
             client,
@@ -145,15 +149,15 @@ fn due_of<F: Server, X: Server>(
 fn do_due<F: Server, X: Server>(
     work: &mut Work<Servers<F, X>>,
     client: ClientNo,
-    due: Due,
+    due: CommandDue,
 ) -> Result<(), NoMemory>
     ensures ok { OnOk result (work.new ≡ do_due client due work.old) }
     ensures saved { work.new.node.kept.saved ≡ work.old.node.kept.saved }
 {
     match due {
-        Due::Nothing => Ok(()),
-        Due::Answer(said) => answer(work, client, said),
-        Due::Obey { tid, command } => borrower_command(work, client, tid, command),
+        CommandDue::Nothing => Ok(()),
+        CommandDue::Answer(said) => answer(work, client, said),
+        CommandDue::Obey { tid, command } => borrower_command(work, client, tid, command),
     }
 }
 
@@ -188,8 +192,8 @@ fn is_due<F: Server, X: Server>(
     ensures { IfOk result (λ is. is ≡ is_due client work.now.node) }
 {
     match due_of(work, client)? {
-        Due::Nothing => Ok(false),
-        Due::Answer(_) | Due::Obey { .. } => Ok(true),
+        CommandDue::Nothing => Ok(false),
+        CommandDue::Answer(_) | CommandDue::Obey { .. } => Ok(true),
     }
 }
 

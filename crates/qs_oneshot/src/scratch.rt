@@ -3,11 +3,11 @@ ghost use Rattle.std.specs.Prelude.{◌≡◌, Ok};
 ghost use Rattle.qs_ops.specs.declared.vote.Vote.TheVariants as votes;
 ghost use Rattle.qs_ops.specs.Table.{no_table};
 ghost use Rattle.qs_ops.specs.Timers.{no_timers};
-ghost use Rattle.qs_ops.specs.declared.server.Kind.TheVariants as kinds;
+ghost use Rattle.qs_ops.specs.declared.server.ServerKind.TheVariants as kinds;
 
 use qs_base::{Class, List, NoMemory, Tid};
 use qs_ops::{Changes, Notice, Op, Reply, Server, Vote};
-use qs_shelf::Shelf;
+use qs_ops_shelf::Shelf;
 use std::alloc::Global;
 
 /// The scratch server of a node: texts by name. A text is kept from the commit of the

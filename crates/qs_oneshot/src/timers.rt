@@ -7,7 +7,7 @@ ghost use Rattle.qs_ops.specs.declared.vote.Vote.TheVariants as votes;
 ghost use Rattle.qs_ops.specs.Server.{is_own};
 ghost use Rattle.qs_ops.specs.Table.{no_table};
 ghost use Rattle.qs_ops.specs.Timers.{no_timers, timer_share_in, timer_share_of, timer_reply_to, left_reply, after_timer, timers_ended, ticked};
-ghost use Rattle.qs_ops.specs.declared.server.Kind.TheVariants as kinds;
+ghost use Rattle.qs_ops.specs.declared.server.ServerKind.TheVariants as kinds;
 
 use crate::timer_share::TimerShare;
 use qs_base::{Bytes, Class, List, NoMemory, Tid};

@@ -16,17 +16,17 @@ use Rattle.qs_ops.specs.declared.vote.Vote.{Vote}
 use Rattle.qs_ops.specs.declared.vote.Vote.TheVariants as votes
 use Rattle.qs_ops.specs.Table.{TableValue, no_table, share_of, has_changes, any_holds, view_bytes, least_taken, reply_to, served, released, committed, with_vote, kept}
 use Rattle.qs_ops.specs.Timers.{TimersValue, no_timers, timer_reply_to, timer_served, timers_ended}
-use Rattle.qs_ops.specs.declared.server.Kind.{Kind}
-use Rattle.qs_ops.specs.declared.server.Kind.TheVariants.{Files, Audit, Names, Timers, Windows, Scratch, Nothing}
+use Rattle.qs_ops.specs.declared.server.ServerKind.{ServerKind}
+use Rattle.qs_ops.specs.declared.server.ServerKind.TheVariants.{Files, Audit, Names, Timers, Windows, Scratch, Nothing}
 use Rattle.qs_ops.specs.Servers.{files_no, audit_no, names_no, timers_no, windows_no, scratch_no, extra_no}
 
 pub record ServerValue : Type 0 where
-  pub kind : Kind
+  pub kind : ServerKind
   pub table : TableValue  -- of files, audit, names, windows and scratch
   pub timers : TimersValue  -- of timers
 
 -- its number among the servers of its node
-abbrev pub number_of : Kind → ℕ
+abbrev pub number_of : ServerKind → ℕ
 number_of (Files quota) = files_no
 number_of Audit = audit_no
 number_of Names = names_no
@@ -36,13 +36,13 @@ number_of Scratch = scratch_no
 number_of Nothing = extra_no
 
 -- the operation is one of its own
-abbrev pub is_own : Kind → Op → Bool
+abbrev pub is_own : ServerKind → Op → Bool
 is_own kind op = elim (server_of op) [ None ↦ false | Some server ↦ server.0 == number_of kind ]
 
 -- ---- serving
 
 -- the reply to an operation of its own; the further server that has nothing answers that it is absent
-abbrev pub reply_in : ServerValue → Kind → Tid → Op → Option Reply
+abbrev pub reply_in : ServerValue → ServerKind → Tid → Op → Option Reply
 reply_in server Timers tid op = timer_reply_to server.timers tid op
 reply_in server Nothing tid op = Some replies.Absent
 reply_in server kind tid op = reply_to server.table tid op
@@ -50,7 +50,7 @@ reply_in server kind tid op = reply_to server.table tid op
 abbrev pub reply_of : ServerValue → Tid → Op → Option Reply
 reply_of server tid op = reply_in server server.kind tid op
 
-abbrev pub served_by : Kind → Tid → Op → Reply → ServerValue → ServerValue
+abbrev pub served_by : ServerKind → Tid → Op → Reply → ServerValue → ServerValue
 served_by Timers tid op reply server = record server { timers = timer_served server.timers tid op reply }
 served_by Nothing tid op reply server = server
 served_by kind tid op reply server = record server { table = served server.table tid op reply }
@@ -79,7 +79,7 @@ names_vote None = votes.Volatile
 names_vote (Some name) = votes.Abort (reasons.Taken name)
 
 -- where something is pending
-abbrev pub changes_vote : Kind → TableValue → Tid → ℕ → ℕ → Vote
+abbrev pub changes_vote : ServerKind → TableValue → Tid → ℕ → ℕ → Vote
 changes_vote (Files quota) table tid free frame = files_vote quota table tid free frame
 changes_vote Audit table tid free frame = vote_in_room table tid free frame
 changes_vote Names table tid free frame = names_vote (least_taken table tid)
@@ -97,7 +97,7 @@ voted_in table tid votes.Volatile = with_vote table tid true
 voted_in table tid votes.Recoverable = table
 voted_in table tid (votes.Abort reason) = with_vote table tid false
 
-abbrev pub voted_by : Kind → Tid → Vote → ServerValue → ServerValue
+abbrev pub voted_by : ServerKind → Tid → Vote → ServerValue → ServerValue
 voted_by Nothing tid ballot server = server
 voted_by kind tid ballot server = record server { table = voted_in server.table tid ballot }
 
@@ -116,7 +116,7 @@ abbrev pub timers_noted : Notice → Tid → TimersValue → TimersValue
 timers_noted notices.Ending tid timers = timers_ended timers tid
 timers_noted notice tid timers = timers
 
-abbrev pub noted_by : Kind → Notice → Tid → ServerValue → ServerValue
+abbrev pub noted_by : ServerKind → Notice → Tid → ServerValue → ServerValue
 noted_by Timers notice tid server = record server { timers = timers_noted notice tid server.timers }
 noted_by Nothing notice tid server = server
 noted_by kind notice tid server = record server { table = noted_in notice tid server.table }
@@ -133,7 +133,7 @@ holds_some server = any_holds server.table.shares
 -- ---- what a log keeps
 
 -- a server whose votes and changes a log keeps
-abbrev pub is_logged : Kind → Bool
+abbrev pub is_logged : ServerKind → Bool
 is_logged (Files quota) = true
 is_logged Audit = true
 is_logged kind = false
@@ -168,7 +168,7 @@ abbrev pub note_of : List ℕ → Op
 note_of text = Note text
 
 -- the changes that give the committed contents again; a server whose changes no log keeps has none
-abbrev pub AreContents : Kind → TableValue → List Op → Type 0
+abbrev pub AreContents : ServerKind → TableValue → List Op → Type 0
 AreContents (Files quota) table changes = AreFilesWritten table.contents changes
 AreContents Audit table changes = changes ≡ map note_of table.notes
 AreContents kind table changes = changes ≡ []

@@ -17,7 +17,7 @@ use Rattle.qs_ops.specs.declared.reply.Reply.{Reply}
 use Rattle.qs_ops.specs.declared.reply.Reply.TheVariants as replies
 use Rattle.qs_ops.specs.declared.file.File.{File}
 use Rattle.qs_ops.specs.declared.share.Share.{Share}
-use Rattle.qs_ops.specs.declared.share.Kept.{Kept}
+use Rattle.qs_ops.specs.declared.share.KeptChanges.{KeptChanges}
 
 pub record TableValue : Type 0 where
   pub contents : List File  -- the committed files, or what names, windows and scratch have under their names; in byte order
@@ -245,9 +245,9 @@ least_taken table tid = least_taken_in table tid (share_of table tid).changes
 -- ---- a restart
 
 -- changes that a log kept are pending again; each counts as one operation
-abbrev pub kept : TableValue → Kept → TableValue
+abbrev pub kept : TableValue → KeptChanges → TableValue
 kept table k = with_share table k.tid (record { changes = k.changes; reads = []; operations = length k.changes; voted = false })
 
 -- all that was pending is gone; these changes are committed, in order, and those are pending again
-abbrev pub restarted : TableValue → List Op → List Kept → TableValue
+abbrev pub restarted : TableValue → List Op → List KeptChanges → TableValue
 restarted table changes keeps = fold kept (record (applied table changes) { shares = [] }) keeps

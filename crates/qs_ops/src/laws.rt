@@ -5,7 +5,7 @@ ghost use Rattle.qs_ops.specs.Places.{IsInOrder};
 ghost use Rattle.qs_ops.specs.declared.operation.Op.{Op};
 ghost use Rattle.qs_ops.specs.Server.{AreContents};
 ghost use Rattle.qs_ops.specs.Table.{TableValue, apply_change, apply_note};
-ghost use Rattle.qs_ops.specs.declared.server.Kind.TheVariants as kinds;
+ghost use Rattle.qs_ops.specs.declared.server.ServerKind.TheVariants as kinds;
 
 /// What `contents` gives stands for the committed contents: applied in order to empty contents, it gives them again.
 pub fn contents_are_given_whole()

@@ -2,7 +2,7 @@
 ghost use Rattle.qs_ops.specs.Server.{ServerValue};
 ghost use Rattle.qs_ops.specs.Table.{no_table};
 ghost use Rattle.qs_ops.specs.Timers.{no_timers};
-ghost use Rattle.qs_ops.specs.declared.server.Kind.TheVariants as kinds;
+ghost use Rattle.qs_ops.specs.declared.server.ServerKind.TheVariants as kinds;
 
 use crate::server::Server;
 use crate::{Changes, Notice, Op, Reply, Vote};

@@ -8,7 +8,7 @@ use qs_base::{Class, NoMemory, Tid};
 
 /// Which server it is.
 #[derive(Clone, Copy)]
-pub enum Kind {
+pub enum ServerKind {
     /// Files, which together may have `quota` bytes.
     Files { quota: u64 },
     Audit,

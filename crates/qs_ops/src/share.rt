@@ -19,7 +19,7 @@ pub struct Share {
 
 /// The changes of a transaction that a restart finds in the log.
 #[derive(Drop)]
-pub struct Kept {
+pub struct KeptChanges {
     pub tid: Tid,
     pub changes: Changes,
 }

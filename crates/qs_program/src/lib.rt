@@ -11,7 +11,7 @@ ghost use Rattle.std.specs.Prelude.{◌≡◌, length, IfOk};
 
 use crate::standard::{NULL, stand_ins};
 use qs_base::NoMemory;
-use qs_file::{FileDisk, LockFile};
+use qs_disk_file::{FileDisk, LockFile};
 use qs_io::{StdSink, StdSource};
 use qs_text::{Status, StatusLine};
 use qs_top::run;

@@ -6,8 +6,8 @@ use Rattle.std.proofs.lemmas.Bool.Decides.{nat_tests}
 use Rattle.std.proofs.lemmas.List.{length-append, length-drop, length-take}
 use Rattle.std.proofs.lemmas.List.Elements.{All-nil, All-cons, All-head, All-tail, All-push, All-drop}
 use Rattle.qs_base.specs.declared.identifiers.NodeNo.{NodeNo}
-use Rattle.qs_channels.specs.End
-use Rattle.qs_channels.specs.End.{End, Answer, OldPeer, NewPeer, OldSelf, Repeat, Early, fresh, sent, sent_packet, answer, left, received, tick_packets, idle_packets, packet, again}
+use Rattle.qs_session_channels.specs.End
+use Rattle.qs_session_channels.specs.End.{End, Answer, OldPeer, NewPeer, OldSelf, Repeat, Early, fresh, sent, sent_packet, answer, left, received, tick_packets, idle_packets, packet, again}
 use Rattle.qs_packet.specs.Grammar.{IsMessage, is_hello, IsPacket}
 use Rattle.qs_packet.specs.declared.message.Message.{Message}
 use Rattle.qs_packet.specs.declared.message.Message.TheVariants as messages

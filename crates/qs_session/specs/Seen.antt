@@ -5,8 +5,8 @@ use Rattle.qs_packet.specs.declared.message.Message.{Message}
 use Rattle.qs_packet.specs.declared.packet.Packet.{Packet}
 use Rattle.qs_session.specs.declared.taken.Taken.{Taken}
 use Rattle.qs_session.specs.declared.taken.Taken.TheVariants
-use Rattle.qs_channels.specs.End
-use Rattle.qs_channels.specs.End.{End, Answer}
+use Rattle.qs_session_channels.specs.End
+use Rattle.qs_session_channels.specs.End.{End, Answer}
 
 pub record SessionValue : Type 0 where
   pub me : NodeNo

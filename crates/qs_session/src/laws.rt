@@ -2,7 +2,7 @@
 ghost use Rattle.std.specs.Prelude.{◌≡◌, ℕ, ◌+◌, ◌<◌, ◌^◌, true, List, length, map, Some};
 ghost use Rattle.std.specs.List.{All};
 ghost use Rattle.qs_base.specs.declared.identifiers.NodeNo.{NodeNo};
-ghost use Rattle.qs_channels.specs.End.{fresh, sent, sent_packet, received, tick_packets, ticked};
+ghost use Rattle.qs_session_channels.specs.End.{fresh, sent, sent_packet, received, tick_packets, ticked};
 ghost use Rattle.qs_packet.specs.Grammar.{IsPacket};
 ghost use Rattle.qs_packet.specs.declared.message.Message.{Message};
 ghost use Rattle.qs_packet.specs.declared.message.Message.TheVariants.{Hello};

@@ -1,7 +1,7 @@
 //! Sessions.
 ghost use Rattle.std.specs.Prelude.{◌∷◌, ◌++◌, take, ◌≡◌, ℕ, ◌+◌, ◌<◌, ◌≤◌, ◌^◌, ◌-◌, ◌↔◌, List, [], length, map, drop, IfOk, OnOk, OnErr, IsErrOf, IfSome, All, option_map, true, Err};
 ghost use Rattle.qs_base.specs.declared.memory.GrowFault.TheVariants.{Last};
-ghost use Rattle.qs_channels.specs.End.{fresh, sent, sent_packet, answer, received, tick_packets, ticked, packet, again};
+ghost use Rattle.qs_session_channels.specs.End.{fresh, sent, sent_packet, answer, received, tick_packets, ticked, packet, again};
 ghost use Rattle.qs_packet.specs.declared.message.Message.TheVariants.{Hello};
 ghost use Rattle.qs_packet.specs.declared.message.Message.{Message};
 ghost use Rattle.qs_session.specs.Seen.{seen, answer_of, answer_with, headed, IsFrom};

@@ -3,8 +3,8 @@ use Rattle.std.specs.Prelude.{◌≡◌, ◌⊎◌, ◌<◌, ◌==◌, ℕ, Bool
 use Rattle.qs_slot.specs.Slot.{Slot, Closed, Good, Bad, Present, is_format}
 use Rattle.qs_slot.specs.declared.place.Place.{Place}
 use Rattle.qs_slot.specs.declared.place.Place.TheVariants.{First, Second}
-use Rattle.qs_slot.specs.declared.found.Found.{Found}
-use Rattle.qs_slot.specs.declared.found.Found.TheVariants.{Shut, Whole, Broken}
+use Rattle.qs_slot.specs.declared.found.FoundSlot.{FoundSlot}
+use Rattle.qs_slot.specs.declared.found.FoundSlot.TheVariants.{Shut, Whole, Broken}
 
 -- where a place is
 abbrev pub offset_of : Place → ℕ
@@ -12,7 +12,7 @@ offset_of First = 0
 offset_of Second = 4096
 
 -- the slot that was found
-abbrev pub seen : Found → Slot
+abbrev pub seen : FoundSlot → Slot
 seen Shut = Closed
 seen (Whole sequence value) = Good sequence value
 seen Broken = Bad
@@ -35,7 +35,7 @@ pub record IsWithin (limit : ℕ) (present : Present) : Type 0 where
   pub next : (present.next ≡ 0) ⊎ (present.next ≡ 4096)
 
 -- the same of a slot that was found
-abbrev pub IsFoundWithin : ℕ → Found → Type 0
+abbrev pub IsFoundWithin : ℕ → FoundSlot → Type 0
 IsFoundWithin limit Shut = ⊤
 IsFoundWithin limit (Whole sequence value) = (sequence < limit) × (value.inc < limit) × (is_format value.format ≡ true)
 IsFoundWithin limit Broken = ⊤

@@ -12,7 +12,7 @@ use sha2::{Digest, Sha256};
 
 /// A slot as it was found.
 #[derive(Clone, Copy)]
-pub enum Found {
+pub enum FoundSlot {
     /// Its gate is closed.
     Shut,
     /// It is open, and its digest is that of its sequence and value.
@@ -22,17 +22,17 @@ pub enum Found {
 }
 
 /// The slot of these bytes, where numbers have to be below the limit.
-pub fn found_in(bytes: &[u8; 57], limit: u64) -> Found
+pub fn found_in(bytes: &[u8; 57], limit: u64) -> FoundSlot
     ensures slot { seen result ≡ slot_in limit 0 bytes.now }
     ensures within { IsFoundWithin limit result }
 {
     if bytes[0] != 1 {
-        return Found::Shut;
+        return FoundSlot::Shut;
     }
     if !is_sound(bytes, limit) {
-        return Found::Broken;
+        return FoundSlot::Broken;
     }
-    Found::Whole {
+    FoundSlot::Whole {
         sequence: long_at(bytes, 1),
         value: value_in(bytes),
     }

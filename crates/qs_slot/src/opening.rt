@@ -9,7 +9,7 @@ ghost use Rattle.qs_slot.specs.Slot.{present_in, slot_in, slots_in, together};
 ghost use Rattle.qs_slot.specs.Turning.{HoldsSlots, other};
 
 use crate::fault::SlotFault;
-use crate::found::{Found, found_in};
+use crate::found::{FoundSlot, found_in};
 use crate::place::Place;
 use crate::slots::Slots;
 use crate::value::SlotValue;
@@ -56,7 +56,7 @@ pub fn open_slots<D: Disk>(disk: &mut D, limit: u64) -> Result<Slots, SlotFault>
 }
 
 // The slot at a place.
-fn read_slot<D: Disk>(disk: &mut D, place: Place, limit: u64) -> Result<Found, DiskFailed>
+fn read_slot<D: Disk>(disk: &mut D, place: Place, limit: u64) -> Result<FoundSlot, DiskFailed>
     requires in_range { 4153 ≤ D.byte_count disk.old }
     requires still { D.told → IsStill (D.state disk.old) }
     ensures slot { D.told → IfOk result (λ found. seen found ≡ slot_in limit (offset_of place) (D.state disk.old).content) }
@@ -73,7 +73,7 @@ fn read_slot<D: Disk>(disk: &mut D, place: Place, limit: u64) -> Result<Found, D
 }
 
 // What two slots say together.
-fn chosen(first: Found, second: Found) -> Result<Slots, SlotFault>
+fn chosen(first: FoundSlot, second: FoundSlot) -> Result<Slots, SlotFault>
     ensures value { IfOk result (λ slots. together (seen first) (seen second) ≡ Ok slots.present) }
     ensures next { IfOk result (λ slots. slots.next_open ≡ opened (slot_of_two slots.present.next (seen first) (seen second))) }
     ensures live { IfOk result (λ slots. slots.live_open ≡ opened (slot_of_two (other slots.present.next) (seen first) (seen second))) }
@@ -82,18 +82,18 @@ fn chosen(first: Found, second: Found) -> Result<Slots, SlotFault>
     ensures never { result ≡ Err faults.DiskFailed → ⊥ }
 {
     match (first, second) {
-        (Found::Broken, _) => Err(SlotFault::Damaged { at: 0 }),
-        (_, Found::Broken) => Err(SlotFault::Damaged { at: 4096 }),
-        (Found::Shut, Found::Shut) => Ok(slots_of(0, FRESH, Place::First, false, false)),
-        (Found::Shut, Found::Whole { sequence, value }) => {
+        (FoundSlot::Broken, _) => Err(SlotFault::Damaged { at: 0 }),
+        (_, FoundSlot::Broken) => Err(SlotFault::Damaged { at: 4096 }),
+        (FoundSlot::Shut, FoundSlot::Shut) => Ok(slots_of(0, FRESH, Place::First, false, false)),
+        (FoundSlot::Shut, FoundSlot::Whole { sequence, value }) => {
             Ok(slots_of(sequence, value, Place::First, false, true))
         }
-        (Found::Whole { sequence, value }, Found::Shut) => {
+        (FoundSlot::Whole { sequence, value }, FoundSlot::Shut) => {
             Ok(slots_of(sequence, value, Place::Second, false, true))
         }
         (
-            Found::Whole { sequence, value },
-            Found::Whole {
+            FoundSlot::Whole { sequence, value },
+            FoundSlot::Whole {
                 sequence: second_sequence,
                 value: second_value,
             },

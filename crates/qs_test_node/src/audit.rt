@@ -2,7 +2,7 @@
 ghost use Rattle.std.specs.Prelude.{◌≡◌, true, IfOk};
 ghost use Rattle.qs_ops.specs.Server.{is_own};
 ghost use Rattle.qs_ops.specs.declared.operation.Op.TheVariants.{Notes};
-ghost use Rattle.qs_ops.specs.declared.server.Kind.TheVariants as kinds;
+ghost use Rattle.qs_ops.specs.declared.server.ServerKind.TheVariants as kinds;
 
 use crate::samples::tid;
 use qs_audit::Audit;

@@ -1,7 +1,7 @@
 //! A script of two lines: in acts, and in visits.
 use qs_base::{Bytes, ClientNo, List, NoMemory};
+use qs_book_journal::{Command, LineAnswer, ScriptLine};
 use qs_client::{ClientCell, ClientEnds};
-use qs_journal::{Command, LineAnswer, ScriptLine};
 use qs_link::{Draw, Feed, lane};
 use qs_ops::Answer;
 use std::alloc::Global;

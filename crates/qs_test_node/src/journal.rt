@@ -1,7 +1,7 @@
 //! Journals that are merged, in an order that was worked out by hand.
 use crate::samples::tid;
 use qs_base::{Bytes, ClientNo, List, NoMemory, NodeNo, Stamp};
-use qs_journal::{Act, Entry, merge};
+use qs_book_journal::{Act, Entry, merge};
 use std::alloc::Global;
 use std::test::Fail;
 

@@ -5,8 +5,8 @@
 
 use crate::row::Row;
 use anyhow::{Context, Error, bail};
-use qs_conforming::{Fault, Misfit, first_misfit};
-use qs_script::{ScriptFailed, read_script};
+use qs_book_check::{Fault, Misfit, first_misfit};
+use qs_text_script::{ScriptFailed, read_script};
 use qs_tools::{JournalFailed, read_journal};
 use std::alloc::Global;
 

@@ -2,9 +2,9 @@
 
 use anyhow::{Context, Error};
 use qs_base::Bytes;
-use qs_journal::{Command, Kind, Point, ScriptLine};
+use qs_book_journal::{Command, Point, PointKind, ScriptLine};
 use qs_ops::Op;
-use qs_script::{FaultLine, Planned, Script};
+use qs_text_script::{FaultLine, Planned, Script};
 
 /// The most commands that are printed one by one.
 const MOST: usize = 40;
@@ -68,10 +68,10 @@ fn print_fault<R: AllocGlobal + Print>(rt: &R, line: &FaultLine) -> Result<(), E
 fn print_point<R: AllocGlobal + Print>(rt: &R, point: &Point) -> Result<(), Error> {
     let side = if point.after { "after" } else { "before" };
     let kind = match point.kind {
-        Kind::Serve => "serve",
-        Kind::Vote => "vote",
-        Kind::Decide => "decide",
-        Kind::Learn => "learn",
+        PointKind::Serve => "serve",
+        PointKind::Vote => "vote",
+        PointKind::Decide => "decide",
+        PointKind::Learn => "learn",
     };
     println!(rt; "{side} {kind} of {}", text_of(&point.label)?)?;
     Ok(())

@@ -7,7 +7,7 @@
 use crate::printing::print_script;
 use crate::shared::{tell, words_of};
 use anyhow::{Context, Error, bail};
-use qs_script::{Form, ScriptFailed, Status, read_script, read_words};
+use qs_text_script::{Form, ScriptFailed, Status, read_script, read_words};
 
 /// A script, and how many nodes it is for.
 #[derive(Drop)]

@@ -1,7 +1,7 @@
 //! What rows of words and scripts have in common.
 
 use anyhow::{Context, Error, bail};
-use qs_script::{Status, status_line};
+use qs_text_script::{Status, status_line};
 use std::alloc::Global;
 
 /// The words of a line, one or more blanks between two.

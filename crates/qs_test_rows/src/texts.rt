@@ -10,8 +10,8 @@ use crate::shared::{tell, words_of};
 use anyhow::{Context, Error, bail};
 use qs_base::{ClientNo, List, NodeNo};
 use qs_book::{Book, BookFault};
-use qs_script::{Script, ScriptFailed, Seat, Status, Waiting, read_script, read_words};
 use qs_text::out_text;
+use qs_text_script::{Script, ScriptFailed, Seat, Status, Waiting, read_script, read_words};
 use qs_tools::{Journal, JournalFailed, read_journal};
 use std::alloc::Global;
 

@@ -2,7 +2,7 @@
 ghost use Rattle.std.specs.Prelude.{◌≤◌};
 
 use qs_disk::Disk;
-use qs_file::{FileDisk, LockFile, Trouble};
+use qs_disk_file::{FileDisk, LockFile, Trouble};
 use std::fs::Files;
 use std::test::Fail;
 use std::{env, fs, process};

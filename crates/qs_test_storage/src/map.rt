@@ -1,5 +1,5 @@
 //! A map answers where there is memory.
-use qs_map::Map;
+use qs_base_map::Map;
 use std::test::Fail;
 
 #[test]

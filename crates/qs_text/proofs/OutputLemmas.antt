@@ -5,12 +5,12 @@ use Rattle.std.proofs.Math.Seq.{drop-nil}
 use Rattle.std.proofs.lemmas.Bool.{lt-ltb, le-ltb}
 use Rattle.std.proofs.lemmas.List.{append-nil}
 use Rattle.std.specs.Prelude.{Bool}
-use Rattle.qs_machine.specs.Book.{BookValue}
-use Rattle.qs_machine.specs.Nodes.{NodeValue}
-use Rattle.qs_journal.specs.declared.entry.Entry.{Entry}
+use Rattle.qs_book_machine.specs.Book.{BookValue}
+use Rattle.qs_book_machine.specs.Nodes.{NodeValue}
+use Rattle.qs_book_journal.specs.declared.entry.Entry.{Entry}
 use Rattle.qs_text.specs.Output.{clients_text, client_part, nodes_text, node_text, totals_text, shown_journal, out_of}
-use Rattle.qs_statements.specs.declared.script.Script.{Script}
-use Rattle.qs_statements.specs.declared.script.Seat.{Seat}
+use Rattle.qs_book_script.specs.declared.script.Script.{Script}
+use Rattle.qs_book_script.specs.declared.script.Seat.{Seat}
 
 at_node : (nodes : List NodeValue) (number : ℕ) (node : NodeValue) → slice_get nodes number ≡ Some node → drop number nodes ≡ node ∷ drop (suc number) nodes
 at_node [] number node e = cc

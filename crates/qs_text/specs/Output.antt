@@ -5,16 +5,16 @@ use Rattle.qs_base.specs.declared.identifiers.ClientNo.{ClientNo}
 use Rattle.qs_base.specs.declared.identifiers.Tid.{Tid}
 use Rattle.qs_ops.specs.declared.answer.Answer.{Answer}
 use Rattle.qs_ops.specs.declared.file.File.{File}
-use Rattle.qs_journal.specs.declared.entry.Act.{Act}
-use Rattle.qs_journal.specs.declared.entry.Act.TheVariants as acts
-use Rattle.qs_journal.specs.declared.entry.Entry.{Entry}
-use Rattle.qs_machine.specs.Book.{BookValue, find_transaction}
-use Rattle.qs_machine.specs.Nodes.{NodeValue}
-use Rattle.qs_machine.specs.Transaction.{TransactionValue, is_commit, is_abort}
-use Rattle.qs_script.specs.Answers.{told_text}
-use Rattle.qs_script.specs.Journal.{journal_text}
-use Rattle.qs_statements.specs.declared.script.Script.{Script}
-use Rattle.qs_statements.specs.declared.script.Seat.{Seat}
+use Rattle.qs_book_journal.specs.declared.entry.Act.{Act}
+use Rattle.qs_book_journal.specs.declared.entry.Act.TheVariants as acts
+use Rattle.qs_book_journal.specs.declared.entry.Entry.{Entry}
+use Rattle.qs_book_machine.specs.Book.{BookValue, find_transaction}
+use Rattle.qs_book_machine.specs.Nodes.{NodeValue}
+use Rattle.qs_book_machine.specs.Transaction.{TransactionValue, is_commit, is_abort}
+use Rattle.qs_text_script.specs.Answers.{told_text}
+use Rattle.qs_text_script.specs.Journal.{journal_text}
+use Rattle.qs_book_script.specs.declared.script.Script.{Script}
+use Rattle.qs_book_script.specs.declared.script.Seat.{Seat}
 
 -- ---- clients
 

@@ -1,7 +1,7 @@
 //! The texts of answers, causes and identifiers.
 ghost use Rattle.std.specs.Prelude.{◌≡◌, ◌++◌, IfOk, OnOk, string_bytes};
 ghost use Rattle.std.specs.Option.{option_copied};
-ghost use Rattle.qs_script.specs.Answers.{tid_text, server_text, reason_text, cause_text, holder_text, list_text, vote_text, answer_text, answer_words};
+ghost use Rattle.qs_text_script.specs.Answers.{tid_text, server_text, reason_text, cause_text, holder_text, list_text, vote_text, answer_text, answer_words};
 
 use qs_base::{Bytes, Member, NoMemory, ServerNo, Tid};
 use qs_ops::servers::{AUDIT, EXTRA, FILES, NAMES, SCRATCH, TIMERS, WINDOWS};

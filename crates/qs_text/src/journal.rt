@@ -1,8 +1,8 @@
 //! The history as text, a line for each entry.
 ghost use Rattle.std.specs.Prelude.{◌≡◌, ◌++◌, ◌∷◌, [], IfOk, OnOk, codes, decimal, map};
 ghost use Rattle.std.specs.Option.{option_copied};
-ghost use Rattle.qs_script.specs.Answers.{list_text, tid_text};
-ghost use Rattle.qs_script.specs.Journal.{journal_text, entry_row, entry_line, act_words, begin_words, issue_words, serve_words, vote_words, counted_words, decide_words, learn_words, answer_act_words, restart_words, reply_text, ballot_text, outcome_text, cause_words, crash_words, member_text, pend_text, done_text};
+ghost use Rattle.qs_text_script.specs.Answers.{list_text, tid_text};
+ghost use Rattle.qs_text_script.specs.Journal.{journal_text, entry_row, entry_line, act_words, begin_words, issue_words, serve_words, vote_words, counted_words, decide_words, learn_words, answer_act_words, restart_words, reply_text, ballot_text, outcome_text, cause_words, crash_words, member_text, pend_text, done_text};
 ghost use Rattle.qs_text.specs.Output.{label_of};
 
 use crate::answers::{put, put_answer, put_cause, put_reason};
@@ -13,7 +13,7 @@ use crate::pieces::{
 };
 use qs_base::{Bytes, ClientNo, Copied, List, Member, NoMemory, NodeNo, Outcome, Tid};
 use qs_book::Book;
-use qs_journal::{Act, CrashCause, Entry, Found};
+use qs_book_journal::{Act, CrashCause, Entry, Found};
 use qs_ops::{Answer, Cause, Op, Reply, Vote, answer_of};
 use std::alloc::Global;
 

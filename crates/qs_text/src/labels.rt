@@ -1,7 +1,7 @@
 //! Answers under their lines, with the labels of the transactions that they name.
 ghost use Rattle.std.specs.Prelude.{◌≡◌, ◌++◌, OnOk};
 ghost use Rattle.std.specs.Option.{option_copied};
-ghost use Rattle.qs_script.specs.Answers.{holder_label, told_text};
+ghost use Rattle.qs_text_script.specs.Answers.{holder_label, told_text};
 ghost use Rattle.qs_text.specs.Output.{label_of};
 
 use crate::answers::{put, put_answer};

@@ -11,7 +11,7 @@ mod totals;
 
 pub use journal::journal_text;
 pub use output::out_text;
-pub use qs_script::{
+pub use qs_text_script::{
     FaultLine, Form, Planned, Quota, Script, ScriptFailed, ScriptFault, Seat, Status, StatusLine,
     Waiting, WordsFault, lawful_text, numbers_have_one_spelling, read_script, read_words,
     status_line,

@@ -1,7 +1,7 @@
 //! Operations as a script spells them, without label and node.
 ghost use Rattle.std.specs.Prelude.{◌≡◌, ◌++◌, ◌∷◌, [], OnOk, decimal};
-ghost use Rattle.qs_script.specs.Answers.{list_text};
-ghost use Rattle.qs_script.specs.Journal.{op_word, op_arguments, op_words};
+ghost use Rattle.qs_text_script.specs.Answers.{list_text};
+ghost use Rattle.qs_text_script.specs.Journal.{op_word, op_arguments, op_words};
 
 use crate::pieces::{add_bytes, add_number, add_text};
 use qs_base::{Bytes, NoMemory};

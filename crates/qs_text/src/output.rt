@@ -8,10 +8,10 @@ use crate::journal::put_journal;
 use crate::labels::put_told;
 use crate::totals::{aborted, begun, committed, restarts};
 use qs_base::{Bytes, ClientNo, List, NoMemory, NodeNo};
-use qs_book::{Book, NodeState};
-use qs_journal::{Act, Entry};
+use qs_book::{Book, BookNode};
+use qs_book_journal::{Act, Entry};
 use qs_ops::{Answer, File};
-use qs_script::{Script, Seat};
+use qs_text_script::{Script, Seat};
 use std::alloc::{AllocError, Global};
 
 /// How many numbers of clients there are.
@@ -179,7 +179,7 @@ fn put_nodes(alloc: Global, out: &mut Bytes, book: &Book) -> Result<(), NoMemory
 }
 
 /// Adds a node, its files and its notes.
-fn put_node(alloc: Global, out: &mut Bytes, number: u8, node: &NodeState) -> Result<(), NoMemory>
+fn put_node(alloc: Global, out: &mut Bytes, number: u8, node: &BookNode) -> Result<(), NoMemory>
     ensures { OnOk result (out.new ≡ out.old ++ node_text number node.now) }
 {
     put_node_line(alloc, out, number, node)?;
@@ -192,7 +192,7 @@ fn put_node_line(
     alloc: Global,
     out: &mut Bytes,
     number: u8,
-    node: &NodeState,
+    node: &BookNode,
 ) -> Result<(), NoMemory>
     ensures { OnOk result (out.new ≡ out.old ++ node_line number node.now) }
 {

@@ -1,11 +1,11 @@
 //! The pieces of journal lines, each added after a blank.
 ghost use Rattle.std.specs.Prelude.{◌≡◌, ◌∷◌, [], ◌++◌, IfOk, OnOk, decimal, string_bytes};
-ghost use Rattle.qs_script.specs.Answers.{list_text, tid_text};
-ghost use Rattle.qs_script.specs.Journal.{member_text, part_text, pend_text, done_text};
+ghost use Rattle.qs_text_script.specs.Answers.{list_text, tid_text};
+ghost use Rattle.qs_text_script.specs.Journal.{member_text, part_text, pend_text, done_text};
 
 use crate::answers::{put, server_text, tid_text};
 use qs_base::{Bytes, Member, NoMemory, ServerNo, Tid};
-use qs_journal::Found;
+use qs_book_journal::Found;
 use qs_ops::servers::FIRST_CLIENT;
 use std::alloc::{AllocError, Global};
 

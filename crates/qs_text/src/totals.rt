@@ -4,9 +4,9 @@ ghost use Rattle.std.specs.List.{count_by};
 ghost use Rattle.qs_text.specs.Output.{transactions_of, is_begun, is_committed, is_aborted, is_restart};
 
 use qs_book::Book;
+use qs_book_journal::{Act, Entry};
+use qs_book_machine::Cell;
 use qs_book_transactions::Transaction;
-use qs_journal::{Act, Entry};
-use qs_machine::Cell;
 
 /// How many transactions were begun.
 pub fn begun(book: &Book) -> usize

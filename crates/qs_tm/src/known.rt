@@ -16,7 +16,7 @@ ghost use Rattle.qs_tm.specs.declared.manager.Which.TheVariants as whiches;
 use crate::manager::{Which, put_tid};
 use crate::participant::Participant;
 use qs_base::{List, NoMemory, Tid};
-use qs_map::Map;
+use qs_base_map::Map;
 use std::alloc::Global;
 use std::cmp::Ordering;
 use std::collections::btree_map::Iter;

@@ -1,9 +1,9 @@
 -- A history is lawful exactly where no line of it breaks a clause.
 use Rattle.std.proofs.Common.{◌≡◌, ℕ, ◌+◌, List, [], ◌∷◌, Option, Some, None, refl, sym, subst}
 use Rattle.std.specs.Prelude.{◌↔◌}
-use Rattle.qs_journal.specs.declared.entry.Entry.{Entry}
-use Rattle.qs_machine.specs.Book.{BookValue}
-use Rattle.qs_machine.specs.Lawful.{broken, effect, IsLawful}
+use Rattle.qs_book_journal.specs.declared.entry.Entry.{Entry}
+use Rattle.qs_book_machine.specs.Book.{BookValue}
+use Rattle.qs_book_machine.specs.Lawful.{broken, effect, IsLawful}
 use Rattle.qs_tools.specs.Checked.{first_broken_line}
 
 abbrev from_first : ℕ → Option ℕ → Option (ℕ × ℕ) → Option (ℕ × ℕ)

@@ -1,13 +1,13 @@
 //! The checker of histories.
 ghost use Rattle.std.specs.Prelude.{◌≡◌, ◌↔◌, ◌+◌, ◌≤◌, None, IfOk, length};
-ghost use Rattle.qs_machine.specs.Lawful.{IsLawful, broken, effect};
-ghost use Rattle.qs_machine.specs.Opening.{opening};
+ghost use Rattle.qs_book_machine.specs.Lawful.{IsLawful, broken, effect};
+ghost use Rattle.qs_book_machine.specs.Opening.{opening};
 ghost use Rattle.qs_tools.specs.Checked.{first_broken_line};
 
 use qs_base::NoMemory;
 use qs_book::{Book, BookFault};
-use qs_journal::Entry;
-use qs_reader::Journal;
+use qs_book_journal::Entry;
+use qs_text_history::Journal;
 use std::alloc::Global;
 
 /// Whether each entry of a history is a lawful step of the reference machine, from the opening that

@@ -2,32 +2,32 @@
 use Rattle.std.proofs.Common.{◌≡◌, ◌∙◌, ◌≤◌, ◌⊎◌, inl, inr, ℕ, ◌+◌, List, [], ◌∷◌, Option, Some, None, ap, subst, sym, arith}
 use Rattle.std.specs.Global.{Global}
 use Rattle.qs_cell.proofs.Rooms.{raised_roomy}
-use Rattle.qs_conformance.specs.Begun.{at_start}
-use Rattle.qs_conformance.specs.Conforming.{fault_from, first_misfit_from}
-use Rattle.qs_conformance.specs.Course.{CourseValue}
-use Rattle.qs_conformance.specs.Effects.{course_after}
-use Rattle.qs_conformance.specs.Rules.{broken_rule}
-use Rattle.qs_conformance.specs.declared.fault.Fault.{Fault}
-use Rattle.qs_conformance.specs.declared.fault.Misfit.{Misfit}
-use Rattle.qs_conformance.specs.declared.fault.Rule.{Rule}
+use Rattle.qs_book_conformance.specs.Begun.{at_start}
+use Rattle.qs_book_conformance.specs.Conforming.{fault_from, first_misfit_from}
+use Rattle.qs_book_conformance.specs.Course.{CourseValue}
+use Rattle.qs_book_conformance.specs.Effects.{course_after}
+use Rattle.qs_book_conformance.specs.Rules.{broken_rule}
+use Rattle.qs_book_conformance.specs.declared.fault.Fault.{Fault}
+use Rattle.qs_book_conformance.specs.declared.fault.Misfit.{Misfit}
+use Rattle.qs_book_conformance.specs.declared.fault.Rule.{Rule}
 use Rattle.qs_disk.specs.Disk.{DiskState, IsImage}
 use Rattle.qs_disk.specs.Moments.{Keeps}
-use Rattle.qs_host.specs.Roomy.{HasRoomyLog}
-use Rattle.qs_incarnation.proofs.Beginning.{one_log}
-use Rattle.qs_incarnation.specs.Incarnation.{IsOldOrRaised, IsTouched}
-use Rattle.qs_journal.specs.declared.entry.Entry.{Entry}
+use Rattle.qs_node_host.specs.Roomy.{HasRoomyLog}
+use Rattle.qs_log_start.proofs.Beginning.{one_log}
+use Rattle.qs_log_start.specs.Incarnation.{IsOldOrRaised, IsTouched}
+use Rattle.qs_book_journal.specs.declared.entry.Entry.{Entry}
 use Rattle.qs_log.specs.Image.{IsLog}
 use Rattle.qs_log.specs.Log.{raised_of}
-use Rattle.qs_machine.specs.Book.{BookValue}
-use Rattle.qs_machine.specs.Lawful.{IsLawful, broken}
-use Rattle.qs_may_begin.specs.Coherent.{AreCoherentLogs, IsCoherentDisk, IsCoherentImage}
-use Rattle.qs_may_begin.specs.Scripts.{StayCoherent}
+use Rattle.qs_book_machine.specs.Book.{BookValue}
+use Rattle.qs_book_machine.specs.Lawful.{IsLawful, broken}
+use Rattle.qs_world_opening.specs.Coherent.{AreCoherentLogs, IsCoherentDisk, IsCoherentImage}
+use Rattle.qs_world_opening.specs.Scripts.{StayCoherent}
 use Rattle.qs_record.specs.declared.record.Record.{Record}
-use Rattle.qs_single.proofs.Reaching.{same_present}
-use Rattle.qs_single.specs.Rooms.{IsRoomyDisk}
+use Rattle.qs_world_one.proofs.Reaching.{same_present}
+use Rattle.qs_world_one.specs.Rooms.{IsRoomyDisk}
 use Rattle.qs_slot.specs.Slot.{Present}
-use Rattle.qs_statements.specs.declared.script.Script.{Script}
-use Rattle.qs_verdict.specs.Verdicts.{IsRefusedAt, TellsMisfit, rule_of_script}
+use Rattle.qs_book_script.specs.declared.script.Script.{Script}
+use Rattle.qs_top.specs.Verdicts.{IsRefusedAt, TellsMisfit, rule_of_script}
 
 -- ---- a log that was raised at most
 

@@ -4,19 +4,19 @@ use Rattle.std.specs.Io.KnownBytes.{Appends}
 use Rattle.qs_base.specs.declared.identifiers.NodeNo.{NodeNo}
 use Rattle.qs_disk.specs.Disk.{DiskState}
 use Rattle.qs_io.specs.Streams.{GivesPart}
-use Rattle.qs_journal.specs.declared.entry.Entry.{Entry}
-use Rattle.qs_machine.specs.Lawful.{IsLawful}
-use Rattle.qs_machine.specs.declared.opened.Opened.{Opened}
-use Rattle.qs_may_begin.specs.Scripts.{Fits, ScriptFits}
-use Rattle.qs_rounds.specs.Seats.{node_count}
-use Rattle.qs_script.specs.Script.{script_of}
-use Rattle.qs_statements.specs.declared.script.Script.{Script}
-use Rattle.qs_statements.specs.declared.status.ScriptFault.{ScriptFault}
-use Rattle.qs_statements.specs.declared.status.Status.{Status}
-use Rattle.qs_statements.specs.declared.status.Status.TheVariants as statuses
-use Rattle.qs_step.specs.declared.trace.Step.{Step}
+use Rattle.qs_book_journal.specs.declared.entry.Entry.{Entry}
+use Rattle.qs_book_machine.specs.Lawful.{IsLawful}
+use Rattle.qs_book_machine.specs.declared.opened.Opened.{Opened}
+use Rattle.qs_world_opening.specs.Scripts.{Fits, ScriptFits}
+use Rattle.qs_world_rounds.specs.Seats.{node_count}
+use Rattle.qs_text_script.specs.Script.{script_of}
+use Rattle.qs_book_script.specs.declared.script.Script.{Script}
+use Rattle.qs_book_script.specs.declared.status.ScriptFault.{ScriptFault}
+use Rattle.qs_book_script.specs.declared.status.Status.{Status}
+use Rattle.qs_book_script.specs.declared.status.Status.TheVariants as statuses
+use Rattle.qs_node_step.specs.declared.trace.Step.{Step}
 use Rattle.qs_disk.specs.Moments.{Keeps}
-use Rattle.qs_incarnation.specs.Incarnation.{IsTouched}
+use Rattle.qs_log_start.specs.Incarnation.{IsTouched}
 use Rattle.qs_top.specs.Disks.{IsDamageOver, OfFirst, Leaves}
 use Rattle.qs_top.specs.Inner.Giving.{IsNoScript, IsGiven, IsGivenOf}
 use Rattle.qs_top.specs.Inner.Over.{IsOver, IsOutput}
@@ -24,7 +24,7 @@ use Rattle.qs_top.specs.Run.{HasLawful, IsNothing, IsNotBegun, IsWhole, IsShort,
 use Rattle.qs_top.specs.Statuses.{IfNot, IsEnd, IsOfRounds, Tells}
 use Rattle.qs_top.specs.Texts.{ReadWhole, OfScript}
 use Rattle.qs_top.specs.declared.outcome.Run.{Run}
-use Rattle.qs_top.specs.declared.whole.Made.{Made}
+use Rattle.qs_top.specs.declared.whole.RunMade.{RunMade}
 use Rattle.qs_top.proofs.StatusLemmas.{end_or, end_logged}
 
 -- ---- the text
@@ -111,7 +111,7 @@ given_part faults given old new (Some other) before after bytes (inr g) is e fau
 
 -- ---- the run
 
-module _ {D K : Type 0} (told : Type 0) (state : D → DiskState) (own size : D → ℕ) (seed : ℕ) (script : Script) (shown : Bool) (faults : K → ℕ) (given : K → Option (List ℕ)) (before after : K) (made : Made) (run : Run) (disk end : D) (over : IsOver told state own size seed script shown made disk end) (gave : IsGiven faults given before after made run) (fits : Fits node_count script) where
+module _ {D K : Type 0} (told : Type 0) (state : D → DiskState) (own size : D → ℕ) (seed : ℕ) (script : Script) (shown : Bool) (faults : K → ℕ) (given : K → Option (List ℕ)) (before after : K) (made : RunMade) (run : Run) (disk end : D) (over : IsOver told state own size seed script shown made disk end) (gave : IsGiven faults given before after made run) (fits : Fits node_count script) where
   status_or : (run.status ≡ made.status) ⊎ ((run.status ≡ statuses.WriteFault) × ((bytes : List ℕ) × (made.output ≡ Some bytes)))
   status_or = given_status faults given before after made.output made.status run.status gave.output
 

@@ -4,21 +4,21 @@ use Rattle.std.specs.Global.{Global}
 use Rattle.qs_cell.specs.Restart.{inc_of, found_in}
 use Rattle.qs_disk.specs.Disk.{DiskState}
 use Rattle.qs_disk.specs.Fuse.{FusedValue}
-use Rattle.qs_incarnation.specs.Incarnation.{open_limit, IsRaisedLog}
+use Rattle.qs_log_start.specs.Incarnation.{open_limit, IsRaisedLog}
 use Rattle.qs_log.specs.Log.{LogValue}
-use Rattle.qs_plans.specs.Plan.{setting_of}
+use Rattle.qs_world_plans.specs.Plan.{setting_of}
 use Rattle.qs_record.specs.declared.record.Record.{Record}
-use Rattle.qs_rounds.specs.Rounds.{Cast}
-use Rattle.qs_rounds.specs.Seats.{HasBegun, node_count, first_node}
+use Rattle.qs_world_rounds.specs.Rounds.{Cast}
+use Rattle.qs_world_rounds.specs.Seats.{HasBegun, node_count, first_node}
 use Rattle.qs_slot.specs.Slot.{Present}
-use Rattle.qs_statements.specs.declared.script.Script.{Script}
-use Rattle.qs_step.specs.Opening.{recovered_of}
+use Rattle.qs_book_script.specs.declared.script.Script.{Script}
+use Rattle.qs_node_step.specs.Opening.{recovered_of}
 use Rattle.qs_world.specs.Histories.{opened_with}
-use Rattle.qs_may_begin.specs.Scripts.{opening_by}
-use Rattle.qs_single.specs.OverLog.{opening_over}
-use Rattle.qs_single.specs.Reached.{Reached}
+use Rattle.qs_world_opening.specs.Scripts.{opening_by}
+use Rattle.qs_world_one.specs.OverLog.{opening_over}
+use Rattle.qs_world_one.specs.Reached.{Reached}
 use Rattle.qs_world.specs.World.{start}
-use Rattle.qs_journal.specs.declared.entry.Entry.{Entry}
+use Rattle.qs_book_journal.specs.declared.entry.Entry.{Entry}
 use Rattle.qs_top.specs.Disks.{IsHeldIn}
 use Rattle.qs_top.specs.Run.{IsOfWorld}
 

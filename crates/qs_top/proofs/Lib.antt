@@ -14,3 +14,4 @@ mod StatusLemmas
 mod Unopened
 -- The lines of a history that was read are few enough to be numbered.
 mod VerdictLemmas
+pub mod Courses

@@ -7,32 +7,32 @@ use Rattle.qs_base.specs.declared.identifiers.NodeNo.{NodeNo}
 use Rattle.qs_cell.specs.Logged.{HasLog}
 use Rattle.qs_cell.specs.Starts.{journal_of, trace_of}
 use Rattle.qs_cell.specs.State.{cause_of, disk_of}
-use Rattle.qs_conformance.specs.Conforming.{Conforms}
+use Rattle.qs_book_conformance.specs.Conforming.{Conforms}
 use Rattle.qs_disk.specs.Disk.{DiskState, EachImage}
-use Rattle.qs_journal.specs.declared.entry.Entry.{Entry}
-use Rattle.qs_machine.specs.Lawful.{IsLawful}
-use Rattle.qs_machine.specs.declared.opened.Opened.{Opened}
-use Rattle.qs_may_begin.specs.Coherent.{IsCoherentDisk}
-use Rattle.qs_may_begin.specs.Scripts.{Fits}
-use Rattle.qs_rounds.specs.Endings.{IsEnding, IsCutShort}
-use Rattle.qs_rounds.specs.Rounds.{Cast, IsSameStart}
-use Rattle.qs_rounds.specs.Seats.{HasBegun, first_node, node_count}
-use Rattle.qs_rounds.specs.declared.rounds.Ending.{Ending}
-use Rattle.qs_single.specs.Ends.{HoldsAtEnd, HoldsUntold}
-use Rattle.qs_single.specs.OverLog.{opening_over}
-use Rattle.qs_single.specs.Rooms.{BeganRoomy, IsRoomyDisk, began_over}
-use Rattle.qs_statements.specs.declared.script.Script.{Script}
-use Rattle.qs_statements.specs.declared.status.Status.{Status}
-use Rattle.qs_step.specs.declared.trace.Step.{Step}
-use Rattle.qs_plans.specs.Waiting.{waiting_of}
-use Rattle.qs_verdict.specs.Ends.{status_of}
-use Rattle.qs_verdict.specs.Verdicts.{IsRefusal}
+use Rattle.qs_book_journal.specs.declared.entry.Entry.{Entry}
+use Rattle.qs_book_machine.specs.Lawful.{IsLawful}
+use Rattle.qs_book_machine.specs.declared.opened.Opened.{Opened}
+use Rattle.qs_world_opening.specs.Coherent.{IsCoherentDisk}
+use Rattle.qs_world_opening.specs.Scripts.{Fits}
+use Rattle.qs_world_rounds.specs.Endings.{IsEnding, IsCutShort}
+use Rattle.qs_world_rounds.specs.Rounds.{Cast, IsSameStart}
+use Rattle.qs_world_rounds.specs.Seats.{HasBegun, first_node, node_count}
+use Rattle.qs_world_rounds.specs.declared.rounds.Ending.{Ending}
+use Rattle.qs_world_one.specs.Ends.{HoldsAtEnd, HoldsUntold}
+use Rattle.qs_world_one.specs.OverLog.{opening_over}
+use Rattle.qs_world_one.specs.Rooms.{BeganRoomy, IsRoomyDisk, began_over}
+use Rattle.qs_book_script.specs.declared.script.Script.{Script}
+use Rattle.qs_book_script.specs.declared.status.Status.{Status}
+use Rattle.qs_node_step.specs.declared.trace.Step.{Step}
+use Rattle.qs_world_plans.specs.Waiting.{waiting_of}
+use Rattle.qs_top.specs.Ends.{status_of}
+use Rattle.qs_top.specs.Verdicts.{IsRefusal}
 use Rattle.qs_top.specs.Disks.{IsHeldIn, IsLogged, IsUntold, Leaves, StaysCoherent, StaysRoomy}
 use Rattle.qs_top.specs.Inner.Making.{IsFailed, IsJudgedEnd, IsJudgedShort, IsPassed, IsPassedEnd, IsPassedShort}
 use Rattle.qs_top.specs.Inner.Over.{HasLawfulOver, IsOver}
 use Rattle.qs_top.specs.Run.{HasRun, HasRunShort, IsLasting, IsLeftBy, IsTold, machine_over, output_of}
 use Rattle.qs_top.specs.Statuses.{IsEnd, IsOfRounds, Tells}
-use Rattle.qs_top.specs.declared.whole.Made.{Made}
+use Rattle.qs_top.specs.declared.whole.RunMade.{RunMade}
 use Rattle.qs_top.proofs.Coherent.{refused_by_script}
 use Rattle.qs_top.proofs.Held.{held_in, world_in}
 use Rattle.qs_top.proofs.StatusLemmas.{IsFaultStatus, end_built, end_leaves, end_refuses, refusal_built, refusal_leaves, same_node, status_ends, status_tells}
@@ -51,7 +51,7 @@ nothing_lawful told state script disk opened journal is = record {
 
 -- ---- all rounds were made
 
-module _ {D : Type 0} (told : Type 0) (state : D → DiskState) (own size : D → ℕ) (seed : ℕ) (script : Script) (shown : Bool) (alloc : Global) (disk after : D) (first last : Cast D) (begins : HasBegun told state own alloc script disk first) (room : told → IsRoomyDisk (size disk) (state disk) → BeganRoomy (began_over state size disk first.node.seat.node)) (start : IsSameStart first.node last.node) (each : told → EachImage (HasLog last.node.opened) (state after).now) (left : IsLeftBy told state last.node after) (made : Made) where
+module _ {D : Type 0} (told : Type 0) (state : D → DiskState) (own size : D → ℕ) (seed : ℕ) (script : Script) (shown : Bool) (alloc : Global) (disk after : D) (first last : Cast D) (begins : HasBegun told state own alloc script disk first) (room : told → IsRoomyDisk (size disk) (state disk) → BeganRoomy (began_over state size disk first.node.seat.node)) (start : IsSameStart first.node last.node) (each : told → EachImage (HasLog last.node.opened) (state after).now) (left : IsLeftBy told state last.node after) (made : RunMade) where
   -- what stands at the end, where the log was coherent
   abbrev EndHolds : Type 0
   EndHolds = Fits node_count script → told → IsCoherentDisk (state disk) → HoldsAtEnd state size (began_over state size disk first.node.seat.node) (opening_over alloc script begins.started.running.host.log) last.node

@@ -8,27 +8,27 @@ use Rattle.qs_cell.specs.Logged.{HasLog}
 use Rattle.qs_cell.specs.Starts.{CellValue, journal_of, trace_of}
 use Rattle.qs_cell.specs.State.{LogStands, disk_of}
 use Rattle.qs_disk.specs.Disk.{DiskState, EachImage, IsImage}
-use Rattle.qs_host.specs.Roomy.{HasRoomyLog}
-use Rattle.qs_journal.specs.declared.entry.Entry.{Entry}
-use Rattle.qs_machine.specs.declared.opened.Opened.{Opened}
-use Rattle.qs_may_begin.specs.Coherent.{IsCoherentDisk}
-use Rattle.qs_may_begin.specs.Scripts.{Fits}
-use Rattle.qs_rounds.specs.Endings.{IsEnding, IsCutShort, IsOutOfMemory}
-use Rattle.qs_rounds.specs.Rounds.{Cast, IsSameStart}
-use Rattle.qs_rounds.specs.Seats.{HasBegun, first_node, node_count}
-use Rattle.qs_rounds.specs.declared.faults.RoundFault.{RoundFault}
-use Rattle.qs_rounds.specs.declared.faults.RoundFault.TheVariants as faults
-use Rattle.qs_rounds.specs.declared.rounds.Ending.{Ending}
-use Rattle.qs_single.specs.Ends.{BreaksLawful, EndsLawful, HoldsAtEnd, HoldsUntold, RefusedUntold}
-use Rattle.qs_single.specs.OverLog.{opening_over}
-use Rattle.qs_single.specs.Rooms.{BeganRoomy, IsRoomyDisk, began_over}
-use Rattle.qs_statements.specs.declared.script.Script.{Script}
-use Rattle.qs_step.specs.declared.trace.Step.{Step}
-use Rattle.qs_statements.specs.declared.status.Status.TheVariants as statuses
+use Rattle.qs_node_host.specs.Roomy.{HasRoomyLog}
+use Rattle.qs_book_journal.specs.declared.entry.Entry.{Entry}
+use Rattle.qs_book_machine.specs.declared.opened.Opened.{Opened}
+use Rattle.qs_world_opening.specs.Coherent.{IsCoherentDisk}
+use Rattle.qs_world_opening.specs.Scripts.{Fits}
+use Rattle.qs_world_rounds.specs.Endings.{IsEnding, IsCutShort, IsOutOfMemory}
+use Rattle.qs_world_rounds.specs.Rounds.{Cast, IsSameStart}
+use Rattle.qs_world_rounds.specs.Seats.{HasBegun, first_node, node_count}
+use Rattle.qs_world_rounds.specs.declared.faults.RoundFault.{RoundFault}
+use Rattle.qs_world_rounds.specs.declared.faults.RoundFault.TheVariants as faults
+use Rattle.qs_world_rounds.specs.declared.rounds.Ending.{Ending}
+use Rattle.qs_world_one.specs.Ends.{BreaksLawful, EndsLawful, HoldsAtEnd, HoldsUntold, RefusedUntold}
+use Rattle.qs_world_one.specs.OverLog.{opening_over}
+use Rattle.qs_world_one.specs.Rooms.{BeganRoomy, IsRoomyDisk, began_over}
+use Rattle.qs_book_script.specs.declared.script.Script.{Script}
+use Rattle.qs_node_step.specs.declared.trace.Step.{Step}
+use Rattle.qs_book_script.specs.declared.status.Status.TheVariants as statuses
 use Rattle.qs_top.specs.Inner.Making.{IsJudgedEnd, IsJudgedShort, IsMadeOf, IsNothingMade}
 use Rattle.qs_top.specs.Inner.Over.{IsOver}
 use Rattle.qs_top.specs.Run.{IsLeftBy, machine_over}
-use Rattle.qs_top.specs.declared.whole.Made.{Made}
+use Rattle.qs_top.specs.declared.whole.RunMade.{RunMade}
 use Rattle.qs_top.proofs.Overs.{at_end_untold, over_end, over_short, over_untold}
 use Rattle.qs_top.proofs.Unopened.{over_refused}
 
@@ -47,7 +47,7 @@ pub record IsLeft {D : Type 0} (told : Type 0) (state : D → DiskState) (last :
   pub stands : told → LogStands state node.seat.node
   pub logged : told → EachImage (HasLog node.opened) (state after).now
 
-module _ {D : Type 0} (told : Type 0) (state : D → DiskState) (own size : D → ℕ) (seed : ℕ) (script : Script) (shown : Bool) (alloc : Global) (disk after : D) (first last : Cast D) (begins : HasBegun told state own alloc script disk first) (bytes : size (disk_of first.node.seat.node).disk ≡ size disk) (start : IsSameStart first.node last.node) (made : Made) (node : CellValue D) (journal : List Entry) (trace : List Step) (left : IsLeft told state last node journal trace after) (laws : RunLaws told state own size) (image : told → IsImage (state disk).now (state disk).content) where
+module _ {D : Type 0} (told : Type 0) (state : D → DiskState) (own size : D → ℕ) (seed : ℕ) (script : Script) (shown : Bool) (alloc : Global) (disk after : D) (first last : Cast D) (begins : HasBegun told state own alloc script disk first) (bytes : size (disk_of first.node.seat.node).disk ≡ size disk) (start : IsSameStart first.node last.node) (made : RunMade) (node : CellValue D) (journal : List Entry) (trace : List Step) (left : IsLeft told state last node journal trace after) (laws : RunLaws told state own size) (image : told → IsImage (state disk).now (state disk).content) where
   after_is : after ≡ (disk_of last.node.seat.node).disk
   after_is = left.disk ∙ ap (λ (cell : CellValue D). (disk_of cell.seat.node).disk) left.node_is
 

@@ -3,12 +3,12 @@ use Rattle.std.proofs.Common.{◌≡◌, ◌⊎◌, inl, inr, ℕ, Bool, List, [
 use Rattle.std.specs.Prelude.{⊤}
 use Rattle.qs_base.specs.declared.identifiers.NodeNo.{NodeNo}
 use Rattle.qs_disk.specs.Disk.{DiskState}
-use Rattle.qs_rounds.specs.Seats.{first_node}
-use Rattle.qs_statements.specs.declared.status.Status.{Status}
-use Rattle.qs_statements.specs.declared.status.Status.TheVariants as statuses
-use Rattle.qs_statements.specs.declared.status.Waiting.{Waiting}
-use Rattle.qs_verdict.specs.Ends.{status_of}
-use Rattle.qs_verdict.specs.Verdicts.{IsRefusal}
+use Rattle.qs_world_rounds.specs.Seats.{first_node}
+use Rattle.qs_book_script.specs.declared.status.Status.{Status}
+use Rattle.qs_book_script.specs.declared.status.Status.TheVariants as statuses
+use Rattle.qs_book_script.specs.declared.status.Waiting.{Waiting}
+use Rattle.qs_top.specs.Ends.{status_of}
+use Rattle.qs_top.specs.Verdicts.{IsRefusal}
 use Rattle.qs_top.specs.Disks.{IsLogged, IsUntold, Leaves}
 use Rattle.qs_top.specs.Statuses.{IsEnd, IsOfRounds, Tells}
 

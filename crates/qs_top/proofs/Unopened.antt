@@ -7,21 +7,21 @@ use Rattle.qs_disk.specs.Disk.{DiskState, IsImage}
 use Rattle.qs_log.specs.Image.{IsDamaged}
 use Rattle.qs_log.specs.declared.fault.OpenFault.{OpenFault}
 use Rattle.qs_log.specs.declared.fault.OpenFault.TheVariants as faults
-use Rattle.qs_machine.specs.declared.opened.Opened.{Opened}
-use Rattle.qs_may_begin.specs.Scripts.{Fits}
-use Rattle.qs_plans.specs.Plan.{setting_of}
-use Rattle.qs_rounds.specs.Seats.{node_count, first_node}
-use Rattle.qs_single.specs.Rooms.{IsRoomyDisk}
-use Rattle.qs_statements.specs.declared.script.Script.{Script}
-use Rattle.qs_statements.specs.declared.status.Status.{Status}
-use Rattle.qs_statements.specs.declared.status.Status.TheVariants as statuses
-use Rattle.qs_step.specs.Opening.{recovered_of}
+use Rattle.qs_book_machine.specs.declared.opened.Opened.{Opened}
+use Rattle.qs_world_opening.specs.Scripts.{Fits}
+use Rattle.qs_world_plans.specs.Plan.{setting_of}
+use Rattle.qs_world_rounds.specs.Seats.{node_count, first_node}
+use Rattle.qs_world_one.specs.Rooms.{IsRoomyDisk}
+use Rattle.qs_book_script.specs.declared.script.Script.{Script}
+use Rattle.qs_book_script.specs.declared.status.Status.{Status}
+use Rattle.qs_book_script.specs.declared.status.Status.TheVariants as statuses
+use Rattle.qs_node_step.specs.Opening.{recovered_of}
 use Rattle.qs_world.specs.Histories.{opened_with}
 use Rattle.qs_top.specs.Disks.{IsFaultOver, IsDamageOver, IsOnlyTouched, IsUntold, Leaves, StaysCoherent, StaysRoomy}
 use Rattle.qs_top.specs.Inner.Making.{IsNothingMade, not_opened}
 use Rattle.qs_top.specs.Inner.Over.{IsOver}
 use Rattle.qs_top.specs.Statuses.{IsEnd, IsOfRounds}
-use Rattle.qs_top.specs.declared.whole.Made.{Made}
+use Rattle.qs_top.specs.declared.whole.RunMade.{RunMade}
 use Rattle.qs_top.proofs.Coherent.{Later, touched_coherent, touched_roomy}
 use Rattle.qs_top.proofs.Overs.{nothing_lawful}
 use Rattle.qs_top.proofs.StatusLemmas.{IsFaultStatus, same_node}
@@ -83,7 +83,7 @@ damage_node _ = first_node
 pub nothing_opened : Opened
 nothing_opened = opened_with (setting_of (record { seats = []; quotas = []; audit = None; faults = []; lines = []; count = 0 }) node_count first_node 1) (recovered_of [])
 
-module _ {D : Type 0} (told : Type 0) (state : D → DiskState) (own size : D → ℕ) (seed : ℕ) (script : Script) (shown : Bool) (disk after : D) (made : Made) (nothing : IsNothingMade made) where
+module _ {D : Type 0} (told : Type 0) (state : D → DiskState) (own size : D → ℕ) (seed : ℕ) (script : Script) (shown : Bool) (disk after : D) (made : RunMade) (nothing : IsNothingMade made) where
   over_unopened : IsUnopened made.status → (Fits node_count script → Leaves told state made.status disk after) → (Fits node_count script → StaysCoherent told state disk after) → (Fits node_count script → StaysRoomy told state size disk after) → ((node : NodeNo) → made.status ≡ statuses.DiskFault node → IsOnlyTouched told state disk after) → ((node : NodeNo) → made.status ≡ statuses.DiskFault node → IsFaultOver own node disk after) → ((node : NodeNo) (at : ℕ) → made.status ≡ statuses.Damaged node at → IsDamageOver told state node at disk after)
       → IsOver told state own size seed script shown made disk after
   over_unopened unopened leaves stays spacious touched fault damage = record {

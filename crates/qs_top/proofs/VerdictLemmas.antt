@@ -1,10 +1,10 @@
 -- The lines of a history that was read are few enough to be numbered.
 use Rattle.std.proofs.Common.{◌≡◌, ◌≤◌, ◌+◌, ◌==◌, ℕ, suc, Bool, true, false, cond, List, [], ◌∷◌, ◌++◌, length, ◌∙◌, ap, arith, length-append}
 use Rattle.std.specs.List.{slice_split, onto_first}
-use Rattle.qs_journal.specs.declared.entry.Entry.{Entry}
-use Rattle.qs_machine.specs.declared.opened.Opened.{Opened}
-use Rattle.qs_statements.specs.Lines.{lines_of, without_empty_end}
-use Rattle.qs_reader.specs.Journal.{opening_lines, AreLines, IsJournal}
+use Rattle.qs_book_journal.specs.declared.entry.Entry.{Entry}
+use Rattle.qs_book_machine.specs.declared.opened.Opened.{Opened}
+use Rattle.qs_book_script.specs.Lines.{lines_of, without_empty_end}
+use Rattle.qs_text_history.specs.Journal.{opening_lines, AreLines, IsJournal}
 
 -- ---- how many lines a text has
 

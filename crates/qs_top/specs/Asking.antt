@@ -1,7 +1,7 @@
 -- What words ask for, as far as it is carried out at this stage.
 use Rattle.std.specs.Prelude.{ℕ, Bool, ◌==◌, Option, Some, None, if◌then◌else◌}
-use Rattle.qs_script.specs.declared.form.Form.{Form}
-use Rattle.qs_script.specs.declared.form.Form.TheVariants as forms
+use Rattle.qs_text_script.specs.declared.form.Form.{Form}
+use Rattle.qs_text_script.specs.declared.form.Form.TheVariants as forms
 use Rattle.qs_top.specs.declared.asking.Asked.{Asked}
 use Rattle.qs_top.specs.declared.asking.Asked.TheVariants as asked
 

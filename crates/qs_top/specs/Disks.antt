@@ -4,23 +4,23 @@ use Rattle.qs_base.specs.Causes.{Rose}
 use Rattle.qs_base.specs.declared.identifiers.NodeNo.{NodeNo}
 use Rattle.qs_disk.specs.Disk.{DiskState, EachImage, Frame}
 use Rattle.qs_disk.specs.Moments.{Keeps}
-use Rattle.qs_incarnation.specs.Incarnation.{IsTouched}
-use Rattle.qs_journal.specs.declared.entry.Entry.{Entry}
+use Rattle.qs_log_start.specs.Incarnation.{IsTouched}
+use Rattle.qs_book_journal.specs.declared.entry.Entry.{Entry}
 use Rattle.qs_log.specs.Image.{IsDamaged, IsLog}
-use Rattle.qs_machine.specs.Lawful.{IsLawful, book_after}
-use Rattle.qs_machine.specs.Opening.{opening}
-use Rattle.qs_machine.specs.declared.opened.Opened.{Opened}
-use Rattle.qs_may_begin.specs.Coherent.{IsCoherentDisk}
-use Rattle.qs_plans.specs.Plan.{setting_of}
+use Rattle.qs_book_machine.specs.Lawful.{IsLawful, book_after}
+use Rattle.qs_book_machine.specs.Opening.{opening}
+use Rattle.qs_book_machine.specs.declared.opened.Opened.{Opened}
+use Rattle.qs_world_opening.specs.Coherent.{IsCoherentDisk}
+use Rattle.qs_world_plans.specs.Plan.{setting_of}
 use Rattle.qs_record.specs.declared.record.Record.{Record}
-use Rattle.qs_rounds.specs.Seats.{node_count, first_node}
-use Rattle.qs_single.specs.Rooms.{IsRoomyDisk}
-use Rattle.qs_single.specs.StandsFor.{DiskStandsFor}
+use Rattle.qs_world_rounds.specs.Seats.{node_count, first_node}
+use Rattle.qs_world_one.specs.Rooms.{IsRoomyDisk}
+use Rattle.qs_world_one.specs.StandsFor.{DiskStandsFor}
 use Rattle.qs_slot.specs.Slot.{Present}
-use Rattle.qs_statements.specs.declared.script.Script.{Script}
-use Rattle.qs_statements.specs.declared.status.Status.{Status}
-use Rattle.qs_statements.specs.declared.status.Status.TheVariants as statuses
-use Rattle.qs_step.specs.Opening.{recovered_of}
+use Rattle.qs_book_script.specs.declared.script.Script.{Script}
+use Rattle.qs_book_script.specs.declared.status.Status.{Status}
+use Rattle.qs_book_script.specs.declared.status.Status.TheVariants as statuses
+use Rattle.qs_node_step.specs.Opening.{recovered_of}
 use Rattle.qs_world.specs.Histories.{opened_with}
 use Rattle.qs_cell.specs.Logged.{HasLog}
 

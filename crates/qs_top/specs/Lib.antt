@@ -12,3 +12,7 @@ pub mod Statuses
 pub mod Texts
 -- What it promises of a check.
 pub mod Verdict
+-- How a run ends.
+pub mod Ends
+-- How a run judges its own journal.
+pub mod Verdicts

@@ -3,31 +3,31 @@ use Rattle.std.specs.Prelude.{◌≡◌, ◌⊎◌, ◌<◌, ℕ, ◌+◌, Bool,
 use Rattle.std.specs.Global.{Global}
 use Rattle.qs_cell.specs.Starts.{CellValue, journal_of, trace_of}
 use Rattle.qs_cell.specs.State.{LogStands, cause_of, disk_of}
-use Rattle.qs_conformance.specs.Conforming.{Conforms}
+use Rattle.qs_book_conformance.specs.Conforming.{Conforms}
 use Rattle.qs_disk.specs.Disk.{DiskState}
-use Rattle.qs_journal.specs.declared.entry.Entry.{Entry}
+use Rattle.qs_book_journal.specs.declared.entry.Entry.{Entry}
 use Rattle.qs_log.specs.Image.{IsLog}
-use Rattle.qs_machine.specs.Book.{BookValue}
-use Rattle.qs_machine.specs.Lawful.{IsLawful, book_after}
-use Rattle.qs_machine.specs.Opening.{opening}
-use Rattle.qs_machine.specs.declared.opened.Opened.{Opened}
-use Rattle.qs_may_begin.specs.Coherent.{IsCoherentDisk}
-use Rattle.qs_may_begin.specs.Scripts.{opening_by}
-use Rattle.qs_plans.specs.Waiting.{waiting_of}
-use Rattle.qs_rounds.specs.Endings.{IsEnding, IsCutShort}
-use Rattle.qs_rounds.specs.Rounds.{Cast}
+use Rattle.qs_book_machine.specs.Book.{BookValue}
+use Rattle.qs_book_machine.specs.Lawful.{IsLawful, book_after}
+use Rattle.qs_book_machine.specs.Opening.{opening}
+use Rattle.qs_book_machine.specs.declared.opened.Opened.{Opened}
+use Rattle.qs_world_opening.specs.Coherent.{IsCoherentDisk}
+use Rattle.qs_world_opening.specs.Scripts.{opening_by}
+use Rattle.qs_world_plans.specs.Waiting.{waiting_of}
+use Rattle.qs_world_rounds.specs.Endings.{IsEnding, IsCutShort}
+use Rattle.qs_world_rounds.specs.Rounds.{Cast}
 use Rattle.qs_record.specs.declared.record.Record.{Record}
-use Rattle.qs_rounds.specs.Seats.{HasBegun, node_count}
-use Rattle.qs_rounds.specs.declared.rounds.Ending.{Ending}
-use Rattle.qs_single.specs.Reached.{Reached}
-use Rattle.qs_single.specs.StandsFor.{DiskStandsFor}
+use Rattle.qs_world_rounds.specs.Seats.{HasBegun, node_count}
+use Rattle.qs_world_rounds.specs.declared.rounds.Ending.{Ending}
+use Rattle.qs_world_one.specs.Reached.{Reached}
+use Rattle.qs_world_one.specs.StandsFor.{DiskStandsFor}
 use Rattle.qs_slot.specs.Slot.{Present}
-use Rattle.qs_statements.specs.declared.script.Script.{Script}
-use Rattle.qs_statements.specs.declared.status.Status.{Status}
-use Rattle.qs_step.specs.declared.trace.Step.{Step}
+use Rattle.qs_book_script.specs.declared.script.Script.{Script}
+use Rattle.qs_book_script.specs.declared.status.Status.{Status}
+use Rattle.qs_node_step.specs.declared.trace.Step.{Step}
 use Rattle.qs_text.specs.Output.{out_of}
-use Rattle.qs_verdict.specs.Ends.{status_of}
-use Rattle.qs_verdict.specs.Verdicts.{IsRefusedAt, rule_of_script}
+use Rattle.qs_top.specs.Ends.{status_of}
+use Rattle.qs_top.specs.Verdicts.{IsRefusedAt, rule_of_script}
 use Rattle.qs_world.specs.World.{start}
 use Rattle.qs_top.specs.Disks.{OfFirst, IsHeldIn, IsOnlyTouched}
 

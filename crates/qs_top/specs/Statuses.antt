@@ -1,7 +1,7 @@
 -- Statuses by what they say of how far a run came.
 use Rattle.std.specs.Prelude.{⊤}
-use Rattle.qs_statements.specs.declared.status.Status.{Status}
-use Rattle.qs_statements.specs.declared.status.Status.TheVariants as statuses
+use Rattle.qs_book_script.specs.declared.status.Status.{Status}
+use Rattle.qs_book_script.specs.declared.status.Status.TheVariants as statuses
 
 -- where A does not hold, B does
 abbrev pub IfNot : Type 0 → Type 0 → Type 0

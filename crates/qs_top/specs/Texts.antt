@@ -2,9 +2,9 @@
 use Rattle.std.specs.Prelude.{◌≡◌, ℕ, List, Option, Ok}
 use Rattle.std.specs.Io.KnownBytes.{Consumes}
 use Rattle.qs_io.specs.Streams.{IsWholeOrLonger}
-use Rattle.qs_rounds.specs.Seats.{node_count}
-use Rattle.qs_script.specs.Script.{script_of}
-use Rattle.qs_statements.specs.declared.script.Script.{Script}
+use Rattle.qs_world_rounds.specs.Seats.{node_count}
+use Rattle.qs_text_script.specs.Script.{script_of}
+use Rattle.qs_book_script.specs.declared.script.Script.{Script}
 
 -- the source was read to its end, or to the byte past the limit, and its text has P
 pub record ReadWhole (limit : ℕ) (old new : Option (List ℕ)) (P : List ℕ → Type 0) : Type 0 where

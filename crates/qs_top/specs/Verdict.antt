@@ -1,15 +1,15 @@
 -- What the form `check` promises: of the history that was read, and of the verdict that was given.
 use Rattle.std.specs.Prelude.{◌≡◌, ◌≤◌, ℕ, ◌+◌, List, length, Some, ⊤}
-use Rattle.qs_journal.specs.declared.entry.Entry.{Entry}
-use Rattle.qs_machine.specs.Lawful.{IsLawful}
-use Rattle.qs_machine.specs.Opening.{opening}
-use Rattle.qs_machine.specs.declared.opened.Opened.{Opened}
-use Rattle.qs_statements.specs.Lines.{lines_of}
-use Rattle.qs_script.specs.StatusLine.{lawful_text}
-use Rattle.qs_statements.specs.declared.status.Status.{Status}
-use Rattle.qs_statements.specs.declared.status.Status.TheVariants.{Finished, ReadFault, WriteFault, NoMemory, Unlawful, Journal}
+use Rattle.qs_book_journal.specs.declared.entry.Entry.{Entry}
+use Rattle.qs_book_machine.specs.Lawful.{IsLawful}
+use Rattle.qs_book_machine.specs.Opening.{opening}
+use Rattle.qs_book_machine.specs.declared.opened.Opened.{Opened}
+use Rattle.qs_book_script.specs.Lines.{lines_of}
+use Rattle.qs_text_script.specs.StatusLine.{lawful_text}
+use Rattle.qs_book_script.specs.declared.status.Status.{Status}
+use Rattle.qs_book_script.specs.declared.status.Status.TheVariants.{Finished, ReadFault, WriteFault, NoMemory, Unlawful, Journal}
 use Rattle.qs_tools.specs.Checked.{first_broken_line}
-use Rattle.qs_reader.specs.Journal.{IsJournal, opening_lines}
+use Rattle.qs_text_history.specs.Journal.{IsJournal, opening_lines}
 
 -- the text is that of this history, and within the limit
 pub record IsHistory (text : List ℕ) (opened : List Opened) (entries : List Entry) : Type 0 where

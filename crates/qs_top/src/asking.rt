@@ -1,10 +1,10 @@
 //! What the words ask for.
 ghost use Rattle.std.specs.Prelude.{◌≡◌};
-ghost use Rattle.qs_script.specs.Words.{form_of};
+ghost use Rattle.qs_text_script.specs.Words.{form_of};
 ghost use Rattle.qs_top.specs.Asking.{asked_in, asked_by};
 
-use qs_rounds::NODE_COUNT;
 use qs_text::{Form, read_words};
+use qs_world_rounds::NODE_COUNT;
 
 /// What the words ask for, as far as it is carried out at this stage.
 #[derive(Clone, Copy)]

@@ -3,7 +3,7 @@ ghost use Rattle.std.specs.Prelude.{◌≡◌, ◌≢◌, ℕ, Err, IfOk, IfErr}
 ghost use Rattle.qs_base.specs.Causes.{Rose};
 ghost use Rattle.qs_io.specs.Streams.{TakesAtMost, GivesPart};
 ghost use Rattle.std.specs.Io.KnownBytes.{Appends};
-ghost use Rattle.qs_reader.specs.Journal.{IsFault};
+ghost use Rattle.qs_text_history.specs.Journal.{IsFault};
 ghost use Rattle.qs_top.specs.Texts.{ReadWhole};
 ghost use Rattle.qs_top.specs.Verdict.{IsLawfulText, IsUnlawfulText, IsVerdict, IsRefusal, IsOfCheck};
 

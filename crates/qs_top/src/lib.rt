@@ -3,9 +3,13 @@
 
 mod asking;
 mod checking;
+mod judging;
 mod outcome;
 mod running;
+mod telling;
 mod whole;
 
+pub use judging::judged;
 pub use outcome::Run;
 pub use running::run;
+pub use telling::told;

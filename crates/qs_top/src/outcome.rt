@@ -1,8 +1,8 @@
 //! What a run answers.
 
 use qs_base::List;
-use qs_journal::Entry;
-use qs_step::Step;
+use qs_book_journal::Entry;
+use qs_node_step::Step;
 use qs_text::Status;
 
 /// How a run ended, and what happened in it.

@@ -4,12 +4,12 @@ ghost use Rattle.std.specs.Io.KnownBytes.{Appends};
 ghost use Rattle.qs_base.specs.Causes.{Rose};
 ghost use Rattle.qs_base.specs.declared.identifiers.NodeNo.{NodeNo};
 ghost use Rattle.qs_io.specs.Streams.{TakesAtMost, GivesPart};
-ghost use Rattle.qs_reader.specs.Journal.{IsFault};
-ghost use Rattle.qs_rounds.specs.Seats.{node_count};
-ghost use Rattle.qs_script.specs.Script.{script_of};
-ghost use Rattle.qs_script.specs.Words.{form_of};
-ghost use Rattle.qs_script.specs.declared.reading.ScriptFailed.TheVariants.{Fault};
-ghost use Rattle.qs_statements.specs.declared.status.ScriptFault.{ScriptFault};
+ghost use Rattle.qs_text_history.specs.Journal.{IsFault};
+ghost use Rattle.qs_world_rounds.specs.Seats.{node_count};
+ghost use Rattle.qs_text_script.specs.Script.{script_of};
+ghost use Rattle.qs_text_script.specs.Words.{form_of};
+ghost use Rattle.qs_text_script.specs.declared.reading.ScriptFailed.TheVariants.{Fault};
+ghost use Rattle.qs_book_script.specs.declared.status.ScriptFault.{ScriptFault};
 ghost use Rattle.qs_top.specs.Asking.{asked_by};
 ghost use Rattle.qs_top.specs.Disks.{OfFirst, IsFaultOver, IsDamageOver, Leaves, StaysCoherent, StaysRoomy, AreBesides};
 ghost use Rattle.qs_top.specs.Inner.Giving.{IsGiven, IsGivenOf, IsNoScript};
@@ -22,14 +22,14 @@ ghost use Rattle.qs_top.specs.Verdict.{IsUnlawfulText, IsVerdict, IsOfCheck};
 use crate::asking::{Asked, asked_by};
 use crate::checking::check_source;
 use crate::outcome::Run;
-use crate::whole::{Made, run_over};
+use crate::whole::{RunMade, run_over};
 use core::mem;
 use qs_base::{Bytes, List};
 use qs_disk::Disk;
 use qs_io::{ReadFault, Sink, Source, give_all, read_text};
-use qs_may_begin::scripts_fit;
-use qs_rounds::NODE_COUNT;
 use qs_text::{Script, ScriptFailed, Status, read_script};
+use qs_world_opening::scripts_fit;
+use qs_world_rounds::NODE_COUNT;
 use std::alloc::Global;
 use std::thread::Threads;
 
@@ -76,7 +76,7 @@ fn run_first<D: Disk>(
     script: &Script,
     seed: u64,
     shown: bool,
-) -> Made
+) -> RunMade
     requires disks { 8 ≤ length disks.old.items }
     ensures over { OfFirst (λ disk after. IsOver D.told D.state D.fault_count D.byte_count seed script.now shown result disk after) disks.old.items disks.new.items }
 {
@@ -90,7 +90,7 @@ fn over_place<D: Disk>(
     script: &Script,
     seed: u64,
     shown: bool,
-) -> Made
+) -> RunMade
     ensures over { IsOver D.told D.state D.fault_count D.byte_count seed script.now shown result place.old place.new }
 {
     mem::replace_with(
@@ -116,10 +116,10 @@ fn give_output<K: Sink>(sink: &mut K, output: Option<Bytes>, status: Status) -> 
 }
 
 /// Gives what a run is to give.
-fn give<K: Sink>(sink: &mut K, made: Made) -> Run
+fn give<K: Sink>(sink: &mut K, made: RunMade) -> Run
     ensures { IsGiven K.faults K.given sink.old sink.new made result }
 {
-    let Made {
+    let RunMade {
         status,
         journal,
         trace,

@@ -3,23 +3,23 @@ ghost use Rattle.std.specs.Prelude.{◌≡◌};
 ghost use Rattle.qs_top.specs.Inner.Making.{not_opened, IsJudgedEnd, IsJudgedShort, IsMadeOf, IsNothingMade};
 ghost use Rattle.qs_top.specs.Inner.Over.{IsOver};
 
+use crate::{judged, told};
 use qs_base::{Bytes, List, NoMemory, NodeNo};
 use qs_book::Opened;
+use qs_book_journal::Entry;
 use qs_cell::CellOpen;
 use qs_disk::{Disk, Fused};
-use qs_journal::Entry;
 use qs_log::OpenFault;
-use qs_may_begin::logs_stay_coherent;
-use qs_rounds::{Ending, NODE, RoundFault, rounds_of, start};
-use qs_single::{refused_runs_leave_coherent_logs, runs_end_lawful};
-use qs_step::Step;
+use qs_node_step::Step;
 use qs_text::{Script, Status};
-use qs_verdict::{judged, told};
+use qs_world_one::{refused_runs_leave_coherent_logs, runs_end_lawful};
+use qs_world_opening::logs_stay_coherent;
+use qs_world_rounds::{Ending, NODE, RoundFault, rounds_of, start};
 use std::alloc::Global;
 
 /// What a run came to before anything was given.
 #[derive(Drop)]
-pub struct Made {
+pub struct RunMade {
     pub status: Status,
     pub journal: List<Entry>,
     pub trace: List<Step>,
@@ -28,11 +28,11 @@ pub struct Made {
 }
 
 /// A run that ended before it made an entry.
-fn nothing_made(alloc: Global, status: Status) -> Made
+fn nothing_made(alloc: Global, status: Status) -> RunMade
     ensures nothing { IsNothingMade result }
     ensures status { result.status ≡ status }
 {
-    Made {
+    RunMade {
         status,
         journal: List::new(alloc),
         trace: List::new(alloc),
@@ -48,7 +48,7 @@ pub fn run_over<D: Disk>(
     script: &Script,
     seed: u64,
     shown: bool,
-) -> (D, Made)
+) -> (D, RunMade)
     ensures over { IsOver D.told D.state D.fault_count D.byte_count seed script.now shown result.1 disk result.0 }
 {
     runs_end_lawful::<D>();
@@ -92,7 +92,7 @@ fn made_of(
     opened: Result<Opened, NoMemory>,
     journal: List<Entry>,
     trace: List<Step>,
-) -> Made
+) -> RunMade
     ensures { IsMadeOf script.now shown ending opened journal trace result }
 {
     let Ok(opened) = opened else {
@@ -116,12 +116,12 @@ fn ended(
     opened: Opened,
     journal: List<Entry>,
     trace: List<Step>,
-) -> Made
+) -> RunMade
     ensures { IsJudgedEnd script.now shown ending opened journal trace result }
 {
     let Ending { rounds, settled } = ending;
     match told(alloc, script, rounds, settled, opened, &journal, shown) {
-        Ok((status, output)) => Made {
+        Ok((status, output)) => RunMade {
             status,
             journal,
             trace,
@@ -139,11 +139,11 @@ fn cut_short(
     opened: Opened,
     journal: List<Entry>,
     trace: List<Step>,
-) -> Made
+) -> RunMade
     ensures { IsJudgedShort script.now node opened journal trace result }
 {
     match judged(alloc, script, opened, journal.as_slice()) {
-        Ok(_) => Made {
+        Ok(_) => RunMade {
             status: Status::DiskFault { node },
             journal,
             trace,

@@ -2,10 +2,10 @@
 use Rattle.std.specs.Prelude.{ℕ, ◌+◌, ◌==◌, Bool, List, [], ◌∷◌, ◌++◌, fold, map, Option, zero, suc, if◌then◌else◌}
 use Rattle.std.specs.List.{flat_map}
 use Rattle.qs_ops.specs.declared.answer.Answer.{Answer}
-use Rattle.qs_journal.specs.declared.entry.Act.TheVariants as acts
-use Rattle.qs_journal.specs.declared.entry.CrashCause.TheVariants as crashes
-use Rattle.qs_journal.specs.declared.entry.Entry.{Entry}
-use Rattle.qs_machine.specs.Lawful.{first_broken}
+use Rattle.qs_book_journal.specs.declared.entry.Act.TheVariants as acts
+use Rattle.qs_book_journal.specs.declared.entry.CrashCause.TheVariants as crashes
+use Rattle.qs_book_journal.specs.declared.entry.Entry.{Entry}
+use Rattle.qs_book_machine.specs.Lawful.{first_broken}
 use Rattle.qs_ipc.specs.Ipc.{queued}
 use Rattle.qs_world.specs.World.{World, Opening, inc_of, known_of}
 use Rattle.qs_world.specs.Moves.{Source, Commanded, Handed, Queues, Clock, Noticed, Move, Step, Cut, Stop, Rise, Meet, may_move, moved}

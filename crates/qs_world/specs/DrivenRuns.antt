@@ -5,9 +5,9 @@ use Rattle.qs_ops.specs.declared.vote.Reason.TheVariants as reasons
 use Rattle.std.specs.Prelude.{◌≡◌, ℕ, ◌==◌, false, List, [], ◌∷◌, codes, None, if◌then◌else◌}
 use Rattle.qs_base.specs.declared.identifiers.ClientNo.{ClientNo}
 use Rattle.qs_ops.specs.declared.operation.Op.TheVariants.{Put, Get, Lend, Bind}
-use Rattle.qs_journal.specs.declared.script_line.Command.{Command}
-use Rattle.qs_journal.specs.declared.script_line.Command.TheVariants as commands
-use Rattle.qs_journal.specs.declared.script_line.ScriptLine.{ScriptLine}
+use Rattle.qs_book_journal.specs.declared.script_line.Command.{Command}
+use Rattle.qs_book_journal.specs.declared.script_line.Command.TheVariants as commands
+use Rattle.qs_book_journal.specs.declared.script_line.ScriptLine.{ScriptLine}
 use Rattle.std.specs.Global.{Global}
 use Rattle.qs_ipc.specs.Ipc.{queued}
 use Rattle.qs_world.specs.World.{World, Opening, start}

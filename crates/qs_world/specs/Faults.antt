@@ -1,8 +1,8 @@
 -- Runs in which a node is cut off and restarts, at each of many places: their histories are lawful, and their scripts end.
 use Rattle.std.specs.Prelude.{◌≡◌, ℕ, ◌==◌, Bool, true, false, ◌&&◌, List, [], ◌∷◌, take, drop, fold, codes, Option, Some, None, zero, suc, if◌then◌else◌}
 use Rattle.std.specs.List.{list_all}
-use Rattle.qs_journal.specs.declared.script_line.Command.TheVariants as commands
-use Rattle.qs_journal.specs.declared.script_line.ScriptLine.{ScriptLine}
+use Rattle.qs_book_journal.specs.declared.script_line.Command.TheVariants as commands
+use Rattle.qs_book_journal.specs.declared.script_line.ScriptLine.{ScriptLine}
 use Rattle.std.specs.Global.{Global}
 use Rattle.qs_world.specs.World.{World, Opening, start}
 use Rattle.qs_world.specs.Scenes.{setting_of}

@@ -1,16 +1,16 @@
 -- The history of a run, as the reference machine reads it.
 use Rattle.std.specs.Prelude.{ℕ, ◌+◌, ◌==◌, List, [], ◌∷◌, zero, suc, if◌then◌else◌}
 use Rattle.std.specs.List.{flat_map}
-use Rattle.qs_machine.specs.Book.{BookValue}
-use Rattle.qs_machine.specs.Lawful.{IsLawful}
-use Rattle.qs_machine.specs.Opening.{opening}
-use Rattle.qs_machine.specs.declared.opened.Opened.{Opened}
-use Rattle.qs_machine.specs.declared.opened.Pending.{Pending}
-use Rattle.qs_step.specs.declared.setting.Setting.{Setting}
+use Rattle.qs_book_machine.specs.Book.{BookValue}
+use Rattle.qs_book_machine.specs.Lawful.{IsLawful}
+use Rattle.qs_book_machine.specs.Opening.{opening}
+use Rattle.qs_book_machine.specs.declared.opened.Opened.{Opened}
+use Rattle.qs_book_machine.specs.declared.opened.Pending.{Pending}
+use Rattle.qs_node_step.specs.declared.setting.Setting.{Setting}
 use Rattle.qs_record.specs.declared.record.Record.{Record}
 use Rattle.qs_record.specs.declared.record.Record.TheVariants as records
 use Rattle.qs_restart.specs.declared.recovered.Recovered.{Recovered}
-use Rattle.qs_step.specs.Opening.{recovered_of, opened_servers}
+use Rattle.qs_node_step.specs.Opening.{recovered_of, opened_servers}
 use Rattle.qs_world.specs.World.{World, Opening, start}
 use Rattle.qs_world.specs.Moves.{Move}
 use Rattle.qs_world.specs.Openings.{IsOpening}

@@ -3,26 +3,26 @@ use Rattle.std.specs.Prelude.{ℕ, ◌==◌, ◌^◌, ◌+◌, Bool, true, false
 use Rattle.std.specs.List.{list_all}
 use Rattle.qs_base.specs.declared.identifiers.NodeNo.{NodeNo}
 use Rattle.qs_base.specs.declared.identifiers.ServerNo.{ServerNo}
-use Rattle.qs_channels.specs.Channels as channel
-use Rattle.qs_channels.specs.Channels.{Channels}
-use Rattle.qs_channels.specs.Network.{with_at}
+use Rattle.qs_session_channels.specs.Channels as channel
+use Rattle.qs_session_channels.specs.Channels.{Channels}
+use Rattle.qs_session_channels.specs.Network.{with_at}
 use Rattle.qs_engage.specs.Engage.{last_number}
 use Rattle.qs_ipc.specs.Queue.{QueueValue, count_of}
 use Rattle.qs_ipc.specs.declared.delivery.Delivery.{Delivery}
-use Rattle.qs_journal.specs.declared.entry.Act.TheVariants as acts
-use Rattle.qs_journal.specs.declared.entry.CrashCause.{CrashCause}
-use Rattle.qs_journal.specs.declared.entry.Found.{Found}
-use Rattle.qs_journal.specs.declared.script_line.ScriptLine.{ScriptLine}
-use Rattle.qs_machine.specs.Clauses.{is_crash}
+use Rattle.qs_book_journal.specs.declared.entry.Act.TheVariants as acts
+use Rattle.qs_book_journal.specs.declared.entry.CrashCause.{CrashCause}
+use Rattle.qs_book_journal.specs.declared.entry.Found.{Found}
+use Rattle.qs_book_journal.specs.declared.script_line.ScriptLine.{ScriptLine}
+use Rattle.qs_book_machine.specs.Clauses.{is_crash}
 use Rattle.qs_record.specs.declared.record.Record.{Record}
 use Rattle.qs_restart.specs.declared.recovered.OpenVote.{OpenVote}
 use Rattle.qs_restart.specs.declared.recovered.Recovered.{Recovered}
-use Rattle.qs_step.specs.declared.event.Effects.{Effects}
-use Rattle.qs_step.specs.declared.event.Event.{Event}
-use Rattle.qs_step.specs.declared.event.Event.TheVariants as events
-use Rattle.qs_step.specs.Opening.{recovered_of, opened_node}
-use Rattle.qs_step.specs.State.{NodeValue}
-use Rattle.qs_step.specs.Step.{after_step, effects_of}
+use Rattle.qs_node_step.specs.declared.event.Effects.{Effects}
+use Rattle.qs_node_step.specs.declared.event.Event.{Event}
+use Rattle.qs_node_step.specs.declared.event.Event.TheVariants as events
+use Rattle.qs_node_step.specs.Opening.{recovered_of, opened_node}
+use Rattle.qs_node_step.specs.State.{NodeValue}
+use Rattle.qs_node_step.specs.Step.{after_step, effects_of}
 use Rattle.qs_tm.specs.Manager as tm
 use Rattle.qs_tm.specs.Participant.{member_of}
 use Rattle.qs_world.specs.World.{Host, Parcel, Client, World, with_host, inc_of, known_of}

@@ -6,11 +6,11 @@ use Rattle.qs_ops.specs.declared.answer.Cause.TheVariants as causes
 use Rattle.qs_ops.specs.declared.operation.Op.TheVariants.{Timer, Left, Window, Title, Keep, Fetch}
 use Rattle.qs_ops.specs.declared.reply.Reply.TheVariants as replies
 use Rattle.qs_ops.specs.declared.vote.Vote.TheVariants as votes
-use Rattle.qs_journal.specs.declared.entry.Act.TheVariants as acts
-use Rattle.qs_journal.specs.declared.entry.CrashCause.TheVariants as crashes
-use Rattle.qs_journal.specs.declared.entry.Entry.{Entry}
-use Rattle.qs_journal.specs.declared.script_line.Command.TheVariants as commands
-use Rattle.qs_journal.specs.declared.script_line.ScriptLine.{ScriptLine}
+use Rattle.qs_book_journal.specs.declared.entry.Act.TheVariants as acts
+use Rattle.qs_book_journal.specs.declared.entry.CrashCause.TheVariants as crashes
+use Rattle.qs_book_journal.specs.declared.entry.Entry.{Entry}
+use Rattle.qs_book_journal.specs.declared.script_line.Command.TheVariants as commands
+use Rattle.qs_book_journal.specs.declared.script_line.ScriptLine.{ScriptLine}
 use Rattle.qs_record.specs.declared.record.Record.TheVariants as records
 use Rattle.std.specs.Global.{Global}
 use Rattle.qs_world.specs.World.{World, start}

@@ -9,13 +9,13 @@ use Rattle.qs_base.specs.declared.identifiers.Tid.{Tid}
 use Rattle.qs_engage.specs.Nodes.{same_node}
 use Rattle.qs_ipc.specs.Queue.{is_for}
 use Rattle.qs_ops.specs.declared.operation.Op.{Op}
-use Rattle.qs_journal.specs.declared.script_line.Command.{Command}
-use Rattle.qs_journal.specs.declared.script_line.Command.TheVariants as commands
-use Rattle.qs_journal.specs.declared.script_line.ScriptLine.{ScriptLine}
+use Rattle.qs_book_journal.specs.declared.script_line.Command.{Command}
+use Rattle.qs_book_journal.specs.declared.script_line.Command.TheVariants as commands
+use Rattle.qs_book_journal.specs.declared.script_line.ScriptLine.{ScriptLine}
 use Rattle.qs_record.specs.declared.record.Record.{Record}
 use Rattle.qs_record.specs.declared.record.Record.TheVariants as records
-use Rattle.qs_machine.specs.Nodes.{is_recoverable}
-use Rattle.qs_step.specs.declared.setting.Setting.{Setting}
+use Rattle.qs_book_machine.specs.Nodes.{is_recoverable}
+use Rattle.qs_node_step.specs.declared.setting.Setting.{Setting}
 use Rattle.qs_restart.specs.Recovery.{Prepared, Untold, Recovery, recovery, names_transaction, is_untold_of}
 use Rattle.qs_world.specs.World.{Opening}
 use Rattle.qs_world.specs.Moves.{client_count}

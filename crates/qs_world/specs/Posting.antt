@@ -1,14 +1,14 @@
 -- What a step posts, takes and answers in the world.
 use Rattle.std.specs.Prelude.{ℕ, ◌==◌, Bool, true, false, List, drop, fold, length, map, Option, None, slice_get, if◌then◌else◌}
 use Rattle.std.specs.List.{list_any}
-use Rattle.qs_channels.specs.Channels as channel
-use Rattle.qs_channels.specs.Channels.{Channels, Wait, Post, moved}
-use Rattle.qs_channels.specs.Network.{with_at}
-use Rattle.qs_journal.specs.declared.entry.Act.{Act}
-use Rattle.qs_journal.specs.declared.entry.Entry.{Entry}
-use Rattle.qs_journal.specs.declared.script_line.ScriptLine.{ScriptLine}
-use Rattle.qs_step.specs.declared.event.ClientAnswer.{ClientAnswer}
-use Rattle.qs_step.specs.declared.event.Sending.{Sending}
+use Rattle.qs_session_channels.specs.Channels as channel
+use Rattle.qs_session_channels.specs.Channels.{Channels, Wait, Post, moved}
+use Rattle.qs_session_channels.specs.Network.{with_at}
+use Rattle.qs_book_journal.specs.declared.entry.Act.{Act}
+use Rattle.qs_book_journal.specs.declared.entry.Entry.{Entry}
+use Rattle.qs_book_journal.specs.declared.script_line.ScriptLine.{ScriptLine}
+use Rattle.qs_node_step.specs.declared.event.ClientAnswer.{ClientAnswer}
+use Rattle.qs_node_step.specs.declared.event.Sending.{Sending}
 use Rattle.qs_world.specs.World.{Parcel, Client, World, inc_of, known_of}
 
 -- ---- messages

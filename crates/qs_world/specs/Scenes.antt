@@ -7,9 +7,9 @@ use Rattle.qs_base.specs.declared.identifiers.NodeNo.{NodeNo}
 use Rattle.qs_base.specs.declared.identifiers.Tid.{Tid}
 use Rattle.qs_ops.specs.declared.operation.Op.{Op}
 use Rattle.qs_ops.specs.declared.operation.Op.TheVariants.{Put}
-use Rattle.qs_journal.specs.declared.script_line.Command.{Command}
-use Rattle.qs_journal.specs.declared.script_line.ScriptLine.{ScriptLine}
-use Rattle.qs_step.specs.declared.setting.Setting.{Setting}
+use Rattle.qs_book_journal.specs.declared.script_line.Command.{Command}
+use Rattle.qs_book_journal.specs.declared.script_line.ScriptLine.{ScriptLine}
+use Rattle.qs_node_step.specs.declared.setting.Setting.{Setting}
 use Rattle.qs_world.specs.World.{Opening}
 
 abbrev pub setting_of : ℕ → ℕ → Setting

@@ -3,16 +3,16 @@
 -- Messages travel in ordered channels, one for each pair of incarnations, without loss: that sessions make of packets.
 use Rattle.std.specs.Prelude.{ℕ, ◌==◌, Bool, true, false, List, [], Option, Some, None, if◌then◌else◌}
 use Rattle.std.specs.Global.{Global}
-use Rattle.qs_channels.specs.Channels.{Channels, opening}
-use Rattle.qs_channels.specs.Network.{with_at}
-use Rattle.qs_journal.specs.declared.entry.Entry.{Entry}
-use Rattle.qs_journal.specs.declared.script_line.ScriptLine.{ScriptLine}
+use Rattle.qs_session_channels.specs.Channels.{Channels, opening}
+use Rattle.qs_session_channels.specs.Network.{with_at}
+use Rattle.qs_book_journal.specs.declared.entry.Entry.{Entry}
+use Rattle.qs_book_journal.specs.declared.script_line.ScriptLine.{ScriptLine}
 use Rattle.qs_packet.specs.declared.message.Message.{Message}
 use Rattle.qs_record.specs.declared.record.Record.{Record}
-use Rattle.qs_kept.specs.Keeping.{no_kept}
-use Rattle.qs_step.specs.declared.setting.Setting.{Setting}
-use Rattle.qs_step.specs.Opening.{recovered_of, opened_node}
-use Rattle.qs_step.specs.State.{NodeValue}
+use Rattle.qs_node_kept.specs.Keeping.{no_kept}
+use Rattle.qs_node_step.specs.declared.setting.Setting.{Setting}
+use Rattle.qs_node_step.specs.Opening.{recovered_of, opened_node}
+use Rattle.qs_node_step.specs.State.{NodeValue}
 
 -- a node with its log
 pub record Host : Type 0 where

@@ -2,24 +2,24 @@
 ghost use Rattle.std.specs.Prelude.{◌≡◌, OnOk, fold, slice_get};
 ghost use Rattle.std.specs.BTreeMap.{insert_entry};
 ghost use Rattle.qs_base.specs.Order.{bytes_cmp};
-ghost use Rattle.qs_machine.specs.Transaction.{served_in};
+ghost use Rattle.qs_book_machine.specs.Transaction.{served_in};
 ghost use Rattle.std.specs.Option.{option_copied};
-ghost use Rattle.qs_machine.specs.Book.{is_done, hear};
+ghost use Rattle.qs_book_machine.specs.Book.{is_done, hear};
 
 use super::{Book, nodes, owners, transactions};
 use crate::clauses::borrower_at;
 use qs_base::{Bytes, ClientNo, Copied, Member, NoMemory, NodeNo, Outcome, Stamp, Tid};
+use qs_book_journal::{Act, copied_cause};
+use qs_book_machine::{Asking, Link, Request, RequestNo};
 use qs_book_transactions::Transaction;
-use qs_journal::{Act, copied_cause};
-use qs_machine::{Asking, Link, Request, RequestNo};
 use qs_ops::servers::FIRST_CLIENT;
 use qs_ops::{Cause, Op, Reply, Vote};
 use std::collections::BTreeMap;
 
 impl Book {
-    ghost use Rattle.qs_machine.specs.Book.{find_transaction, inc_at, ticks_at, begin, with_waiting, with_crossing, issue, serve, vote, decide, learn, answer, crossed_in, pending_in, serve_node, with_node, with_transaction, loan, give_back, count, end};
-    ghost use Rattle.qs_machine.specs.Clauses.{borrower_at};
-    ghost use Rattle.qs_machine.specs.Lawful.{effect_act, effect_told};
+    ghost use Rattle.qs_book_machine.specs.Book.{find_transaction, inc_at, ticks_at, begin, with_waiting, with_crossing, issue, serve, vote, decide, learn, answer, crossed_in, pending_in, serve_node, with_node, with_transaction, loan, give_back, count, end};
+    ghost use Rattle.qs_book_machine.specs.Clauses.{borrower_at};
+    ghost use Rattle.qs_book_machine.specs.Lawful.{effect_act, effect_told};
 
     fn begin(
         &mut self,

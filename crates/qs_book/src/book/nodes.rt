@@ -1,21 +1,21 @@
 //! What entries do to the nodes.
 ghost use Rattle.std.specs.Prelude.{◌≡◌, OnOk, IfOk, Some, map};
-ghost use Rattle.qs_machine.specs.Book.{changed_at, server_serve, crossed_serve, serve_node, vote_node, learn_node, doubts_after, end_node, tick_node, crash_node};
-ghost use Rattle.qs_machine.specs.Restart.{with_votes, restarted_node};
-ghost use Rattle.qs_machine.specs.Nodes.{bound_names, crossed_node};
-ghost use Rattle.qs_machine.specs.declared.transaction.Request.{Request};
+ghost use Rattle.qs_book_machine.specs.Book.{changed_at, server_serve, crossed_serve, serve_node, vote_node, learn_node, doubts_after, end_node, tick_node, crash_node};
+ghost use Rattle.qs_book_machine.specs.Restart.{with_votes, restarted_node};
+ghost use Rattle.qs_book_machine.specs.Nodes.{bound_names, crossed_node};
+ghost use Rattle.qs_book_machine.specs.declared.transaction.Request.{Request};
 
 use crate::found::FoundVotes;
-use crate::node::{NodeState, bound_names};
+use crate::node::{BookNode, bound_names};
 use qs_base::{Bytes, Copied, List, Member, NoMemory, NodeNo, Outcome, ServerNo, Stamp, Tid};
+use qs_book_machine::{OnRecord, Reopened, Request, RequestNo, Voter};
 use qs_book_transactions::Transaction;
-use qs_machine::{OnRecord, Reopened, Request, RequestNo, Voter};
 use qs_ops::servers::NAMES;
 use qs_ops::{Op, Reply, Vote};
 use std::alloc::Global;
 
 /// So many transactions were begun at the node in its incarnation.
-pub fn begin(nodes: &mut Vec<NodeState>, here: NodeNo, seq: u32)
+pub fn begin(nodes: &mut Vec<BookNode>, here: NodeNo, seq: u32)
     ensures { nodes.new.items ≡ changed_at here.0 (λ node. record node { begun = seq }) nodes.old.items }
 {
     let place = usize::from(here.0);
@@ -25,7 +25,7 @@ pub fn begin(nodes: &mut Vec<NodeState>, here: NodeNo, seq: u32)
 }
 
 /// From now on what the transaction holds at the member is not known.
-pub fn cross(nodes: &mut Vec<NodeState>, tid: Tid, member: Member) -> Result<(), NoMemory>
+pub fn cross(nodes: &mut Vec<BookNode>, tid: Tid, member: Member) -> Result<(), NoMemory>
     ensures { OnOk result (nodes.new.items ≡ changed_at member.node.0 (crossed_node tid member.server.0) nodes.old.items) }
 {
     let place = usize::from(member.node.0);
@@ -37,7 +37,7 @@ pub fn cross(nodes: &mut Vec<NodeState>, tid: Tid, member: Member) -> Result<(),
 
 /// A member of the node with so many changes pending votes.
 pub fn vote(
-    nodes: &mut Vec<NodeState>,
+    nodes: &mut Vec<BookNode>,
     here: NodeNo,
     pending: u64,
     crossed: bool,
@@ -57,7 +57,7 @@ pub fn vote(
 
 /// A member of the node learns the outcome.
 pub fn learn(
-    nodes: &mut Vec<NodeState>,
+    nodes: &mut Vec<BookNode>,
     here: NodeNo,
     outcome: Outcome,
     tid: Tid,
@@ -73,7 +73,7 @@ pub fn learn(
 }
 
 fn learn_at(
-    node: &mut NodeState,
+    node: &mut BookNode,
     outcome: Outcome,
     tid: Tid,
     server: ServerNo,
@@ -88,7 +88,7 @@ fn learn_at(
 }
 
 /// The timers of the transaction at the node are dropped.
-pub fn end(nodes: &mut Vec<NodeState>, here: NodeNo, tid: Tid)
+pub fn end(nodes: &mut Vec<BookNode>, here: NodeNo, tid: Tid)
     ensures { nodes.new.items ≡ changed_at here.0 (end_node tid) nodes.old.items }
 {
     let place = usize::from(here.0);
@@ -98,7 +98,7 @@ pub fn end(nodes: &mut Vec<NodeState>, here: NodeNo, tid: Tid)
 }
 
 /// One tick of the node's timers, in a step of this stamp.
-pub fn tick(nodes: &mut Vec<NodeState>, here: NodeNo, stamp: Stamp) -> Result<(), NoMemory>
+pub fn tick(nodes: &mut Vec<BookNode>, here: NodeNo, stamp: Stamp) -> Result<(), NoMemory>
     ensures { OnOk result (nodes.new.items ≡ changed_at here.0 (tick_node stamp) nodes.old.items) }
 {
     let place = usize::from(here.0);
@@ -109,7 +109,7 @@ pub fn tick(nodes: &mut Vec<NodeState>, here: NodeNo, stamp: Stamp) -> Result<()
 }
 
 /// The node stops, at this place in the history.
-pub fn crash(nodes: &mut Vec<NodeState>, here: NodeNo, at: u64)
+pub fn crash(nodes: &mut Vec<BookNode>, here: NodeNo, at: u64)
     ensures { nodes.new.items ≡ changed_at here.0 (crash_node at) nodes.old.items }
 {
     let place = usize::from(here.0);
@@ -121,7 +121,7 @@ pub fn crash(nodes: &mut Vec<NodeState>, here: NodeNo, at: u64)
 /// A member of the node serves a request of the transaction with this reply.
 pub fn serve(
     alloc: Global,
-    nodes: &mut Vec<NodeState>,
+    nodes: &mut Vec<BookNode>,
     here: NodeNo,
     tx: &Transaction,
     at: RequestNo,
@@ -140,7 +140,7 @@ pub fn serve(
 
 fn serve_at(
     alloc: Global,
-    node: &mut NodeState,
+    node: &mut BookNode,
     tx: &Transaction,
     at: RequestNo,
     tid: Tid,
@@ -160,7 +160,7 @@ fn serve_at(
 
 fn crossed_serve(
     alloc: Global,
-    node: &mut NodeState,
+    node: &mut BookNode,
     server: ServerNo,
     tid: Tid,
     requests: &[Request],
@@ -190,7 +190,7 @@ fn names_of(alloc: Global, requests: &[Request]) -> Result<List<Bytes>, NoMemory
 
 /// Votes that a restart found go on record.
 pub fn put_votes(
-    nodes: &mut Vec<NodeState>,
+    nodes: &mut Vec<BookNode>,
     here: NodeNo,
     votes: Vec<(Voter, OnRecord)>,
 ) -> Result<(), NoMemory>
@@ -203,7 +203,7 @@ pub fn put_votes(
     Ok(())
 }
 
-fn put_votes_at(node: &mut NodeState, votes: Vec<(Voter, OnRecord)>) -> Result<(), NoMemory>
+fn put_votes_at(node: &mut BookNode, votes: Vec<(Voter, OnRecord)>) -> Result<(), NoMemory>
     ensures { OnOk result (node.new ≡ with_votes votes.items node.old) }
 {
     for (voter, vote) in votes {
@@ -214,7 +214,7 @@ fn put_votes_at(node: &mut NodeState, votes: Vec<(Voter, OnRecord)>) -> Result<(
 
 /// The node is up in its new incarnation.
 pub fn restart(
-    nodes: &mut Vec<NodeState>,
+    nodes: &mut Vec<BookNode>,
     here: NodeNo,
     left: Reopened,
     votes: &FoundVotes,

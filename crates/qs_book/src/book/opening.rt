@@ -1,18 +1,18 @@
 //! The opening of the machine: what the logs name stands in it.
 ghost use Rattle.std.specs.Prelude.{◌≡◌, IfOk, OnOk, length};
 ghost use Rattle.std.specs.List.{fold, list_any};
-ghost use Rattle.qs_machine.specs.Restart.{member_at};
-ghost use Rattle.qs_machine.specs.Transaction.{found_at};
-ghost use Rattle.qs_machine.specs.Book.{with_transaction};
-ghost use Rattle.qs_machine.specs.Opening.{opening, has_commit, name_all, name_from, name_pending, name_transaction, opened_transaction};
+ghost use Rattle.qs_book_machine.specs.Restart.{member_at};
+ghost use Rattle.qs_book_machine.specs.Transaction.{found_at};
+ghost use Rattle.qs_book_machine.specs.Book.{with_transaction};
+ghost use Rattle.qs_book_machine.specs.Opening.{opening, has_commit, name_all, name_from, name_pending, name_transaction, opened_transaction};
 
 use super::restarting::member_at;
 use super::{Book, transactions};
-use crate::node::NodeState;
+use crate::node::BookNode;
 use crate::opening::{no_owners, opened_nodes};
 use qs_base::{NoMemory, NodeNo, Tid};
+use qs_book_machine::{Cell, Opened, Pending};
 use qs_book_transactions::Transaction;
-use qs_machine::{Cell, Opened, Pending};
 use qs_ops::Cause;
 use std::alloc::Global;
 use std::collections::BTreeMap;
@@ -76,13 +76,13 @@ impl Book {
 }
 
 /// Whether the log of any node has the transaction's Commit.
-fn has_commit(nodes: &[NodeState], tid: Tid) -> bool
+fn has_commit(nodes: &[BookNode], tid: Tid) -> bool
     ensures { result ≡ list_any (has_commit tid) nodes.now }
 {
     nodes.iter().any(|node| node.held_commit(tid))
 }
 
-fn opened_transaction(alloc: Global, nodes: &[NodeState], tid: Tid) -> Transaction
+fn opened_transaction(alloc: Global, nodes: &[BookNode], tid: Tid) -> Transaction
     ensures { result ≡ opened_transaction nodes.now tid }
 {
     if has_commit(nodes, tid) {

@@ -1,10 +1,10 @@
 //! What entries do to what the clients may be told.
 ghost use Rattle.std.specs.Prelude.{◌≡◌, ◌++◌, ◌∷◌, [], OnOk, slice_get};
 ghost use Rattle.std.specs.Option.{option_copied};
-ghost use Rattle.qs_machine.specs.Book.{changed_at, told, told_owner, waiting_of};
+ghost use Rattle.qs_book_machine.specs.Book.{changed_at, told, told_owner, waiting_of};
 
 use qs_base::{ClientNo, Copied, List, NoMemory, Outcome};
-use qs_machine::{Asking, Owner};
+use qs_book_machine::{Asking, Owner};
 use qs_ops::Cause;
 use std::alloc::Global;
 use std::mem;

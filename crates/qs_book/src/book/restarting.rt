@@ -3,21 +3,21 @@ ghost use Rattle.std.specs.Prelude.{◌≡◌, not, cond, true, IfOk, OnOk};
 ghost use Rattle.std.specs.List.{list_all};
 ghost use Rattle.std.specs.BTreeMap.{is_at};
 ghost use Rattle.std.specs.Option.{option_copied};
-ghost use Rattle.qs_machine.specs.Transaction.{is_empty};
-ghost use Rattle.qs_machine.specs.Nodes.{is_recoverable, pending_at, voter_cmp};
-ghost use Rattle.qs_machine.specs.Restart.{member_at, is_on_record, could_vote, is_new_vote, was_applied, is_seen, voter_of, votes_once, may_be_lost, is_committed, is_open_here, is_found_vote, is_kept, is_found_commit, broken_restart};
-ghost use Rattle.qs_machine.specs.declared.state.OnRecord.{OnRecord};
+ghost use Rattle.qs_book_machine.specs.Transaction.{is_empty};
+ghost use Rattle.qs_book_machine.specs.Nodes.{is_recoverable, pending_at, voter_cmp};
+ghost use Rattle.qs_book_machine.specs.Restart.{member_at, is_on_record, could_vote, is_new_vote, was_applied, is_seen, voter_of, votes_once, may_be_lost, is_committed, is_open_here, is_found_vote, is_kept, is_found_commit, broken_restart};
+ghost use Rattle.qs_book_machine.specs.declared.state.OnRecord.{OnRecord};
 
 use super::Book;
 use crate::clauses::{
     FOUND_COMMITS_ARE_COMMITS, FOUND_VOTES_ARE_VOTES, INCARNATION_RISES, NO_VOTE_IS_LOST, has_vote,
 };
 use crate::found::{FoundCommits, FoundVotes};
-use crate::node::NodeState;
+use crate::node::BookNode;
 use qs_base::{Member, NoMemory, NodeNo, ServerNo, Tid};
+use qs_book_journal::Found;
+use qs_book_machine::{Cell, Voter};
 use qs_book_transactions::Transaction;
-use qs_journal::Found;
-use qs_machine::{Cell, Voter};
 use qs_ops::Vote;
 use qs_ops::servers::{AUDIT, EXTRA, FILES};
 use std::alloc::Global;
@@ -29,7 +29,7 @@ pub fn member_at(here: NodeNo, server: ServerNo) -> Member
     Member { node: here, server }
 }
 
-fn is_on_record(node: &NodeState, found: Found) -> bool
+fn is_on_record(node: &BookNode, found: Found) -> bool
     ensures { result ≡ is_on_record node.now found }
 {
     match node.record(found.tid, found.server) {
@@ -44,7 +44,7 @@ fn is_recoverable(server: ServerNo) -> bool
     server == FILES || server == AUDIT || server == EXTRA
 }
 
-fn has_pending(node: &NodeState, found: Found) -> bool
+fn has_pending(node: &BookNode, found: Found) -> bool
     ensures { result ≡ not (is_empty (pending_at node.now found.tid found.server.0)) }
 {
     match node.table(found.server) {
@@ -53,7 +53,7 @@ fn has_pending(node: &NodeState, found: Found) -> bool
     }
 }
 
-fn could_vote(here: NodeNo, node: &NodeState, tx: &Transaction, found: Found) -> bool
+fn could_vote(here: NodeNo, node: &BookNode, tx: &Transaction, found: Found) -> bool
     ensures { result ≡ could_vote here.0 node.now tx.now found }
 {
     let member = member_at(here, found.server);
@@ -67,7 +67,7 @@ fn could_vote(here: NodeNo, node: &NodeState, tx: &Transaction, found: Found) ->
 
 /// Whether a vote that a restart finds was made in the step that the crash cut off: it is not on
 /// record, and the member could have made it then.
-pub fn is_new_vote(here: NodeNo, node: &NodeState, tx: Option<&Transaction>, found: Found) -> bool
+pub fn is_new_vote(here: NodeNo, node: &BookNode, tx: Option<&Transaction>, found: Found) -> bool
     ensures { result ≡ is_new_vote here.0 node.now (option_copied tx.entry) found }
 {
     match tx {
@@ -78,7 +78,7 @@ pub fn is_new_vote(here: NodeNo, node: &NodeState, tx: Option<&Transaction>, fou
 
 fn was_applied(
     here: NodeNo,
-    node: &NodeState,
+    node: &BookNode,
     done: &FoundCommits,
     tx: Option<&Transaction>,
     found: Found,
@@ -153,7 +153,7 @@ impl Book {
     fn is_found_vote(
         &self,
         here: NodeNo,
-        node: &NodeState,
+        node: &BookNode,
         done: &FoundCommits,
         found: Found,
     ) -> bool
@@ -181,7 +181,7 @@ impl Book {
             || pend.has(at, covers)
     }
 
-    fn is_found_commit(&self, here: NodeNo, node: &NodeState, tid: Tid) -> bool
+    fn is_found_commit(&self, here: NodeNo, node: &BookNode, tid: Tid) -> bool
         ensures { result ≡ is_found_commit here.0 self.now node.now tid }
     {
         node.held_commit(tid) || is_committed(here, tid, self.transaction(tid))
@@ -190,7 +190,7 @@ impl Book {
     fn are_found_votes(
         &self,
         here: NodeNo,
-        node: &NodeState,
+        node: &BookNode,
         pend: &[Found],
         done: &FoundCommits,
     ) -> bool
@@ -203,7 +203,7 @@ impl Book {
     fn are_kept(
         &self,
         here: NodeNo,
-        node: &NodeState,
+        node: &BookNode,
         pend: &FoundVotes,
         done: &FoundCommits,
     ) -> bool
@@ -212,7 +212,7 @@ impl Book {
         node.records().iter().all(|(at, record)| self.is_kept(here, pend, done, *at, record.covers))
     }
 
-    fn are_found_commits(&self, here: NodeNo, node: &NodeState, done: &[Tid]) -> bool
+    fn are_found_commits(&self, here: NodeNo, node: &BookNode, done: &[Tid]) -> bool
         ensures { result ≡ list_all (is_found_commit here.0 self.now node.now) done.now }
     {
         done.iter()
@@ -223,7 +223,7 @@ impl Book {
     pub(crate) fn broken_restart(
         &self,
         here: NodeNo,
-        node: &NodeState,
+        node: &BookNode,
         inc: u64,
         pend: &[Found],
         done: &[Tid],

@@ -5,20 +5,20 @@ ghost use Rattle.std.specs.BTreeMap.{is_at};
 ghost use Rattle.qs_base.specs.Order.{tid_cmp};
 ghost use Rattle.qs_base.specs.declared.identifiers.Tid.{Tid};
 ghost use Rattle.std.specs.Option.{option_copied};
-ghost use Rattle.qs_machine.specs.Transaction.{found_at, with_learnt};
-ghost use Rattle.qs_machine.specs.Book.{changed_at, find_transaction, with_node, with_transaction, decide, crossed_in, pending_in, inc_at};
-ghost use Rattle.qs_machine.specs.Nodes.{changes_of};
-ghost use Rattle.qs_machine.specs.Restart.{new_vote, vote_as_stopped, count_of, new_votes_at, new_votes, put_new_votes, with_votes, record_at, changes_at, is_among, is_kept_at, has_record, add_commit, commits_found, keep_found, reopened, restarted_node, learn_found, decide_found, commit_found, vote_found, abort_begun, begun_tid, begun_at, up_to, restart_found, restart, member_at};
+ghost use Rattle.qs_book_machine.specs.Transaction.{found_at, with_learnt};
+ghost use Rattle.qs_book_machine.specs.Book.{changed_at, find_transaction, with_node, with_transaction, decide, crossed_in, pending_in, inc_at};
+ghost use Rattle.qs_book_machine.specs.Nodes.{changes_of};
+ghost use Rattle.qs_book_machine.specs.Restart.{new_vote, vote_as_stopped, count_of, new_votes_at, new_votes, put_new_votes, with_votes, record_at, changes_at, is_among, is_kept_at, has_record, add_commit, commits_found, keep_found, reopened, restarted_node, learn_found, decide_found, commit_found, vote_found, abort_begun, begun_tid, begun_at, up_to, restart_found, restart, member_at};
 
 use super::restarting::{is_new_vote, is_open_here, member_at};
 use super::{Book, find, nodes, transactions};
 use crate::found::{FoundCommits, FoundVotes, add_tid};
-use crate::node::NodeState;
+use crate::node::BookNode;
 use qs_base::{Copied, List, NoMemory, NodeNo, Outcome, ServerNo, Tid};
-use qs_journal::Found;
-use qs_machine::{OnRecord, Reopened, Voter};
+use qs_book_journal::Found;
+use qs_book_machine::{OnRecord, Reopened, Voter};
 use qs_ops::servers::{AUDIT, EXTRA, FILES};
-use qs_ops::{Cause, Kept, Op};
+use qs_ops::{Cause, KeptChanges, Op};
 use std::collections::BTreeSet;
 
 impl Book {
@@ -27,7 +27,7 @@ impl Book {
         &self,
         votes: &mut Vec<(Voter, OnRecord)>,
         here: NodeNo,
-        node: &NodeState,
+        node: &BookNode,
         found: &Found,
     ) -> Result<(), NoMemory>
         ensures { OnOk result (votes.new.items ≡ votes.old.items ++ new_vote here.0 self.now node.now found.now) }
@@ -46,7 +46,7 @@ impl Book {
     fn vote_as_stopped(
         &self,
         here: NodeNo,
-        node: &NodeState,
+        node: &BookNode,
         found: &Found,
     ) -> Result<OnRecord, NoMemory>
         ensures { IfOk result (λ vote. vote ≡ vote_as_stopped here.0 self.now node.now found.now) }
@@ -157,7 +157,7 @@ impl Book {
     /// Adds a vote of a server that is pending again.
     fn add_kept(
         &self,
-        kept: &mut List<Kept>,
+        kept: &mut List<KeptChanges>,
         here: NodeNo,
         server: ServerNo,
         done: &FoundCommits,
@@ -167,7 +167,7 @@ impl Book {
     {
         if self.is_kept_at(here, server, done, found) {
             let changes = self.changes_at(here, server, found.tid)?;
-            kept.push(Kept {
+            kept.push(KeptChanges {
                 tid: found.tid,
                 changes,
             })?;
@@ -326,7 +326,7 @@ impl Book {
 fn new_votes_at(
     book: &Book,
     here: NodeNo,
-    node: Option<&NodeState>,
+    node: Option<&BookNode>,
     pend: &[Found],
 ) -> Result<Vec<(Voter, OnRecord)>, NoMemory>
     ensures { IfOk result (λ votes. votes.items ≡ new_votes_at here.0 book.now (option_copied node.entry) pend.now) }
@@ -340,7 +340,7 @@ fn new_votes_at(
 fn new_votes_of(
     book: &Book,
     here: NodeNo,
-    node: &NodeState,
+    node: &BookNode,
     pend: &[Found],
 ) -> Result<Vec<(Voter, OnRecord)>, NoMemory>
     ensures { IfOk result (λ votes. votes.items ≡ flat_map (new_vote here.0 book.now node.now) pend.now) }
@@ -407,7 +407,7 @@ fn kept_found(
     server: ServerNo,
     pend: &[Found],
     done: &FoundCommits,
-) -> Result<List<Kept>, NoMemory>
+) -> Result<List<KeptChanges>, NoMemory>
     ensures { IfOk result (λ kept. kept ≡ flat_map (keep_found here.0 book.now server.0 done.now) pend.now) }
 {
     let mut kept = List::new(book.alloc);

@@ -4,13 +4,13 @@ ghost use Rattle.std.specs.BTreeMap.{insert_entry, is_at};
 ghost use Rattle.std.specs.Map.{lookup};
 ghost use Rattle.std.specs.Option.{option_copied};
 ghost use Rattle.qs_base.specs.Order.{tid_cmp};
-ghost use Rattle.qs_machine.specs.Book.{crosses, crossed_in, pending_in};
-ghost use Rattle.qs_machine.specs.Transaction.{changed_value, asked_at, counted, heard, ended, issued, voted, learnt, with_learnt, lent, given_back, found_at};
+ghost use Rattle.qs_book_machine.specs.Book.{crosses, crossed_in, pending_in};
+ghost use Rattle.qs_book_machine.specs.Transaction.{changed_value, asked_at, counted, heard, ended, issued, voted, learnt, with_learnt, lent, given_back, found_at};
 
 use qs_base::{Member, NoMemory, NodeNo, Outcome, Tid};
+use qs_base_map::newest_first;
+use qs_book_machine::{Link, Request, RequestNo};
 use qs_book_transactions::Transaction;
-use qs_machine::{Link, Request, RequestNo};
-use qs_map::newest_first;
 use qs_ops::Vote;
 use std::collections::BTreeMap;
 

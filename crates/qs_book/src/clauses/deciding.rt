@@ -1,15 +1,15 @@
 //! Ask, counted and decide.
 ghost use Rattle.std.specs.Prelude.{◌≡◌};
 ghost use Rattle.std.specs.Option.{option_copied};
-ghost use Rattle.qs_machine.specs.Clauses.{may_ask, broken_ask, may_count, broken_counted, may_decide, has_no_record, is_room_cause, is_old, is_gone_cause, is_cause, broken_outcome, broken_decide};
+ghost use Rattle.qs_book_machine.specs.Clauses.{may_ask, broken_ask, may_count, broken_counted, may_decide, has_no_record, is_room_cause, is_old, is_gone_cause, is_cause, broken_outcome, broken_decide};
 
 use crate::clauses::{
     ABORT_HAS_ITS_CAUSE, ASK_ONCE, COUNTED_PEER, DECIDE_ONCE_AT_HOME, UNANIMOUS_COMMIT,
 };
-use crate::node::NodeState;
+use crate::node::BookNode;
 use qs_base::{NodeNo, Outcome, Stamp, Tid};
+use qs_book_machine::{Cell, Link};
 use qs_book_transactions::Transaction;
-use qs_machine::{Cell, Link};
 use qs_ops::Cause;
 use qs_ops::servers::{AUDIT, EXTRA, FILES};
 
@@ -32,7 +32,7 @@ fn may_ask(here: NodeNo, tid: Tid, tx: &Transaction) -> bool
 /// The first clause that counting a peer's answer at `here` breaks, in a run of so many nodes.
 pub fn broken_counted(
     here: NodeNo,
-    node: &NodeState,
+    node: &BookNode,
     nodes: usize,
     tx: Option<&Transaction>,
     peer: NodeNo,
@@ -48,7 +48,7 @@ pub fn broken_counted(
 
 fn may_count(
     here: NodeNo,
-    node: &NodeState,
+    node: &BookNode,
     nodes: usize,
     tx: &Transaction,
     peer: NodeNo,
@@ -66,8 +66,8 @@ fn may_count(
 /// The first clause that a decision at `here` breaks, in a step of this stamp.
 pub fn broken_decide(
     here: NodeNo,
-    node: &NodeState,
-    nodes: &[NodeState],
+    node: &BookNode,
+    nodes: &[BookNode],
     tid: Tid,
     tx: Option<&Transaction>,
     stamp: Stamp,
@@ -91,8 +91,8 @@ fn may_decide(here: NodeNo, tid: Tid, tx: &Transaction) -> bool
 }
 
 fn broken_outcome(
-    node: &NodeState,
-    nodes: &[NodeState],
+    node: &BookNode,
+    nodes: &[BookNode],
     tid: Tid,
     tx: &Transaction,
     stamp: Stamp,
@@ -109,7 +109,7 @@ fn broken_outcome(
     }
 }
 
-fn has_no_record(node: &NodeState, tid: Tid) -> bool
+fn has_no_record(node: &BookNode, tid: Tid) -> bool
     ensures { result ≡ has_no_record node.now tid }
 {
     node.record(tid, FILES).is_none()
@@ -118,7 +118,7 @@ fn has_no_record(node: &NodeState, tid: Tid) -> bool
 }
 
 fn is_room_cause(
-    node: &NodeState,
+    node: &BookNode,
     nodes: usize,
     tid: Tid,
     tx: &Transaction,
@@ -135,14 +135,14 @@ fn is_room_cause(
         && room < need
 }
 
-fn is_old(node: &NodeState, tx: &Transaction, stamp: Stamp, age: u64) -> bool
+fn is_old(node: &BookNode, tx: &Transaction, stamp: Stamp, age: u64) -> bool
     ensures { result ≡ is_old node.now tx.now stamp age }
 {
     let ticks = node.timers().ticks();
     age > 0 && ticks.checked_sub(tx.begun_at()) == Some(age) && node.ticked() == stamp
 }
 
-fn is_gone_cause(peer: Option<&NodeState>, tx: &Transaction, node: NodeNo, inc: u64) -> bool
+fn is_gone_cause(peer: Option<&BookNode>, tx: &Transaction, node: NodeNo, inc: u64) -> bool
     ensures { result ≡ is_gone_cause (option_copied peer.entry) tx.now node inc }
 {
     match peer {
@@ -152,8 +152,8 @@ fn is_gone_cause(peer: Option<&NodeState>, tx: &Transaction, node: NodeNo, inc: 
 }
 
 fn is_cause(
-    node: &NodeState,
-    nodes: &[NodeState],
+    node: &BookNode,
+    nodes: &[BookNode],
     tid: Tid,
     tx: &Transaction,
     stamp: Stamp,

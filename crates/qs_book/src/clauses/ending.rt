@@ -3,17 +3,17 @@ ghost use Rattle.std.specs.Prelude.{◌≡◌};
 ghost use Rattle.std.specs.List.{list_any};
 ghost use Rattle.std.specs.Option.{option_copied};
 ghost use Rattle.qs_ops.specs.Members.{class_of};
-ghost use Rattle.qs_machine.specs.Clauses.{is_known, broken_answer, borrower_at, may_lend, may_yield, broken_loan, broken_yield, may_end, broken_ending, may_learn, waits_for, earlier_servers, broken_learn, is_crash, broken_crash};
+ghost use Rattle.qs_book_machine.specs.Clauses.{is_known, broken_answer, borrower_at, may_lend, may_yield, broken_loan, broken_yield, may_end, broken_ending, may_learn, waits_for, earlier_servers, broken_learn, is_crash, broken_crash};
 
 use crate::clauses::{
     ANSWER_IS_THE_CELL, ANSWERS_IN_ORDER, DISK_COUNT_ROSE, ENDING_IS_DUE, LEARNING_ORDER,
     LEARNS_THE_CELL, LOAN_FOLLOWS_ITS_LEND, READ_ONLY_LEARNS_NOTHING, YIELD_OF_A_STANDING_LOAN,
 };
-use crate::node::NodeState;
+use crate::node::BookNode;
 use qs_base::{Class, ClientNo, Member, NodeNo, Outcome, ServerNo, Stamp};
+use qs_book_journal::CrashCause;
+use qs_book_machine::{Cell, Owner, Part};
 use qs_book_transactions::{Transaction, cell_of, is_let_go, may_learn_still};
-use qs_journal::CrashCause;
-use qs_machine::{Cell, Owner, Part};
 use qs_ops::servers::{AUDIT, EXTRA, FILES, FIRST_CLIENT, NAMES, WINDOWS};
 use qs_ops::{Answer, class_of, learns_outcome};
 
@@ -56,7 +56,7 @@ pub fn borrower_at(client: ClientNo, here: NodeNo) -> Option<Member>
     })
 }
 
-fn may_lend(node: &NodeState, tx: &Transaction, member: Option<Member>, stamp: Stamp) -> bool
+fn may_lend(node: &BookNode, tx: &Transaction, member: Option<Member>, stamp: Stamp) -> bool
     ensures { result ≡ may_lend node.now tx.now member stamp }
 {
     match member {
@@ -68,7 +68,7 @@ fn may_lend(node: &NodeState, tx: &Transaction, member: Option<Member>, stamp: S
 /// The first clause that a loan to the client at `here` breaks, in a step of this stamp.
 pub fn broken_loan(
     here: NodeNo,
-    node: &NodeState,
+    node: &BookNode,
     tx: Option<&Transaction>,
     client: ClientNo,
     stamp: Stamp,
@@ -81,7 +81,7 @@ pub fn broken_loan(
     }
 }
 
-fn may_yield(node: &NodeState, tx: &Transaction, member: Option<Member>) -> bool
+fn may_yield(node: &BookNode, tx: &Transaction, member: Option<Member>) -> bool
     ensures { result ≡ may_yield node.now tx.now member }
 {
     match member {
@@ -93,7 +93,7 @@ fn may_yield(node: &NodeState, tx: &Transaction, member: Option<Member>) -> bool
 /// The first clause that a yield of the client at `here` breaks.
 pub fn broken_yield(
     here: NodeNo,
-    node: &NodeState,
+    node: &BookNode,
     tx: Option<&Transaction>,
     client: ClientNo,
 ) -> Option<u16>
@@ -108,7 +108,7 @@ pub fn broken_yield(
 /// The first clause that an ending at `here` breaks.
 pub fn broken_ending(
     here: NodeNo,
-    node: &NodeState,
+    node: &BookNode,
     tx: Option<&Transaction>,
     member: Member,
 ) -> Option<u16>
@@ -120,7 +120,7 @@ pub fn broken_ending(
     }
 }
 
-fn may_end(here: NodeNo, node: &NodeState, tx: &Transaction, member: Member) -> bool
+fn may_end(here: NodeNo, node: &BookNode, tx: &Transaction, member: Member) -> bool
     ensures { result ≡ may_end here.0 node.now tx.now member }
 {
     class_of(member.server) == Class::Immediate
@@ -132,7 +132,7 @@ fn may_end(here: NodeNo, node: &NodeState, tx: &Transaction, member: Member) -> 
 /// The first clause that learning an outcome at `here` breaks.
 pub fn broken_learn(
     here: NodeNo,
-    node: &NodeState,
+    node: &BookNode,
     tx: Option<&Transaction>,
     member: Member,
     outcome: Outcome,

@@ -1,15 +1,15 @@
 //! Begin and issue.
 ghost use Rattle.std.specs.Prelude.{◌≡◌, ◌==◌, IfOk, length};
 ghost use Rattle.std.specs.Option.{option_copied};
-ghost use Rattle.qs_machine.specs.Clauses.{broken_begin, is_next_tid, broken_issue, broken_issuer, is_numbered, is_for, is_client_here, is_files_here, is_owner_of, may_issue, may_issue_as_owner, may_issue_as_borrower, note_text, is_note, is_note_due, note_here, files_count, link_to};
+ghost use Rattle.qs_book_machine.specs.Clauses.{broken_begin, is_next_tid, broken_issue, broken_issuer, is_numbered, is_for, is_client_here, is_files_here, is_owner_of, may_issue, may_issue_as_owner, may_issue_as_borrower, note_text, is_note, is_note_due, note_here, files_count, link_to};
 
 use crate::clauses::{
     AUDIT_NOTE_DUE, CLIENT_MAY_ISSUE, FRESH_LABEL, ISSUE_NUMBERING, NEXT_IDENTIFIER,
 };
-use crate::node::NodeState;
+use crate::node::BookNode;
 use qs_base::{Bytes, ClientNo, Member, NoMemory, NodeNo, ServerNo, Tid};
+use qs_book_machine::{Cell, Link, Noted};
 use qs_book_transactions::Transaction;
-use qs_machine::{Cell, Link, Noted};
 use qs_ops::servers::{FILES, FIRST_CLIENT};
 use qs_ops::{Op, server_of};
 use std::alloc::Global;
@@ -18,7 +18,7 @@ use std::collections::BTreeMap;
 /// The first clause that a begin at `here` breaks.
 pub fn broken_begin(
     here: NodeNo,
-    node: &NodeState,
+    node: &BookNode,
     labels: &BTreeMap<Bytes, Tid>,
     tid: Tid,
     label: &Bytes,
@@ -34,7 +34,7 @@ pub fn broken_begin(
     None
 }
 
-fn is_next_tid(here: NodeNo, node: &NodeState, tid: Tid) -> bool
+fn is_next_tid(here: NodeNo, node: &BookNode, tid: Tid) -> bool
     ensures { result ≡ is_next_tid here.0 node.now tid }
 {
     tid.home == here && tid.inc == node.inc() && u64::from(tid.seq) == u64::from(node.begun()) + 1
@@ -53,7 +53,7 @@ pub struct Issue<'a> {
 pub fn broken_issue(
     alloc: Global,
     here: NodeNo,
-    node: &NodeState,
+    node: &BookNode,
     nodes: usize,
     tid: Tid,
     tx: Option<&Transaction>,
@@ -71,7 +71,7 @@ pub fn broken_issue(
 
 fn is_numbered(
     here: NodeNo,
-    node: &NodeState,
+    node: &BookNode,
     nodes: usize,
     tx: &Transaction,
     issue: &Issue<'_>,
@@ -100,7 +100,7 @@ fn is_for(op: &Op, member: Member) -> bool
 fn broken_issuer(
     alloc: Global,
     here: NodeNo,
-    node: &NodeState,
+    node: &BookNode,
     tid: Tid,
     tx: &Transaction,
     issuer: Member,
@@ -141,7 +141,7 @@ fn is_owner_of(server: ServerNo, owner: Option<ClientNo>) -> bool
     }
 }
 
-fn may_issue(here: NodeNo, node: &NodeState, tid: Tid, tx: &Transaction, issuer: Member) -> bool
+fn may_issue(here: NodeNo, node: &BookNode, tid: Tid, tx: &Transaction, issuer: Member) -> bool
     ensures { result ≡ may_issue here.0 node.now tid tx.now issuer }
 {
     is_client_here(here, issuer)
@@ -157,7 +157,7 @@ fn may_issue_as_owner(here: NodeNo, tid: Tid, tx: &Transaction, issuer: Member) 
         && !tx.is_asked()
 }
 
-fn may_issue_as_borrower(node: &NodeState, tx: &Transaction, issuer: Member) -> bool
+fn may_issue_as_borrower(node: &BookNode, tx: &Transaction, issuer: Member) -> bool
     ensures { result ≡ may_issue_as_borrower node.now tx.now issuer }
 {
     tx.has_loan(issuer, node.inc()) && !tx.learnt_abort(issuer.node, node.inc())
@@ -181,7 +181,7 @@ fn is_note(text: &Bytes, op: &Op) -> bool
     }
 }
 
-fn files_count(here: NodeNo, node: &NodeState, tx: &Transaction) -> u64
+fn files_count(here: NodeNo, node: &BookNode, tx: &Transaction) -> u64
     ensures { result ≡ files_count here.0 node.now tx.now }
 {
     let files = Member {
@@ -196,7 +196,7 @@ fn files_count(here: NodeNo, node: &NodeState, tx: &Transaction) -> u64
 pub fn files_note(
     alloc: Global,
     here: NodeNo,
-    node: &NodeState,
+    node: &BookNode,
     tid: Tid,
     tx: &Transaction,
 ) -> Result<Noted, NoMemory>
@@ -213,7 +213,7 @@ pub fn files_note(
 fn is_note_due(
     alloc: Global,
     here: NodeNo,
-    node: &NodeState,
+    node: &BookNode,
     tid: Tid,
     tx: &Transaction,
     op: &Op,

@@ -1,15 +1,15 @@
 //! Serve.
 ghost use Rattle.std.specs.Prelude.{◌≡◌, IfOk};
 ghost use Rattle.std.specs.Option.{option_copied};
-ghost use Rattle.qs_machine.specs.Clauses.{broken_serve, broken_request, request_here, has_reply, holds_as, may_hold, takes_lock, is_crossed_busy, is_table_reply, is_server_reply, is_reply};
+ghost use Rattle.qs_book_machine.specs.Clauses.{broken_serve, broken_request, request_here, has_reply, holds_as, may_hold, takes_lock, is_crossed_busy, is_table_reply, is_server_reply, is_reply};
 
 use crate::book::find;
 use crate::clauses::{NO_SERVE_AFTER_ABORT, REPLY_BY_THE_RULES, SERVE_OF_A_STANDING_ISSUE};
-use crate::node::NodeState;
+use crate::node::BookNode;
 use qs_base::{Member, NoMemory, NodeNo, ServerNo, Tid};
+use qs_book_machine::{Link, Request, RequestNo};
 use qs_book_tables::Table;
 use qs_book_transactions::Transaction;
-use qs_machine::{Link, Request, RequestNo};
 use qs_ops::servers::{AUDIT, EXTRA, FILES, FIRST_CLIENT, NAMES, SCRATCH, TIMERS, WINDOWS};
 use qs_ops::{Op, Reply};
 use std::collections::BTreeMap;
@@ -26,7 +26,7 @@ pub struct Serve<'a> {
 /// The first clause that a serve at `here` breaks.
 pub fn broken_serve(
     here: NodeNo,
-    node: &NodeState,
+    node: &BookNode,
     transactions: &BTreeMap<Tid, Transaction>,
     tid: Tid,
     tx: Option<&Transaction>,
@@ -95,7 +95,7 @@ fn has_reply(server: ServerNo, reply: &Reply) -> bool
 /// A transaction that is crossed at files here may hold any name.
 fn may_hold(
     here: NodeNo,
-    node: &NodeState,
+    node: &BookNode,
     transactions: &BTreeMap<Tid, Transaction>,
     holder: Tid,
 ) -> bool
@@ -130,7 +130,7 @@ fn takes_lock(op: &Op) -> bool
 /// Whether the reply says that a crossed transaction is in the way.
 fn is_crossed_busy(
     here: NodeNo,
-    node: &NodeState,
+    node: &BookNode,
     transactions: &BTreeMap<Tid, Transaction>,
     tid: Tid,
     op: &Op,
@@ -161,7 +161,7 @@ fn is_table_reply(table: Option<&Table>, tid: Tid, op: &Op, reply: &Reply) -> Re
 
 /// Whether that is the reply of a server to a transaction that isn't crossed there.
 fn is_server_reply(
-    node: &NodeState,
+    node: &BookNode,
     server: ServerNo,
     tid: Tid,
     op: &Op,
@@ -181,7 +181,7 @@ fn is_server_reply(
 /// the server has.
 fn is_reply(
     here: NodeNo,
-    node: &NodeState,
+    node: &BookNode,
     transactions: &BTreeMap<Tid, Transaction>,
     tid: Tid,
     tx: &Transaction,

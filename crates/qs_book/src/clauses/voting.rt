@@ -1,21 +1,21 @@
 //! Vote.
 ghost use Rattle.std.specs.Prelude.{◌≡◌, IfOk};
 ghost use Rattle.std.specs.Option.{option_copied};
-ghost use Rattle.qs_machine.specs.Clauses.{broken_vote, is_vote_due, is_log_full, is_files_vote, is_audit_vote, is_name, is_taken_name, is_names_vote, is_server_vote, has_vote, is_vote, is_extra_vote};
-ghost use Rattle.qs_machine.specs.Transaction.{part_of};
+ghost use Rattle.qs_book_machine.specs.Clauses.{broken_vote, is_vote_due, is_log_full, is_files_vote, is_audit_vote, is_name, is_taken_name, is_names_vote, is_server_vote, has_vote, is_vote, is_extra_vote};
+ghost use Rattle.qs_book_machine.specs.Transaction.{part_of};
 
 use crate::clauses::{VOTE_BY_THE_RULES, VOTE_COVERS, VOTE_IS_DUE};
-use crate::node::NodeState;
+use crate::node::BookNode;
 use qs_base::{Bytes, Member, NoMemory, NodeNo, ServerNo, Tid};
+use qs_book_machine::Cell;
 use qs_book_tables::Table;
 use qs_book_transactions::Transaction;
-use qs_machine::Cell;
 use qs_ops::servers::{AUDIT, EXTRA, FILES, NAMES};
 use qs_ops::{Reason, Vote, class_of, is_two_phase};
 
 /// How a member votes, for so many requests.
 #[derive(Clone, Copy)]
-pub struct Ballot<'a> {
+pub struct MemberVote<'a> {
     pub member: Member,
     pub vote: &'a Vote,
     pub covers: u32,
@@ -24,10 +24,10 @@ pub struct Ballot<'a> {
 /// The first clause that a vote at `here` breaks.
 pub fn broken_vote(
     here: NodeNo,
-    node: &NodeState,
+    node: &BookNode,
     tid: Tid,
     tx: Option<&Transaction>,
-    ballot: &Ballot<'_>,
+    ballot: &MemberVote<'_>,
 ) -> Result<Option<u16>, NoMemory>
     ensures { IfOk result (λ clause. clause ≡ broken_vote here.0 node.now tid (option_copied tx.entry) ballot.now.member ballot.now.vote.now ballot.now.covers) }
 {
@@ -47,7 +47,7 @@ pub fn broken_vote(
     Ok(None)
 }
 
-fn is_vote_due(here: NodeNo, node: &NodeState, tx: &Transaction, member: Member) -> bool
+fn is_vote_due(here: NodeNo, node: &BookNode, tx: &Transaction, member: Member) -> bool
     ensures { result ≡ is_vote_due here.0 tx.now member (part_of tx.now member node.now.inc) }
 {
     let part = tx.part(member, node.inc());
@@ -59,7 +59,7 @@ fn is_vote_due(here: NodeNo, node: &NodeState, tx: &Transaction, member: Member)
 }
 
 /// Whether the Prepare record needs just so many bytes, and the log has not that room.
-fn is_log_full(node: &NodeState, table: &Table, tid: Tid, need: u64, room: u64) -> bool
+fn is_log_full(node: &BookNode, table: &Table, tid: Tid, need: u64, room: u64) -> bool
     ensures { result ≡ is_log_full node.now table.now tid need room }
 {
     let frame = 41 + node.extra() + node.keep();
@@ -69,7 +69,7 @@ fn is_log_full(node: &NodeState, table: &Table, tid: Tid, need: u64, room: u64) 
     }
 }
 
-fn is_files_vote(node: &NodeState, tid: Tid, vote: &Vote) -> Result<bool, NoMemory>
+fn is_files_vote(node: &BookNode, tid: Tid, vote: &Vote) -> Result<bool, NoMemory>
     ensures { IfOk result (λ yes. yes ≡ is_files_vote node.now tid vote.now) }
 {
     let files = node.files();
@@ -88,7 +88,7 @@ fn is_files_vote(node: &NodeState, tid: Tid, vote: &Vote) -> Result<bool, NoMemo
     })
 }
 
-fn is_audit_vote(node: &NodeState, tid: Tid, vote: &Vote) -> bool
+fn is_audit_vote(node: &BookNode, tid: Tid, vote: &Vote) -> bool
     ensures { result ≡ is_audit_vote node.now tid vote.now }
 {
     let audit = node.audit();
@@ -112,7 +112,7 @@ fn is_name(name: &Bytes, other: Option<&Bytes>) -> bool
     }
 }
 
-fn is_taken_name(node: &NodeState, tid: Tid, name: &Bytes) -> bool
+fn is_taken_name(node: &BookNode, tid: Tid, name: &Bytes) -> bool
     ensures { result ≡ is_taken_name node.now tid name.now }
 {
     let names = node.names();
@@ -120,7 +120,7 @@ fn is_taken_name(node: &NodeState, tid: Tid, name: &Bytes) -> bool
         || names.changes_name(tid, name) && node.is_doubtful(tid, name)
 }
 
-fn is_names_vote(node: &NodeState, tid: Tid, vote: &Vote) -> bool
+fn is_names_vote(node: &BookNode, tid: Tid, vote: &Vote) -> bool
     ensures { result ≡ is_names_vote node.now tid vote.now }
 {
     let names = node.names();
@@ -136,7 +136,7 @@ fn is_names_vote(node: &NodeState, tid: Tid, vote: &Vote) -> bool
 }
 
 fn is_server_vote(
-    node: &NodeState,
+    node: &BookNode,
     server: ServerNo,
     tid: Tid,
     vote: &Vote,
@@ -179,7 +179,7 @@ pub fn has_vote(server: ServerNo, vote: &Vote) -> bool
 }
 
 fn is_vote(
-    node: &NodeState,
+    node: &BookNode,
     tid: Tid,
     tx: &Transaction,
     member: Member,

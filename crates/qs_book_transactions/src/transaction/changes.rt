@@ -1,19 +1,19 @@
 //! What a transaction becomes by votes, loans, answers and outcomes.
 ghost use Rattle.std.specs.Prelude.{◌≡◌, OnOk, OnErr};
 ghost use Rattle.std.specs.BTreeMap.{is_at};
-ghost use Rattle.qs_machine.specs.Transaction.{changed_value, link_cmp, node_cmp, with_counted, with_reached};
+ghost use Rattle.qs_book_machine.specs.Transaction.{changed_value, link_cmp, node_cmp, with_counted, with_reached};
 
 use crate::cells::cell_of;
 use crate::part::{ended_part, found_part, learnt_part, made_part, voted_part, yielded_part};
 use crate::sending::{heard_by, with_counted, with_reached};
 use crate::transaction::Transaction;
 use qs_base::{Copied, Member, NoMemory, NodeNo, Outcome};
-use qs_machine::{Life, Link, Part, Peer, Refusal, Sent, Start};
+use qs_book_machine::{Life, Link, Part, Peer, Refusal, Sent, Start};
 use qs_ops::{Cause, Vote};
 use std::collections::BTreeMap;
 
 impl Transaction {
-    ghost use Rattle.qs_machine.specs.Transaction.{asked_at, decided_at, counted, heard, voted, lent, given_back, learnt, with_learnt, ended, found_at};
+    ghost use Rattle.qs_book_machine.specs.Transaction.{asked_at, decided_at, counted, heard, voted, lent, given_back, learnt, with_learnt, ended, found_at};
 
     /// The owner asks for commit, at that place in the history.
     pub fn ask(&mut self, place: u64)

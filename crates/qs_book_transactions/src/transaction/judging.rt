@@ -1,18 +1,18 @@
 //! What a transaction tells of its votes, its loans, its restarts and its decision.
 ghost use Rattle.std.specs.Prelude.{◌≡◌, is_some};
 ghost use Rattle.std.specs.List.{list_all, list_any};
-ghost use Rattle.qs_machine.specs.Transaction.{is_empty, is_open_link, is_refusal, is_start, is_before, agrees, peer_of};
+ghost use Rattle.qs_book_machine.specs.Transaction.{is_empty, is_open_link, is_refusal, is_start, is_before, agrees, peer_of};
 
 use crate::part::agrees_in;
 use crate::sending::NO_PEER;
 use crate::transaction::Transaction;
 use qs_base::{List, Member, NodeNo, ServerNo};
-use qs_machine::{Cell, Life, Link, Part, Peer, Refusal, Sent, Start};
+use qs_book_machine::{Cell, Life, Link, Part, Peer, Refusal, Sent, Start};
 use qs_ops::{Reason, class_of};
 use std::collections::BTreeSet;
 
 impl Transaction {
-    ghost use Rattle.qs_machine.specs.Transaction.{is_covering, is_unanimous, has_refusal, is_gone, has_loan, is_loan_due, learnt_abort, was_committed, was_in_commit, was_crossed, all_served, is_open_to, reached, part_of};
+    ghost use Rattle.qs_book_machine.specs.Transaction.{is_covering, is_unanimous, has_refusal, is_gone, has_loan, is_loan_due, learnt_abort, was_committed, was_in_commit, was_crossed, all_served, is_open_to, reached, part_of};
 
     /// Whether so many covers count what the member served since the restart, or since one of its
     /// read-only votes.

@@ -3,21 +3,21 @@ ghost use Rattle.std.specs.Prelude.{◌≡◌, ◌++◌, ◌∷◌, [], OnOk, On
 ghost use Rattle.std.specs.Option.{option_copied};
 ghost use Rattle.std.specs.List.{find};
 ghost use Rattle.std.specs.BTreeMap.{insert_entry, is_at};
-ghost use Rattle.qs_machine.specs.Transaction.{requests_in, life_cmp, node_cmp, request_cmp, crossed_by, crossed_from, is_standing, with_note_of, changed_value, mark_served};
+ghost use Rattle.qs_book_machine.specs.Transaction.{requests_in, life_cmp, node_cmp, request_cmp, crossed_by, crossed_from, is_standing, with_note_of, changed_value, mark_served};
 
 use crate::part::serving_part;
 use crate::requests::Requests;
 use crate::sending::{note_of, reached_by, sent_more};
 use crate::transaction::Transaction;
 use qs_base::{Member, NoMemory, NodeNo};
-use qs_machine::{Life, Noted, Part, Peer, Request, RequestNo, Sent};
+use qs_book_machine::{Life, Noted, Part, Peer, Request, RequestNo, Sent};
 use qs_ops::class_of;
 use std::alloc::Global;
 use std::collections::btree_map::Entry;
 use std::collections::{BTreeMap, BTreeSet};
 
 impl Transaction {
-    ghost use Rattle.qs_machine.specs.Transaction.{issued, served_in, with_request};
+    ghost use Rattle.qs_book_machine.specs.Transaction.{issued, served_in, with_request};
 
     /// The issue of a request on a link under a number, at that place in the history; the member's
     /// node is in incarnation `peer_inc`. After a refusal, which comes for want of memory or a count

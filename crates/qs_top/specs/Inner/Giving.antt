@@ -3,10 +3,10 @@ use Rattle.std.specs.Prelude.{◌≡◌, ◌⊎◌, ⊤, ℕ, List, Option, Some
 use Rattle.std.specs.Io.KnownBytes.{Appends}
 use Rattle.qs_base.specs.Causes.{Rose}
 use Rattle.qs_io.specs.Streams.{GivesPart}
-use Rattle.qs_statements.specs.declared.status.Status.{Status}
-use Rattle.qs_statements.specs.declared.status.Status.TheVariants as statuses
+use Rattle.qs_book_script.specs.declared.status.Status.{Status}
+use Rattle.qs_book_script.specs.declared.status.Status.TheVariants as statuses
 use Rattle.qs_top.specs.declared.outcome.Run.{Run}
-use Rattle.qs_top.specs.declared.whole.Made.{Made}
+use Rattle.qs_top.specs.declared.whole.RunMade.{RunMade}
 
 -- the statuses of a run without a script
 abbrev pub IsNoScript : Status → Type 0
@@ -35,7 +35,7 @@ abbrev pub IsGivenOf : {K : Type 0} → (K → ℕ) → (K → Option (List ℕ)
 IsGivenOf faults given old new None before after = WasSilent given old new before after
 IsGivenOf faults given old new (Some bytes) before after = WasGiven given old new bytes before after ⊎ WasCutOff faults given old new bytes after
 
-pub record IsGiven {K : Type 0} (faults : K → ℕ) (given : K → Option (List ℕ)) (old new : K) (made : Made) (run : Run) : Type 0 where
+pub record IsGiven {K : Type 0} (faults : K → ℕ) (given : K → Option (List ℕ)) (old new : K) (made : RunMade) (run : Run) : Type 0 where
   pub entries : run.journal ≡ made.journal
   pub steps : run.trace ≡ made.trace
   pub output : IsGivenOf faults given old new made.output made.status run.status

@@ -2,17 +2,17 @@
 use Rattle.std.specs.Prelude.{◌≡◌, ◌⊎◌, ◌<◌, ℕ, Bool, List, length, Option, Some, None}
 use Rattle.qs_base.specs.declared.identifiers.NodeNo.{NodeNo}
 use Rattle.qs_disk.specs.Disk.{DiskState}
-use Rattle.qs_journal.specs.declared.entry.Entry.{Entry}
-use Rattle.qs_machine.specs.Lawful.{IsLawful}
-use Rattle.qs_machine.specs.declared.opened.Opened.{Opened}
-use Rattle.qs_may_begin.specs.Scripts.{Fits}
-use Rattle.qs_rounds.specs.Seats.{node_count}
-use Rattle.qs_statements.specs.declared.script.Script.{Script}
-use Rattle.qs_statements.specs.declared.status.Status.TheVariants as statuses
+use Rattle.qs_book_journal.specs.declared.entry.Entry.{Entry}
+use Rattle.qs_book_machine.specs.Lawful.{IsLawful}
+use Rattle.qs_book_machine.specs.declared.opened.Opened.{Opened}
+use Rattle.qs_world_opening.specs.Scripts.{Fits}
+use Rattle.qs_world_rounds.specs.Seats.{node_count}
+use Rattle.qs_book_script.specs.declared.script.Script.{Script}
+use Rattle.qs_book_script.specs.declared.status.Status.TheVariants as statuses
 use Rattle.qs_top.specs.Disks.{IsHeldIn, IsFaultOver, IsDamageOver, Leaves, StaysCoherent, StaysRoomy}
 use Rattle.qs_top.specs.Run.{machine_over, IsNothing, IsNotBegun, IsWhole, IsShort, IsRefused}
 use Rattle.qs_top.specs.Statuses.{IfNot, IsEnd, Tells, IsOfRounds}
-use Rattle.qs_top.specs.declared.whole.Made.{Made}
+use Rattle.qs_top.specs.declared.whole.RunMade.{RunMade}
 
 -- the entries are lawful from what the log of the disk held
 pub record HasLawfulOver {D : Type 0} (told : Type 0) (state : D → DiskState) (script : Script) (journal : List Entry) (disk : D) : Type 0 where
@@ -24,7 +24,7 @@ pub record HasLawfulOver {D : Type 0} (told : Type 0) (state : D → DiskState) 
 abbrev pub IsOutput : Option (List ℕ) → List ℕ → Type 0
 IsOutput output bytes = output ≡ Some bytes
 
-pub record IsOver {D : Type 0} (told : Type 0) (state : D → DiskState) (own size : D → ℕ) (seed : ℕ) (script : Script) (shown : Bool) (made : Made) (disk after : D) : Type 0 where
+pub record IsOver {D : Type 0} (told : Type 0) (state : D → DiskState) (own size : D → ℕ) (seed : ℕ) (script : Script) (shown : Bool) (made : RunMade) (disk after : D) : Type 0 where
   pub lawful : HasLawfulOver told state script made.journal disk
   pub fault : (node : NodeNo) → made.status ≡ statuses.DiskFault node → IsFaultOver own node disk after
   pub damage : (node : NodeNo) (at : ℕ) → made.status ≡ statuses.Damaged node at → IsDamageOver told state node at disk after

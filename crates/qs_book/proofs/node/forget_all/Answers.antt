@@ -1,8 +1,8 @@
 use Rattle.std.proofs.Common.{◌∙◌, ap, sym, slice_index_or}
 use Rattle.std.proofs.lemmas.List.Sums.{fold_more}
 use Rattle.qs_base.specs.declared.identifiers.Tid.{Tid}
-use Rattle.qs_machine.specs.Nodes.{NodeValue}
-use Rattle.qs_machine.specs.Restart.{without_records}
+use Rattle.qs_book_machine.specs.Nodes.{NodeValue}
+use Rattle.qs_book_machine.specs.Restart.{without_records}
 use Rattle.qs_book.proofs.node.forget_all.Goals as goal
 
 abbrev no_tid : Tid

@@ -1,6 +1,6 @@
 use Rattle.std.proofs.Common.{◌≡◌, take}
 use Rattle.std.specs.List.{flat_map}
-use Rattle.qs_machine.specs.Opening.{keep_pending}
+use Rattle.qs_book_machine.specs.Opening.{keep_pending}
 use Rattle.qs_book.proofs.opening.keeps_of.Given as goal
 
 abbrev pub invariant-loop-vote : goal.invariant-loop-vote

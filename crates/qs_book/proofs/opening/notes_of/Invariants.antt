@@ -1,5 +1,5 @@
 use Rattle.std.proofs.Common.{◌≡◌, take, map}
-use Rattle.qs_machine.specs.Opening.{note_of}
+use Rattle.qs_book_machine.specs.Opening.{note_of}
 use Rattle.qs_book.proofs.opening.notes_of.Given as goal
 
 abbrev pub invariant-loop-text : goal.invariant-loop-text

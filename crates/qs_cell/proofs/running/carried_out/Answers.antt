@@ -1,7 +1,7 @@
 use Rattle.std.proofs.Common.{ℕ, Err, ap, subst, sym}
 use Rattle.qs_cell.proofs.Happening.{has_stepped, told_cause, cut_short, stands_on, disk_left}
 use Rattle.qs_cell.specs.Cell.{IsOutcome}
-use Rattle.qs_host.specs.Roomy.{LacksRoom}
+use Rattle.qs_node_host.specs.Roomy.{LacksRoom}
 use Rattle.qs_cell.specs.Outcomes.{outcome_of}
 use Rattle.qs_cell.specs.Within.{running_with}
 use Rattle.qs_cell.specs.declared.running.Fate.{Fate}

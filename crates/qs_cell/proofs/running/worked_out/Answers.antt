@@ -3,9 +3,9 @@ use Rattle.qs_cell.specs.Outcomes.{outcome_of}
 use Rattle.qs_cell.specs.Within.{running_with}
 use Rattle.qs_cell.proofs.Happening.{untouched, unplanned_by, begun_on, worked, stands_as, moments_as}
 use Rattle.qs_cell.proofs.running.worked_out.Goals as goal
-use Rattle.qs_chronicle.specs.Carried.{seen}
-use Rattle.qs_chronicle.specs.Occasions.{event_of}
-use Rattle.qs_host.specs.Host.{effects_at}
+use Rattle.qs_cell_chronicle.specs.Carried.{seen}
+use Rattle.qs_cell_chronicle.specs.Occasions.{event_of}
+use Rattle.qs_node_host.specs.Host.{effects_at}
 
 pub returns-in_default-clause-moments : goal.returns-in_default-clause-moments
 returns-in_default-clause-moments g c = λ told.

@@ -1,7 +1,7 @@
 use Rattle.std.proofs.Common.{sym, subst, ap, ◌∙◌, take, length, ◌<◌, ◌^◌, arith}
 use Rattle.std.specs.List.{fold}
-use Rattle.qs_contents.specs.Slots.{Entries, tidy_change}
-use Rattle.qs_shares.specs.Shares.{kept_share}
+use Rattle.qs_files_contents.specs.Slots.{Entries, tidy_change}
+use Rattle.qs_ops_shares.specs.Shares.{kept_share}
 use Rattle.qs_files.specs.Held.{Follows}
 use Rattle.qs_files.proofs.Following.{follows-now}
 use Rattle.qs_files.proofs.Keeping.{keeps_are, now-kept, text-kept_again}

@@ -1,7 +1,7 @@
 use Rattle.std.proofs.Common.{sym, subst, ap, ◌∙◌, ◌∷◌, [], take}
 use Rattle.qs_ops.specs.Table.{after_serve}
-use Rattle.qs_contents.specs.Slots.{Entries, tidy_change}
-use Rattle.qs_shares.specs.Shares.{share_in}
+use Rattle.qs_files_contents.specs.Slots.{Entries, tidy_change}
+use Rattle.qs_ops_shares.specs.Shares.{share_in}
 use Rattle.qs_files.specs.Held.{Follows}
 use Rattle.qs_files.proofs.Following.{follows-now}
 use Rattle.qs_files.proofs.Replies.{changing-changes, changing-reads}

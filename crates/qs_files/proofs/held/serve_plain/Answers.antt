@@ -1,5 +1,5 @@
 use Rattle.qs_ops.specs.Table.{after_serve}
-use Rattle.qs_shares.specs.Shares.{share_in}
+use Rattle.qs_ops_shares.specs.Shares.{share_in}
 use Rattle.qs_files.proofs.Replies.{plain-changes, plain-reads}
 use Rattle.qs_files.proofs.Serving.{follows-plain}
 use Rattle.qs_files.proofs.held.serve_plain.Goals as goal

@@ -1,6 +1,6 @@
 use Rattle.std.proofs.Common.{sym, subst, ◌∙◌}
 use Rattle.qs_ops.specs.Table.{after_serve}
-use Rattle.qs_shares.specs.Shares.{share_in}
+use Rattle.qs_ops_shares.specs.Shares.{share_in}
 use Rattle.qs_files.specs.Held.{Follows}
 use Rattle.qs_files.proofs.Replies.{reading-changes, reading-reads}
 use Rattle.qs_files.proofs.Seen.{files-same}

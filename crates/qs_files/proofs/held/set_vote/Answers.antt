@@ -1,6 +1,6 @@
 use Rattle.std.proofs.Common.{refl}
 use Rattle.qs_ops.specs.declared.share.Share.{Share}
-use Rattle.qs_shares.specs.Shares.{share_in}
+use Rattle.qs_ops_shares.specs.Shares.{share_in}
 use Rattle.qs_files.proofs.Serving.{follows-plain}
 use Rattle.qs_files.proofs.held.set_vote.Goals as goal
 

@@ -1,5 +1,5 @@
 use Rattle.std.proofs.Common.{◌≡◌, take}
-use Rattle.qs_kept.specs.Keeping.{with_now}
+use Rattle.qs_node_kept.specs.Keeping.{with_now}
 use Rattle.qs_node.specs.Closed.{closed_by}
 use Rattle.qs_node.proofs.closing.close_each.Given as goal
 

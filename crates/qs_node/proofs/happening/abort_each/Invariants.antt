@@ -1,5 +1,5 @@
 use Rattle.std.proofs.Common.{◌≡◌, take, fold}
-use Rattle.qs_step.specs.Step.{abort_old}
+use Rattle.qs_node_step.specs.Step.{abort_old}
 use Rattle.qs_node.proofs.happening.abort_each.Given as goal
 
 abbrev pub invariant-loop-tid : goal.invariant-loop-tid

@@ -1,6 +1,6 @@
 use Rattle.std.proofs.Common.{◌∙◌}
-use Rattle.qs_map.proofs.Loops.{one_more}
-use Rattle.qs_step.specs.Restarts.{notice_tid}
+use Rattle.qs_base_map.proofs.Loops.{one_more}
+use Rattle.qs_node_step.specs.Restarts.{notice_tid}
 use Rattle.qs_node.proofs.restarting.notice_each.Goals as goal
 
 pub loop-tid-preserved : goal.loop-tid-preserved

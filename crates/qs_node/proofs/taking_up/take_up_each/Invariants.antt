@@ -1,5 +1,5 @@
 use Rattle.std.proofs.Common.{◌≡◌, take, fold}
-use Rattle.qs_step.specs.Opening.{take_up}
+use Rattle.qs_node_step.specs.Opening.{take_up}
 use Rattle.qs_node.proofs.taking_up.take_up_each.Given as goal
 
 abbrev pub invariant-loop-rec : goal.invariant-loop-rec

@@ -1,6 +1,6 @@
 use Rattle.std.proofs.Common.{◌∙◌}
-use Rattle.qs_map.proofs.Loops.{one_more}
-use Rattle.qs_step.specs.Step.{wait_on}
+use Rattle.qs_base_map.proofs.Loops.{one_more}
+use Rattle.qs_node_step.specs.Step.{wait_on}
 use Rattle.qs_node.proofs.waiting.wait_each.Goals as goal
 
 pub loop-client-preserved : goal.loop-client-preserved

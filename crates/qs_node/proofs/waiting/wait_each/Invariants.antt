@@ -1,5 +1,5 @@
 use Rattle.std.proofs.Common.{◌≡◌, take, fold}
-use Rattle.qs_step.specs.Step.{wait_on}
+use Rattle.qs_node_step.specs.Step.{wait_on}
 use Rattle.qs_node.proofs.waiting.wait_each.Given as goal
 
 abbrev pub invariant-loop-client : goal.invariant-loop-client

@@ -1,8 +1,8 @@
 use Rattle.std.proofs.Common.{◌≡◌, map, fold}
 use Rattle.std.specs.Map.Iter.{deref_pair}
 use Rattle.qs_base.specs.declared.identifiers.ClientNo.{ClientNo}
-use Rattle.qs_step.specs.declared.state.OpenCommand.{OpenCommand}
-use Rattle.qs_step.specs.Step.{wait_on}
+use Rattle.qs_node_step.specs.declared.state.OpenCommand.{OpenCommand}
+use Rattle.qs_node_step.specs.Step.{wait_on}
 use Rattle.qs_node.proofs.waiting.waiting_clients.Given as goal
 
 abbrev pub invariant-loop-entry : goal.invariant-loop-entry

@@ -7,7 +7,7 @@ use Rattle.std.proofs.lemmas.Map.Steps.{set_value_same}
 use Rattle.qs_base.specs.Order.{tid_cmp}
 use Rattle.qs_base.proofs.TidOrder.{tid_total}
 use Rattle.qs_ops.specs.Timers.{TimerShareValue, no_timer_share, after_timer}
-use Rattle.qs_shares.proofs.Present.{insert_entry-present}
+use Rattle.qs_ops_shares.proofs.Present.{insert_entry-present}
 use Rattle.qs_oneshot.proofs.timers.serve.Goals as goal
 
 pub returns-in-Some-clause-ok : goal.returns-in-Some-clause-ok

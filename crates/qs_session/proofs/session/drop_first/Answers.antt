@@ -1,5 +1,5 @@
 use Rattle.std.proofs.Common.{ap, ◌∙◌, drop}
-use Rattle.qs_channels.proofs.Lists.{drop_drop}
+use Rattle.qs_session_channels.proofs.Lists.{drop_drop}
 use Rattle.qs_session.proofs.session.drop_first.Goals as goal
 
 pub loop-turn-preserved : goal.loop-turn-preserved

@@ -1,4 +1,4 @@
-use Rattle.qs_batch.proofs.ReadLemmas.{taken_short}
+use Rattle.qs_log_batch.proofs.ReadLemmas.{taken_short}
 use Rattle.qs_test_storage.proofs.batch.record_of.Goals as goal
 
 pub returns-clause-short : goal.returns-clause-short

@@ -1,5 +1,5 @@
 use Rattle.std.proofs.Common.{◌≡◌, ◌++◌, take}
-use Rattle.qs_script.specs.Answers.{list_text}
+use Rattle.qs_text_script.specs.Answers.{list_text}
 use Rattle.qs_text.proofs.answers.put_list.Given as goal
 
 abbrev pub invariant-loop-text : goal.invariant-loop-text

@@ -1,6 +1,6 @@
 use Rattle.std.proofs.Common.{◌≡◌, ◌++◌, take, map}
-use Rattle.qs_script.specs.Answers.{list_text}
-use Rattle.qs_script.specs.Journal.{done_text}
+use Rattle.qs_text_script.specs.Answers.{list_text}
+use Rattle.qs_text_script.specs.Journal.{done_text}
 use Rattle.qs_text.proofs.journal.add_dones.Given as goal
 
 abbrev pub invariant-loop-tid : goal.invariant-loop-tid

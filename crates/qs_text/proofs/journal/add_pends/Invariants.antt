@@ -1,6 +1,6 @@
 use Rattle.std.proofs.Common.{◌≡◌, ◌++◌, take, map}
-use Rattle.qs_script.specs.Answers.{list_text}
-use Rattle.qs_script.specs.Journal.{pend_text}
+use Rattle.qs_text_script.specs.Answers.{list_text}
+use Rattle.qs_text_script.specs.Journal.{pend_text}
 use Rattle.qs_text.proofs.journal.add_pends.Given as goal
 
 abbrev pub invariant-loop-found : goal.invariant-loop-found

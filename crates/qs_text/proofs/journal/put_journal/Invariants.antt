@@ -1,5 +1,5 @@
 use Rattle.std.proofs.Common.{◌≡◌, ◌++◌, take}
-use Rattle.qs_script.specs.Journal.{journal_text}
+use Rattle.qs_text_script.specs.Journal.{journal_text}
 use Rattle.qs_text.specs.Output.{label_of}
 use Rattle.qs_text.proofs.journal.put_journal.Given as goal
 

@@ -1,5 +1,5 @@
 use Rattle.std.proofs.Common.{◌≡◌, ◌⊎◌, ℕ, refl, subst, sym}
-use Rattle.qs_statements.specs.declared.status.Status.{Status}
+use Rattle.qs_book_script.specs.declared.status.Status.{Status}
 use Rattle.qs_top.specs.Disks.{OfFirst, Leaves, StaysCoherent, StaysRoomy}
 use Rattle.qs_top.specs.Run.{IsNotBegun, IsShort, IsRefused}
 use Rattle.qs_top.specs.Texts.{ReadWhole, OfScript}

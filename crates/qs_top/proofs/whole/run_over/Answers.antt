@@ -2,7 +2,7 @@ use Rattle.std.proofs.Common.{rules, ◌∙◌, ◌^◌, sym, subst}
 use Rattle.qs_cell.specs.Logged.{HasLog}
 use Rattle.qs_disk.specs.Disk.{EachImage}
 use Rattle.qs_disk.specs.Moments.{Keeps}
-use Rattle.qs_incarnation.specs.Incarnation.{IsTouched}
+use Rattle.qs_log_start.specs.Incarnation.{IsTouched}
 use Rattle.qs_log.specs.Image.{IsDamaged}
 use Rattle.qs_top.proofs.Ran.{over_ran}
 use Rattle.qs_top.proofs.Unopened.{over_closed}

@@ -1,6 +1,6 @@
 use Rattle.std.proofs.Common.{◌≡◌, OnOk, subst}
-use Rattle.qs_machine.specs.Book.{BookValue}
-use Rattle.qs_machine.specs.Restart.{restart_found}
+use Rattle.qs_book_machine.specs.Book.{BookValue}
+use Rattle.qs_book_machine.specs.Restart.{restart_found}
 use Rattle.qs_book.proofs.book.Book.restart.Goals as goal
 
 pub returns : goal.returns

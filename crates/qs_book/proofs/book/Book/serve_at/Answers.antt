@@ -5,8 +5,8 @@ use Rattle.std.specs.Map.{set_value}
 use Rattle.std.proofs.lemmas.Result.{on_ok_weaker}
 use Rattle.qs_base.specs.Order.{tid_cmp}
 use Rattle.qs_book.specs.contracts.book.Book.{the_view}
-use Rattle.qs_machine.specs.Book.{is_done, inc_at}
-use Rattle.qs_machine.specs.Transaction.{TransactionValue, served_in}
+use Rattle.qs_book_machine.specs.Book.{is_done, inc_at}
+use Rattle.qs_book_machine.specs.Transaction.{TransactionValue, served_in}
 use Rattle.qs_book.proofs.Serving.{served_known}
 use Rattle.qs_book.proofs.book.Book.serve_at.Goals as goal
 

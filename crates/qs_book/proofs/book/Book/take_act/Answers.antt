@@ -1,9 +1,9 @@
 use Rattle.std.proofs.Common.{◌≡◌, OnOk, List, subst, sym}
 use Rattle.qs_base.specs.declared.identifiers.Tid.{Tid}
-use Rattle.qs_journal.specs.declared.entry.Act.{Act}
-use Rattle.qs_journal.specs.declared.entry.Found.{Found}
-use Rattle.qs_machine.specs.Lawful.{effect_act}
-use Rattle.qs_machine.specs.Restart.{restart}
+use Rattle.qs_book_journal.specs.declared.entry.Act.{Act}
+use Rattle.qs_book_journal.specs.declared.entry.Found.{Found}
+use Rattle.qs_book_machine.specs.Lawful.{effect_act}
+use Rattle.qs_book_machine.specs.Restart.{restart}
 use Rattle.qs_book.proofs.book.Book.take_act.Goals as goal
 
 pub returns-in-Restart : goal.returns-in-Restart

@@ -1,8 +1,8 @@
 use Rattle.std.proofs.Common.{◌∙◌, ap, sym}
 use Rattle.std.proofs.lemmas.List.Sums.{fold_more}
 use Rattle.std.specs.Prelude.{slice_index_or}
-use Rattle.qs_machine.specs.Book.{BookValue, hear}
-use Rattle.qs_machine.specs.declared.state.Asking.{Asking}
+use Rattle.qs_book_machine.specs.Book.{BookValue, hear}
+use Rattle.qs_book_machine.specs.declared.state.Asking.{Asking}
 use Rattle.qs_book.proofs.book.acts.hear_all.Goals as goal
 
 abbrev nobody : Asking

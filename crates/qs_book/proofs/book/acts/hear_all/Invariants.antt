@@ -1,6 +1,6 @@
 use Rattle.std.proofs.Common.{◌≡◌, take}
 use Rattle.std.specs.List.{fold}
-use Rattle.qs_machine.specs.Book.{hear}
+use Rattle.qs_book_machine.specs.Book.{hear}
 use Rattle.qs_book.proofs.book.acts.hear_all.Given as goal
 
 abbrev pub invariant-loop-asking : goal.invariant-loop-asking

@@ -1,5 +1,5 @@
 use Rattle.std.proofs.Common.{◌≡◌, take, map}
-use Rattle.qs_machine.specs.declared.transaction.Request.{Request}
+use Rattle.qs_book_machine.specs.declared.transaction.Request.{Request}
 use Rattle.qs_book.proofs.book.nodes.names_of.Given as goal
 
 abbrev pub invariant-loop-request : goal.invariant-loop-request

@@ -1,7 +1,7 @@
 use Rattle.std.proofs.Common.{◌≡◌, length}
 use Rattle.std.specs.List.{fold}
 use Rattle.std.specs.Vec.Iter.{into_iter_items, into_iter_len}
-use Rattle.qs_machine.specs.Restart.{with_vote}
+use Rattle.qs_book_machine.specs.Restart.{with_vote}
 use Rattle.qs_book.proofs.book.nodes.put_votes_at.Given as goal
 
 -- the votes that are left make of this node what all votes make of the first one

@@ -1,8 +1,8 @@
 use Rattle.std.proofs.Common.{◌∙◌, ap, sym, slice_index_or}
 use Rattle.std.proofs.lemmas.List.Sums.{fold_more}
 use Rattle.qs_base.specs.declared.identifiers.Tid.{Tid}
-use Rattle.qs_machine.specs.Book.{BookValue}
-use Rattle.qs_machine.specs.Opening.{name_transaction}
+use Rattle.qs_book_machine.specs.Book.{BookValue}
+use Rattle.qs_book_machine.specs.Opening.{name_transaction}
 use Rattle.qs_book.proofs.book.opening.name_commits.Goals as goal
 
 abbrev no_tid : Tid

@@ -1,5 +1,5 @@
 use Rattle.std.proofs.Common.{◌≡◌, length}
-use Rattle.qs_machine.specs.Opening.{name_from}
+use Rattle.qs_book_machine.specs.Opening.{name_from}
 use Rattle.qs_book.proofs.book.opening.name_from_first.Given as goal
 
 abbrev pub invariant-loop-rest : goal.invariant-loop-rest

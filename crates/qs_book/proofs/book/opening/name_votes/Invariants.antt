@@ -1,6 +1,6 @@
 use Rattle.std.proofs.Common.{◌≡◌, take}
 use Rattle.std.specs.List.{fold}
-use Rattle.qs_machine.specs.Opening.{name_pending}
+use Rattle.qs_book_machine.specs.Opening.{name_pending}
 use Rattle.qs_book.proofs.book.opening.name_votes.Given as goal
 
 abbrev pub invariant-loop-vote : goal.invariant-loop-vote

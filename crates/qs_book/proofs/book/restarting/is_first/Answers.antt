@@ -1,4 +1,4 @@
-use Rattle.qs_machine.specs.Restart.{voter_of}
+use Rattle.qs_book_machine.specs.Restart.{voter_of}
 use Rattle.qs_book.proofs.book.restarting.is_first.Goals as goal
 
 pub returns-clause-seen : goal.returns-clause-seen

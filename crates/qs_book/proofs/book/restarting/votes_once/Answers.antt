@@ -1,8 +1,8 @@
 use Rattle.std.proofs.Common.{ap}
 use Rattle.std.specs.Prelude.{Bool, ◌&&◌}
 use Rattle.std.proofs.lemmas.List.{drop_more}
-use Rattle.qs_journal.specs.declared.entry.Found.{Found}
-use Rattle.qs_machine.specs.Restart.{votes_once}
+use Rattle.qs_book_journal.specs.declared.entry.Found.{Found}
+use Rattle.qs_book_machine.specs.Restart.{votes_once}
 use Rattle.qs_book.proofs.Once.{none_seen, next_seen, seen_again}
 use Rattle.qs_book.proofs.book.restarting.votes_once.Goals as goal
 

@@ -1,6 +1,6 @@
 use Rattle.std.proofs.Common.{◌≡◌, drop}
 use Rattle.std.specs.Prelude.{◌&&◌}
-use Rattle.qs_machine.specs.Restart.{votes_once}
+use Rattle.qs_book_machine.specs.Restart.{votes_once}
 use Rattle.qs_book.proofs.Once.{all_new}
 use Rattle.qs_book.proofs.book.restarting.votes_once.Given as goal
 

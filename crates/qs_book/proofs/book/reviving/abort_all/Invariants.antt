@@ -1,6 +1,6 @@
 use Rattle.std.proofs.Common.{◌≡◌}
 use Rattle.std.specs.List.{fold}
-use Rattle.qs_machine.specs.Restart.{abort_begun, up_to}
+use Rattle.qs_book_machine.specs.Restart.{abort_begun, up_to}
 use Rattle.qs_book.proofs.book.reviving.abort_all.Given as goal
 
 abbrev pub invariant-loop-seq : goal.invariant-loop-seq

@@ -1,5 +1,5 @@
 use Rattle.qs_base.specs.declared.identifiers.Tid.{Tid}
-use Rattle.qs_machine.specs.Restart.{changes_at}
+use Rattle.qs_book_machine.specs.Restart.{changes_at}
 use Rattle.qs_book.proofs.Loops.{gathered}
 use Rattle.qs_book.proofs.book.reviving.changes_found.Goals as goal
 

@@ -1,6 +1,6 @@
 use Rattle.std.proofs.Common.{◌≡◌, take}
 use Rattle.std.specs.List.{flat_map}
-use Rattle.qs_machine.specs.Restart.{changes_at}
+use Rattle.qs_book_machine.specs.Restart.{changes_at}
 use Rattle.qs_book.proofs.book.reviving.changes_found.Given as goal
 
 abbrev pub invariant-loop-tid : goal.invariant-loop-tid

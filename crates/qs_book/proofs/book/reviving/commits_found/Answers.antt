@@ -1,7 +1,7 @@
 use Rattle.std.proofs.Common.{◌∙◌, ap, sym, List, [], slice_index_or}
 use Rattle.std.proofs.lemmas.List.Sums.{fold_more}
 use Rattle.qs_base.specs.declared.identifiers.Tid.{Tid}
-use Rattle.qs_machine.specs.Restart.{add_commit}
+use Rattle.qs_book_machine.specs.Restart.{add_commit}
 use Rattle.qs_book.proofs.book.reviving.commits_found.Goals as goal
 
 abbrev no_tid : Tid

@@ -3,7 +3,7 @@ use Rattle.std.specs.List.{fold, list_any}
 use Rattle.std.specs.BTreeMap.{is_at}
 use Rattle.qs_base.specs.Order.{tid_cmp}
 use Rattle.qs_base.specs.declared.identifiers.Tid.{Tid}
-use Rattle.qs_machine.specs.Restart.{add_commit, is_among}
+use Rattle.qs_book_machine.specs.Restart.{add_commit, is_among}
 use Rattle.qs_book.proofs.book.reviving.commits_found.Given as goal
 
 abbrev pub invariant-loop-tid : goal.invariant-loop-tid

@@ -1,6 +1,6 @@
 use Rattle.std.proofs.Common.{◌≡◌, take}
 use Rattle.std.specs.List.{flat_map}
-use Rattle.qs_machine.specs.Restart.{keep_found}
+use Rattle.qs_book_machine.specs.Restart.{keep_found}
 use Rattle.qs_book.proofs.book.reviving.kept_found.Given as goal
 
 abbrev pub invariant-loop-found : goal.invariant-loop-found

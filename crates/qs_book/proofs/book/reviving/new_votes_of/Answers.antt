@@ -1,5 +1,5 @@
-use Rattle.qs_journal.specs.declared.entry.Found.{Found}
-use Rattle.qs_machine.specs.Restart.{new_vote}
+use Rattle.qs_book_journal.specs.declared.entry.Found.{Found}
+use Rattle.qs_book_machine.specs.Restart.{new_vote}
 use Rattle.qs_book.proofs.Loops.{gathered}
 use Rattle.qs_book.proofs.book.reviving.new_votes_of.Goals as goal
 

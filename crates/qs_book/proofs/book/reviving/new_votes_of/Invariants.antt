@@ -1,6 +1,6 @@
 use Rattle.std.proofs.Common.{◌≡◌, take}
 use Rattle.std.specs.List.{flat_map}
-use Rattle.qs_machine.specs.Restart.{new_vote}
+use Rattle.qs_book_machine.specs.Restart.{new_vote}
 use Rattle.qs_book.proofs.book.reviving.new_votes_of.Given as goal
 
 abbrev pub invariant-loop-found : goal.invariant-loop-found

@@ -1,6 +1,6 @@
 use Rattle.std.proofs.Common.{◌∙◌, ap, sym, List}
 use Rattle.qs_base.specs.declared.identifiers.Tid.{Tid}
-use Rattle.qs_machine.specs.Restart.{is_among}
+use Rattle.qs_book_machine.specs.Restart.{is_among}
 use Rattle.qs_book.proofs.Looking.{among_pushed}
 use Rattle.qs_book.proofs.book.reviving.push_tid.Goals as goal
 

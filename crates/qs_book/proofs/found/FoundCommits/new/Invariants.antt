@@ -3,7 +3,7 @@ use Rattle.std.specs.List.{list_any}
 use Rattle.std.specs.BTreeMap.{is_at}
 use Rattle.qs_base.specs.Order.{tid_cmp}
 use Rattle.qs_base.specs.declared.identifiers.Tid.{Tid}
-use Rattle.qs_machine.specs.Restart.{is_among}
+use Rattle.qs_book_machine.specs.Restart.{is_among}
 use Rattle.qs_book.proofs.found.FoundCommits.new.Given as goal
 
 abbrev pub invariant-loop-tid : goal.invariant-loop-tid

@@ -1,6 +1,6 @@
 use Rattle.std.proofs.Common.{ap, sym, ◌∙◌, List, [], ◌∷◌, ◌++◌, get_or}
 use Rattle.std.proofs.lemmas.List.{take_more}
-use Rattle.qs_journal.specs.declared.entry.Found.{Found}
+use Rattle.qs_book_journal.specs.declared.entry.Found.{Found}
 use Rattle.qs_book.proofs.Looking.{covers_more}
 use Rattle.qs_book.proofs.found.FoundVotes.new.Goals as goal
 

@@ -2,9 +2,9 @@ use Rattle.std.proofs.Common.{◌≡◌, ℕ, take}
 use Rattle.std.specs.List.{list_any}
 use Rattle.std.specs.Map.{lookup}
 use Rattle.std.specs.BTreeMap.{is_at}
-use Rattle.qs_machine.specs.Nodes.{voter_cmp}
-use Rattle.qs_machine.specs.Restart.{is_found_as}
-use Rattle.qs_machine.specs.declared.state.Voter.{Voter}
+use Rattle.qs_book_machine.specs.Nodes.{voter_cmp}
+use Rattle.qs_book_machine.specs.Restart.{is_found_as}
+use Rattle.qs_book_machine.specs.declared.state.Voter.{Voter}
 use Rattle.qs_book.specs.Found.{is_within}
 use Rattle.qs_book.proofs.found.FoundVotes.new.Given as goal
 

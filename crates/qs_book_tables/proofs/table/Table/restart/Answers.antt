@@ -1,7 +1,7 @@
 use Rattle.std.proofs.Common.{List, ap, ◌∙◌}
 use Rattle.std.specs.List.{fold}
 use Rattle.qs_ops.specs.declared.operation.Op.{Op}
-use Rattle.qs_ops.specs.declared.share.Kept.{Kept}
+use Rattle.qs_ops.specs.declared.share.KeptChanges.{KeptChanges}
 use Rattle.qs_ops.specs.Table.{TableValue, apply_change, apply_note, restarted}
 use Rattle.qs_book_tables.specs.Restarts.{kept_shares}
 use Rattle.qs_book_tables.proofs.Restarted.{restarted-fields}
@@ -13,5 +13,5 @@ returns-clause-ok c =
     restarted-fields old c.args.changes.now c.args.keeps.now _ _ _
     (c.in_ok-apply_changes.ensures.contents ∙ ap (λ (ops : List Op). fold apply_change old.contents ops) c.as_slice-changes.ensures)
     (c.in_ok-apply_changes.ensures.notes ∙ ap (λ (ops : List Op). fold apply_note old.notes ops) c.as_slice-changes.ensures)
-    (c.in_ok-locks.ensures.value ∙ ap (λ (keeps : List Kept). kept_shares keeps) c.as_slice.ensures)
+    (c.in_ok-locks.ensures.value ∙ ap (λ (keeps : List KeptChanges). kept_shares keeps) c.as_slice.ensures)
     ∙ ap (λ (table : TableValue). restarted table c.args.changes.now c.args.keeps.now) c.self.view_is

@@ -1,6 +1,6 @@
 use Rattle.std.proofs.Common.{sym, ◌∙◌}
 use Rattle.std.proofs.lemmas.List.Quantifiers.{position-Some}
-use Rattle.qs_machine.specs.Transaction.{is_standing}
+use Rattle.qs_book_machine.specs.Transaction.{is_standing}
 use Rattle.qs_book_transactions.proofs.Served.{mark_served_at, mark_served_none}
 use Rattle.qs_book_transactions.proofs.requests.Requests.serve.Goals as goal
 

@@ -4,9 +4,9 @@ use Rattle.std.specs.Map.{set_value}
 use Rattle.std.specs.BTreeMap.{insert_entry, is_at}
 use Rattle.std.proofs.lemmas.Result.{on_ok_weaker, on_err_weaker}
 use Rattle.std.proofs.lemmas.Map.Steps.{set_value_same}
-use Rattle.qs_machine.specs.declared.transaction.Request.{Request}
-use Rattle.qs_machine.specs.Transaction.{request_cmp}
-use Rattle.qs_machine.proofs.Present.{insert_present, request_total}
+use Rattle.qs_book_machine.specs.declared.transaction.Request.{Request}
+use Rattle.qs_book_machine.specs.Transaction.{request_cmp}
+use Rattle.qs_book_machine.proofs.Present.{insert_present, request_total}
 use Rattle.qs_book_transactions.proofs.transaction.requesting.file.Goals as goal
 
 pub returns-in-Some-clause-requests : goal.returns-in-Some-clause-requests

@@ -1,6 +1,6 @@
 use Rattle.std.proofs.Common.{subst, sym, ◌∙◌}
 use Rattle.qs_disk.specs.Moments.{Keeps}
-use Rattle.qs_incarnation.specs.Incarnation.{IsTouched}
+use Rattle.qs_log_start.specs.Incarnation.{IsTouched}
 use Rattle.qs_cell.proofs.Standing.{started_of, started_moments, sound_started}
 use Rattle.qs_cell.proofs.cell.NodeCell.start.Goals as goal
 

@@ -1,7 +1,7 @@
 use Rattle.std.proofs.Common.{◌<◌, ◌∙◌, ap, subst, sym, refl, List, get_or, length}
 use Rattle.qs_cell.specs.Visits.{sources_of}
-use Rattle.qs_cell.specs.declared.cell.Source.{Source}
-use Rattle.qs_cell.specs.declared.cell.Source.TheVariants as sources
+use Rattle.qs_cell.specs.declared.cell.EventSource.{EventSource}
+use Rattle.qs_cell.specs.declared.cell.EventSource.TheVariants as sources
 use Rattle.qs_cell.proofs.Rings.{rings_none, rings_on}
 use Rattle.qs_cell.proofs.Turning.{turns_more, turns_broken, sources_now, within, on_err_all}
 use Rattle.qs_cell.proofs.cell.NodeCell.turn_all.Goals as goal
@@ -11,7 +11,7 @@ loop-place-init g c = record { turns = refl; opened = refl; faults = refl; rings
 
 pub source_at-source-requires : goal.source_at-source-requires
 source_at-source-requires g c =
-    subst (λ (l : List Source). c.loop-place.place < length l)
+    subst (λ (l : List EventSource). c.loop-place.place < length l)
     (sym (sources_now c.args.self.now.seat.ends c.loop-place.self.seat.ends c.as_slice-in-loop-place.result.now
     (c.as_slice-in-loop-place.ensures.value ∙ ap (λ cell. cell.seat.ends) c.self-in-loop-place.view_is) c.loop-place.invariant.rings))
     (within c.args.self.now.seat.ends c.as_slice.result.now c.loop-place.place c.source_count-place-end.result (c.as_slice.ensures.value ∙ ap (λ cell. cell.seat.ends) c.self.view_is)
@@ -22,7 +22,7 @@ loop-place-preserved g c = record {
   turns = turns_more g.D.Disk.told g.D.Disk.state g.D.Disk.fault_count g.D.Disk.byte_count (sources_of c.args.self.now.seat.ends) c.loop-place.place c.source_at-source.result sources.Clock c.args.self.now.seat c.loop-place.self.seat c.turn.new.self.seat
       (within c.args.self.now.seat.ends c.as_slice.result.now c.loop-place.place c.source_count-place-end.result (c.as_slice.ensures.value ∙ ap (λ cell. cell.seat.ends) c.self.view_is)
       c.source_count-place-end.ensures c.loop-place-test.true)
-      (c.source_at-source.ensures sources.Clock ∙ ap (λ (l : List Source). get_or l c.loop-place.place sources.Clock)
+      (c.source_at-source.ensures sources.Clock ∙ ap (λ (l : List EventSource). get_or l c.loop-place.place sources.Clock)
       (sources_now c.args.self.now.seat.ends c.loop-place.self.seat.ends c.as_slice-in-loop-place.result.now
       (c.as_slice-in-loop-place.ensures.value ∙ ap (λ cell. cell.seat.ends) c.self-in-loop-place.view_is) c.loop-place.invariant.rings))
       c.loop-place.invariant.turns c.in_ok-turn.ensures.turns;
@@ -36,7 +36,7 @@ returns-in_err-turn-clause-breaks g c = on_err_all c.from_residual.result
     (turns_broken g.D.Disk.told g.D.Disk.state g.D.Disk.fault_count g.D.Disk.byte_count (sources_of c.args.self.now.seat.ends) c.loop-place.place c.source_at-source.result sources.Clock c.args.self.now.seat c.loop-place.self.seat c.turn.new.self.seat
     (within c.args.self.now.seat.ends c.as_slice.result.now c.loop-place.place c.source_count-place-end.result (c.as_slice.ensures.value ∙ ap (λ cell. cell.seat.ends) c.self.view_is)
     c.source_count-place-end.ensures c.loop-place-test.true)
-    (c.source_at-source.ensures sources.Clock ∙ ap (λ (l : List Source). get_or l c.loop-place.place sources.Clock)
+    (c.source_at-source.ensures sources.Clock ∙ ap (λ (l : List EventSource). get_or l c.loop-place.place sources.Clock)
     (sources_now c.args.self.now.seat.ends c.loop-place.self.seat.ends c.as_slice-in-loop-place.result.now
     (c.as_slice-in-loop-place.ensures.value ∙ ap (λ cell. cell.seat.ends) c.self-in-loop-place.view_is) c.loop-place.invariant.rings))
     c.loop-place.invariant.turns c.in_err-turn.ensures.breaks)

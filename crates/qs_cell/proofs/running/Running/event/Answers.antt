@@ -1,5 +1,5 @@
 use Rattle.std.proofs.Common.{◌∙◌, refl, sym}
-use Rattle.qs_journal.specs.declared.entry.CrashCause.TheVariants as causes
+use Rattle.qs_book_journal.specs.declared.entry.CrashCause.TheVariants as causes
 use Rattle.qs_cell.specs.Cell.{out_of}
 use Rattle.qs_cell.specs.Outcomes.{outcome_of}
 use Rattle.qs_cell.specs.Within.{running_with}

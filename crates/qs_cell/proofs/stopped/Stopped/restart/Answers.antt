@@ -3,8 +3,8 @@ use Rattle.std.specs.Prelude.{◌⊎◌, ◌≡◌}
 use Rattle.qs_disk.specs.Disk.{EachImage}
 use Rattle.qs_disk.specs.Fuse.{GoesOn, mended}
 use Rattle.qs_disk.specs.Moments.{Keeps}
-use Rattle.qs_incarnation.specs.Incarnation.{IsLeftOrRaised, IsReopened, HasOneOf}
-use Rattle.qs_host.specs.Roomy.{HasRoomyLog}
+use Rattle.qs_log_start.specs.Incarnation.{IsLeftOrRaised, IsReopened, HasOneOf}
+use Rattle.qs_node_host.specs.Roomy.{HasRoomyLog}
 use Rattle.qs_log.specs.Log.{Stands, records_of}
 use Rattle.qs_cell.proofs.Rooms.{begun_roomy, touched_roomy}
 use Rattle.qs_cell.specs.Restart.{restarted_disk}

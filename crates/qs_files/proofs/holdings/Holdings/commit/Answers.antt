@@ -1,6 +1,6 @@
 use Rattle.std.proofs.Common.{◌≡◌, ap, arith}
 use Rattle.qs_ops.specs.declared.share.Share.{Share}
-use Rattle.qs_shares.specs.Shares.{share_in}
+use Rattle.qs_ops_shares.specs.Shares.{share_in}
 use Rattle.qs_files.specs.Noted.{count_notes, note_count}
 use Rattle.qs_files.proofs.Counted.{own_noted, noted_removed, counted_of}
 use Rattle.qs_files.proofs.holdings.Holdings.commit.Goals as goal

@@ -3,7 +3,7 @@ use Rattle.std.specs.Prelude.{Option}
 use Rattle.qs_base.specs.declared.identifiers.Tid.{Tid}
 use Rattle.qs_ops.specs.Files.{or_else}
 use Rattle.qs_ops.specs.Table.{TableValue, holder_of_name, least_other, reads_name}
-use Rattle.qs_contents.specs.Slots.{first_other, is_edit, slot_or_new}
+use Rattle.qs_files_contents.specs.Slots.{first_other, is_edit, slot_or_new}
 use Rattle.qs_files.proofs.Locks.{least-changer, least-reader}
 use Rattle.qs_files.proofs.holdings.Holdings.holder.Goals as goal
 

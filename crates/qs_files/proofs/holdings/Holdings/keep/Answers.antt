@@ -1,6 +1,6 @@
 use Rattle.std.proofs.Common.{rules, ◌≡◌, ◌+◌, ◌∙◌, List, ap, arith}
 use Rattle.qs_ops.specs.declared.operation.Op.{Op}
-use Rattle.qs_shares.specs.Shares.{kept_share}
+use Rattle.qs_ops_shares.specs.Shares.{kept_share}
 use Rattle.qs_files.specs.Noted.{count_notes}
 use Rattle.qs_files.proofs.Counted.{own_noted, noted_inserted, counted_of}
 use Rattle.qs_files.proofs.holdings.Holdings.keep.Goals as goal

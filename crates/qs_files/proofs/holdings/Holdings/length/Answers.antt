@@ -1,6 +1,6 @@
 use Rattle.std.proofs.Common.{◌≡◌, ℕ, List, Option, sym, ap, ◌∙◌, subst}
 use Rattle.std.specs.Prelude.{IfSome, length}
-use Rattle.qs_contents.specs.Texts.{text_bytes}
+use Rattle.qs_files_contents.specs.Texts.{text_bytes}
 use Rattle.qs_ops.specs.Table.{TableValue, view_contents, text_or_empty}
 use Rattle.qs_files.proofs.Seen.{text-seen}
 use Rattle.qs_files.proofs.holdings.Holdings.length.Goals as goal

@@ -1,9 +1,9 @@
 use Rattle.std.proofs.Common.{◌≡◌, List, Option, Some, None, sym, ap, ◌∙◌}
 use Rattle.std.proofs.lemmas.Result.{IfOk-weaker}
 use Rattle.qs_base.specs.declared.identifiers.Tid.{Tid}
-use Rattle.qs_contents.specs.Slots.{first_other, is_edit, look_at, seen_at, slot_or_new}
-use Rattle.qs_contents.specs.declared.slot.Look.{Look}
-use Rattle.qs_contents.specs.declared.slot.Look.TheVariants as looks
+use Rattle.qs_files_contents.specs.Slots.{first_other, is_edit, look_at, seen_at, slot_or_new}
+use Rattle.qs_files_contents.specs.declared.slot.Look.{Look}
+use Rattle.qs_files_contents.specs.declared.slot.Look.TheVariants as looks
 use Rattle.qs_ops.specs.Table.{TableValue, changes_name, least_other}
 use Rattle.qs_files.specs.Held.{look_in}
 use Rattle.qs_files.proofs.Locks.{least-changer}

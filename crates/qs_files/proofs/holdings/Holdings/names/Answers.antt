@@ -1,6 +1,6 @@
 use Rattle.std.proofs.Common.{◌≡◌, [], map, List, fold, sym, ap, ◌∙◌}
 use Rattle.std.proofs.lemmas.Result.{IfOk-weaker}
-use Rattle.qs_contents.specs.Slots.{add_name}
+use Rattle.qs_files_contents.specs.Slots.{add_name}
 use Rattle.qs_ops.specs.declared.file.File.{File}
 use Rattle.qs_ops.specs.Table.{TableValue, view_contents}
 use Rattle.qs_files.proofs.Seen.{names-seen, files-seen}

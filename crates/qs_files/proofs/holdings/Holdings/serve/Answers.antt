@@ -1,6 +1,6 @@
 use Rattle.std.proofs.Common.{arith}
 use Rattle.qs_ops.specs.Table.{after_serve}
-use Rattle.qs_shares.specs.Shares.{share_in}
+use Rattle.qs_ops_shares.specs.Shares.{share_in}
 use Rattle.qs_files.proofs.Counted.{noted_inserted, note_count-served}
 use Rattle.qs_files.proofs.holdings.Holdings.serve.Goals as goal
 

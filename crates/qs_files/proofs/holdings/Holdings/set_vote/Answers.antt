@@ -1,5 +1,5 @@
 use Rattle.std.proofs.Common.{refl}
-use Rattle.qs_shares.specs.Shares.{share_in}
+use Rattle.qs_ops_shares.specs.Shares.{share_in}
 use Rattle.qs_files.proofs.Counted.{noted_inserted}
 use Rattle.qs_files.proofs.holdings.Holdings.set_vote.Goals as goal
 

@@ -1,11 +1,11 @@
 use Rattle.std.proofs.Common.{◌≡◌, List, fold, sym, subst, ap, ◌∙◌}
 use Rattle.std.specs.Prelude.{sum_by, length}
 use Rattle.std.proofs.lemmas.Result.{IfOk-weaker}
-use Rattle.qs_contents.specs.Slots.{add_entry}
+use Rattle.qs_files_contents.specs.Slots.{add_entry}
 use Rattle.qs_ops.specs.declared.file.File.{File}
 use Rattle.qs_ops.specs.Table.{TableValue, view_bytes}
 use Rattle.qs_ops.specs.declared.operation.Op.{Op}
-use Rattle.qs_contents.specs.Sums.{ChangesAlone}
+use Rattle.qs_files_contents.specs.Sums.{ChangesAlone}
 use Rattle.qs_files.proofs.Alone.{changes_alone}
 use Rattle.qs_files.proofs.Seen.{bytes-seen, files-seen}
 use Rattle.qs_files.proofs.holdings.Holdings.view_bytes.Goals as goal

@@ -1,5 +1,5 @@
 use Rattle.std.proofs.Common.{◌≡◌, ◌+◌, ◌++◌, length, map, All}
-use Rattle.qs_channels.specs.End.{again}
+use Rattle.qs_session_channels.specs.End.{again}
 use Rattle.qs_session.specs.Seen.{seen, IsFrom}
 use Rattle.qs_session.proofs.session.Session.again.Given as goal
 

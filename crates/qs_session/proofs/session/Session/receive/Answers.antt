@@ -1,5 +1,5 @@
 use Rattle.std.proofs.Common.{◌≡◌, subst}
-use Rattle.qs_channels.specs.End.{answer}
+use Rattle.qs_session_channels.specs.End.{answer}
 use Rattle.qs_session.specs.Seen.{seen, answer_with}
 use Rattle.qs_session.proofs.session.Session.receive.Goals as goal
 

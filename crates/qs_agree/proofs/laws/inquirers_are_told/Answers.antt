@@ -1,5 +1,0 @@
-use Rattle.qs_agree.proofs.Remembered.{remembered}
-use Rattle.qs_agree.proofs.laws.inquirers_are_told.Goals as goal
-
-pub returns : goal.returns
-returns c = record { remembered = remembered }

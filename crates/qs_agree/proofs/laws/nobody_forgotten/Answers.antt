@@ -1,5 +1,0 @@
-use Rattle.qs_agree.proofs.Lawful.{answered, involved}
-use Rattle.qs_agree.proofs.laws.nobody_forgotten.Goals as goal
-
-pub returns : goal.returns
-returns c = record { answered = answered; involved = involved }

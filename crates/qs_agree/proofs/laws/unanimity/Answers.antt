@@ -1,5 +1,0 @@
-use Rattle.qs_agree.proofs.Lawful.{settled}
-use Rattle.qs_agree.proofs.laws.unanimity.Goals as goal
-
-pub returns : goal.returns
-returns c = record { settled = settled }

@@ -1,5 +1,0 @@
-use Rattle.qs_agree.proofs.CutCommitRun.{shown}
-use Rattle.qs_agree.proofs.runs.cut_commit.Goals as goal
-
-pub returns : goal.returns
-returns c = record { shown = shown }

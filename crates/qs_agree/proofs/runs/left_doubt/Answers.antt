@@ -1,5 +1,0 @@
-use Rattle.qs_agree.proofs.LeftDoubtRun.{shown}
-use Rattle.qs_agree.proofs.runs.left_doubt.Goals as goal
-
-pub returns : goal.returns
-returns c = record { shown = shown }

@@ -1,5 +1,0 @@
-use Rattle.qs_batch.proofs.AreaLemmas.{broken_not_counted, broken_once}
-use Rattle.qs_batch.proofs.laws.broken_once.Goals as goal
-
-pub returns : goal.returns
-returns c = record { counted = broken_not_counted; place = broken_once }

@@ -1,0 +1,4 @@
+-- Entries that are added one by one.
+pub mod Entries
+-- The first line that stops a node.
+pub mod Spent

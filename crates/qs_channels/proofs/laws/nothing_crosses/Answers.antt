@@ -1,5 +1,0 @@
-use Rattle.qs_channels.proofs.NothingCrosses.{lasts}
-use Rattle.qs_channels.proofs.laws.nothing_crosses.Goals as goal
-
-pub returns : goal.returns
-returns g c = lasts

@@ -1,2 +1,0 @@
--- Entries that are added one by one.
-pub mod Entries

@@ -1,6 +1,0 @@
--- What a cell tells: its journal, its trace, and its counts.
-pub mod Chronicle
--- What a cell carries through crashes.
-pub mod Carried
--- What an event of a node is made of.
-pub mod Occasions

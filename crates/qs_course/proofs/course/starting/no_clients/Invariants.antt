@@ -1,7 +1,0 @@
-use Rattle.std.proofs.Common.{◌≡◌}
-use Rattle.std.specs.Prelude.{replicate}
-use Rattle.qs_conformance.specs.Begun.{no_client}
-use Rattle.qs_course.proofs.course.starting.no_clients.Given as goal
-
-abbrev pub invariant-loop-turn : goal.invariant-loop-turn
-invariant-loop-turn l = l.clients.items ≡ replicate l._turn no_client

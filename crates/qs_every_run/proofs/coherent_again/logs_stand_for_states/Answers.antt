@@ -1,5 +1,0 @@
-use Rattle.qs_every_run.proofs.LogsStandFor.{each_log_stands_for}
-use Rattle.qs_every_run.proofs.coherent_again.logs_stand_for_states.Goals as goal
-
-pub returns : goal.returns
-returns c = each_log_stands_for

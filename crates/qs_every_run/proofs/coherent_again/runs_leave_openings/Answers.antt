@@ -1,6 +1,0 @@
-use Rattle.qs_every_run.proofs.NextOpening.{each_run_coherent}
-use Rattle.qs_every_run.proofs.NextRuns.{each_run_may_follow}
-use Rattle.qs_every_run.proofs.coherent_again.runs_leave_openings.Goals as goal
-
-pub returns : goal.returns
-returns c = record { next = each_run_coherent; follows = each_run_may_follow }

@@ -1,5 +1,0 @@
-use Rattle.qs_every_run.proofs.CutCommits.{keeps_commits, keeps_votes}
-use Rattle.qs_every_run.proofs.joined_runs.kept_batches_are_settled.Goals as goal
-
-pub returns : goal.returns
-returns c = record { commits = keeps_commits; votes = keeps_votes }

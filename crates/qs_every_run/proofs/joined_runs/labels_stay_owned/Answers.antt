@@ -1,7 +1,0 @@
-use Rattle.qs_every_run.specs.JoinedPlaces.{PlacesAt}
-use Rattle.qs_every_run.proofs.LabelsMoves.{steps_labels}
-use Rattle.qs_every_run.proofs.StoodIdle.{requests_owned}
-use Rattle.qs_every_run.proofs.joined_runs.labels_stay_owned.Goals as goal
-
-pub returns : goal.returns
-returns c = record { requests = requests_owned; labels = steps_labels PlacesAt }

@@ -1,5 +1,0 @@
-use Rattle.qs_every_run.proofs.RisesBeside.{rise_keeps_beside}
-use Rattle.qs_every_run.proofs.joined_runs.restart_leaves_what_stands_beside.Goals as goal
-
-pub returns : goal.returns
-returns c = rise_keeps_beside

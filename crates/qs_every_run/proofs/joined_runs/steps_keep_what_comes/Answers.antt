@@ -1,8 +1,0 @@
-use Rattle.qs_every_run.specs.JoinedPlaces.{PlacesAt}
-use Rattle.qs_every_run.proofs.ClientsGo.{steps_aside, steps_clients, steps_owned, steps_scripts}
-use Rattle.qs_every_run.proofs.JoinedWays.{steps_ways}
-use Rattle.qs_every_run.proofs.OwingSteps.{steps_owing}
-use Rattle.qs_every_run.proofs.joined_runs.steps_keep_what_comes.Goals as goal
-
-pub returns : goal.returns
-returns c = record { owned = steps_owned PlacesAt; aside = steps_aside PlacesAt; clients = steps_clients PlacesAt; scripts = steps_scripts PlacesAt; ways = steps_ways PlacesAt; owing = steps_owing PlacesAt }

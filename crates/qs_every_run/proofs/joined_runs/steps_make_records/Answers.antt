@@ -1,5 +1,0 @@
-use Rattle.qs_every_run.proofs.RecordSteps.{steps_make_records}
-use Rattle.qs_every_run.proofs.joined_runs.steps_make_records.Goals as goal
-
-pub returns : goal.returns
-returns c = steps_make_records

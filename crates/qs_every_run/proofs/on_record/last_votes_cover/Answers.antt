@@ -1,6 +1,0 @@
-use Rattle.qs_every_run.specs.JoinedPlaces.{PlacesAt}
-use Rattle.qs_every_run.proofs.CoversMoves.{moves_keep_covers, opens_covers}
-use Rattle.qs_every_run.proofs.on_record.last_votes_cover.Goals as goal
-
-pub returns : goal.returns
-returns c = record { opens = opens_covers; moves = moves_keep_covers PlacesAt }

@@ -1,6 +1,0 @@
-use Rattle.qs_every_run.specs.JoinedPlaces.{PlacesAt}
-use Rattle.qs_every_run.proofs.OnRecordMoves.{moves_keep_records, opens_records}
-use Rattle.qs_every_run.proofs.on_record.records_are_known.Goals as goal
-
-pub returns : goal.returns
-returns c = record { opens = opens_records; moves = moves_keep_records PlacesAt }

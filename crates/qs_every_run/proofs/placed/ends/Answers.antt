@@ -1,8 +1,0 @@
-use Rattle.qs_every_run.proofs.FieldBegins.{step_begins}
-use Rattle.qs_every_run.proofs.FieldEnds.{step_ends}
-use Rattle.qs_every_run.proofs.NoticeComes.{notice_comes}
-use Rattle.qs_every_run.proofs.PlacedComes.{message_comes, request_comes}
-use Rattle.qs_every_run.proofs.placed.ends.Goals as goal
-
-pub returns : goal.returns
-returns c = record { begins = step_begins; ends = step_ends; comes = message_comes; requests = request_comes; notices = notice_comes }

@@ -1,7 +1,0 @@
-use Rattle.qs_every_run.proofs.CommitsPlaced.{ready_free}
-use Rattle.qs_every_run.proofs.FreeLives.{free_agrees}
-use Rattle.qs_every_run.proofs.Quiets.{quiet_unanimous}
-use Rattle.qs_every_run.proofs.placed.quiet.Goals as goal
-
-pub returns : goal.returns
-returns c = record { ready = ready_free; agrees = free_agrees; unanimous = quiet_unanimous }

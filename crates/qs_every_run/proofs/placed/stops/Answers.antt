@@ -1,5 +1,0 @@
-use Rattle.qs_every_run.proofs.StopsPlaced.{stops_placed, cut_placed, stop_holds, cut_holds}
-use Rattle.qs_every_run.proofs.placed.stops.Goals as goal
-
-pub returns : goal.returns
-returns c = record { placed = stops_placed; cut = cut_placed; stop_holds = stop_holds; cut_holds = cut_holds }

@@ -1,5 +1,0 @@
-use Rattle.qs_every_run.proofs.RepliesRuns.{moves_keep_replies}
-use Rattle.qs_every_run.proofs.replies.replies_are_carried.Goals as goal
-
-pub returns : goal.returns
-returns c = moves_keep_replies

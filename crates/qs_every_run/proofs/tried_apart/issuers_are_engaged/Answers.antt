@@ -1,5 +1,0 @@
-use Rattle.qs_every_run.proofs.TriedApartRuns.{early, kept, late_join, later, lost, there, two}
-use Rattle.qs_every_run.proofs.tried_apart.issuers_are_engaged.Goals as goal
-
-pub returns : goal.returns
-returns c = record { shown = λ alloc. record { early = early alloc; later = later alloc; two = two alloc; late_join = late_join alloc; kept = kept alloc; lost = lost alloc; there = there alloc } }

@@ -1,5 +1,0 @@
-use Rattle.qs_fits.proofs.Short.{each_log_is_short}
-use Rattle.qs_fits.proofs.opens.logs_are_short.Goals as goal
-
-pub returns : goal.returns
-returns c = each_log_is_short

@@ -1,8 +1,0 @@
-use Rattle.std.proofs.Common.{subst, sym}
-use Rattle.qs_disk.specs.Moments.{Keeps}
-use Rattle.qs_log.specs.Log.{IsOldOrRaised}
-use Rattle.qs_incarnation.proofs.incarnation.raise.Goals as goal
-
-pub returns-in-Err-clause-moments : goal.returns-in-Err-clause-moments
-returns-in-Err-clause-moments g c = λ told.
-    subst (λ d. Keeps (IsOldOrRaised c.args.log) (g.D.Disk.state c.args.log.disk.disk) (g.D.Disk.state d.disk)) (sym c.into_disk.ensures) (c.raise.ensures.moments told)

@@ -1,5 +1,0 @@
-use Rattle.qs_journal.proofs.MergeLemmas.{merged_once}
-use Rattle.qs_journal.proofs.merging.one_merge.Goals as goal
-
-pub returns : goal.returns
-returns c = merged_once

@@ -1,2 +1,0 @@
--- The lanes of a client, by their place.
-pub mod Places

@@ -1,5 +1,0 @@
-use Rattle.qs_lawful.proofs.BesideWhole.{keeps_beside}
-use Rattle.qs_lawful.proofs.lawful_beside.rules_keep_what_is_beside.Goals as goal
-
-pub returns : goal.returns
-returns c = keeps_beside

@@ -1,5 +1,0 @@
-use Rattle.qs_lawful.proofs.Obeying.{by_refused_came}
-use Rattle.qs_lawful.proofs.lawful_commands.coming_refused_is_lawful.Goals as goal
-
-pub returns : goal.returns
-returns c = by_refused_came

@@ -1,5 +1,0 @@
-use Rattle.qs_lawful.proofs.Obeying.{by_request_came}
-use Rattle.qs_lawful.proofs.lawful_commands.coming_request_is_lawful.Goals as goal
-
-pub returns : goal.returns
-returns c = λ x0 x1 x2 x3 x4 x5 x6 x7 x8 x9 x10 x11 home inc. by_request_came x0 x1 x2 x3 x4 x5 x6 x7 x8 x9 x10 x11 (λ kept. (home, inc)) (λ part known unknown. inc)

@@ -1,5 +1,0 @@
-use Rattle.qs_lawful.proofs.Issuing.{owner_issues, borrower_issues}
-use Rattle.qs_lawful.proofs.lawful_entries.requests_are_lawful.Goals as goal
-
-pub returns : goal.returns
-returns c = record { owner = owner_issues; borrower = borrower_issues }

@@ -1,5 +1,0 @@
-use Rattle.qs_lawful.proofs.HomesStand.{homes_stand}
-use Rattle.qs_lawful.proofs.lawful_given.homes_have_what_is_committed.Goals as goal
-
-pub returns : goal.returns
-returns c = homes_stand

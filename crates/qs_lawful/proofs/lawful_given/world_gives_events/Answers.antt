@@ -1,5 +1,0 @@
-use Rattle.qs_lawful.proofs.GivenEvents.{event_comes}
-use Rattle.qs_lawful.proofs.lawful_given.world_gives_events.Goals as goal
-
-pub returns : goal.returns
-returns c = event_comes

@@ -1,5 +1,0 @@
-use Rattle.qs_lawful.proofs.GivenByWorld.{line_comes, message_comes}
-use Rattle.qs_lawful.proofs.lawful_given.world_gives_what_comes.Goals as goal
-
-pub returns : goal.returns
-returns c = record { lines = line_comes; messages = message_comes }

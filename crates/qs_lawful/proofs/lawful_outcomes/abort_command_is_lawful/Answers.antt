@@ -1,6 +1,0 @@
-use Rattle.qs_lawful.proofs.FilesHeld.{files_held}
-use Rattle.qs_lawful.proofs.OwnersCommands.{by_abort_command}
-use Rattle.qs_lawful.proofs.lawful_outcomes.abort_command_is_lawful.Goals as goal
-
-pub returns : goal.returns
-returns c = λ x0 x1 x2 x3 x4 x5 x6 x7 x8 x9 x10 x11 x12 x13 x14. by_abort_command x0 x1 x2 x3 x4 x5 x6 x7 x8 x9 x10 x11 x12 x13 x14 (files_held x0 x1 x2 x3)

@@ -1,5 +1,0 @@
-use Rattle.qs_lawful.proofs.OwnersCommands.{by_commit_command}
-use Rattle.qs_lawful.proofs.lawful_outcomes.commit_command_is_lawful.Goals as goal
-
-pub returns : goal.returns
-returns c = by_commit_command

@@ -1,5 +1,0 @@
-use Rattle.qs_lawful.proofs.Replying.{by_reply}
-use Rattle.qs_lawful.proofs.lawful_outcomes.reply_is_lawful.Goals as goal
-
-pub returns : goal.returns
-returns c = by_reply

@@ -1,5 +1,0 @@
-use Rattle.qs_lawful.proofs.Tellings.{by_tell}
-use Rattle.qs_lawful.proofs.lawful_outcomes.tell_is_lawful.Goals as goal
-
-pub returns : goal.returns
-returns c = by_tell

@@ -1,5 +1,0 @@
-use Rattle.qs_lawful.proofs.FoundOnce.{found_once}
-use Rattle.qs_lawful.proofs.lawful_restarts.votes_are_found_once.Goals as goal
-
-pub returns : goal.returns
-returns c = found_once

@@ -1,5 +1,0 @@
-use Rattle.qs_lawful.proofs.Asking.{by_ask}
-use Rattle.qs_lawful.proofs.lawful_rules.ask_is_lawful.Goals as goal
-
-pub returns : goal.returns
-returns c = by_ask

@@ -1,5 +1,0 @@
-use Rattle.qs_lawful.proofs.Beginning.{by_begin}
-use Rattle.qs_lawful.proofs.lawful_rules.begin_is_lawful.Goals as goal
-
-pub returns : goal.returns
-returns c = by_begin

@@ -1,5 +1,0 @@
-use Rattle.qs_lawful.proofs.Silent.{by_command}
-use Rattle.qs_lawful.proofs.lawful_rules.command_leaves_all.Goals as goal
-
-pub returns : goal.returns
-returns c = by_command

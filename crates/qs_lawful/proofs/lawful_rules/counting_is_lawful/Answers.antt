@@ -1,5 +1,0 @@
-use Rattle.qs_lawful.proofs.Counting.{by_closer}
-use Rattle.qs_lawful.proofs.lawful_rules.counting_is_lawful.Goals as goal
-
-pub returns : goal.returns
-returns c = by_closer

@@ -1,5 +1,0 @@
-use Rattle.qs_lawful.proofs.Silent.{by_label}
-use Rattle.qs_lawful.proofs.lawful_rules.label_leaves_all.Goals as goal
-
-pub returns : goal.returns
-returns c = by_label

@@ -1,5 +1,0 @@
-use Rattle.qs_lawful.proofs.IssuingByRules.{by_owner}
-use Rattle.qs_lawful.proofs.lawful_rules.owner_issue_is_lawful.Goals as goal
-
-pub returns : goal.returns
-returns c = by_owner

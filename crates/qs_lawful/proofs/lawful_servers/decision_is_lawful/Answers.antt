@@ -1,5 +1,0 @@
-use Rattle.qs_lawful.proofs.DecidingOne.{by_decide}
-use Rattle.qs_lawful.proofs.lawful_servers.decision_is_lawful.Goals as goal
-
-pub returns : goal.returns
-returns c = by_decide

@@ -1,5 +1,0 @@
-use Rattle.qs_lawful.proofs.Lending.{by_loan}
-use Rattle.qs_lawful.proofs.lawful_servers.loan_is_lawful.Goals as goal
-
-pub returns : goal.returns
-returns c = by_loan

@@ -1,5 +1,0 @@
-use Rattle.qs_lawful.proofs.Silent.{by_next}
-use Rattle.qs_lawful.proofs.lawful_servers.next_leaves_all.Goals as goal
-
-pub returns : goal.returns
-returns c = by_next

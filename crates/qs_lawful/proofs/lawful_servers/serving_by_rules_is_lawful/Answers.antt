@@ -1,6 +1,0 @@
-use Rattle.qs_lawful.proofs.FilesHeld.{files_held}
-use Rattle.qs_lawful.proofs.ByRules.{by_serving_rules}
-use Rattle.qs_lawful.proofs.lawful_servers.serving_by_rules_is_lawful.Goals as goal
-
-pub returns : goal.returns
-returns c = λ x0 x1 x2 x3 x4 x5 x6 x7 x8 x10 x11 x12 x13 x14 x15 x16 x17 x18 x19 x20. by_serving_rules x0 x1 x2 x3 x4 x5 x6 x7 x8 (files_held x0 x1 x2 x8) x10 x11 x12 x13 x14 x15 x16 x17 x18 x19 x20

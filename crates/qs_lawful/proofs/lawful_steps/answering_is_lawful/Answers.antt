@@ -1,5 +1,0 @@
-use Rattle.qs_lawful.proofs.CommandCame.{by_answer_waiting}
-use Rattle.qs_lawful.proofs.lawful_steps.answering_is_lawful.Goals as goal
-
-pub returns : goal.returns
-returns c = by_answer_waiting

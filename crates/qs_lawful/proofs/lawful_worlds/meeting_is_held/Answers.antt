@@ -1,5 +1,0 @@
-use Rattle.qs_lawful.proofs.Meeting.{meets}
-use Rattle.qs_lawful.proofs.lawful_worlds.meeting_is_held.Goals as goal
-
-pub returns : goal.returns
-returns c = record { meets = meets }

@@ -1,5 +1,0 @@
-use Rattle.qs_laws.proofs.Final.{final}
-use Rattle.qs_laws.proofs.endings.nothing_is_served_after_an_outcome.Goals as goal
-
-pub returns : goal.returns
-returns c = final

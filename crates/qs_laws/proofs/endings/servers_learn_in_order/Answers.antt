@@ -1,5 +1,0 @@
-use Rattle.qs_laws.proofs.Order.{in_order}
-use Rattle.qs_laws.proofs.endings.servers_learn_in_order.Goals as goal
-
-pub returns : goal.returns
-returns c = in_order

@@ -1,5 +1,0 @@
-use Rattle.qs_laws.proofs.Reopening.{begins_empty}
-use Rattle.qs_laws.proofs.endings.volatile_servers_begin_empty.Goals as goal
-
-pub returns : goal.returns
-returns c = begins_empty

@@ -1,5 +1,0 @@
-use Rattle.qs_laws.proofs.Lasting.{lasts}
-use Rattle.qs_laws.proofs.laws.committed_changes_are_durable.Goals as goal
-
-pub returns : goal.returns
-returns c = lasts

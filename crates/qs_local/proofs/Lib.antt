@@ -1,2 +1,0 @@
--- A node over its log is a host of the world.
-pub mod AsHost

@@ -1,2 +1,0 @@
--- A node over its log as a host of the world.
-pub mod InWorld

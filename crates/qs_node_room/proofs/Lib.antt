@@ -1,0 +1,21 @@
+pub mod Lists
+pub mod Sums
+pub mod Agreeing
+pub mod Roomy
+pub mod RoomyRecords
+pub mod Goes
+pub mod GoesRequests
+pub mod GoesCommands
+pub mod KnownInPass
+pub mod GoesSettles
+pub mod GoesBegins
+pub mod GoesSteps
+pub mod VotesKeep
+pub mod EachFits
+pub mod LogsFit
+pub mod Opened
+pub mod Linked
+pub mod EachOpens
+pub mod Short
+-- What an opened transaction is where it is taken back.
+pub mod TakingBack

@@ -1,7 +1,0 @@
-use Rattle.qs_packet_world.proofs.MovesGo.{each_move_goes}
-use Rattle.qs_packet_world.proofs.OpensWithin.{opens_alike}
-use Rattle.qs_packet_world.proofs.RunsGo.{each_run_lawful, each_run_shown}
-use Rattle.qs_packet_world.proofs.packet_runs.every_run.Goals as goal
-
-pub returns : goal.returns
-returns c = record { moves = each_move_goes; opens = opens_alike; runs = each_run_shown; lawful = each_run_lawful }

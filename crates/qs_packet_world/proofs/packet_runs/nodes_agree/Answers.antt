@@ -1,5 +1,0 @@
-use Rattle.qs_packet_world.proofs.RunsAgree.{each_run_agrees, each_run_tells, each_run_tells_learners}
-use Rattle.qs_packet_world.proofs.packet_runs.nodes_agree.Goals as goal
-
-pub returns : goal.returns
-returns c = record { agrees = each_run_agrees; tells = each_run_tells; learners = each_run_tells_learners }

@@ -1,5 +1,0 @@
-use Rattle.qs_packet_world.proofs.PlaysRun.{each_play_runs}
-use Rattle.qs_packet_world.proofs.rows.plays.Goals as goal
-
-pub returns : goal.returns
-returns c = record { runs = each_play_runs }

@@ -1,8 +1,0 @@
-use Rattle.qs_engage.specs.Nodes.{all_nodes}
-use Rattle.qs_tm.specs.Members.{all_servers}
-use Rattle.std.proofs.Common.{refl}
-use Rattle.qs_packet_world.proofs.rows.row_reordered.Goals as goal
-
-pub returns : goal.returns
-unfolding all_nodes all_servers
-returns c = record { shown = λ alloc. record { plays = refl; lawful = refl; ended = (refl, refl) } }

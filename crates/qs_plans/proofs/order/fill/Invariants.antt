@@ -1,9 +1,0 @@
-use Rattle.std.proofs.Common.{◌≡◌, length}
-use Rattle.qs_plans.specs.Order.{places_below}
-use Rattle.qs_plans.proofs.order.fill.Given as goal
-
-abbrev pub invariant-loop-place : goal.invariant-loop-place
-invariant-loop-place l = record {
-  places : l.places.items ≡ places_below l.place;
-  count : length l.places.items ≡ l.place;
-}

@@ -1,2 +1,0 @@
--- The first line that stops a node.
-pub mod Spent

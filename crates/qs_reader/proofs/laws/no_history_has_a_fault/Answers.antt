@@ -1,5 +1,0 @@
-use Rattle.qs_reader.proofs.RoundLemmas.{no_fault}
-use Rattle.qs_reader.proofs.laws.no_history_has_a_fault.Goals as goal
-
-pub returns : goal.returns
-returns c = λ text opened entries line. no_fault text opened entries line

@@ -1,9 +1,0 @@
-use Rattle.std.proofs.Common.{◌≡◌, ◌+◌, drop, map}
-use Rattle.qs_reader.specs.Inner.Acts.{done_place}
-use Rattle.qs_reader.proofs.restarts.done_place.Given as goal
-
-abbrev pub invariant-loop-word : goal.invariant-loop-word
-invariant-loop-word l = record {
-  place : l.at ≡ l.word-index;
-  whole : l.at + done_place (map (λ word. word.now) (drop l.at l.words)) ≡ done_place (map (λ word. word.now) l.words);
-}

@@ -1,7 +1,0 @@
-use Rattle.qs_refine.proofs.EventGoes.{crash, notice}
-use Rattle.qs_refine.proofs.Meeting.{meet}
-use Rattle.qs_refine.proofs.RestartGoes.{restart}
-use Rattle.qs_refine.proofs.events.crashes.Goals as goal
-
-pub returns : goal.returns
-returns c = record { crash = crash; notice = notice; restart = restart; meet = meet }

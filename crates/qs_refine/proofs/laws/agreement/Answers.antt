@@ -1,6 +1,0 @@
-use Rattle.qs_refine.proofs.EveryRunShown.{every_run_agrees}
-use Rattle.qs_refine.proofs.NodesAgree.{nodes_agree}
-use Rattle.qs_refine.proofs.laws.agreement.Goals as goal
-
-pub returns : goal.returns
-returns c = record { nodes = nodes_agree; runs = every_run_agrees }

@@ -1,6 +1,0 @@
-use Rattle.qs_refine.proofs.Placing.{placed_stay}
-use Rattle.qs_refine.proofs.Starting.{start_placed}
-use Rattle.qs_refine.proofs.moves.places.Goals as goal
-
-pub returns : goal.returns
-returns c = record { start = start_placed; stay = placed_stay }

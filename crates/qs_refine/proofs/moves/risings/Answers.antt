@@ -1,6 +1,0 @@
-use Rattle.qs_refine.proofs.RestartGoes.{rise}
-use Rattle.qs_refine.proofs.RisenFaces.{risen_face}
-use Rattle.qs_refine.proofs.moves.risings.Goals as goal
-
-pub returns : goal.returns
-returns c = record { face = risen_face; rise = rise }

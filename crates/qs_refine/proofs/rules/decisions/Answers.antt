@@ -1,6 +1,0 @@
-use Rattle.qs_refine.proofs.DecideCommit.{decide_commit}
-use Rattle.qs_refine.proofs.DecideAbort.{decide_abort}
-use Rattle.qs_refine.proofs.rules.decisions.Goals as goal
-
-pub returns : goal.returns
-returns c = record { decide_commit = decide_commit; decide_abort = decide_abort }

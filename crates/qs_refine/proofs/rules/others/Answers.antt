@@ -1,5 +1,0 @@
-use Rattle.qs_refine.proofs.RuleGoes.{foreign}
-use Rattle.qs_refine.proofs.rules.others.Goals as goal
-
-pub returns : goal.returns
-returns c = record { foreign = foreign }

@@ -1,6 +1,0 @@
-use Rattle.qs_refine.proofs.InquireSent.{resume_doubt}
-use Rattle.qs_refine.proofs.Resuming.{resume_commit, resume_abort}
-use Rattle.qs_refine.proofs.rules.resumptions.Goals as goal
-
-pub returns : goal.returns
-returns c = record { commit = resume_commit; abort = resume_abort; doubt = resume_doubt }

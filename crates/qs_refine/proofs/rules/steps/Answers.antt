@@ -1,5 +1,0 @@
-use Rattle.qs_refine.proofs.StepEdges.{step_begins, step_ends}
-use Rattle.qs_refine.proofs.rules.steps.Goals as goal
-
-pub returns : goal.returns
-returns c = record { begins = step_begins; ends = step_ends }

@@ -1,5 +1,0 @@
-use Rattle.qs_refine.proofs.MeetsAlone.{meet_goes_alone}
-use Rattle.qs_refine.proofs.shown.meets.Goals as goal
-
-pub returns : goal.returns
-returns c = meet_goes_alone

@@ -1,5 +1,0 @@
-use Rattle.qs_refine.proofs.RequestStands.{request_stands}
-use Rattle.qs_refine.proofs.steps.requests.Goals as goal
-
-pub returns : goal.returns
-returns c = record { request = request_stands }

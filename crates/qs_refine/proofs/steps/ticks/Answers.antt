@@ -1,5 +1,0 @@
-use Rattle.qs_refine.proofs.TickGoes.{tick_goes}
-use Rattle.qs_refine.proofs.steps.ticks.Goals as goal
-
-pub returns : goal.returns
-returns c = record { tick = tick_goes }

@@ -1,5 +1,0 @@
-use Rattle.qs_refine.proofs.StepGoes.{step_goes}
-use Rattle.qs_refine.proofs.steps.whole.Goals as goal
-
-pub returns : goal.returns
-returns c = record { step = step_goes }

@@ -1,2 +1,0 @@
--- What a node asks of its log before it appends.
-pub mod Room

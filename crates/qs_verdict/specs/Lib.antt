@@ -1,4 +1,0 @@
--- How a run ends.
-pub mod Ends
--- How a run judges its own journal.
-pub mod Verdicts

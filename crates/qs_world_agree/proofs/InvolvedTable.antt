@@ -1,0 +1,186 @@
+-- One line for each event: Involved holds after it.
+use Rattle.std.proofs.Common.{◌≡◌, ℕ, refl, arith}
+use Rattle.std.proofs.lemmas.Bool.Decides.{nat_tests}
+use Rattle.qs_world_agree.specs.World.{World}
+use Rattle.qs_world_agree.specs.Step.{Issue, Issue_unmet, Issue_local, Meet, Notice, Engage, Join, Cover, Serve, Serve_told, Lend, Yield, Ask, Vote_read, Vote_volatile, Force, Vote_recoverable, Vote_abort, Yes, Yes_lost, Count, Ignore, Refuse, Miss, Forget, Crash, Restart, Restart_in_doubt, Restart_home, Commit, Commit_cut, Commit_unlogged, Abort, Tell, Learn, Learn_cut, Learn_home, Acknowledge, Take_told, End, Checkpoint, Tell_abort, Learn_abort, Name_again, Take_names, Learn_abort_home, Abort_logged, Drop_engage, Drop_join, Drop_cover, Inquire, Inquire_lost, Inquire_home, Answer_commit, Answer_running, Answer_abort, Step}
+use Rattle.qs_world_agree.proofs.Involved.{Involved}
+
+-- what Involved speaks of is the same
+record Same (w v : World) : Type 0 where
+  present : v.present ≡ w.present
+  node : v.node ≡ w.node
+  sent : v.sent ≡ w.sent
+  served : v.served ≡ w.served
+  involved : v.involved ≡ w.involved
+  class : v.class ≡ w.class
+
+same : (w v : World) (k i : ℕ) → Involved w k i → Same w v → Involved v k i
+same w v k i h e = grind (arith, h, e)
+
+pub by_issue : (p q r : ℕ) (w v : World) (k i : ℕ) → Involved w k i → Step (Issue p q r) w v → w.present (w.node p) ≡ p → Involved v k i
+by_issue p q r w v k i h s now = grind (arith, nat_tests, h, s)
+
+pub by_issue_unmet : (p q r : ℕ) (w v : World) (k i : ℕ) → Involved w k i → Step (Issue_unmet p q r) w v → w.present (w.node p) ≡ p → Involved v k i
+by_issue_unmet p q r w v k i h s now = grind (arith, nat_tests, h, s)
+
+pub by_issue_local : (p q : ℕ) (w v : World) (k i : ℕ) → Involved w k i → Step (Issue_local p q) w v → Involved v k i
+by_issue_local p q w v k i h s = same w v k i h (rw s.1 (record { present = refl; node = refl; sent = refl; served = refl; involved = refl; class = refl }))
+
+pub by_meet : (p q : ℕ) (w v : World) (k i : ℕ) → Involved w k i → Step (Meet p q) w v → Involved v k i
+by_meet p q w v k i h s = same w v k i h (rw s.5 (record { present = refl; node = refl; sent = refl; served = refl; involved = refl; class = refl }))
+
+pub by_notice : (p q : ℕ) (w v : World) (k i : ℕ) → Involved w k i → Step (Notice p q) w v → Involved v k i
+by_notice p q w v k i h s = same w v k i h (rw s.5 (record { present = refl; node = refl; sent = refl; served = refl; involved = refl; class = refl }))
+
+pub by_engage : (p q : ℕ) (w v : World) (k i : ℕ) → Involved w k i → Step (Engage p q) w v → Involved v k i
+by_engage p q w v k i h s = same w v k i h (rw s.4 (record { present = refl; node = refl; sent = refl; served = refl; involved = refl; class = refl }))
+
+pub by_join : (p q : ℕ) (w v : World) (k i : ℕ) → Involved w k i → Step (Join p q) w v → Involved v k i
+by_join p q w v k i h s = same w v k i h (rw s.5 (record { present = refl; node = refl; sent = refl; served = refl; involved = refl; class = refl }))
+
+pub by_cover : (p q : ℕ) (w v : World) (k i : ℕ) → Involved w k i → Step (Cover p q) w v → Involved v k i
+by_cover p q w v k i h s = same w v k i h (rw s.4 (record { present = refl; node = refl; sent = refl; served = refl; involved = refl; class = refl }))
+
+pub by_serve : (p q : ℕ) (w v : World) (k i : ℕ) → Involved w k i → Step (Serve p q) w v → w.present (w.node p) ≡ p → Involved v k i
+by_serve p q w v k i h s now = grind (arith, nat_tests, h, s)
+
+pub by_serve_told : (p q : ℕ) (w v : World) (k i : ℕ) → Involved w k i → Step (Serve_told p q) w v → w.present (w.node p) ≡ p → Involved v k i
+by_serve_told p q w v k i h s now = grind (arith, nat_tests, h, s)
+
+pub by_lend : (p q : ℕ) (w v : World) (k i : ℕ) → Involved w k i → Step (Lend p q) w v → w.present (w.node p) ≡ p → Involved v k i
+by_lend p q w v k i h s now = grind (arith, nat_tests, h, s)
+
+pub by_yield : (p : ℕ) (w v : World) (k i : ℕ) → Involved w k i → Step (Yield p) w v → Involved v k i
+by_yield p w v k i h s = same w v k i h (rw s.2.2 (record { present = refl; node = refl; sent = refl; served = refl; involved = refl; class = refl }))
+
+pub by_ask : (p : ℕ) (w v : World) (k i : ℕ) → Involved w k i → Step (Ask p) w v → Involved v k i
+by_ask p w v k i h s = same w v k i h (rw s.1 (record { present = refl; node = refl; sent = refl; served = refl; involved = refl; class = refl }))
+
+pub by_vote_read : (p q : ℕ) (w v : World) (k i : ℕ) → Involved w k i → Step (Vote_read p q) w v → Involved v k i
+by_vote_read p q w v k i h s = same w v k i h (rw s.1 (record { present = refl; node = refl; sent = refl; served = refl; involved = refl; class = refl }))
+
+pub by_vote_volatile : (p q : ℕ) (w v : World) (k i : ℕ) → Involved w k i → Step (Vote_volatile p q) w v → Involved v k i
+by_vote_volatile p q w v k i h s = grind (arith, nat_tests, h, s)
+
+pub by_force : (p q : ℕ) (w v : World) (k i : ℕ) → Involved w k i → Step (Force p q) w v → Involved v k i
+by_force p q w v k i h s = grind (arith, nat_tests, h, s)
+
+pub by_vote_recoverable : (p q : ℕ) (w v : World) (k i : ℕ) → Involved w k i → Step (Vote_recoverable p q) w v → Involved v k i
+by_vote_recoverable p q w v k i h s = grind (arith, nat_tests, h, s)
+
+pub by_vote_abort : (p q : ℕ) (w v : World) (k i : ℕ) → Involved w k i → Step (Vote_abort p q) w v → Involved v k i
+by_vote_abort p q w v k i h s = same w v k i h (rw s.1 (record { present = refl; node = refl; sent = refl; served = refl; involved = refl; class = refl }))
+
+pub by_yes : (p : ℕ) (w v : World) (k i : ℕ) → Involved w k i → Step (Yes p) w v → Involved v k i
+by_yes p w v k i h s = same w v k i h (rw s.3 (record { present = refl; node = refl; sent = refl; served = refl; involved = refl; class = refl }))
+
+pub by_yes_lost : (p : ℕ) (w v : World) (k i : ℕ) → Involved w k i → Step (Yes_lost p) w v → Involved v k i
+by_yes_lost p w v k i h s = same w v k i h (rw s.3 (record { present = refl; node = refl; sent = refl; served = refl; involved = refl; class = refl }))
+
+pub by_count : (p q : ℕ) (w v : World) (k i : ℕ) → Involved w k i → Step (Count p q) w v → Involved v k i
+by_count p q w v k i h s = same w v k i h (rw s.3 (record { present = refl; node = refl; sent = refl; served = refl; involved = refl; class = refl }))
+
+pub by_ignore : (p q : ℕ) (w v : World) (k i : ℕ) → Involved w k i → Step (Ignore p q) w v → Involved v k i
+by_ignore p q w v k i h s = same w v k i h (rw s.4 (record { present = refl; node = refl; sent = refl; served = refl; involved = refl; class = refl }))
+
+pub by_refuse : (p : ℕ) (w v : World) (k i : ℕ) → Involved w k i → Step (Refuse p) w v → Involved v k i
+by_refuse p w v k i h s = same w v k i h (rw s.1 (record { present = refl; node = refl; sent = refl; served = refl; involved = refl; class = refl }))
+
+pub by_miss : (p : ℕ) (w v : World) (k i : ℕ) → Involved w k i → Step (Miss p) w v → Involved v k i
+by_miss p w v k i h s = same w v k i h (rw s.2 (record { present = refl; node = refl; sent = refl; served = refl; involved = refl; class = refl }))
+
+pub by_forget : (p : ℕ) (w v : World) (k i : ℕ) → Involved w k i → Step (Forget p) w v → Involved v k i
+by_forget p w v k i h s = same w v k i h (rw s.5 (record { present = refl; node = refl; sent = refl; served = refl; involved = refl; class = refl }))
+
+pub by_crash : (p : ℕ) (w v : World) (k i : ℕ) → Involved w k i → Step (Crash p) w v → Involved v k i
+by_crash p w v k i h s = same w v k i h (rw s.1 (record { present = refl; node = refl; sent = refl; served = refl; involved = refl; class = refl }))
+
+pub by_restart : (p : ℕ) (w v : World) (k i : ℕ) → Involved w k i → Step (Restart p) w v → Involved v k i
+by_restart p w v k i h s = grind (arith, nat_tests, h, s)
+
+pub by_restart_in_doubt : (p q : ℕ) (w v : World) (k i : ℕ) → Involved w k i → Step (Restart_in_doubt p q) w v → Involved v k i
+by_restart_in_doubt p q w v k i h s = grind (arith, nat_tests, h, s)
+
+pub by_restart_home : (p : ℕ) (w v : World) (k i : ℕ) → Involved w k i → Step (Restart_home p) w v → Involved v k i
+by_restart_home p w v k i h s = grind (arith, nat_tests, h, s)
+
+pub by_commit : (w v : World) (k i : ℕ) → Involved w k i → Step Commit w v → Involved v k i
+by_commit w v k i h s = same w v k i h (rw s.1 (record { present = refl; node = refl; sent = refl; served = refl; involved = refl; class = refl }))
+
+pub by_commit_cut : (w v : World) (k i : ℕ) → Involved w k i → Step Commit_cut w v → Involved v k i
+by_commit_cut w v k i h s = same w v k i h (rw s.1 (record { present = refl; node = refl; sent = refl; served = refl; involved = refl; class = refl }))
+
+pub by_commit_unlogged : (w v : World) (k i : ℕ) → Involved w k i → Step Commit_unlogged w v → Involved v k i
+by_commit_unlogged w v k i h s = same w v k i h (rw s.3 (record { present = refl; node = refl; sent = refl; served = refl; involved = refl; class = refl }))
+
+pub by_abort : (w v : World) (k i : ℕ) → Involved w k i → Step Abort w v → Involved v k i
+by_abort w v k i h s = same w v k i h (rw s.2 (record { present = refl; node = refl; sent = refl; served = refl; involved = refl; class = refl }))
+
+pub by_tell : (p q : ℕ) (w v : World) (k i : ℕ) → Involved w k i → Step (Tell p q) w v → Involved v k i
+by_tell p q w v k i h s = same w v k i h (rw s.3 (record { present = refl; node = refl; sent = refl; served = refl; involved = refl; class = refl }))
+
+pub by_learn : (p : ℕ) (w v : World) (k i : ℕ) → Involved w k i → Step (Learn p) w v → Involved v k i
+by_learn p w v k i h s = same w v k i h (rw s.3 (record { present = refl; node = refl; sent = refl; served = refl; involved = refl; class = refl }))
+
+pub by_learn_cut : (p : ℕ) (w v : World) (k i : ℕ) → Involved w k i → Step (Learn_cut p) w v → Involved v k i
+by_learn_cut p w v k i h s = same w v k i h (rw s.3 (record { present = refl; node = refl; sent = refl; served = refl; involved = refl; class = refl }))
+
+pub by_learn_home : (p : ℕ) (w v : World) (k i : ℕ) → Involved w k i → Step (Learn_home p) w v → Involved v k i
+by_learn_home p w v k i h s = same w v k i h (rw s.3 (record { present = refl; node = refl; sent = refl; served = refl; involved = refl; class = refl }))
+
+pub by_acknowledge : (p : ℕ) (w v : World) (k i : ℕ) → Involved w k i → Step (Acknowledge p) w v → Involved v k i
+by_acknowledge p w v k i h s = same w v k i h (rw s.2 (record { present = refl; node = refl; sent = refl; served = refl; involved = refl; class = refl }))
+
+pub by_take_told : (p q : ℕ) (w v : World) (k i : ℕ) → Involved w k i → Step (Take_told p q) w v → Involved v k i
+by_take_told p q w v k i h s = same w v k i h (rw s.3 (record { present = refl; node = refl; sent = refl; served = refl; involved = refl; class = refl }))
+
+pub by_end : (p : ℕ) (w v : World) (k i : ℕ) → Involved w k i → Step (End p) w v → Involved v k i
+by_end p w v k i h s = same w v k i h (rw s.4 (record { present = refl; node = refl; sent = refl; served = refl; involved = refl; class = refl }))
+
+pub by_checkpoint : (p : ℕ) (w v : World) (k i : ℕ) → Involved w k i → Step (Checkpoint p) w v → Involved v k i
+by_checkpoint p w v k i h s = same w v k i h (rw s.3 (record { present = refl; node = refl; sent = refl; served = refl; involved = refl; class = refl }))
+
+pub by_tell_abort : (p q : ℕ) (w v : World) (k i : ℕ) → Involved w k i → Step (Tell_abort p q) w v → Involved v k i
+by_tell_abort p q w v k i h s = same w v k i h (rw s.4 (record { present = refl; node = refl; sent = refl; served = refl; involved = refl; class = refl }))
+
+pub by_learn_abort : (p : ℕ) (w v : World) (k i : ℕ) → Involved w k i → Step (Learn_abort p) w v → Involved v k i
+by_learn_abort p w v k i h s = same w v k i h (rw s.2 (record { present = refl; node = refl; sent = refl; served = refl; involved = refl; class = refl }))
+
+pub by_name_again : (p : ℕ) (w v : World) (k i : ℕ) → Involved w k i → Step (Name_again p) w v → Involved v k i
+by_name_again p w v k i h s = same w v k i h (rw s.3 (record { present = refl; node = refl; sent = refl; served = refl; involved = refl; class = refl }))
+
+pub by_take_names : (p q r : ℕ) (w v : World) (k i : ℕ) → Involved w k i → Step (Take_names p q r) w v → Involved v k i
+by_take_names p q r w v k i h s = same w v k i h (rw s.2 (record { present = refl; node = refl; sent = refl; served = refl; involved = refl; class = refl }))
+
+pub by_learn_abort_home : (p q : ℕ) (w v : World) (k i : ℕ) → Involved w k i → Step (Learn_abort_home p q) w v → Involved v k i
+by_learn_abort_home p q w v k i h s = same w v k i h (rw s.3 (record { present = refl; node = refl; sent = refl; served = refl; involved = refl; class = refl }))
+
+pub by_abort_logged : (p : ℕ) (w v : World) (k i : ℕ) → Involved w k i → Step (Abort_logged p) w v → Involved v k i
+by_abort_logged p w v k i h s = same w v k i h (rw s.2 (record { present = refl; node = refl; sent = refl; served = refl; involved = refl; class = refl }))
+
+pub by_drop_engage : (p q : ℕ) (w v : World) (k i : ℕ) → Involved w k i → Step (Drop_engage p q) w v → Involved v k i
+by_drop_engage p q w v k i h s = same w v k i h (rw s.4 (record { present = refl; node = refl; sent = refl; served = refl; involved = refl; class = refl }))
+
+pub by_drop_join : (p q : ℕ) (w v : World) (k i : ℕ) → Involved w k i → Step (Drop_join p q) w v → Involved v k i
+by_drop_join p q w v k i h s = same w v k i h (rw s.5 (record { present = refl; node = refl; sent = refl; served = refl; involved = refl; class = refl }))
+
+pub by_drop_cover : (p q : ℕ) (w v : World) (k i : ℕ) → Involved w k i → Step (Drop_cover p q) w v → Involved v k i
+by_drop_cover p q w v k i h s = same w v k i h (rw s.3 (record { present = refl; node = refl; sent = refl; served = refl; involved = refl; class = refl }))
+
+pub by_inquire : (p : ℕ) (w v : World) (k i : ℕ) → Involved w k i → Step (Inquire p) w v → Involved v k i
+by_inquire p w v k i h s = same w v k i h (rw s.4 (record { present = refl; node = refl; sent = refl; served = refl; involved = refl; class = refl }))
+
+pub by_inquire_lost : (p : ℕ) (w v : World) (k i : ℕ) → Involved w k i → Step (Inquire_lost p) w v → Involved v k i
+by_inquire_lost p w v k i h s = same w v k i h (rw s.5 (record { present = refl; node = refl; sent = refl; served = refl; involved = refl; class = refl }))
+
+pub by_inquire_home : (p : ℕ) (w v : World) (k i : ℕ) → Involved w k i → Step (Inquire_home p) w v → Involved v k i
+by_inquire_home p w v k i h s = same w v k i h (rw s.5 (record { present = refl; node = refl; sent = refl; served = refl; involved = refl; class = refl }))
+
+pub by_answer_commit : (p q : ℕ) (w v : World) (k i : ℕ) → Involved w k i → Step (Answer_commit p q) w v → Involved v k i
+by_answer_commit p q w v k i h s = same w v k i h (rw s.2 (record { present = refl; node = refl; sent = refl; served = refl; involved = refl; class = refl }))
+
+pub by_answer_running : (p : ℕ) (w v : World) (k i : ℕ) → Involved w k i → Step (Answer_running p) w v → Involved v k i
+by_answer_running p w v k i h s = same w v k i h (rw s.2 (record { present = refl; node = refl; sent = refl; served = refl; involved = refl; class = refl }))
+
+pub by_answer_abort : (p q : ℕ) (w v : World) (k i : ℕ) → Involved w k i → Step (Answer_abort p q) w v → Involved v k i
+by_answer_abort p q w v k i h s = same w v k i h (rw s.2 (record { present = refl; node = refl; sent = refl; served = refl; involved = refl; class = refl }))

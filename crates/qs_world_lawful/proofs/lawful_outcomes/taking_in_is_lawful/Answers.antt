@@ -1,0 +1,6 @@
+use Rattle.qs_world_lawful.proofs.FilesHeld.{files_held}
+use Rattle.qs_world_lawful.proofs.Decisions.{by_told}
+use Rattle.qs_world_lawful.proofs.lawful_outcomes.taking_in_is_lawful.Goals as goal
+
+pub returns : goal.returns
+returns c = λ x0 x1 x2 x3 x4 x5 x6 x7 x9 x10 x11 x12. by_told x0 x1 x2 x3 x4 x5 x6 x7 (files_held x0 x1 x2 x7) x9 x10 x11 x12

@@ -1,0 +1,7 @@
+use Rattle.std.proofs.Common.{◌≡◌, take}
+use Rattle.std.specs.List.{flat_map}
+use Rattle.qs_world_plans.specs.Plan.{point_in}
+use Rattle.qs_world_plans.proofs.plan.points_of.Given as goal
+
+abbrev pub invariant-loop-line : goal.invariant-loop-line
+invariant-loop-line l = l.points ≡ flat_map (λ line. point_in l.node line.fault) (take l.line-index l.lines)

@@ -1,0 +1,21 @@
+-- What a rule makes of a transaction that is known, and undecided.
+use Rattle.std.proofs.Common.{◌≡◌, Bool, true, Option, Some, None, ap, ◌∙◌, refl, if◌then◌else◌}
+use Rattle.qs_base.specs.declared.identifiers.Tid.{Tid}
+use Rattle.qs_tm.specs.Manager as tm
+use Rattle.qs_tm.specs.Participant.{is_undecided}
+use Rattle.qs_tm.specs.declared.manager.Manager.{Manager}
+use Rattle.qs_tm.specs.declared.participant.Participant.{Participant}
+use Rattle.qs_node_step.specs.Asking.{where_undecided}
+use Rattle.qs_node_step.specs.State.{Work, part_of}
+
+pub is_open : (part : Participant) → part.outcome ≡ None → is_undecided part ≡ true
+is_open part undecided = rw undecided refl
+
+-- what is told of it
+pub told_is : {A : Type 0} (tid : Tid) (unknown : A) (f : Participant → A) (manager : Manager) (part : Participant) → tm.part_of tid manager ≡ Some part → tm.told_of tid unknown f manager ≡ f part
+told_is tid unknown f manager part known = ap (λ (o : Option Participant). elim o [ None ↦ unknown | Some part ↦ f part ]) known
+
+pub undecided_is : (tid : Tid) (rule : Participant → Work → Work) (work : Work) (part : Participant) → part_of tid work ≡ Some part → part.outcome ≡ None → where_undecided tid rule work ≡ rule part work
+undecided_is tid rule work part known undecided =
+    ap (λ (o : Option Participant). elim o [ None ↦ work | Some part ↦ if is_undecided part then rule part work else work ]) known
+    ∙ ap (λ (b : Bool). if b then rule part work else work) (is_open part undecided)

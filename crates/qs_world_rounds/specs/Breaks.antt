@@ -1,0 +1,61 @@
+-- A round that is cut short: the disk of the node failed as the node was started again, or memory was refused.
+use Rattle.std.specs.Prelude.{◌≡◌, ◌⊎◌, ℕ, zero, suc, Bool, true, false, List, [], ◌∷◌, Err}
+use Rattle.qs_base.specs.Causes.{Rose}
+use Rattle.qs_cell.specs.Starts.{CellValue}
+use Rattle.qs_cell.specs.State.{StartsAgain, cause_of, disk_of}
+use Rattle.qs_cell.specs.Visits.{Breaks, Visits}
+use Rattle.qs_cell.specs.declared.state.RestartFault.TheVariants as restart_faults
+use Rattle.qs_disk.specs.Disk.{DiskState}
+use Rattle.qs_world_rounds.specs.Rounds.{Cast, CarriesAll, IsSameStart, VisitAt, is_refused, is_up}
+
+-- what the disk itself has counted
+abbrev pub own_faults : {D : Type 0} → (D → ℕ) → CellValue D → ℕ
+own_faults own cell = own (disk_of cell.seat.node).disk
+
+-- the node was down, and could not be started again: its disk failed, which has counted that since it was handed in
+pub record NodeFails {D : Type 0} (told : Type 0) (state : D → DiskState) (own size : D → ℕ) (old new : CellValue D) : Type 0 where
+  pub down : is_up old ≡ false
+  pub starts : StartsAgain told state own size old.alloc old.seat.node new.seat.node (Err restart_faults.DiskFailed)
+  pub rose : Rose old.faults (own_faults own new)
+  pub ends : new.seat.ends ≡ old.seat.ends
+  pub start : IsSameStart old new
+
+-- at the place of the node
+abbrev pub FailsAt : {D : Type 0} → Type 0 → (D → DiskState) → (D → ℕ) → (D → ℕ) → ℕ → Cast D → Cast D → Type 0
+FailsAt told state own size zero old new = NodeFails told state own size old.node new.node × (new.clients ≡ old.clients)
+FailsAt told state own size (suc at) old new = ⊥
+
+-- those before a place were visited, and this came of the visit there
+abbrev pub VisitsUntil : {D : Type 0} → Type 0 → (D → DiskState) → (D → ℕ) → (D → ℕ) → (ℕ → Cast D → Cast D → Type 0) → List ℕ → Cast D → Cast D → Type 0
+VisitsUntil told state own size Comes [] old new = ⊥
+VisitsUntil told state own size Comes (place ∷ places) old new =
+    Comes place old new
+    ⊎ ((mid : Cast _) × ((did : Bool) × (VisitAt told state own size place old mid did × VisitsUntil told state own size Comes places mid new)))
+
+abbrev pub VisitSome : {D : Type 0} → Type 0 → (D → DiskState) → (D → ℕ) → (D → ℕ) → List ℕ → Cast D → Cast D → Type 0
+VisitSome told state own size places old new = VisitsUntil told state own size (FailsAt told state own size) places old new
+
+pub record BreaksRound {D : Type 0} (told : Type 0) (state : D → DiskState) (own size : D → ℕ) (order : List ℕ) (old new : Cast D) : Type 0 where
+  pub carried : Cast D
+  pub carries : CarriesAll old.node carried.node old.clients carried.clients
+  pub visits : VisitSome told state own size order carried new
+  pub rose : Rose old.node.faults (own_faults own new.node)
+
+-- ---- memory was refused
+
+-- within the visit of a node that is up, be it within a step, which is then cut off or not made; or as one that is down was started again
+abbrev pub NodeRefusedIf : {D : Type 0} → Bool → Type 0 → (D → DiskState) → (D → ℕ) → (D → ℕ) → CellValue D → CellValue D → Type 0
+NodeRefusedIf true told state own size old new =
+    Breaks told state own size old.seat new.seat ⊎ (Visits told state own size old.seat new.seat × (is_refused (cause_of new.seat.node) ≡ true))
+NodeRefusedIf false told state own size old new = StartsAgain told state own size old.alloc old.seat.node new.seat.node (Err restart_faults.NoMemory)
+
+-- at the place of the node, or at that of a client, where the node is as it was
+abbrev pub RefusedAt : {D : Type 0} → Type 0 → (D → DiskState) → (D → ℕ) → (D → ℕ) → ℕ → Cast D → Cast D → Type 0
+RefusedAt told state own size zero old new = NodeRefusedIf (is_up old.node) told state own size old.node new.node
+RefusedAt told state own size (suc at) old new = new.node ≡ old.node
+
+-- as the round began, so that the node is as it was, or in a visit
+abbrev pub RefusesRound : {D : Type 0} → Type 0 → (D → DiskState) → (D → ℕ) → (D → ℕ) → List ℕ → Cast D → Cast D → Type 0
+RefusesRound told state own size order old new =
+    (new.node.seat.node ≡ old.node.seat.node)
+    ⊎ ((carried : Cast _) × (CarriesAll old.node carried.node old.clients carried.clients × VisitsUntil told state own size (RefusedAt told state own size) order carried new))

@@ -1,0 +1,178 @@
+//! The actors of a run of one node: the node and its clients. In a round each is visited once.
+ghost use Rattle.std.specs.Prelude.{◌≡◌, ◌&&◌, ◌||◌, not, IfOk, OnOk, Err};
+ghost use Rattle.qs_base.specs.declared.identifiers.NodeNo.{NodeNo};
+ghost use Rattle.qs_cell.specs.Starts.{journal_of};
+ghost use Rattle.qs_cell.specs.Visits.{Grows};
+ghost use Rattle.qs_world_rounds.specs.Breaks.{BreaksRound, FailsAt, RefusedAt, RefusesRound, VisitSome, VisitsUntil};
+ghost use Rattle.qs_world_rounds.specs.Lanes.{AreJoined};
+ghost use Rattle.std.specs.List.{list_all};
+ghost use Rattle.qs_world_rounds.specs.Rounds.{IsRound, has_ended, IsSameStart, VisitAt, VisitAll, CarriesAll, all_ended, are_settled, count_of};
+ghost use Rattle.qs_world_rounds.specs.Seats.{first_node};
+ghost use Rattle.qs_world_rounds.specs.declared.faults.RoundFault.TheVariants as faults;
+
+use crate::faults::RoundFault;
+use crate::lanes::carry_all;
+use crate::visits::{visit_client, visit_node};
+use qs_base::NoMemory;
+use qs_cell::NodeCell;
+use qs_client::ClientCell;
+use qs_disk::Disk;
+use std::marker::Model;
+
+/// The node, and its clients by number. In the order of a round the node has place 0, and the clients have the places behind
+/// it.
+#[derive(Drop)]
+pub struct Actors<D: Disk> {
+    node: NodeCell<D>,
+    clients: Vec<ClientCell>,
+}
+
+/// How a round ended.
+#[derive(Clone, Copy)]
+pub struct RoundEnd {
+    /// The node was up as it began and made no entry but those of ticks, it sent no packet, and no client made a step.
+    pub quiet: bool,
+}
+
+impl<D: Disk> Model for Actors<D> {
+    ghost use Rattle.qs_world_rounds.specs.Lanes.{AreJoined};
+    ghost use Rattle.qs_world_rounds.specs.Rounds.{Cast};
+
+    ghost Value = { Cast D };
+
+    ghost view = { λ a. record { node = a.node; clients = a.clients.items } };
+
+    ghost invariant = { λ a. AreJoined a.node.seat.ends a.clients.items };
+}
+
+impl<D: Disk> Actors<D> {
+    /// The node and its clients, by number, whose lanes are joined.
+    pub fn new(node: NodeCell<D>, clients: Vec<ClientCell>) -> Actors<D>
+        requires { AreJoined node.seat.ends clients.items }
+        ensures { result ≡ record { node = node; clients = clients.items } }
+    {
+        Actors { node, clients }
+    }
+
+    /// The node.
+    pub fn node(&self) -> &NodeCell<D>
+        ensures { result.now ≡ self.now.node }
+    {
+        &self.node
+    }
+
+    /// The node, by value.
+    pub fn into_node(self) -> NodeCell<D>
+        ensures { result ≡ self.node }
+    {
+        self.node
+    }
+
+    /// How many they are.
+    pub fn count(&self) -> usize
+        ensures { result ≡ count_of self.now }
+    {
+        self.clients.len() + 1
+    }
+
+    /// What stands in the lanes is carried to their ends, and each actor is visited once, in the order of these places. A
+    /// fault of the disk is told where the node was down and could not be started again for it; it comes only where the
+    /// disk's own count of faults rose since it was handed in. `NoMemory` comes where memory was refused, be it within a step
+    /// of the node; each visit before that was made.
+    pub fn round(&mut self, order: &[usize]) -> Result<RoundEnd, RoundFault>
+        ensures round { IfOk result (λ end. IsRound D.told D.state D.fault_count D.byte_count order.now self.old self.new end.quiet) }
+        ensures broken { (node : NodeNo) → result ≡ Err (faults.DiskFault node) → BreaksRound D.told D.state D.fault_count D.byte_count order.now self.old self.new }
+        ensures refused { result ≡ Err faults.NoMemory → RefusesRound D.told D.state D.fault_count D.byte_count order.now self.old self.new }
+        ensures named { (node : NodeNo) → result ≡ Err (faults.DiskFault node) → node ≡ first_node }
+        ensures start { IsSameStart self.old.node self.new.node }
+        ensures grows { Grows (journal_of self.old.node) (journal_of self.new.node) }
+    {
+        let up = self.node.is_up();
+        self.carry()?;
+        let did = self.visit_all(order)?;
+        Ok(RoundEnd {
+            quiet: is_quiet(up, did),
+        })
+    }
+
+    /// What stands in each lane is carried into the inbox of its receiver.
+    fn carry(&mut self) -> Result<(), NoMemory>
+        ensures carries { OnOk result (CarriesAll self.old.node self.new.node self.old.clients self.new.clients) }
+        ensures node { self.new.node.seat.node ≡ self.old.node.seat.node }
+        ensures start { IsSameStart self.old.node self.new.node }
+    {
+        carry_all(&mut self.node, &mut self.clients)
+    }
+
+    /// The visits of the actors at these places of the order, and whether anything was done in one.
+    fn visit_all(&mut self, order: &[usize]) -> Result<bool, RoundFault>
+        ensures visits { IfOk result (VisitAll D.told D.state D.fault_count D.byte_count order.now self.old self.new) }
+        ensures broken { (node : NodeNo) → result ≡ Err (faults.DiskFault node) → VisitSome D.told D.state D.fault_count D.byte_count order.now self.old self.new }
+        ensures refused { result ≡ Err faults.NoMemory → VisitsUntil D.told D.state D.fault_count D.byte_count (RefusedAt D.told D.state D.fault_count D.byte_count) order.now self.old self.new }
+        ensures named { (node : NodeNo) → result ≡ Err (faults.DiskFault node) → node ≡ first_node }
+        ensures start { IsSameStart self.old.node self.new.node }
+        ensures grows { Grows (journal_of self.old.node) (journal_of self.new.node) }
+    {
+        let mut did = false;
+        for place in order {
+            let more = self.visit(*place)?;
+            did = either(did, more);
+        }
+        Ok(did)
+    }
+
+    /// The visit of the actor at that place of the order, and whether anything was done in it.
+    fn visit(&mut self, place: usize) -> Result<bool, RoundFault>
+        ensures visits { IfOk result (VisitAt D.told D.state D.fault_count D.byte_count place self.old self.new) }
+        ensures broken { (node : NodeNo) → result ≡ Err (faults.DiskFault node) → FailsAt D.told D.state D.fault_count D.byte_count place self.old self.new }
+        ensures refused { result ≡ Err faults.NoMemory → RefusedAt D.told D.state D.fault_count D.byte_count place self.old self.new }
+        ensures named { (node : NodeNo) → result ≡ Err (faults.DiskFault node) → node ≡ first_node }
+        ensures start { IsSameStart self.old.node self.new.node }
+        ensures grows { Grows (journal_of self.old.node) (journal_of self.new.node) }
+    {
+        if place == 0 {
+            return visit_node(&mut self.node);
+        }
+        let did = visit_client(&mut self.clients, place - 1)?;
+        Ok(did)
+    }
+
+    /// Whether each client stands at the end of its script.
+    pub fn all_ended(&self) -> bool
+        ensures { result ≡ all_ended self.now }
+    {
+        all_ended(&self.clients)
+    }
+
+    /// Whether each client stands at the end of its script, and no transaction is unended at the node.
+    pub fn are_settled(&self) -> bool
+        ensures { result ≡ are_settled self.now }
+    {
+        self.all_ended() && self.node.settled()
+    }
+}
+
+/// A round is quiet where the node was up as it began and nothing was done in it.
+fn is_quiet(up: bool, did: bool) -> bool
+    ensures { result ≡ (up && not did) }
+{
+    up && !did
+}
+
+fn either(first: bool, second: bool) -> bool
+    ensures { result ≡ (first || second) }
+{
+    first || second
+}
+
+fn all_ended(clients: &[ClientCell]) -> bool
+    ensures { result ≡ list_all has_ended clients.now }
+{
+    clients.iter().all(has_ended)
+}
+
+fn has_ended(client: &ClientCell) -> bool
+    ensures { result ≡ has_ended client.now }
+{
+    client.at().is_none()
+}

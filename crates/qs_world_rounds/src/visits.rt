@@ -1,0 +1,90 @@
+//! The visits of a round: of the node, and of a client.
+ghost use Rattle.std.specs.Prelude.{◌≡◌, false, true, List, length, slice_get, Err, IfOk, OnErr};
+ghost use Rattle.qs_base.specs.declared.identifiers.NodeNo.{NodeNo};
+ghost use Rattle.qs_cell.specs.Joined.{StayJoined};
+ghost use Rattle.qs_cell.specs.Starts.{journal_of};
+ghost use Rattle.qs_cell.specs.Visits.{Grows};
+ghost use Rattle.qs_link.specs.declared.ends.NodeEnds.{NodeEnds};
+ghost use Rattle.qs_world_rounds.specs.Breaks.{NodeFails, NodeRefusedIf};
+ghost use Rattle.qs_world_rounds.specs.Lanes.{AllJoined};
+ghost use Rattle.qs_world_rounds.specs.Rounds.{ClientVisitAt, IsSameStart, NodeActs, NodeStarts, NodeVisit, is_refused, is_up};
+ghost use Rattle.qs_world_rounds.specs.Seats.{first_node};
+ghost use Rattle.qs_world_rounds.specs.declared.faults.RoundFault.TheVariants as faults;
+
+use crate::faults::RoundFault;
+use qs_base::NoMemory;
+use qs_book_journal::CrashCause;
+use qs_cell::{NodeCell, RestartFault};
+use qs_client::ClientCell;
+use qs_disk::Disk;
+use qs_world_plans::NODE;
+
+/// A node that is up makes its events; one that is down is started again. It answers whether anything was done.
+pub fn visit_node<D: Disk>(node: &mut NodeCell<D>) -> Result<bool, RoundFault>
+    ensures visits { IfOk result (NodeVisit D.told D.state D.fault_count D.byte_count node.old node.new) }
+    ensures broken { (at : NodeNo) → result ≡ Err (faults.DiskFault at) → NodeFails D.told D.state D.fault_count D.byte_count node.old node.new }
+    ensures refused { result ≡ Err faults.NoMemory → NodeRefusedIf (is_up node.old) D.told D.state D.fault_count D.byte_count node.old node.new }
+    ensures named { (at : NodeNo) → result ≡ Err (faults.DiskFault at) → at ≡ first_node }
+    ensures start { IsSameStart node.old node.new }
+    ensures grows { Grows (journal_of node.old) (journal_of node.new) }
+    ensures joined { StayJoined node.old.seat.ends node.new.seat.ends }
+{
+    if !node.is_up() {
+        return restart(node);
+    }
+    let did = act(node)?;
+    Ok(did)
+}
+
+/// A node that is up makes its events. It answers whether an entry other than that of a tick was made, or a packet sent.
+/// `NoMemory` comes where memory was refused, be it within a step.
+fn act<D: Disk>(node: &mut NodeCell<D>) -> Result<bool, NoMemory>
+    ensures acts { IfOk result (NodeActs D.told D.state D.fault_count D.byte_count node.old node.new) }
+    ensures refused { OnErr result (NodeRefusedIf true D.told D.state D.fault_count D.byte_count node.old node.new) }
+    ensures start { IsSameStart node.old node.new }
+    ensures grows { Grows (journal_of node.old) (journal_of node.new) }
+    ensures joined { StayJoined node.old.seat.ends node.new.seat.ends }
+{
+    let visited = node.visit()?;
+    if is_refused(node.cause()) {
+        return Err(NoMemory);
+    }
+    Ok(visited.sent || visited.noted)
+}
+
+/// Whether a node stopped for want of memory.
+fn is_refused(cause: Option<CrashCause>) -> bool
+    ensures { result ≡ is_refused cause }
+{
+    matches!(cause, Some(CrashCause::Memory))
+}
+
+/// A node that is down is started again; it stays down where its fuse trips.
+fn restart<D: Disk>(node: &mut NodeCell<D>) -> Result<bool, RoundFault>
+    requires down { is_up node.old ≡ false }
+    ensures starts { IfOk result (NodeStarts D.told D.state D.fault_count D.byte_count node.old node.new) }
+    ensures broken { (at : NodeNo) → result ≡ Err (faults.DiskFault at) → NodeFails D.told D.state D.fault_count D.byte_count node.old node.new }
+    ensures refused { result ≡ Err faults.NoMemory → NodeRefusedIf false D.told D.state D.fault_count D.byte_count node.old node.new }
+    ensures named { (at : NodeNo) → result ≡ Err (faults.DiskFault at) → at ≡ first_node }
+    ensures start { IsSameStart node.old node.new }
+    ensures grows { Grows (journal_of node.old) (journal_of node.new) }
+    ensures ends { node.new.seat.ends ≡ node.old.seat.ends }
+{
+    match node.restart() {
+        Ok(up) => Ok(up),
+        Err(RestartFault::DiskFailed) => Err(RoundFault::DiskFault { node: NODE }),
+        Err(RestartFault::NoMemory) => Err(RoundFault::NoMemory),
+    }
+}
+
+/// The visit of the client at that place, where there is one.
+pub fn visit_client(clients: &mut Vec<ClientCell>, at: usize) -> Result<bool, NoMemory>
+    ensures visits { IfOk result (ClientVisitAt at (slice_get clients.old.items at) clients.old.items clients.new.items) }
+    ensures each { (ends : List NodeEnds) → AllJoined ends clients.old.items → AllJoined ends clients.new.items }
+    ensures count { length clients.new.items ≡ length clients.old.items }
+{
+    if at < clients.len() {
+        return clients[at].visit();
+    }
+    Ok(false)
+}

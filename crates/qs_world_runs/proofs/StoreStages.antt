@@ -1,0 +1,175 @@
+-- What all things that a rule does to servers, records and transactions keep, each stage of a step keeps: what comes, votes and settling, and commands
+-- that stayed open.
+use Rattle.std.proofs.Common.{ℕ, Bool, true, false, List, [], ◌∷◌, Option, Some, None, refl}
+use Rattle.std.specs.BTreeMap.{is_at}
+use Rattle.std.specs.Map.{lookup}
+use Rattle.std.specs.Prelude.{if◌then◌else◌, is_none}
+use Rattle.qs_base.specs.declared.identifiers.ClientNo.{ClientNo}
+use Rattle.qs_base.specs.declared.identifiers.Member.{Member}
+use Rattle.qs_base.specs.declared.identifiers.NodeNo.{NodeNo}
+use Rattle.qs_base.specs.declared.identifiers.Outcome.TheVariants as outcomes
+use Rattle.qs_base.specs.declared.identifiers.ServerNo.{ServerNo}
+use Rattle.qs_base.specs.declared.identifiers.Tid.{Tid}
+use Rattle.qs_engage.specs.Engage.{release_of}
+use Rattle.qs_engage.specs.Nodes.{listed, same_node}
+use Rattle.qs_ipc.specs.declared.delivery.Delivery.{Delivery}
+use Rattle.qs_book_journal.specs.declared.script_line.Command.{Command}
+use Rattle.qs_ops.specs.Server.{after_vote, vote_of}
+use Rattle.qs_ops.specs.declared.answer.Answer.TheVariants as answers
+use Rattle.qs_ops.specs.declared.answer.Cause.{Cause}
+use Rattle.qs_ops.specs.declared.answer.Cause.TheVariants as causes
+use Rattle.qs_ops.specs.declared.operation.Op.{Op}
+use Rattle.qs_ops.specs.declared.operation.Op.TheVariants.{Note}
+use Rattle.qs_ops.specs.declared.vote.Vote.{Vote}
+use Rattle.qs_ops.specs.declared.vote.Vote.TheVariants as votes
+use Rattle.qs_packet.specs.declared.message.Message.{Message}
+use Rattle.qs_packet.specs.declared.message.Message.TheVariants as messages
+use Rattle.qs_node_servers.specs.Servers.{audit_no, server_at}
+use Rattle.qs_node_step.specs.Answering.{kept_outcome}
+use Rattle.qs_node_step.specs.Borrowing.{is_aborted}
+use Rattle.qs_node_step.specs.Bringing.{answer, member_here}
+use Rattle.qs_node_step.specs.Commands.{decided_answer}
+use Rattle.qs_node_step.specs.Deciding.{decide, decide_commit, end_members}
+use Rattle.qs_node_step.specs.Serving.{engage, is_dropped, label_at, learn_label, put_label, request_came, take_in}
+use Rattle.qs_node_step.specs.Settling.{answer_superior, due_tids, forget_rule, is_pass_due, is_quiet, may_answer, pass_rule, ready, ready_rule, refusal_goes_to, refuse_elsewhere, refuse_home, refuse_rule, say_yes, send_refusal, settle, settle_tid, try}
+use Rattle.qs_node_step.specs.State.{Work, client_cmp, change_server, doings_of, here, part_of, with_manager}
+use Rattle.qs_node_step.specs.Step.{abort_old, age_rule, answer_waiting, borrower_waits, happen, is_owner, message_came, owner_waits, wait_command, wait_on, waiting_clients, waits_at}
+use Rattle.qs_node_step.specs.Telling.{forget}
+use Rattle.qs_node_step.specs.Voting.{change_count, due_votes, enter_vote, issue_note, log_vote, note_text, owes_note, served_count, vote_frame, vote_next, vote_pass, vote_with}
+use Rattle.qs_node_step.specs.declared.event.Event.{Event}
+use Rattle.qs_node_step.specs.declared.event.Event.TheVariants as events
+use Rattle.qs_node_step.specs.declared.state.Issued.{Issued}
+use Rattle.qs_tm.specs.Manager as tm
+use Rattle.qs_tm.specs.Members as members
+use Rattle.qs_tm.specs.Outcomes.{told_with_own}
+use Rattle.qs_tm.specs.Participant as participant
+use Rattle.qs_tm.specs.Participant.{is_forgotten}
+use Rattle.qs_world_lawful.specs.Given.{AtEach}
+use Rattle.qs_world_lawful.specs.GivenStep.{tick_work}
+use Rattle.qs_world_runs.specs.Stores.{IsKeptStore, MayAsk, Store, store_of}
+use Rattle.qs_world_runs.proofs.StoreCommands as commanded
+use Rattle.qs_world_runs.proofs.StoreRules as rules
+use Rattle.qs_world_runs.proofs.StoreTold as told
+
+module _ (A : Tid → Type 0) (P : Store → Type 0) (k : IsKeptStore A P) where
+  abbrev Keeps : Work → Work → Type 0
+  Keeps work new = rules.Keeps A P k work new
+
+  -- ---- the vote pass, and settling
+
+  vote_next_keeps : (tid : Tid) (work : Work) (server : ServerNo) → Keeps work (vote_next tid work server)
+  vote_next_keeps tid work server = rules.if_keeps A P k (owes_note tid server work) (issue_note tid work.node.setting.audit work) (vote_with tid server ballot work) work (λ is. note work.node.setting.audit) (λ is. voted ballot)
+    where
+      ballot : Vote
+      ballot = vote_of (server_at work.node.servers server) tid work.room (vote_frame work)
+
+      note : (o : Option NodeNo) → Keeps work (issue_note tid o work)
+      note None h = h
+      note (Some node) h = rules.issue_keeps A P k tid members.files_no (record { node = node; server = audit_no }) (Note (note_text tid (here work) (change_count tid work.node))) (change_count tid work.node) work h
+
+      entered : (b : Vote) → Keeps work (enter_vote tid server b work)
+      entered b h = k.parts (store_of (change_server server (λ value. after_vote value tid b) work)) tid (participant.voted (member_here work server) b (served_count tid server work)) (λ p. refl) (k.votes (store_of work) server tid b h)
+
+      voted : (b : Vote) → Keeps work (log_vote b tid server (enter_vote tid server b work))
+      voted (votes.Abort reason) h = entered (votes.Abort reason) h
+      voted votes.ReadOnly h = entered votes.ReadOnly h
+      voted votes.Volatile h = entered votes.Volatile h
+      voted votes.Recoverable h = k.prepares (store_of (enter_vote tid server votes.Recoverable work)) tid server (served_count tid server (enter_vote tid server votes.Recoverable work)) (entered votes.Recoverable h)
+
+  pass_keeps : (tid : Tid) (work : Work) → Keeps work (vote_pass tid work)
+  pass_keeps tid work h = rules.fold_keeps A P k (vote_next tid) (vote_next_keeps tid) (due_votes tid work) (end_members tid work) (rules.ended_keeps A P k tid work h)
+
+  passes_keep : (work : Work) (tid : Tid) → Keeps work (try tid pass_rule work)
+  passes_keep work tid = rules.undecided_keeps A P k tid (pass_rule tid) work (λ part. rules.if_keeps A P k (is_pass_due tid part work) (vote_pass tid work) work work (λ is. pass_keeps tid work) (λ is h. h))
+
+  readies_keep : (work : Work) (tid : Tid) → Keeps work (try tid ready_rule work)
+  readies_keep work tid = rules.undecided_keeps A P k tid (ready_rule tid) work (λ part. rules.if_keeps A P k (may_answer tid part work) (ready tid part work) work work
+      (λ is. rules.if_keeps A P k part.engage.home (if is_quiet (doings_of tid work) then decide_commit tid work else work) (answer_superior tid part work) work
+      (λ home. rules.if_keeps A P k (is_quiet (doings_of tid work)) (decide_commit tid work) work work (λ quiet. rules.commit_keeps A P k tid work) (λ quiet h. h))
+      (λ home. rules.elim_keeps A P k (release_of part.engage) work (λ superior. say_yes tid part superior work) work (λ h. h)
+      (λ superior to h. rules.send_keeps A P k superior.0 (messages.VotedYes tid superior.1 (listed (told_with_own (here work) part))) (with_manager (tm.released tid) work) (rules.part_keeps A P k tid participant.released work (λ p. refl) h)))) (λ is h. h))
+
+  refuses_keep : (work : Work) (tid : Tid) → Keeps work (try tid refuse_rule work)
+  refuses_keep work tid = rules.undecided_keeps A P k tid (refuse_rule tid) work (λ part. rules.if_keeps A P k part.engage.home (refuse_home tid part work) (refuse_elsewhere tid part work) work (λ home. first part.causes)
+      (λ home h. rules.fold_keeps A P k (send_refusal tid (refusal_goes_to tid part)) (λ w cause. rules.send_keeps A P k (refusal_goes_to tid part) (messages.VotedAbort tid cause) w) part.causes (with_manager (tm.take_causes tid) work)
+      (rules.part_keeps A P k tid participant.take_causes work (λ p. refl) h)))
+    where
+      first : (cs : List Cause) → Keeps work (elim cs [ [] ↦ work | cause ∷ more ↦ decide tid outcomes.Abort (Some cause) work ])
+      first [] h = h
+      first (cause ∷ more) h = rules.decided_keeps A P k tid outcomes.Abort (Some cause) work h
+
+  forgets_keep : (work : Work) (tid : Tid) → Keeps work (try tid forget_rule work)
+  forgets_keep work tid = rules.undecided_keeps A P k tid (forget_rule tid) work (λ part. rules.if_keeps A P k (is_forgotten part) (forget tid work) work work (λ is. k.forgets (store_of work) tid) (λ is h. h))
+
+  settle_tid_keeps : (work : Work) (tid : Tid) → Keeps work (settle_tid work tid)
+  settle_tid_keeps work tid h = forgets_keep (try tid refuse_rule (try tid ready_rule (try tid pass_rule work))) tid (refuses_keep (try tid ready_rule (try tid pass_rule work)) tid (readies_keep (try tid pass_rule work) tid (passes_keep work tid h)))
+
+  pub settle_keeps : (work : Work) → Keeps work (settle work)
+  settle_keeps work = rules.fold_keeps A P k settle_tid settle_tid_keeps (due_tids work) work
+
+  -- so it is at each turn
+  pub turns_keep : (tids : List Tid) (work : Work) → P (store_of work) → AtEach (λ (work : Work) (tid : Tid). P (store_of work)) settle_tid work tids
+  turns_keep [] work h = tt
+  turns_keep (tid ∷ tids) work h = (h, turns_keep tids (settle_tid work tid) (settle_tid_keeps work tid h))
+
+  -- ---- commands that stayed open
+
+  waits_keep : (work : Work) (client : ClientNo) → Keeps work (wait_on work client)
+  waits_keep work client = rules.elim_keeps A P k (lookup (is_at (client_cmp client)) work.node.commands) work (λ command. wait_command client command work) work (λ h. h)
+      (λ command is. rules.elim_keeps A P k (label_at command.line.label work.node) work (λ begun. waits_at client command begun work) work (λ h. h)
+      (λ begun of. rules.if_keeps A P k (is_owner client begun.owner) (owner_waits client begun.tid command.line.command work) (borrower_waits client command.issued begun.tid command.line.command work) work
+      (λ own. owners command.line.command begun.tid) (λ own. borrowers command.line.command command.issued begun.tid)))
+    where
+      owners : (c : Command) (o : Option Tid) → Keeps work (owner_waits client o c work)
+      owners c None = λ h. h
+      owners c (Some tid) = rules.elim_keeps A P k (kept_outcome tid work.node) work (λ decided. answer client (decided_answer decided c) work) work (λ h. h) (λ decided is. rules.answer_keeps A P k client (decided_answer decided c) work)
+
+      borrowers : (c : Command) (i : Option Issued) (o : Option Tid) → Keeps work (borrower_waits client i o c work)
+      borrowers c (Some issued) o = rules.if_keeps A P k (is_aborted issued.tid work.node) (answer client answers.Ended work) work work (λ is. rules.answer_keeps A P k client answers.Ended work) (λ is h. h)
+      borrowers c None None = λ h. h
+      borrowers c None (Some tid) = commanded.borrower_keeps A P k client tid c work
+
+  pub answers_keep : (work : Work) → Keeps work (answer_waiting work)
+  answers_keep work = rules.fold_keeps A P k wait_on waits_keep (waiting_clients work) work
+
+  -- ---- what comes
+
+  age_keeps : (age : Option ℕ) (work : Work) → Keeps work (age_rule age work)
+  age_keeps None work = λ h. h
+  age_keeps (Some age) work = rules.fold_keeps A P k (abort_old age) (λ w tid. rules.decided_keeps A P k tid outcomes.Abort (Some (causes.Old age)) w) (tm.aged age work.node.manager) work
+
+  request_keeps : (peer : NodeNo) (tid : Tid) (label : List ℕ) (member : Member) (number : ℕ) (op : Op) (work : Work) → Keeps work (request_came peer tid label member number op work)
+  request_keeps peer tid label member number op work h = by (is_dropped (same_node tid.home (here work)) (part_of tid work))
+    where
+      delivery : Delivery
+      delivery = record { tid = tid; from = peer; number = number; op = op; stale = false }
+
+      engaged : Work
+      engaged = engage tid peer number (learn_label label tid work)
+
+      kept : P (store_of engaged)
+      kept = rules.engage_keeps A P k peer tid number (learn_label label tid work)
+          (rules.if_keeps A P k (is_none (label_at label work.node)) (put_label (record { label = label; tid = Some tid; owner = None }) work) work work (λ new h. h) (λ known h. h) h)
+
+      by : (b : Bool) → P (store_of (take_in b member delivery engaged))
+      by true = kept
+      by false = rules.enqueue_keeps A P k member.server delivery engaged kept
+
+  message_keeps : (peer : NodeNo) (message : Message) (work : Work) → MayAsk A (events.Received peer message) work → Keeps work (message_came peer message work)
+  message_keeps peer messages.Hello work may h = h
+  message_keeps peer (messages.Request tid label member number issuer op) work may h = request_keeps peer tid label member number op work h
+  message_keeps peer (messages.Answered tid member number reply) work may h = rules.reply_keeps A P k tid member number reply work h
+  message_keeps peer (messages.AskVote tid) work may h = rules.ask_came_keeps A P k peer tid work may h
+  message_keeps peer (messages.Covered tid up_to) work may h = rules.closer_keeps A P k peer tid up_to [] work h
+  message_keeps peer (messages.VotedYes tid up_to names) work may h = rules.closer_keeps A P k peer tid up_to names work h
+  message_keeps peer (messages.VotedAbort tid cause) work may h = rules.refusal_keeps A P k tid cause work h
+  message_keeps peer (messages.Tell tid outcome) work may h = told.tell_keeps A P k peer tid outcome work h
+  message_keeps peer (messages.Told tid further) work may h = told.told_keeps A P k peer tid further work h
+  message_keeps peer (messages.Inquire tid) work may h = told.inquiry_keeps A P k peer tid work h
+
+  pub happens_keep : (event : Event) (work : Work) → MayAsk A event work → Keeps work (happen event work)
+  happens_keep (events.Command client line label command) work may h = commanded.command_keeps A P k (record { client = client; line = line; label = label; command = command }) work may h
+  happens_keep (events.Received peer message) work may h = message_keeps peer message work may h
+  happens_keep events.ServeAll work may h = rules.serve_all_keeps A P k work h
+  happens_keep (events.PeerRestarted peer old new) work may h = told.peer_restarted_keeps A P k peer old new work h
+  happens_keep events.Tick work may h = age_keeps work.node.setting.age (tick_work work) (k.ticks (store_of work) h)
