@@ -4,7 +4,7 @@ use Rattle.qs_cell.specs.declared.running.Fate.TheVariants as fates
 use Rattle.qs_cell.specs.declared.state.CellState.TheVariants as states
 use Rattle.qs_cell.proofs.Rooms.{node_roomy}
 use Rattle.qs_cell.proofs.Standing.{left_down, makes_by, stands_made}
-use Rattle.qs_cell.proofs.state.NodeState.event.Goals as goal
+use Rattle.qs_cell.proofs.state.CellState.event.Goals as goal
 
 pub returns-in-Whole-clause-makes : goal.returns-in-Whole-clause-makes
 returns-in-Whole-clause-makes g c =

@@ -2,7 +2,7 @@ use Rattle.std.proofs.Common.{subst, sym}
 use Rattle.qs_cell.specs.State.{LogStands, StartsAgain, disk_of}
 use Rattle.qs_cell.proofs.Rooms.{restarted_roomy, stays_roomy}
 use Rattle.qs_cell.proofs.Standing.{restarts_of, stands_restarted}
-use Rattle.qs_cell.proofs.state.NodeState.restart.Goals as goal
+use Rattle.qs_cell.proofs.state.CellState.restart.Goals as goal
 
 pub returns-clause-starts : goal.returns-clause-starts
 returns-clause-starts g c =

@@ -1,6 +1,6 @@
 use Rattle.std.specs.Map.Iter.{deref_pair}
 use Rattle.qs_files_contents.proofs.Added.{written_on, written_none}
-use Rattle.qs_files_contents.proofs.slots.Slots.contents.Goals as goal
+use Rattle.qs_files_contents.proofs.slots.FileTexts.contents.Goals as goal
 
 pub loop-entry-init : goal.loop-entry-init
 loop-entry-init c = written_none c.new-changes.result c.new-changes.ensures

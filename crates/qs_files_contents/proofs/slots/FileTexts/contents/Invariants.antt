@@ -2,7 +2,7 @@ use Rattle.std.proofs.Common.{map}
 use Rattle.std.specs.Map.Iter.{deref_pair}
 use Rattle.qs_ops.specs.Server.{AreFilesWritten}
 use Rattle.qs_files_contents.specs.Slots.{files_in}
-use Rattle.qs_files_contents.proofs.slots.Slots.contents.Given as goal
+use Rattle.qs_files_contents.proofs.slots.FileTexts.contents.Given as goal
 
 -- the files so far are written
 abbrev pub invariant-loop-entry : goal.invariant-loop-entry

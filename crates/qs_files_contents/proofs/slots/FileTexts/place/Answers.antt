@@ -1,5 +1,5 @@
 use Rattle.qs_files_contents.proofs.Sums.{by_result, told_placed, told_same}
-use Rattle.qs_files_contents.proofs.slots.Slots.place.Goals as goal
+use Rattle.qs_files_contents.proofs.slots.FileTexts.place.Goals as goal
 
 pub invariant_of-self : goal.invariant_of-self
 invariant_of-self c =

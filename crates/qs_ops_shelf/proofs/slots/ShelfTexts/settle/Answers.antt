@@ -5,7 +5,7 @@ use Rattle.qs_ops_shelf.specs.Slots.{text_of, pending_of}
 use Rattle.qs_ops_shelf.specs.Texts.{shadowed}
 use Rattle.qs_ops_shelf.specs.declared.slot.ShelfText.{ShelfText}
 use Rattle.qs_ops_shelf.proofs.Steps.{staged_from_put, settled_from_put, same_from_put, same_pending_from_put, staged_then_out, settled_then_out}
-use Rattle.qs_ops_shelf.proofs.slots.Slots.settle.Goals as goal
+use Rattle.qs_ops_shelf.proofs.slots.ShelfTexts.settle.Goals as goal
 
 pub returns-else-is_empty-clause-staged : goal.returns-else-is_empty-clause-staged
 returns-else-is_empty-clause-staged c =

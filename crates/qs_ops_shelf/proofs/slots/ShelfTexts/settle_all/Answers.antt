@@ -2,7 +2,7 @@ use Rattle.std.proofs.Common.{List, ℕ, take}
 use Rattle.std.specs.List.{list_any}
 use Rattle.qs_ops.specs.Table.{is_change_of}
 use Rattle.qs_ops_shelf.proofs.Steps.{staged_more, settled_more, list_any-take_more}
-use Rattle.qs_ops_shelf.proofs.slots.Slots.settle_all.Goals as goal
+use Rattle.qs_ops_shelf.proofs.slots.ShelfTexts.settle_all.Goals as goal
 
 -- one more change is settled
 pub loop-change-preserved : goal.loop-change-preserved

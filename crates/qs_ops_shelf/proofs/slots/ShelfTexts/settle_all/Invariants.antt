@@ -3,7 +3,7 @@ use Rattle.std.specs.Prelude.{◌&&◌}
 use Rattle.std.specs.List.{list_any}
 use Rattle.qs_ops.specs.Table.{is_change_of}
 use Rattle.qs_ops_shelf.specs.Slots.{IsStaged, IsSettled}
-use Rattle.qs_ops_shelf.proofs.slots.Slots.settle_all.Given as goal
+use Rattle.qs_ops_shelf.proofs.slots.ShelfTexts.settle_all.Given as goal
 
 -- the names of the changes so far are settled
 abbrev pub invariant-loop-change : goal.invariant-loop-change

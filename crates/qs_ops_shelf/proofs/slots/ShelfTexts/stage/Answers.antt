@@ -6,7 +6,7 @@ use Rattle.qs_base.specs.Order.{bytes_cmp, same_tid}
 use Rattle.qs_ops_shelf.specs.Slots.{text_of, pending_of, slot_in}
 use Rattle.qs_ops_shelf.specs.declared.slot.ShelfText.{ShelfText}
 use Rattle.qs_ops_shelf.proofs.Steps.{staged_from_put, same_from_put, same_pending_from_put}
-use Rattle.qs_ops_shelf.proofs.slots.Slots.stage.Goals as goal
+use Rattle.qs_ops_shelf.proofs.slots.ShelfTexts.stage.Goals as goal
 
 pub returns-in-Some-clause-staged : goal.returns-in-Some-clause-staged
 returns-in-Some-clause-staged c =

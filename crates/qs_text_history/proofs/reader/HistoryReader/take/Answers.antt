@@ -1,6 +1,6 @@
 use Rattle.std.proofs.Common.{◌++◌, ◌∷◌, []}
 use Rattle.qs_text_history.proofs.BegunLemmas.{knows_more, ok_knows}
-use Rattle.qs_text_history.proofs.reader.Reader.take.Goals as goal
+use Rattle.qs_text_history.proofs.reader.HistoryReader.take.Goals as goal
 
 pub returns-in_ok-note_begin-in-Line-clause-knows : goal.returns-in_ok-note_begin-in-Line-clause-knows
 returns-in_ok-note_begin-in-Line-clause-knows c = λ knows.
